@@ -1,0 +1,3 @@
+pub mod Squares
+pub mod EnPassant
+pub mod UciText

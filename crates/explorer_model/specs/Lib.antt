@@ -1,0 +1,15 @@
+pub mod Answer
+pub mod Board
+pub mod Chess
+pub mod Classes
+pub mod Items
+pub mod Parts
+pub mod Cuts
+pub mod Fen
+pub mod Keys
+pub mod Letters
+pub mod Refusals
+pub mod San
+pub mod Stop
+pub mod Uci
+pub mod Games

@@ -1,0 +1,128 @@
+use crate::chess::Move;
+use crate::list::Items;
+use crate::text::Name;
+
+/// Any bytes, as those of a PGN text or of a tag's value.
+pub type Bytes = Items<u8>;
+
+/// Moves in the order in which they are played.
+pub type Moves = Items<Move>;
+
+/// How a game ended on the board's record.
+#[derive(Clone, Copy, Debug, PartialEq, Eq)]
+pub enum Outcome {
+    White,
+    Draw,
+    Black,
+}
+
+/// A game termination marker (PGN 8.2.6).
+#[derive(Clone, Copy, Debug, PartialEq, Eq)]
+pub enum Ending {
+    /// `1-0`
+    WhiteWins,
+    /// `0-1`
+    BlackWins,
+    /// `1/2-1/2`
+    Drawn,
+    /// `*`
+    Unknown,
+}
+
+#[derive(Clone, Copy, Debug, PartialEq, Eq)]
+pub enum Mode {
+    Rated,
+    Casual,
+}
+
+/// How much time a game gives, from the least to the most.
+#[derive(Clone, Copy, Debug, PartialEq, Eq)]
+pub enum Speed {
+    UltraBullet,
+    Bullet,
+    Blitz,
+    Rapid,
+    Classical,
+    Correspondence,
+}
+
+/// A rating group by its least rating: 0, 1000, 1200, 1400, 1600, 1800, 2000, 2200 or 2500.
+#[derive(Clone, Copy, Debug, PartialEq, Eq)]
+pub struct Group {
+    pub value: u16,
+}
+
+/// A calendar month; `month` is 1 to 12.
+#[derive(Clone, Copy, Debug, PartialEq, Eq)]
+pub struct Month {
+    pub year: u16,
+    pub month: u8,
+}
+
+/// The eight letters or digits that name a game.
+#[derive(Clone, Copy, Debug, PartialEq, Eq)]
+pub struct GameId {
+    pub bytes: [u8; 8],
+}
+
+/// One side of a game; the rating is 0 to 4000.
+#[derive(Debug, Drop)]
+pub struct Player {
+    pub name: Name,
+    pub rating: u16,
+}
+
+/// What a game's tags say of it.
+#[derive(Debug, Drop)]
+pub struct Classes {
+    pub id: GameId,
+    pub white: Player,
+    pub black: Player,
+    pub outcome: Outcome,
+    pub mode: Mode,
+    pub speed: Speed,
+    pub group: Group,
+    pub month: Month,
+}
+
+/// A game that was replayed: its classes, and its moves from the starting position.
+#[derive(Debug, Drop)]
+pub struct Game {
+    pub classes: Classes,
+    pub moves: Moves,
+}
+
+/// A tag pair (PGN 8.1): `value` is the string with its escapes undone.
+#[derive(Debug, Drop)]
+pub struct Tag {
+    pub name: Bytes,
+    pub value: Bytes,
+}
+
+/// Tag pairs in the order of the text.
+pub type Tags = Items<Tag>;
+
+/// A symbol of the movetext that stands for a move, and the offset of its first byte in the text.
+#[derive(Debug, Drop)]
+pub struct Token {
+    pub place: u32,
+    pub text: Bytes,
+}
+
+/// Move tokens in the order of the text.
+pub type Tokens = Items<Token>;
+
+/// What a game's text consists of, without its comments and variations.
+#[derive(Debug, Drop)]
+pub struct Parts {
+    pub tags: Tags,
+    pub tokens: Tokens,
+    pub termination: Option<Ending>,
+}
+
+/// A text with its place, the offset of its first byte in the stream.
+#[derive(Debug, Drop)]
+pub struct Placed {
+    pub place: u64,
+    pub bytes: Bytes,
+}

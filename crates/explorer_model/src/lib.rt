@@ -1,0 +1,14 @@
+//! The plain types of the explorer, and the definitions that every contract of it cites.
+#![tactic(auto)]
+
+pub mod answer;
+pub mod archive;
+pub mod chess;
+pub mod fault;
+pub mod laws;
+pub mod list;
+pub mod notation;
+pub mod plain;
+pub mod square;
+pub mod text;
+mod texts;

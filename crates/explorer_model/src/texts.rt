@@ -1,0 +1,90 @@
+//! The words of a report line, as the refusals print themselves.
+
+ghost use Rattle.std.specs.Prelude.{◌≡◌, Some};
+
+use crate::fault::{GameFault, TagFault, TagName, Why};
+use std::fmt;
+
+impl TagName {
+    ghost use Rattle.explorer_model.specs.Refusals.{tag_text};
+
+    /// The name as PGN spells it.
+    pub fn as_str(self) -> &'static str
+        ensures { result.now ≡ tag_text self }
+    {
+        match self {
+            TagName::Event => "Event",
+            TagName::Site => "Site",
+            TagName::White => "White",
+            TagName::Black => "Black",
+            TagName::Result => "Result",
+            TagName::WhiteElo => "WhiteElo",
+            TagName::BlackElo => "BlackElo",
+            TagName::TimeControl => "TimeControl",
+            TagName::UtcDate => "UTCDate",
+            TagName::Date => "Date",
+        }
+    }
+}
+
+impl fmt::Display for TagName {
+    ghost use Rattle.explorer_model.specs.Refusals.{tag_text};
+
+    ghost output = { λ name. Some (tag_text name) };
+
+    fn fmt<W: fmt::Write>(&self, f: &mut fmt::Formatter<W>) -> fmt::Result {
+        f.write_str(self.as_str())
+    }
+}
+
+impl fmt::Display for TagFault {
+    ghost use Rattle.explorer_model.specs.Refusals.{tag_fault_text};
+
+    ghost output = { λ fault. Some (tag_fault_text fault) };
+
+    fn fmt<W: fmt::Write>(&self, f: &mut fmt::Formatter<W>) -> fmt::Result {
+        match self {
+            TagFault::Missing { name } => write!(f, "Missing {name}"),
+            TagFault::Bad { name } => write!(f, "Bad {name}"),
+            TagFault::NotStandard => f.write_str("NotStandard"),
+            TagFault::SetUp => f.write_str("SetUp"),
+            TagFault::UnknownResult => f.write_str("UnknownResult"),
+        }
+    }
+}
+
+impl fmt::Display for GameFault {
+    ghost use Rattle.explorer_model.specs.Refusals.{game_fault_text};
+
+    ghost output = { λ fault. Some (game_fault_text fault) };
+
+    fn fmt<W: fmt::Write>(&self, f: &mut fmt::Formatter<W>) -> fmt::Result {
+        match self {
+            GameFault::Lex { place } => write!(f, "Lex {place}"),
+            GameFault::Tag(fault) => write!(f, "{fault}"),
+            GameFault::NoTermination => f.write_str("NoTermination"),
+            GameFault::ResultDiffers => f.write_str("ResultDiffers"),
+            GameFault::TooManyPlies => f.write_str("TooManyPlies"),
+            GameFault::NotSan { ply, place } => write!(f, "NotSan {ply} {place}"),
+            GameFault::Illegal { ply, place } => write!(f, "Illegal {ply} {place}"),
+            GameFault::Ambiguous { ply, place } => write!(f, "Ambiguous {ply} {place}"),
+        }
+    }
+}
+
+impl fmt::Display for Why {
+    ghost use Rattle.explorer_model.specs.Refusals.{why_text};
+
+    ghost output = { λ why. Some (why_text why) };
+
+    fn fmt<W: fmt::Write>(&self, f: &mut fmt::Formatter<W>) -> fmt::Result {
+        match self {
+            Why::Preamble => f.write_str("Preamble"),
+            Why::TooLong { length } => write!(f, "TooLong {length}"),
+            Why::Game(fault) => write!(f, "{fault}"),
+            Why::Twice { first } => write!(f, "Twice {first}"),
+            Why::Repeated { number } => write!(f, "Repeated {number}"),
+            Why::MovesNotYet => f.write_str("MovesNotYet"),
+        }
+    }
+}
