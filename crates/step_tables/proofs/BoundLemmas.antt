@@ -1,0 +1,45 @@
+-- How many squares the queen's lines have.
+use Rattle.std.proofs.Common.{◌≡◌, ℕ, zero, suc, ◌+◌, ◌<◌, ◌≤◌, Bool, true, false, ◌==◌, cond, nat_lt, List, ◌∷◌, length, refl, sym, true≢false, arith}
+use Rattle.std.specs.List.{filter, range_with_len}
+use Rattle.std.specs.Int.{bit_at}
+use Rattle.std.proofs.lemmas.Bool.{ltb-true}
+use Rattle.std.proofs.lemmas.Bool.Decides.{Decides-eqb}
+use Rattle.step_tables.specs.Mask.{squares_of}
+use Rattle.step_tables.specs.Step.{AtMostInSight}
+use Rattle.step_tables.specs.Test.{all_below, any_below, is_in_sight}
+use Rattle.step_tables.specs.Piece.{queen_directions}
+use Rattle.step_tables.proofs.Test.{all_below-at, Decides-is_in_sight}
+
+abbrev in_sight : ℕ → List ℕ
+in_sight a = filter (is_in_sight queen_directions a) (range_with_len 0 64)
+
+few : all_below (λ a. nat_lt (length (in_sight a)) 28) 64 ≡ true
+unfolding all_below any_below
+few = refl
+
+pub length-in_sight : (a : ℕ) → a < 64 → length (in_sight a) ≤ 27
+length-in_sight a h = let low = ltb-true _ _ (all_below-at (λ k. nat_lt (length (in_sight k)) 28) 64 few a h) in omega (arith, low)
+
+-- a stronger test keeps no more numbers
+length-filter-le : (p q : ℕ → Bool) (a n : ℕ) → ((i : ℕ) → i < a + n → p i ≡ true → q i ≡ true)
+    → length (filter p (range_with_len a n)) ≤ length (filter q (range_with_len a n))
+length-filter-le p q a zero stronger = omega arith
+length-filter-le p q a (suc n) stronger =
+    by (p a) (q a) (stronger a (omega arith)) (length-filter-le p q (a + 1) n (λ i h. stronger i (omega arith)))
+  where
+    by : (s t : Bool) → (s ≡ true → t ≡ true)
+        → length (filter p (range_with_len (a + 1) n)) ≤ length (filter q (range_with_len (a + 1) n))
+        → length (cond s (a ∷ filter p (range_with_len (a + 1) n)) (filter p (range_with_len (a + 1) n)))
+        ≤ length (cond t (a ∷ filter q (range_with_len (a + 1) n)) (filter q (range_with_len (a + 1) n)))
+    by true true f h = omega (arith, h)
+    by true false f h = absurd (true≢false (sym (f refl)))
+    by false true f h = omega (arith, h)
+    by false false f h = h
+
+pub AtMostInSight-queen : AtMostInSight queen_directions 27
+unfolding squares_of
+AtMostInSight-queen a mask on_board within =
+    let most = length-filter-le (λ b. bit_at mask b == 1) (is_in_sight queen_directions a) 0 64
+    (λ i h set. (Decides-is_in_sight queen_directions a i).1 (within i (omega (arith, h)) ((Decides-eqb _ _).0 set))) in
+    let bound = length-in_sight a on_board in
+    omega (arith, most, bound)

@@ -1,0 +1,216 @@
+-- The steps of each piece by file and rank, each checked on all pairs of squares.
+use Rattle.std.proofs.Common.{◌≡◌, ◌↔◌, ℕ, ◌+◌, ◌<◌, ◌≤◌, Bool, true, ◌&&◌, ◌||◌, ◌==◌, nat_lt, refl, sym, ◌∙◌, arith}
+use Rattle.std.specs.Bool.{Decides}
+use Rattle.std.specs.Cmp.{booleans_Decides}
+use Rattle.std.proofs.Math.Bool.{not, beq}
+use Rattle.std.proofs.lemmas.Bool.Decides.{Decides-and, Decides-or, Decides-eqb, Decides-ltb, Decides-not, Decides-like}
+use Rattle.step_tables.specs.Squares.{file_of, rank_of, files_apart, ranks_apart, RookLine, BishopLine, QueenLine}
+use Rattle.step_tables.specs.Step.{IsReached, IsAhead, IsInSight}
+use Rattle.step_tables.specs.Test.{all_below, any_below, is_reached, is_ahead, is_in_sight}
+use Rattle.step_tables.specs.Piece.{north, north_east, east, south_east, south, south_west, west, north_west, knight_steps, king_steps, white_pawn_steps, black_pawn_steps, rook_directions, bishop_directions, queen_directions, KnightStep, KingStep, WhitePawnStep, BlackPawnStep}
+use Rattle.step_tables.proofs.Test.{all_below-at, Decides-is_reached, Decides-is_ahead, Decides-is_in_sight}
+
+-- one equivalence after another
+pub both : {P Q R : Type 0} → P ↔ Q → Q ↔ R → P ↔ R
+both f g = (λ x. g.0 (f.0 x), λ x. f.1 (g.1 x))
+
+-- two tests agree on all pairs of squares
+abbrev agree : (ℕ → ℕ → Bool) → (ℕ → ℕ → Bool) → Bool
+agree p q = all_below (λ a. all_below (λ b. beq (p a b) (q a b)) 64) 64
+
+rule : (p q : ℕ → ℕ → Bool) (P Q : Type 0) (a b : ℕ) → agree p q ≡ true → a < 64 → b < 64
+    → Decides (p a b) P → Decides (q a b) Q → P ↔ Q
+rule p q P Q a b e ha hb dp dq =
+    let same : p a b ≡ q a b = (booleans_Decides _ _).0
+    (all_below-at (λ k. beq (p a k) (q a k)) 64 (all_below-at (λ i. all_below (λ k. beq (p i k) (q i k)) 64) 64 e a ha) b hb) in
+    (λ x. dq.0 (sym same ∙ dp.1 x), λ x. dp.0 (same ∙ dq.1 x))
+
+abbrev is_knight_step : ℕ → ℕ → Bool
+is_knight_step a b = (files_apart a b == 1 && ranks_apart a b == 2) || (files_apart a b == 2 && ranks_apart a b == 1)
+
+agree-knight : agree (is_reached knight_steps) is_knight_step ≡ true
+unfolding all_below
+agree-knight = refl
+
+pub knight_rule : (a b : ℕ) → a < 64 → b < 64 → IsReached knight_steps a b ↔ KnightStep a b
+knight_rule a b ha hb =
+    rule (is_reached knight_steps) is_knight_step _ _ a b agree-knight ha hb (Decides-is_reached knight_steps a b)
+    (Decides-or _ _ (Decides-and _ _ (Decides-eqb _ _) (Decides-eqb _ _)) (Decides-and _ _ (Decides-eqb _ _) (Decides-eqb _ _)))
+
+Decides-le : (x y : ℕ) → Decides (nat_lt x (y + 1)) (x ≤ y)
+Decides-le x y = Decides-like _ (λ h. omega (arith, h)) (λ h. omega (arith, h)) (Decides-ltb x (y + 1))
+
+abbrev is_king_step : ℕ → ℕ → Bool
+is_king_step a b = nat_lt (files_apart a b) 2 && (nat_lt (ranks_apart a b) 2 && not (a == b))
+
+agree-king : agree (is_reached king_steps) is_king_step ≡ true
+unfolding all_below
+agree-king = refl
+
+pub king_rule : (a b : ℕ) → a < 64 → b < 64 → IsReached king_steps a b ↔ KingStep a b
+king_rule a b ha hb =
+    let test = Decides-and _ _ (Decides-le (files_apart a b) 1)
+    (Decides-and _ _ (Decides-le (ranks_apart a b) 1) (Decides-not _ (Decides-eqb a b))) in
+    both (rule (is_reached king_steps) is_king_step _ _ a b agree-king ha hb (Decides-is_reached king_steps a b) test)
+    (λ h. (h.0, h.1.0, h.1.1), λ h. (h.0, (h.1, h.2)))
+
+abbrev is_white_pawn_step : ℕ → ℕ → Bool
+is_white_pawn_step a b = rank_of b == rank_of a + 1 && files_apart a b == 1
+
+agree-white_pawn : agree (is_reached white_pawn_steps) is_white_pawn_step ≡ true
+unfolding all_below
+agree-white_pawn = refl
+
+pub white_pawn_rule : (a b : ℕ) → a < 64 → b < 64 → IsReached white_pawn_steps a b ↔ WhitePawnStep a b
+white_pawn_rule a b ha hb =
+    rule (is_reached white_pawn_steps) is_white_pawn_step _ _ a b agree-white_pawn ha hb
+    (Decides-is_reached white_pawn_steps a b) (Decides-and _ _ (Decides-eqb _ _) (Decides-eqb _ _))
+
+abbrev is_black_pawn_step : ℕ → ℕ → Bool
+is_black_pawn_step a b = rank_of a == rank_of b + 1 && files_apart a b == 1
+
+agree-black_pawn : agree (is_reached black_pawn_steps) is_black_pawn_step ≡ true
+unfolding all_below
+agree-black_pawn = refl
+
+pub black_pawn_rule : (a b : ℕ) → a < 64 → b < 64 → IsReached black_pawn_steps a b ↔ BlackPawnStep a b
+black_pawn_rule a b ha hb =
+    rule (is_reached black_pawn_steps) is_black_pawn_step _ _ a b agree-black_pawn ha hb
+    (Decides-is_reached black_pawn_steps a b) (Decides-and _ _ (Decides-eqb _ _) (Decides-eqb _ _))
+
+abbrev pub is_rook_line : ℕ → ℕ → Bool
+is_rook_line a b = (files_apart a b == 0 || ranks_apart a b == 0) && not (a == b)
+
+abbrev pub is_bishop_line : ℕ → ℕ → Bool
+is_bishop_line a b = files_apart a b == ranks_apart a b && not (a == b)
+
+pub Decides-is_rook_line : (a b : ℕ) → Decides (is_rook_line a b) (RookLine a b)
+Decides-is_rook_line a b = Decides-and _ _ (Decides-or _ _ (Decides-eqb _ _) (Decides-eqb _ _)) (Decides-not _ (Decides-eqb a b))
+
+pub Decides-is_bishop_line : (a b : ℕ) → Decides (is_bishop_line a b) (BishopLine a b)
+Decides-is_bishop_line a b = Decides-and _ _ (Decides-eqb _ _) (Decides-not _ (Decides-eqb a b))
+
+agree-rook : agree (is_in_sight rook_directions) is_rook_line ≡ true
+unfolding all_below any_below
+agree-rook = refl
+
+pub rook_rule : (a b : ℕ) → a < 64 → b < 64 → IsInSight rook_directions a b ↔ RookLine a b
+rook_rule a b ha hb =
+    rule (is_in_sight rook_directions) is_rook_line _ _ a b agree-rook ha hb (Decides-is_in_sight rook_directions a b)
+    (Decides-is_rook_line a b)
+
+agree-bishop : agree (is_in_sight bishop_directions) is_bishop_line ≡ true
+unfolding all_below any_below
+agree-bishop = refl
+
+pub bishop_rule : (a b : ℕ) → a < 64 → b < 64 → IsInSight bishop_directions a b ↔ BishopLine a b
+bishop_rule a b ha hb =
+    rule (is_in_sight bishop_directions) is_bishop_line _ _ a b agree-bishop ha hb
+    (Decides-is_in_sight bishop_directions a b) (Decides-is_bishop_line a b)
+
+agree-queen : agree (is_in_sight queen_directions) (λ a b. is_rook_line a b || is_bishop_line a b) ≡ true
+unfolding all_below any_below
+agree-queen = refl
+
+pub queen_rule : (a b : ℕ) → a < 64 → b < 64 → IsInSight queen_directions a b ↔ QueenLine a b
+queen_rule a b ha hb =
+    rule (is_in_sight queen_directions) (λ x y. is_rook_line x y || is_bishop_line x y) _ _ a b agree-queen ha hb
+    (Decides-is_in_sight queen_directions a b) (Decides-or _ _ (Decides-is_rook_line a b) (Decides-is_bishop_line a b))
+
+-- each line by itself
+
+abbrev is_north : ℕ → ℕ → Bool
+is_north a b = files_apart a b == 0 && nat_lt (rank_of a) (rank_of b)
+
+agree-north : agree (is_ahead north) is_north ≡ true
+unfolding all_below any_below
+agree-north = refl
+
+pub north_rule : (a b : ℕ) → a < 64 → b < 64 → IsAhead north a b ↔ ((files_apart a b ≡ 0) × (rank_of a < rank_of b))
+north_rule a b ha hb =
+    rule (is_ahead north) is_north _ _ a b agree-north ha hb (Decides-is_ahead north a b) (Decides-and _ _ (Decides-eqb _ _) (Decides-ltb _ _))
+
+abbrev is_east : ℕ → ℕ → Bool
+is_east a b = nat_lt (file_of a) (file_of b) && ranks_apart a b == 0
+
+agree-east : agree (is_ahead east) is_east ≡ true
+unfolding all_below any_below
+agree-east = refl
+
+pub east_rule : (a b : ℕ) → a < 64 → b < 64 → IsAhead east a b ↔ ((file_of a < file_of b) × (ranks_apart a b ≡ 0))
+east_rule a b ha hb =
+    rule (is_ahead east) is_east _ _ a b agree-east ha hb (Decides-is_ahead east a b) (Decides-and _ _ (Decides-ltb _ _) (Decides-eqb _ _))
+
+abbrev is_south : ℕ → ℕ → Bool
+is_south a b = files_apart a b == 0 && nat_lt (rank_of b) (rank_of a)
+
+agree-south : agree (is_ahead south) is_south ≡ true
+unfolding all_below any_below
+agree-south = refl
+
+pub south_rule : (a b : ℕ) → a < 64 → b < 64 → IsAhead south a b ↔ ((files_apart a b ≡ 0) × (rank_of b < rank_of a))
+south_rule a b ha hb =
+    rule (is_ahead south) is_south _ _ a b agree-south ha hb (Decides-is_ahead south a b) (Decides-and _ _ (Decides-eqb _ _) (Decides-ltb _ _))
+
+abbrev is_west : ℕ → ℕ → Bool
+is_west a b = nat_lt (file_of b) (file_of a) && ranks_apart a b == 0
+
+agree-west : agree (is_ahead west) is_west ≡ true
+unfolding all_below any_below
+agree-west = refl
+
+pub west_rule : (a b : ℕ) → a < 64 → b < 64 → IsAhead west a b ↔ ((file_of b < file_of a) × (ranks_apart a b ≡ 0))
+west_rule a b ha hb =
+    rule (is_ahead west) is_west _ _ a b agree-west ha hb (Decides-is_ahead west a b) (Decides-and _ _ (Decides-ltb _ _) (Decides-eqb _ _))
+
+abbrev is_north_east : ℕ → ℕ → Bool
+is_north_east a b = files_apart a b == ranks_apart a b && (nat_lt (file_of a) (file_of b) && nat_lt (rank_of a) (rank_of b))
+
+agree-north_east : agree (is_ahead north_east) is_north_east ≡ true
+unfolding all_below any_below
+agree-north_east = refl
+
+pub north_east_rule : (a b : ℕ) → a < 64 → b < 64 → IsAhead north_east a b ↔ ((files_apart a b ≡ ranks_apart a b) × (file_of a < file_of b) × (rank_of a < rank_of b))
+north_east_rule a b ha hb =
+    both (rule (is_ahead north_east) is_north_east _ _ a b agree-north_east ha hb (Decides-is_ahead north_east a b)
+    (Decides-and _ _ (Decides-eqb _ _) (Decides-and _ _ (Decides-ltb _ _) (Decides-ltb _ _))))
+    (λ h. (h.0, h.1.0, h.1.1), λ h. (h.0, (h.1, h.2)))
+
+abbrev is_south_east : ℕ → ℕ → Bool
+is_south_east a b = files_apart a b == ranks_apart a b && (nat_lt (file_of a) (file_of b) && nat_lt (rank_of b) (rank_of a))
+
+agree-south_east : agree (is_ahead south_east) is_south_east ≡ true
+unfolding all_below any_below
+agree-south_east = refl
+
+pub south_east_rule : (a b : ℕ) → a < 64 → b < 64 → IsAhead south_east a b ↔ ((files_apart a b ≡ ranks_apart a b) × (file_of a < file_of b) × (rank_of b < rank_of a))
+south_east_rule a b ha hb =
+    both (rule (is_ahead south_east) is_south_east _ _ a b agree-south_east ha hb (Decides-is_ahead south_east a b)
+    (Decides-and _ _ (Decides-eqb _ _) (Decides-and _ _ (Decides-ltb _ _) (Decides-ltb _ _))))
+    (λ h. (h.0, h.1.0, h.1.1), λ h. (h.0, (h.1, h.2)))
+
+abbrev is_south_west : ℕ → ℕ → Bool
+is_south_west a b = files_apart a b == ranks_apart a b && (nat_lt (file_of b) (file_of a) && nat_lt (rank_of b) (rank_of a))
+
+agree-south_west : agree (is_ahead south_west) is_south_west ≡ true
+unfolding all_below any_below
+agree-south_west = refl
+
+pub south_west_rule : (a b : ℕ) → a < 64 → b < 64 → IsAhead south_west a b ↔ ((files_apart a b ≡ ranks_apart a b) × (file_of b < file_of a) × (rank_of b < rank_of a))
+south_west_rule a b ha hb =
+    both (rule (is_ahead south_west) is_south_west _ _ a b agree-south_west ha hb (Decides-is_ahead south_west a b)
+    (Decides-and _ _ (Decides-eqb _ _) (Decides-and _ _ (Decides-ltb _ _) (Decides-ltb _ _))))
+    (λ h. (h.0, h.1.0, h.1.1), λ h. (h.0, (h.1, h.2)))
+
+abbrev is_north_west : ℕ → ℕ → Bool
+is_north_west a b = files_apart a b == ranks_apart a b && (nat_lt (file_of b) (file_of a) && nat_lt (rank_of a) (rank_of b))
+
+agree-north_west : agree (is_ahead north_west) is_north_west ≡ true
+unfolding all_below any_below
+agree-north_west = refl
+
+pub north_west_rule : (a b : ℕ) → a < 64 → b < 64 → IsAhead north_west a b ↔ ((files_apart a b ≡ ranks_apart a b) × (file_of b < file_of a) × (rank_of a < rank_of b))
+north_west_rule a b ha hb =
+    both (rule (is_ahead north_west) is_north_west _ _ a b agree-north_west ha hb (Decides-is_ahead north_west a b)
+    (Decides-and _ _ (Decides-eqb _ _) (Decides-and _ _ (Decides-ltb _ _) (Decides-ltb _ _))))
+    (λ h. (h.0, h.1.0, h.1.1), λ h. (h.0, (h.1, h.2)))
