@@ -1,0 +1,4 @@
+pub mod Ranked
+pub mod BestLaws
+pub mod Same
+pub mod Entries
