@@ -1,0 +1,126 @@
+-- A key byte by byte.
+use Rattle.std.proofs.Common.{◌≡◌, ℕ, zero, suc, ◌+◌, ◌*◌, ◌<◌, ◌⊎◌, inl, inr, List, [], ◌∷◌, ◌++◌, length, get_or, set, Option, None, refl, sym, ap, add-one, ◌∙◌, subst, arith}
+use Rattle.std.proofs.lemmas.List.{ext_get_or, length-set, get_or-set_same, get_or-set_other}
+use Rattle.std.proofs.lemmas.Grind.{common_steps}
+use Rattle.std.proofs.Math.Nat.{eq-or-lt_of_le}
+use Rattle.std.proofs.Math.ListN.{get_or-append}
+use Rattle.explorer_model.specs.declared.chess.Piece.{Piece}
+use Rattle.explorer_model.specs.Keys.{packed, man_code}
+
+-- the byte of two squares
+abbrev pub byte_of : Option Piece → Option Piece → ℕ
+byte_of low high = man_code low + 16 * man_code high
+
+-- byte k of the key of a board
+abbrev pub byte_at : List (Option Piece) → ℕ → ℕ
+byte_at squares k = byte_of (get_or squares (2 * k) None) (get_or squares (2 * k + 1) None)
+
+packed_at : (squares : List (Option Piece)) (k low d : ℕ) → low ≡ k + k → suc low < length squares
+    → get_or (packed squares) k d ≡ byte_of (get_or squares low None) (get_or squares (suc low) None)
+packed_at [] k low d e h = absurd (omega (arith, h))
+packed_at (a ∷ []) k low d e h = absurd (omega (arith, h))
+packed_at (a ∷ b ∷ squares) zero zero d e h = refl
+packed_at (a ∷ b ∷ squares) zero (suc low) d e h = absurd (omega (arith, e))
+packed_at (a ∷ b ∷ squares) (suc k) zero d e h = absurd (omega (arith, e))
+packed_at (a ∷ b ∷ squares) (suc k) (suc zero) d e h = absurd (omega (arith, e))
+packed_at (a ∷ b ∷ squares) (suc k) (suc (suc low)) d e h = packed_at squares k low d (omega (arith, e)) (omega (arith, h))
+
+packed_length : (squares : List (Option Piece)) (n : ℕ) → length squares ≡ n + n → length (packed squares) ≡ n
+packed_length [] n e = omega (arith, e)
+packed_length (a ∷ []) n e = absurd (omega (arith, e))
+packed_length (a ∷ b ∷ squares) zero e = absurd (omega (arith, e))
+packed_length (a ∷ b ∷ squares) (suc n) e = ap (λ m. suc m) (packed_length squares n (omega (arith, e)))
+
+-- a key before it is told what its last two bytes mean
+abbrev pub bytes_of : List (Option Piece) → ℕ → ℕ → List ℕ
+bytes_of squares state en_passant = packed squares ++ state ∷ en_passant ∷ []
+
+pub board_length : (squares : List (Option Piece)) → length squares ≡ 64 → length (packed squares) ≡ 32
+board_length squares board = packed_length squares 32 board
+
+pub bytes_of-board : (squares : List (Option Piece)) (state en_passant k : ℕ) → length squares ≡ 64 → k < 32
+    → get_or (bytes_of squares state en_passant) k 0 ≡ byte_at squares k
+bytes_of-board squares state en_passant k board below =
+    get_or-append (packed squares) _ 0 k (omega (arith, board_length squares board, below))
+    ∙ (packed_at squares k (2 * k) 0 (omega arith) (omega (arith, board, below))
+    ∙ ap (λ n. byte_of (get_or squares (2 * k) None) (get_or squares n None)) (sym (add-one (2 * k))))
+
+last_two : (xs : List ℕ) (y z n : ℕ) → length xs ≡ n → (get_or (xs ++ y ∷ z ∷ []) n 0 ≡ y) × (get_or (xs ++ y ∷ z ∷ []) (suc n) 0 ≡ z)
+last_two [] y z zero e = (refl, refl)
+last_two [] y z (suc n) e = absurd (omega (arith, e))
+last_two (x ∷ xs) y z zero e = absurd (omega (arith, e))
+last_two (x ∷ xs) y z (suc n) e = last_two xs y z n (omega (arith, e))
+
+pub bytes_of-state : (squares : List (Option Piece)) (state en_passant : ℕ) → length squares ≡ 64
+    → get_or (bytes_of squares state en_passant) 32 0 ≡ state
+bytes_of-state squares state en_passant board = (last_two (packed squares) _ _ 32 (board_length squares board)).0
+
+pub bytes_of-en_passant : (squares : List (Option Piece)) (state en_passant : ℕ) → length squares ≡ 64
+    → get_or (bytes_of squares state en_passant) 33 0 ≡ en_passant
+bytes_of-en_passant squares state en_passant board = (last_two (packed squares) _ _ 32 (board_length squares board)).1
+
+add_two : (xs : List ℕ) (y z n : ℕ) → length xs ≡ n → length (xs ++ y ∷ z ∷ []) ≡ n + 2
+add_two xs y z n e = grind (arith, common_steps, e)
+
+bytes_of-length : (squares : List (Option Piece)) (state en_passant : ℕ) → length squares ≡ 64 → length (bytes_of squares state en_passant) ≡ 34
+bytes_of-length squares state en_passant board = add_two (packed squares) _ _ 32 (board_length squares board)
+
+-- the last two places of 34
+place : (k : ℕ) → k < 34 → (k < 32) ⊎ (k ≡ 32) ⊎ (k ≡ 33)
+place k below = elim (eq-or-lt_of_le {n = k} {m = 33} (omega (arith, below))) [
+  | inl e ↦ inr (inr e)
+  | inr less ↦ elim (eq-or-lt_of_le {n = k} {m = 32} (omega (arith, less))) [
+    | inl e ↦ inr (inl e)
+    | inr below_both ↦ inl below_both
+  ]
+]
+
+-- 34 bytes are told one by one
+pub bytes_of-is : (squares : List (Option Piece)) (state en_passant : ℕ) (bytes : List ℕ) → length squares ≡ 64 → length bytes ≡ 34
+    → ((k : ℕ) → k < 32 → get_or bytes k 0 ≡ byte_at squares k)
+    → get_or bytes 32 0 ≡ state
+    → get_or bytes 33 0 ≡ en_passant
+    → bytes_of squares state en_passant ≡ bytes
+bytes_of-is squares state en_passant bytes board size men is_state is_en_passant =
+    ext_get_or 0 (bytes_of squares state en_passant) bytes (bytes_of-length squares state en_passant board ∙ sym size)
+    (λ k below. at k (subst (λ n. k < n) (bytes_of-length squares state en_passant board) below))
+  where
+    at : (k : ℕ) → k < 34 → get_or (bytes_of squares state en_passant) k 0 ≡ get_or bytes k 0
+    at k below = elim (place k below) [
+      | inl less ↦ bytes_of-board squares state en_passant k board less ∙ sym (men k less)
+      | inr (inl e) ↦
+          subst (λ n. get_or (bytes_of squares state en_passant) n 0 ≡ get_or bytes n 0) (sym e)
+          (bytes_of-state squares state en_passant board ∙ sym is_state)
+      | inr (inr e) ↦
+          subst (λ n. get_or (bytes_of squares state en_passant) n 0 ≡ get_or bytes n 0) (sym e)
+          (bytes_of-en_passant squares state en_passant board ∙ sym is_en_passant)
+    ]
+
+-- The loop over the bytes of a key that is read.
+
+byte_of-eq : {a b c d : Option Piece} → a ≡ c → b ≡ d → byte_of a b ≡ byte_of c d
+byte_of-eq e f = λ i. byte_of (e i) (f i)
+
+kept : (xs : List (Option Piece)) (i n : ℕ) (a b : Option Piece) → n < i → get_or (set (set xs i a) (i + 1) b) n None ≡ get_or xs n None
+kept xs i n a b less =
+    get_or-set_other (set xs i a) (i + 1) n b None (omega (arith, less)) ∙ get_or-set_other xs i n a None (omega (arith, less))
+
+first : (xs : List (Option Piece)) (i : ℕ) (a b : Option Piece) → i < length xs → get_or (set (set xs i a) (i + 1) b) i None ≡ a
+first xs i a b h = get_or-set_other (set xs i a) (i + 1) i b None (omega arith) ∙ get_or-set_same xs i a None h
+
+second : (xs : List (Option Piece)) (i : ℕ) (a b : Option Piece) → i + 1 < length xs → get_or (set (set xs i a) (i + 1) b) (i + 1) None ≡ b
+second xs i a b h = get_or-set_same (set xs i a) (i + 1) b None (omega (arith, h, length-set xs i a))
+
+-- the two squares of one more byte are written
+pub squares_written : (squares : List (Option Piece)) (bytes : List ℕ) (i : ℕ) (low high : Option Piece) → 2 * i + 1 < length squares
+    → get_or bytes i 0 ≡ byte_of low high
+    → ((k : ℕ) → k < i → get_or bytes k 0 ≡ byte_at squares k)
+    → (k : ℕ) → k < i + 1 → get_or bytes k 0 ≡ byte_at (set (set squares (2 * i) low) (2 * i + 1) high) k
+squares_written squares bytes i low high h is before k below = elim (eq-or-lt_of_le {n = k} {m = i} (omega (arith, below))) [
+  | inr less ↦
+      before k less
+      ∙ sym (byte_of-eq (kept squares (2 * i) (2 * k) low high (omega (arith, less))) (kept squares (2 * i) (2 * k + 1) low high (omega (arith, less))))
+  | inl e ↦
+      subst (λ n. get_or bytes n 0 ≡ byte_at (set (set squares (2 * i) low) (2 * i + 1) high) n) (sym e)
+      (is ∙ sym (byte_of-eq (first squares (2 * i) low high (omega (arith, h))) (second squares (2 * i) low high h)))
+]
