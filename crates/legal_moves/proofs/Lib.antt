@@ -1,0 +1,17 @@
+pub mod Writes
+pub mod Facts
+pub mod Victim
+pub mod Kept
+pub mod PlayLemmas
+pub mod TidyLemmas
+pub mod Sums
+pub mod Places
+pub mod Reach
+pub mod StartIsValid
+pub mod MaskFacts
+pub mod AttackMasks
+pub mod WrittenMasks
+pub mod OneKing
+pub mod Caps
+pub mod TargetLemmas
+pub mod Lists

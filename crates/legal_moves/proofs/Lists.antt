@@ -1,0 +1,203 @@
+-- How a list of the first legal moves grows.
+use Rattle.std.proofs.Common.{◌≡◌, ◌≢◌, ℕ, ◌+◌, ◌*◌, ◌<◌, ◌≤◌, ◌⊎◌, ◌↔◌, Bool, true, false, IsTrue, Option, Some, None, List, [], ◌∷◌, ◌++◌, length, get_or, refl, sym, ap, subst, inl, inr, arith}
+use Rattle.std.specs.List.{Contains, AllPairs, All}
+use Rattle.std.proofs.lemmas.List.Elements.{Contains-append_left, Contains-push, Contains-push_cases, Contains-get_or}
+use Rattle.std.proofs.lemmas.List.Quantifiers.{all_pairs_push}
+use Rattle.step_tables.specs.Mask.{HasBit}
+use Rattle.step_tables.proofs.MaskLemmas.{HasBit-zero}
+use Rattle.explorer_model.specs.declared.chess.Role.{Role}
+use Rattle.explorer_model.specs.declared.chess.Role.TheVariants.{Pawn, Knight, Bishop, Rook, Queen, King}
+use Rattle.explorer_model.specs.declared.chess.Position.{Position}
+use Rattle.explorer_model.specs.declared.chess.Move.{Move}
+use Rattle.explorer_model.specs.Board.{rank_of}
+use Rattle.explorer_model.specs.Chess.{IsValid, IsPromotion, Candidate, Legal, last_rank}
+use Rattle.legal_moves.specs.Listing.{promotion_place, place_of, ListsBelow}
+use Rattle.legal_moves.specs.Masks.{IsWithout}
+use Rattle.legal_moves.proofs.TargetLemmas.{legal_promotion}
+use Rattle.legal_moves.proofs.Places.{from_is, to_from, to_before, promotion_from, place_of-injective, place_of-lt}
+use Rattle.legal_moves.proofs.Caps.{legal_moves_few}
+
+lt_or_le : (a b : ℕ) → (a < b) ⊎ (b ≤ a)
+lt_or_le a b = search arith
+
+below_or_at : (a n : ℕ) → a < n + 1 → (a < n) ⊎ (a ≡ n)
+below_or_at a n h = elim (lt_or_le a n) [ inl less ↦ inl less | inr more ↦ inr (omega arith) ]
+
+none_contained : (m : Move) → Contains [] m → ⊥
+none_contained m c = let h : c.0 < 0 = c.1 in absurd (omega arith)
+
+pub lists-none : (p : Position) → ListsBelow p 0 []
+lists-none p = record {
+  sound = λ m c. absurd (none_contained m c);
+  below = λ m c. absurd (none_contained m c);
+  complete = λ m legal h. absurd (omega arith);
+  rising = λ i j d ij h. absurd (omega arith);
+}
+
+-- one more move, at the place that comes next
+pub lists-push : (p : Position) (m : Move) (moves : List Move) → ListsBelow p (place_of m) moves → Legal p m
+    → ListsBelow p (place_of m + 1) (moves ++ m ∷ [])
+lists-push p m moves l legal = record {
+  sound = λ x c. elim (Contains-push_cases moves m x c) [ inl old ↦ l.sound x old | inr new ↦ subst (Legal p) new legal ];
+  below = λ x c. elim (Contains-push_cases moves m x c) [
+    | inl old ↦ (let h : place_of x < place_of m = l.below x old in omega arith)
+    | inr new ↦ (let h : place_of m ≡ place_of x = ap place_of new in omega arith)
+  ];
+  complete = λ x x_legal h. elim (below_or_at (place_of x) (place_of m) h) [
+    | inl less ↦ Contains-append_left moves (m ∷ []) x (l.complete x x_legal less)
+    | inr equal ↦ subst (Contains (moves ++ m ∷ [])) (sym (place_of-injective x m equal)) (Contains-push moves m)
+  ];
+  rising = all_pairs_push (λ a b. place_of a < place_of b) moves m l.rising (λ k d h. l.below (get_or moves k d) (Contains-get_or moves k d h));
+}
+
+-- places on which no legal move stands
+pub lists-skip : (p : Position) (n k : ℕ) (moves : List Move) → ListsBelow p n moves → n ≤ k
+    → ((m : Move) → Legal p m → n ≤ place_of m → place_of m < k → ⊥)
+    → ListsBelow p k moves
+lists-skip p n k moves l more none = record {
+  sound = l.sound;
+  below = λ m c. (let h : place_of m < n = l.below m c in omega arith);
+  complete = λ m legal h. elim (lt_or_le (place_of m) n) [
+    | inl less ↦ l.complete m legal less
+    | inr above ↦ absurd (none m legal above h)
+  ];
+  rising = l.rising;
+}
+
+-- one place, on which a move stands that is not legal
+pub lists-pass : (p : Position) (m : Move) (moves : List Move) → ListsBelow p (place_of m) moves → ¬ Legal p m
+    → ListsBelow p (place_of m + 1) moves
+lists-pass p m moves l illegal =
+    lists-skip p (place_of m) (place_of m + 1) moves l (omega arith)
+    (λ x legal above below. illegal (subst (Legal p) (place_of-injective x m (omega arith)) legal))
+
+-- What the whole list has.
+
+pub all-each : (p : Position) (n : ℕ) (moves : List Move) → 32768 ≤ n → ListsBelow p n moves → (m : Move) → Contains moves m ↔ Legal p m
+all-each p n moves all l m = (
+  λ c. l.sound m c,
+  λ legal. l.complete m legal (let h : place_of m < 32768 = place_of-lt m in omega arith),
+)
+
+places_apart : (a b : Move) → place_of a < place_of b → a ≢ b
+places_apart a b less e = let same : place_of a ≡ place_of b = ap place_of e in omega arith
+
+pub all-once : (p : Position) (n : ℕ) (moves : List Move) → ListsBelow p n moves → AllPairs (λ a b. a ≢ b) moves
+all-once p n moves l i j d before inside = places_apart _ _ (l.rising i j d before inside)
+
+pub all-sound : (p : Position) (n : ℕ) (moves : List Move) → ListsBelow p n moves → All (λ m. Legal p m) moves
+all-sound p n moves l k d inside = l.sound _ (Contains-get_or moves k d inside)
+
+pub lists-few : (p : Position) (n : ℕ) (moves : List Move) → IsValid p → ListsBelow p n moves → length moves ≤ 415
+lists-few p n moves valid l = legal_moves_few p moves valid l.rising l.sound
+
+-- there is room for one more
+pub lists-room : (p : Position) (m : Move) (moves : List Move) → IsValid p → ListsBelow p (place_of m) moves → Legal p m → length moves < 416
+lists-room p m moves valid l legal = let few : length moves ≤ 415 = lists-few p (place_of m) moves valid l in omega arith
+
+-- A list without moves.
+
+pub some_listed : (p : Position) (n : ℕ) (moves : List Move) → ListsBelow p n moves → (length moves ≡ 0 → ⊥) → (m : Move) × Legal p m
+some_listed p n [] l some = absurd (some refl)
+some_listed p n (m ∷ moves) l some = (m, l.sound m (0, omega arith, refl))
+
+pub none_listed : (p : Position) (n : ℕ) → 32768 ≤ n → ListsBelow p n [] → (m : Move) × Legal p m → ⊥
+none_listed p n all l some =
+    none_contained some.0 (l.complete some.0 some.1 (let h : place_of some.0 < 32768 = place_of-lt some.0 in omega arith))
+
+pub is_empty : (moves : List Move) → length moves ≡ 0 → moves ≡ []
+is_empty [] e = refl
+is_empty (m ∷ moves) e = absurd (omega arith)
+
+-- The moves from one square to another.
+
+promotion_last : (o : Option Role) → IsPromotion o → (1 ≤ promotion_place o) × (promotion_place o < 5)
+promotion_last None h = absurd h
+promotion_last (Some Pawn) h = absurd h
+promotion_last (Some Knight) h = (omega arith, omega arith)
+promotion_last (Some Bishop) h = (omega arith, omega arith)
+promotion_last (Some Rook) h = (omega arith, omega arith)
+promotion_last (Some Queen) h = (omega arith, omega arith)
+promotion_last (Some King) h = absurd h
+
+no_promotion : (p : Position) (m : Move) (n : ℕ) → Legal p m → 1 ≤ n → n ≤ promotion_place m.promotion → (n ≡ 5) ⊎ (rank_of m.to.index ≢ last_rank p.turn) → ⊥
+no_promotion p m n legal some high last = elim (legal_promotion p m legal) [
+  | inl none ↦ (let e : promotion_place m.promotion ≡ 0 = ap promotion_place none in omega arith)
+  | inr h ↦ elim last [
+    | inl five ↦ (let low : promotion_place m.promotion < 5 = (promotion_last m.promotion h.1).1 in omega arith)
+    | inr apart ↦ apart h.0
+  ]
+]
+
+-- after the moves that promote nothing, where the square is on no last rank, or after the promotions
+pub lists-between : (p : Position) (from to n : ℕ) (moves : List Move) → to < 64 → 1 ≤ n → n < 8 → (n ≡ 5) ⊎ (rank_of to ≢ last_rank p.turn)
+    → ListsBelow p (512 * from + 8 * to + n) moves → ListsBelow p (512 * from + 8 * to + 8) moves
+lists-between p from to n moves on some few last l =
+    lists-skip p (512 * from + 8 * to + n) (512 * from + 8 * to + 8) moves l (omega arith)
+    (λ m legal low high.
+    let parts : (m.from.index ≡ from) × (m.to.index ≡ to) × (n ≤ promotion_place m.promotion) = promotion_from m from to n on few low high in
+    let P : ℕ → Type 0 = λ s. (n ≡ 5) ⊎ (rank_of s ≢ last_rank p.turn) in
+    no_promotion p m n legal some parts.2 (subst P (sym parts.1) last))
+
+-- The moves from one square, by the squares that are left in a set of those that they may end on.
+
+pub record IsWalked (p : Position) (from rest : ℕ) (moves : List Move) : Type 0 where
+  pub at : ℕ
+  pub at_most : at ≤ 64
+  pub lists : ListsBelow p (512 * from + 8 * at) moves
+  pub left : (m : Move) → m.from.index ≡ from → Legal p m → at ≤ m.to.index → HasBit rest m.to.index
+  pub above : (b : ℕ) → b < 64 → HasBit rest b → at ≤ b
+
+pub walked-none : (p : Position) (from rest : ℕ) (moves : List Move) → ListsBelow p (512 * from) moves
+    → ((m : Move) → m.from.index ≡ from → Candidate p m → HasBit rest m.to.index) → IsWalked p from rest moves
+walked-none p from rest moves l all = record {
+  at = 0;
+  at_most = omega arith;
+  lists = (let P : ℕ → Type 0 = λ n. ListsBelow p n moves in let e : 512 * from ≡ 512 * from + 8 * 0 = omega arith in subst P e l);
+  left = λ m here legal _. all m here legal.0;
+  above = λ b on bit. omega arith;
+}
+
+-- up to the next square that is left
+pub walked-to : (p : Position) (from rest to : ℕ) (moves : List Move) (w : IsWalked p from rest moves) → w.at ≤ to → to ≤ 64
+    → ((b : ℕ) → b < to → ¬ HasBit rest b) → ListsBelow p (512 * from + 8 * to) moves
+walked-to p from rest to moves w ahead on none =
+    lists-skip p (512 * from + 8 * w.at) (512 * from + 8 * to) moves w.lists (let h : w.at ≤ to = ahead in omega arith)
+    (λ m legal low high.
+    let here : m.from.index ≡ from = from_is m from (let h : 512 * from + 8 * w.at ≤ place_of m = low in omega arith) (let h : place_of m < 512 * from + 8 * to = high in omega arith) in
+    none m.to.index (to_before m from to here high) (w.left m here legal (to_from m from w.at here low)))
+
+pub walked-next : (p : Position) (from rest less to : ℕ) (moves more : List Move) → IsWalked p from rest moves → to < 64
+    → ((b : ℕ) → b < to → ¬ HasBit rest b) → HasBit rest to → IsWithout rest to less
+    → ListsBelow p (512 * from + 8 * to + 8) more → IsWalked p from less more
+walked-next p from rest less to moves more w on lowest within without l = record {
+  at = to + 1;
+  at_most = omega arith;
+  lists = (let P : ℕ → Type 0 = λ n. ListsBelow p n more in let e : 512 * from + 8 * to + 8 ≡ 512 * from + 8 * (to + 1) = omega arith in subst P e l);
+  left = λ m here legal beyond.
+      let start : w.at ≤ to = w.above to on within in
+      let before : w.at ≤ m.to.index = omega arith in
+      (without m.to.index m.to.on_board).1 (w.left m here legal before, λ e. omega arith);
+  above = λ b b_on bit.
+      let old : HasBit rest b × (b ≡ to → ⊥) = (without b b_on).0 bit in
+      beyond_it b to (λ below. lowest b below old.0) old.1;
+}
+  where
+    beyond_it : (b to : ℕ) → (b < to → ⊥) → (b ≡ to → ⊥) → to + 1 ≤ b
+    beyond_it b to above apart = omega arith
+
+pub walked-all : (p : Position) (from rest : ℕ) (moves : List Move) → IsWalked p from rest moves → rest ≡ 0
+    → ListsBelow p (512 * from + 512) moves
+walked-all p from rest moves w none =
+    let P : ℕ → Type 0 = λ n. ListsBelow p n moves in
+    let e : 512 * from + 8 * 64 ≡ 512 * from + 512 = omega arith in
+    subst P e (walked-to p from rest 64 moves w w.at_most (omega arith)
+    (λ b _ bit. HasBit-zero b (let Q : ℕ → Type 0 = λ x. HasBit x b in subst Q none bit)))
+
+-- What a test says.
+
+pub some-true : (b : Bool) (P : Type 0) → IsTrue b ↔ P → b ≡ true → P
+some-true b P says e = says.0 e
+
+pub none-false : (b : Bool) (P : Type 0) → IsTrue b ↔ P → b ≡ false → ¬ P
+none-false b P says e holds = let yes : b ≡ true = says.1 holds in cc

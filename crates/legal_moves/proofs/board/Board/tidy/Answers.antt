@@ -1,0 +1,18 @@
+use Rattle.std.proofs.Common.{refl, subst}
+use Rattle.explorer_model.specs.declared.chess.Position.{Position}
+use Rattle.legal_moves.specs.Tidy.{IsTidied}
+use Rattle.legal_moves.proofs.TidyLemmas.{tidied_valid}
+use Rattle.legal_moves.proofs.board.Board.tidy.Goals as goal
+
+pub invariant_of-result : goal.invariant_of-result
+invariant_of-result c = tidied_valid c.self.inside.position c.open_en_passant.result c.self.invariant c.open_en_passant.ensures
+
+pub returns : goal.returns
+returns c =
+    let P : Position → Type 0 = λ p. IsTidied p record {
+      squares = c.self.inside.position.squares;
+      turn = c.self.inside.position.turn;
+      rights = c.self.inside.position.rights;
+      en_passant = c.open_en_passant.result;
+    } in
+    subst P c.self.view_is (record { squares = refl; turn = refl; rights = refl; en_passant = c.open_en_passant.ensures })

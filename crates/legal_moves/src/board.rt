@@ -1,0 +1,121 @@
+//! A board, seen as its position, which is valid.
+ghost use Rattle.std.specs.Prelude.{◌≡◌, ◌≢◌, ◌≤◌, ◌↔◌, IsTrue, IfSome, IsSome, length};
+ghost use Rattle.std.specs.List.{All, AllPairs, Contains};
+ghost use Rattle.explorer_model.specs.declared.chess.Move.{Move};
+ghost use Rattle.explorer_model.specs.Board.{InCheck};
+ghost use Rattle.explorer_model.specs.Chess.{IsValid, Legal, after, start};
+ghost use Rattle.legal_moves.specs.Tidy.{IsTidied};
+
+use crate::generate;
+use crate::play::squares_played;
+use crate::sight::Sight;
+use arrayvec::ArrayVec;
+use explorer_model::chess::{Move, Position};
+use explorer_model::plain::board::opponent;
+use explorer_model::plain::legal::open_en_passant;
+use explorer_model::plain::play::{en_passant_after, rights_after};
+use explorer_model::plain::valid::{is_valid, start};
+use std::marker::Model;
+
+/// A valid position, ready to be asked for its moves.
+#[derive(Clone, Copy, Debug)]
+pub struct Board {
+    position: Position,
+}
+
+impl Model for Board {
+    ghost use Rattle.explorer_model.specs.declared.chess.Position.{Position};
+    ghost use Rattle.explorer_model.specs.Chess.{IsValid};
+
+    ghost Value = { Position };
+
+    ghost view = { λ b. b.position };
+
+    ghost invariant = { λ b. IsValid b.position };
+
+    ghost inverse = { λ p. record { position = p } };
+}
+
+impl Board {
+    /// The starting position (FIDE 2.3), with all four rights.
+    pub fn start() -> Board
+        ensures { result ≡ start }
+    {
+        Board { position: start() }
+    }
+
+    /// The board of a position; `None` exactly where the position is not valid.
+    pub fn of(position: &Position) -> Option<Board>
+        ensures same { IfSome result (λ board. board ≡ position.now) }
+        ensures valid { IsSome result ↔ IsValid position.now }
+    {
+        if is_valid(position) {
+            Some(Board {
+                position: *position,
+            })
+        } else {
+            None
+        }
+    }
+
+    pub fn position(&self) -> Position
+        ensures same { result ≡ self.now }
+        ensures valid { IsValid result }
+    {
+        self.position
+    }
+
+    /// Is the side to move in check (FIDE 3.9.1)?
+    pub fn checked(&self) -> bool
+        ensures { IsTrue result ↔ InCheck self.now.squares self.now.turn }
+    {
+        Sight::of(&self.position).in_check(&self.position)
+    }
+
+    /// Every legal move, in no stated order. There are never more than 415: fifteen men have at
+    /// most 27 moves each, and a king has at most 10.
+    pub fn legal(&self) -> ArrayVec<Move, 416>
+        ensures each { (m : Move) → Contains result.items m ↔ Legal self.now m }
+        ensures once { AllPairs (λ a b. a ≢ b) result.items }
+        ensures sound { All (λ m. Legal self.now m) result.items }
+        ensures few { length result.items ≤ 415 }
+    {
+        generate::legal(&self.position)
+    }
+
+    /// Is there a legal move? This stops at the first square from which there is one.
+    pub fn has_move(&self) -> bool
+        ensures { IsTrue result ↔ ((m : Move) × Legal self.now m) }
+    {
+        generate::has_move(&self.position)
+    }
+
+    /// The board after a legal move.
+    pub fn play(&self, step: Move) -> Board
+        requires { Legal self.now step }
+        ensures { result ≡ after self.now step }
+    {
+        let position = &self.position;
+        Board {
+            position: Position {
+                squares: squares_played(position, step),
+                turn: opponent(position.turn),
+                rights: rights_after(position, step),
+                en_passant: en_passant_after(position, step),
+            },
+        }
+    }
+
+    /// The board whose en passant square stays only where a pawn can legally be taken there. Two
+    /// positions are the same (FIDE 9.2.3) exactly where their tidy boards are equal.
+    pub fn tidy(&self) -> Board
+        ensures { IsTidied self.now result }
+    {
+        Board {
+            position: Position {
+                en_passant: open_en_passant(&self.position),
+                ..self.position
+            },
+        }
+    }
+}

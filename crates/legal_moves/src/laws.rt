@@ -1,0 +1,16 @@
+//! Laws of the definitions. Each is the contract of a function that has nothing to do.
+ghost use Rattle.std.specs.Prelude.{◌≡◌, ◌↔◌};
+ghost use Rattle.explorer_model.specs.declared.chess.Move.{Move};
+ghost use Rattle.explorer_model.specs.declared.chess.Position.{Position};
+ghost use Rattle.explorer_model.specs.Chess.{IsValid, Legal, after, Same};
+ghost use Rattle.legal_moves.specs.Tidy.{IsTidied};
+
+/// A legal move on a valid position leaves a valid position.
+pub fn legal_moves_keep_validity()
+    ensures { (p : Position) (m : Move) → IsValid p → Legal p m → IsValid (after p m) }
+{}
+
+/// Two positions are the same exactly where their tidy forms are equal.
+pub fn tidy_forms_decide_same()
+    ensures { (p q p_tidied q_tidied : Position) → IsTidied p p_tidied → IsTidied q q_tidied → Same p q ↔ (p_tidied ≡ q_tidied) }
+{}

@@ -1,0 +1,30 @@
+//! Playing a move: what leaves, what goes and what arrives.
+ghost use Rattle.std.specs.Prelude.{◌≡◌};
+ghost use Rattle.explorer_model.specs.Chess.{IsValid, squares_after};
+
+use explorer_model::chess::{Move, Piece, Position, Role};
+use explorer_model::plain::board::man_of;
+use explorer_model::plain::geometry::halfway;
+use explorer_model::plain::play::{
+    arriving, castling_side, is_castling, passed_pawn, takes_en_passant,
+};
+use explorer_model::plain::valid::rook_home;
+
+/// The squares after a move, in at most four writes: a rook that castles goes first, or a pawn
+/// that is taken en passant.
+pub fn squares_played(position: &Position, step: Move) -> [Option<Piece>; 64]
+    requires { IsValid position.now }
+    ensures { result ≡ squares_after position.now step }
+{
+    let (from, to) = (step.from.index, step.to.index);
+    let mut squares = position.squares;
+    if takes_en_passant(position, step) {
+        squares[passed_pawn(step) as usize] = None;
+    } else if is_castling(position, step) {
+        squares[halfway(from, to) as usize] = man_of(position.turn, Role::Rook);
+        squares[rook_home(position.turn, castling_side(step)) as usize] = None;
+    }
+    squares[from as usize] = None;
+    squares[to as usize] = arriving(position.squares[from as usize], step.promotion);
+    squares
+}

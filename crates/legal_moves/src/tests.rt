@@ -1,0 +1,226 @@
+//! Boards against what the Laws of Chess say of a few moves.
+mod legal;
+
+use crate::board::Board;
+use explorer_model::chess::{Color, Move, Piece, Position, Rights, Role};
+use explorer_model::plain::legal::is_legal;
+use explorer_model::plain::valid::start;
+use explorer_model::square::Square;
+
+const NO_RIGHTS: Rights = Rights {
+    white_short: false,
+    white_long: false,
+    black_short: false,
+    black_long: false,
+};
+
+const WHITE_RIGHTS: Rights = Rights {
+    white_short: true,
+    white_long: true,
+    black_short: false,
+    black_long: false,
+};
+
+const BLACK_LONG: Rights = Rights {
+    white_short: false,
+    white_long: false,
+    black_short: false,
+    black_long: true,
+};
+
+const ALL_RIGHTS: Rights = Rights {
+    white_short: true,
+    white_long: true,
+    black_short: true,
+    black_long: true,
+};
+
+/// The man that a letter of FEN names.
+fn man(letter: u8) -> Option<Piece> {
+    let color = if letter.is_ascii_uppercase() {
+        Color::White
+    } else {
+        Color::Black
+    };
+    let role = match letter.to_ascii_lowercase() {
+        b'p' => Role::Pawn,
+        b'n' => Role::Knight,
+        b'b' => Role::Bishop,
+        b'r' => Role::Rook,
+        b'q' => Role::Queen,
+        _ => Role::King,
+    };
+    Some(Piece { color, role })
+}
+
+/// The men that the first field of a FEN text places.
+fn men(placement: &str) -> [Option<Piece>; 64] {
+    let mut squares = [None; 64];
+    // FEN goes from a8 to h8, and ends with h1.
+    let mut place = 0u8;
+    for letter in placement.bytes() {
+        match letter {
+            b'/' => {}
+            b'1'..=b'8' => place = place.wrapping_add(letter - b'0'),
+            _ => {
+                squares[(place ^ 56) as usize % 64] = man(letter);
+                place = place.wrapping_add(1);
+            }
+        }
+    }
+    squares
+}
+
+/// The square that is written by a file and a rank, as `e4`.
+fn square(name: &[u8; 2]) -> Square {
+    let file = name[0].wrapping_sub(b'a') % 8;
+    let rank = name[1].wrapping_sub(b'1') % 8;
+    Square {
+        index: 8 * rank + file,
+    }
+}
+
+fn position(placement: &str, turn: Color, rights: Rights, en_passant: Option<Square>) -> Position {
+    Position {
+        squares: men(placement),
+        turn,
+        rights,
+        en_passant,
+    }
+}
+
+/// The position after a legal move on a valid position.
+fn played(at: &Position, name: &[u8; 4], promotion: Option<Role>) -> Option<Position> {
+    let board = Board::of(at)?;
+    let step = Move {
+        from: square(&[name[0], name[1]]),
+        to: square(&[name[2], name[3]]),
+        promotion,
+    };
+    if is_legal(&board.position(), step) {
+        Some(board.play(step).position())
+    } else {
+        None
+    }
+}
+
+fn is_equal(a: &Position, b: &Position) -> bool {
+    a.squares == b.squares
+        && a.turn == b.turn
+        && a.rights == b.rights
+        && a.en_passant == b.en_passant
+}
+
+#[test]
+fn moves_leave_what_the_laws_say(rt: HostRuntime) {
+    let corners = "r3k2r/8/8/8/8/8/8/R3K2R";
+    let advance = "rnbqkbnr/ppp2ppp/4p3/3pP3/8/8/PPPP1PPP/RNBQKBNR";
+    let (white, black) = (Color::White, Color::Black);
+    for (at, name, promotion, left) in [
+        (
+            start(),
+            b"e2e4",
+            None,
+            position(
+                "rnbqkbnr/pppppppp/8/8/4P3/8/PPPP1PPP/RNBQKBNR",
+                black,
+                ALL_RIGHTS,
+                Some(square(b"e3")),
+            ),
+        ),
+        (
+            position(corners, white, WHITE_RIGHTS, None),
+            b"e1g1",
+            None,
+            position("r3k2r/8/8/8/8/8/8/R4RK1", black, NO_RIGHTS, None),
+        ),
+        (
+            position(corners, black, ALL_RIGHTS, None),
+            b"e8c8",
+            None,
+            position("2kr3r/8/8/8/8/8/8/R3K2R", white, WHITE_RIGHTS, None),
+        ),
+        (
+            position(advance, white, ALL_RIGHTS, Some(square(b"d6"))),
+            b"e5d6",
+            None,
+            position(
+                "rnbqkbnr/ppp2ppp/3Pp3/8/8/8/PPPP1PPP/RNBQKBNR",
+                black,
+                ALL_RIGHTS,
+                None,
+            ),
+        ),
+        (
+            position(
+                "4k3/8/8/8/3Pp3/8/8/4K3",
+                black,
+                NO_RIGHTS,
+                Some(square(b"d3")),
+            ),
+            b"e4d3",
+            None,
+            position("4k3/8/8/8/8/3p4/8/4K3", white, NO_RIGHTS, None),
+        ),
+        (
+            position("r3k3/1P6/8/8/8/8/8/4K3", white, BLACK_LONG, None),
+            b"b7a8",
+            Some(Role::Queen),
+            position("Q3k3/8/8/8/8/8/8/4K3", black, NO_RIGHTS, None),
+        ),
+    ] {
+        let is_left = match played(&at, name, promotion) {
+            Some(after) => is_equal(&after, &left),
+            None => false,
+        };
+        assert!(rt; is_left);
+    }
+}
+
+#[test]
+fn an_en_passant_square_stays_where_a_pawn_can_be_taken(rt: HostRuntime) {
+    for (placement, turn, crossed, kept) in [
+        (
+            "rnbqkbnr/ppp2ppp/4p3/3pP3/8/8/PPPP1PPP/RNBQKBNR",
+            Color::White,
+            b"d6",
+            true,
+        ),
+        // No black pawn stands beside e4.
+        (
+            "rnbqkbnr/pppppppp/8/8/4P3/8/PPPP1PPP/RNBQKBNR",
+            Color::Black,
+            b"e3",
+            false,
+        ),
+        // Both pawns would leave the rank of the rook and the king.
+        ("8/2p5/3p4/KP5r/1R2Pp1k/8/6P1/8", Color::Black, b"e3", false),
+    ] {
+        let without = position(placement, turn, NO_RIGHTS, None);
+        let with = Position {
+            en_passant: Some(square(crossed)),
+            ..without
+        };
+        let tidied = if kept { with } else { without };
+        for at in [with, without] {
+            let wanted = if at.en_passant.is_none() {
+                without
+            } else {
+                tidied
+            };
+            let is_tidied = match Board::of(&at) {
+                Some(board) => is_equal(&board.tidy().position(), &wanted),
+                None => false,
+            };
+            assert!(rt; is_tidied);
+        }
+    }
+}
+
+#[test]
+fn the_waiting_side_is_not_in_check(rt: HostRuntime) {
+    for (turn, valid) in [(Color::Black, true), (Color::White, false)] {
+        let at = position("4k3/8/8/8/8/8/8/K3R3", turn, NO_RIGHTS, None);
+        assert_eq!(rt; Board::of(&at).is_some(), valid);
+    }
+}
