@@ -1,0 +1,9 @@
+pub mod Determined
+pub mod Law
+pub mod Listing
+pub mod Moves
+pub mod Reading
+pub mod Rivals
+pub mod Room
+pub mod Single
+pub mod Spelling
