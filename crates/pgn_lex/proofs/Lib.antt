@@ -1,0 +1,8 @@
+pub mod Meaning
+pub mod PlainLemmas
+pub mod Rows
+pub mod Runs
+pub mod Shapes
+pub mod Steps
+pub mod Strings
+pub mod Symbols

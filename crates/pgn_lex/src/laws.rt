@@ -1,0 +1,26 @@
+//! What the definitions of items and parts keep, of every text.
+
+ghost use Rattle.std.specs.Prelude.{◌≡◌, ◌<◌, ℕ, List, length, flat_map, IfOk, IfErr};
+ghost use Rattle.explorer_model.specs.Items.{items};
+ghost use Rattle.explorer_model.specs.Parts.{parts};
+ghost use Rattle.pgn_lex.specs.Laws.{StandInARow, StandApart};
+
+/// The items' texts, joined, are the text: no byte is left out, and none belongs to two items.
+pub fn items_join_to_the_text()
+    ensures { (text : List ℕ) → flat_map (λ item. item.text) (items text) ≡ text }
+{}
+
+/// Each item has a byte or more, and stands where the items before it end.
+pub fn items_stand_in_a_row()
+    ensures { (text : List ℕ) → StandInARow text 0 (items text) }
+{}
+
+/// Each token's text stands in the text at its place, behind the tokens before it.
+pub fn tokens_stand_apart()
+    ensures { (text : List ℕ) → IfOk (parts text) (λ found. StandApart text 0 found.tokens) }
+{}
+
+/// A fault's place is that of a byte of the text.
+pub fn faults_stand_in_the_text()
+    ensures { (text : List ℕ) → IfErr (parts text) (λ fault. fault.place < length text) }
+{}
