@@ -1,0 +1,15 @@
+//! What the tags of a text say of its game (PGN 8.1).
+#![tactic(auto)]
+
+mod bytes;
+mod event;
+mod rating;
+mod site;
+mod steps;
+mod tags;
+mod time;
+
+pub use steps::classes;
+
+#[cfg(test)]
+mod tests;

@@ -1,0 +1,127 @@
+ghost use Rattle.std.specs.Prelude.{◌≡◌, ok_or, option_map};
+ghost use Rattle.explorer_model.specs.declared.fault.TagFault.TheVariants.{Bad};
+ghost use Rattle.explorer_model.specs.Classes.{classes, name_of, outcome_of, asked, date_name};
+ghost use Rattle.explorer_model.specs.Stop.{Gives};
+
+use crate::event::mode_of;
+use crate::rating::{group_of, rating_of};
+use crate::site::id_of;
+use crate::tags::{is_from_start, is_standard, required, value_of};
+use crate::time::{control_of, month_of};
+use explorer_model::archive::{Classes, Outcome, Player, Tag, Tags};
+use explorer_model::fault::{Stop, TagFault, TagName};
+use explorer_model::text::Name;
+use std::alloc::Global;
+
+/// What the tags of a text say of its game, or the first fault in the order in which the archive
+/// asks for them.
+#[tactic(auto, unfolding(explorer_model::specs::Classes::classes))]
+pub fn classes(alloc: Global, tags: &Tags) -> Result<Classes, Stop<TagFault>>
+    ensures { Gives result (classes tags.now) }
+{
+    let tags = tags.as_slice();
+    if !is_standard(tags) {
+        return Err(Stop::Fault(TagFault::NotStandard));
+    }
+    if !is_from_start(tags) {
+        return Err(Stop::Fault(TagFault::SetUp));
+    }
+    let mode = mode_of(required(TagName::Event, tags)?);
+    let id = asked(TagName::Site, id_of(required(TagName::Site, tags)?))?;
+    let white = name_of(alloc, TagName::White, tags)?;
+    let black = name_of(alloc, TagName::Black, tags)?;
+    let outcome = outcome_of(required(TagName::Result, tags)?)?;
+    let white_rating = asked(
+        TagName::WhiteElo,
+        rating_of(required(TagName::WhiteElo, tags)?),
+    )?;
+    let black_rating = asked(
+        TagName::BlackElo,
+        rating_of(required(TagName::BlackElo, tags)?),
+    )?;
+    let speed = asked(
+        TagName::TimeControl,
+        control_of(required(TagName::TimeControl, tags)?),
+    )?;
+    let date = date_name(tags);
+    let month = asked(date, month_of(required(date, tags)?))?;
+    Ok(Classes {
+        id,
+        white: Player {
+            name: white,
+            rating: white_rating,
+        },
+        black: Player {
+            name: black,
+            rating: black_rating,
+        },
+        outcome,
+        mode,
+        speed,
+        group: group_of(white_rating, black_rating),
+        month,
+    })
+}
+
+/// What a tag's value stands for, where its rule allows it.
+fn asked<T: Copy>(name: TagName, meaning: Option<T>) -> Result<T, Stop<TagFault>>
+    ensures { Gives result (ok_or meaning (Bad name)) }
+{
+    match meaning {
+        Some(meaning) => Ok(meaning),
+        None => Err(Stop::Fault(TagFault::Bad { name })),
+    }
+}
+
+/// The name of a player.
+fn name_of(alloc: Global, name: TagName, tags: &[Tag]) -> Result<Name, Stop<TagFault>>
+    ensures { Gives result (asked name name_of tags.now) }
+{
+    match utf8_of(required(name, tags)?) {
+        Some(text) => Ok(Name::from_string(String::from_str(alloc, text)?)),
+        None => Err(Stop::Fault(TagFault::Bad { name })),
+    }
+}
+
+/// The text that the bytes are, where they are valid UTF-8.
+#[tactic(auto, unfolding(explorer_model::specs::Classes::name_of))]
+fn utf8_of(bytes: &[u8]) -> Option<&str>
+    ensures { option_map (λ text. text.now) result ≡ name_of bytes.now }
+{
+    match str::from_utf8(bytes) {
+        Ok(text) => Some(text),
+        Err(_) => None,
+    }
+}
+
+#[tactic(auto, unfolding(explorer_model::specs::Classes::outcome_of))]
+fn outcome_of(text: &[u8]) -> Result<Outcome, Stop<TagFault>>
+    ensures { Gives result (outcome_of text.now) }
+{
+    if text == b"1-0".as_slice() {
+        return Ok(Outcome::White);
+    }
+    if text == b"0-1".as_slice() {
+        return Ok(Outcome::Black);
+    }
+    if text == b"1/2-1/2".as_slice() {
+        return Ok(Outcome::Draw);
+    }
+    if text == b"*".as_slice() {
+        return Err(Stop::Fault(TagFault::UnknownResult));
+    }
+    Err(Stop::Fault(TagFault::Bad {
+        name: TagName::Result,
+    }))
+}
+
+/// The tag that dates the game: that of the date by UTC, where it is there or no other is.
+fn date_name(tags: &[Tag]) -> TagName
+    ensures { result ≡ date_name tags.now }
+{
+    if value_of(b"UTCDate", tags).is_none() && value_of(b"Date", tags).is_some() {
+        TagName::Date
+    } else {
+        TagName::UtcDate
+    }
+}
