@@ -1,0 +1,106 @@
+-- One token after another.
+use Rattle.std.proofs.Common.{rules, arith, ◌≡◌, ◌∙◌, ◌↔◌, sym, ap, subst, refl, inl, inr, ℕ, suc, ◌+◌, ◌<◌, ◌≤◌, List, [], ◌∷◌, ◌++◌, length, drop, Option, Some, None, Result, Ok, Err, IfOk, Contains, MatchResult, Bool, true, if◌then◌else◌}
+use Rattle.std.proofs.Math.Seq.{drop-cons}
+use Rattle.std.proofs.lemmas.List.{append_assoc, append-nil, drop_all}
+use Rattle.std.specs.List.{slice_index_or}
+use Rattle.explorer_model.specs.declared.archive.Token.{Token}
+use Rattle.explorer_model.specs.declared.chess.Move.{Move}
+use Rattle.explorer_model.specs.declared.chess.Position.{Position}
+use Rattle.explorer_model.specs.declared.fault.GameFault.{GameFault}
+use Rattle.explorer_model.specs.declared.fault.SanFault.{SanFault}
+use Rattle.explorer_model.specs.declared.notation.SanForm.{SanForm}
+use Rattle.explorer_model.specs.Chess.{Legal, start, after}
+use Rattle.explorer_model.specs.Games.{Plays, move_fault, onto_moves}
+use Rattle.explorer_model.specs.San.{SanReads, AnswersAs, san_form}
+use Rattle.game_replay.specs.Replay.{onto_front, Playing}
+
+-- ---- one token on a board
+
+pub lists-same : (p q : Position) (items moves : List Move) → q ≡ p → moves ≡ items
+    → ((m : Move) → Contains items m ↔ Legal p m) → (m : Move) → Contains moves m ↔ Legal q m
+lists-same p q items moves same listed each m =
+    let P : Position → Type 0 = λ r. Contains items m ↔ Legal r m in
+    let Q : List Move → Type 0 = λ list. Contains list m ↔ Legal q m in
+    subst Q (sym listed) (subst P (sym same) (each m))
+
+answers-legal : (p : Position) (form : Option SanForm) (m : Move) → AnswersAs p form (Ok m) → Legal p m
+answers-legal p None m e =
+    let P : Result Move SanFault → Type 0 = λ r. MatchResult r (λ _. Unit {0}) (λ _. ⊥) in
+    absurd (subst P e tt)
+answers-legal p (Some form) m answer = answer.0
+
+pub reads-legal : (p : Position) (text : List ℕ) (r : Result Move SanFault) → SanReads p text r → IfOk r (λ m. Legal p m)
+reads-legal p text (Ok m) reads = answers-legal p (san_form text) m reads
+reads-legal p text (Err fault) reads = tt
+
+pub reads-legal-on : (p q : Position) (text : List ℕ) (r : Result Move SanFault) → q ≡ p → SanReads q text r → IfOk r (λ m. Legal p m)
+reads-legal-on p q text r same reads =
+    let P : Position → Type 0 = λ s. IfOk r (λ m. Legal s m) in
+    subst P same (reads-legal q text r reads)
+
+-- ---- a game
+
+onto_front-nil : (rest : Result (List Move) GameFault) → onto_front [] rest ≡ rest
+onto_front-nil (Ok moves) = refl
+onto_front-nil (Err fault) = refl
+
+onto_front-onto_moves : (moves : List Move) (m : Move) (rest : Result (List Move) GameFault)
+    → onto_front moves (onto_moves m rest) ≡ onto_front (moves ++ m ∷ []) rest
+onto_front-onto_moves moves m (Ok more) = ap (λ (ms : List Move). Ok ms) (sym (append_assoc moves (m ∷ []) more))
+onto_front-onto_moves moves m (Err fault) = refl
+
+pub begins : (tokens : List Token) (board : Position) (moves : List Move) → board ≡ start → moves ≡ [] → Playing tokens board moves 1 0
+begins tokens board moves at_start none = record {
+  counted = refl;
+  completes = λ rest plays.
+      (let P : Position → Type 0 = λ p. Plays p 1 tokens rest in
+      let Q : Result (List Move) GameFault → Type 0 = λ r. Plays start 1 tokens r in
+      let front : rest ≡ onto_front moves rest = sym (ap (λ ms. onto_front ms rest) none ∙ onto_front-nil rest) in
+      subst Q front (subst P at_start plays));
+}
+
+pub goes_on : (tokens : List Token) (board next : Position) (moves more : List Move) (ply index : ℕ) (token : Token) (m : Move)
+    → Playing tokens board moves ply index → drop index tokens ≡ token ∷ drop (index + 1) tokens
+    → SanReads board token.text (Ok m) → next ≡ after board m → more ≡ moves ++ m ∷ []
+    → Playing tokens next more (ply + 1) (index + 1)
+goes_on tokens board next moves more ply index token m playing here reads played pushed = record {
+  counted = ap (λ n. n + 1) playing.counted;
+  completes = λ rest plays.
+      (let P : Position → Type 0 = λ p. Plays p (ply + 1) (drop (index + 1) tokens) rest in
+      let R : List Token → Type 0 = λ ts. Plays board ply ts (onto_moves m rest) in
+      let Q : Result (List Move) GameFault → Type 0 = λ r. Plays start 1 tokens r in
+      let all : R (token ∷ drop (index + 1) tokens) = inl (m, rest, reads, subst P played plays, refl) in
+      let front : onto_front moves (onto_moves m rest) ≡ onto_front more rest =
+      onto_front-onto_moves moves m rest ∙ ap (λ ms. onto_front ms rest) (sym pushed) in
+      subst Q front (playing.completes (onto_moves m rest) (subst R (sym here) all)));
+}
+
+pub fails : (tokens : List Token) (board : Position) (moves : List Move) (ply index : ℕ) (token : Token) (fault : SanFault) (answer : GameFault)
+    → Playing tokens board moves ply index → drop index tokens ≡ token ∷ drop (index + 1) tokens
+    → SanReads board token.text (Err fault) → answer ≡ move_fault fault ply token.place
+    → Plays start 1 tokens (Err answer)
+fails tokens board moves ply index token fault answer playing here reads is =
+    let R : List Token → Type 0 = λ ts. Plays board ply ts (Err (move_fault fault ply token.place)) in
+    let all : R (token ∷ drop (index + 1) tokens) = inr (fault, reads, refl) in
+    let P : GameFault → Type 0 = λ f. Plays start 1 tokens (Err f) in
+    subst P (sym is) (playing.completes (Err (move_fault fault ply token.place)) (subst R (sym here) all))
+
+pub ends : (tokens : List Token) (board : Position) (moves all : List Move) (ply index : ℕ)
+    → Playing tokens board moves ply index → length tokens ≤ index → all ≡ moves
+    → Plays start 1 tokens (Ok all)
+ends tokens board moves all ply index playing past is =
+    let R : List Token → Type 0 = λ ts. Plays board ply ts (Ok []) in
+    let none : R [] = refl in
+    let P : List Move → Type 0 = λ ms. Plays start 1 tokens (Ok ms) in
+    let plays : P (moves ++ []) = playing.completes (Ok []) (subst R (sym (drop_all index tokens past)) none) in
+    subst P (append-nil moves ∙ sym is) plays
+
+pub here : (tokens : List Token) (index : ℕ) (token : Token) → index < length tokens → token ≡ slice_index_or tokens index token
+    → drop index tokens ≡ token ∷ drop (index + 1) tokens
+here tokens index token within is =
+    let next : suc index ≡ index + 1 = omega arith in
+    drop-cons tokens index token within
+    ∙ (ap (λ t. t ∷ drop (suc index) tokens) (sym is) ∙ ap (λ n. token ∷ drop n tokens) next)
+
+pub pushed : (moves more : List Move) (m : Move) (ok : Bool) → more ≡ (if ok then moves ++ m ∷ [] else moves) → ok ≡ true → more ≡ moves ++ m ∷ []
+pushed moves more m ok is holds = is ∙ ap (λ (b : Bool). if b then moves ++ m ∷ [] else moves) holds

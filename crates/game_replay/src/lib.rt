@@ -1,0 +1,11 @@
+//! One game from its text: its tags read, its moves replayed by the Laws of Chess.
+#![tactic(auto)]
+
+mod moves;
+mod replaying;
+mod score;
+
+pub use replaying::replay;
+
+#[cfg(test)]
+mod tests;
