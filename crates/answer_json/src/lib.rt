@@ -2,4 +2,9 @@
 #![tactic(auto)]
 
 pub mod answer;
+mod game;
+mod line;
 pub mod refusal;
+#[cfg(test)]
+mod tests;
+mod texts;

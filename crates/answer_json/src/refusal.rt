@@ -47,7 +47,6 @@ mod tests {
             ),
             (Why::Twice { first: 0 }, "Twice 0"),
             (Why::Repeated { number: 18 }, "Repeated 18"),
-            (Why::MovesNotYet, "MovesNotYet"),
         ];
         for (why, words) in table {
             assert!(rt; why_text(rt.alloc(), &why)?.as_slice() == words.as_bytes());

@@ -1,9 +1,10 @@
 -- What the cuts of a stream come to: totals, and a report line for each that is refused.
-use Rattle.std.specs.Prelude.{ℕ, List, [], ◌∷◌, ◌++◌, codes, sum_by}
+use Rattle.std.specs.Prelude.{ℕ, List, [], ◌∷◌, ◌++◌, None, codes, sum_by}
 use Rattle.std.specs.List.{flat_map}
 use Rattle.std.specs.Fmt.{decimal}
-use Rattle.explorer_model.specs.Answer.{totals_body}
+use Rattle.explorer_model.specs.Answer.{answer_body}
 use Rattle.explorer_model.specs.Refusals.{why_text}
+use Rattle.explorer_model.specs.declared.answer.Found.{Found}
 use Rattle.explorer_model.specs.declared.answer.Totals.{Totals}
 use Rattle.explorer_model.specs.declared.archive.Outcome.TheVariants.{White, Black, Draw}
 use Rattle.explorer_model.specs.declared.fault.Why.{Why}
@@ -49,6 +50,10 @@ totals_of judged = record {
   black = sum_by (λ one. black one.verdict) judged;
 }
 
+-- what is found that has these totals, and lists no games
+abbrev pub found_with : Totals → Found
+found_with totals = record { totals = totals; moves = []; top = []; recent = []; history = None }
+
 -- what is printed for the cuts: the body of the answer that counts them, and a line end
 abbrev pub answer : List Judged → List ℕ
-answer judged = totals_body (totals_of judged) ++ 10 ∷ []
+answer judged = answer_body (found_with (totals_of judged)) ++ 10 ∷ []

@@ -1,11 +1,11 @@
 ghost use Rattle.std.specs.Prelude.{◌≡◌, ◌≢◌, ◌⊎◌, ◌+◌, ◌<◌, ◌≤◌, ◌^◌, ℕ, List, [], ◌∷◌, ◌++◌, length, true, false, Some, Err, IfSome, IfOk, IfErr, OnOk, OnErr};
 ghost use Rattle.outside.specs.Stream.{Rose, NeverFalls};
-ghost use Rattle.explorer_model.specs.Answer.{totals_body};
+ghost use Rattle.explorer_model.specs.Answer.{answer_body};
 ghost use Rattle.pgn_cut.specs.Cutter.{came, cuts_of_rest};
 ghost use Rattle.explorer.specs.declared.judged.Verdict.TheVariants.{Accepted};
 ghost use Rattle.explorer.specs.Faults.{StopsReading, HasCause, IsFaultless, moment};
 ghost use Rattle.explorer.specs.Run.{IsCounted};
-ghost use Rattle.explorer.specs.Report.{report_line};
+ghost use Rattle.explorer.specs.Report.{found_with, report_line};
 ghost use Rattle.explorer.specs.Counting.{CountsCuts, Feeds, Grew, IsRead, games, counted_on};
 
 use crate::fault::Fault;
@@ -125,7 +125,7 @@ fn line_of(alloc: Global, place: u64, why: &Why) -> Result<Vec<u8>, AllocError>
 
 /// What is printed for the totals.
 fn answer_of(alloc: Global, totals: Totals) -> Result<Vec<u8>, AllocError>
-    ensures { IfOk result (λ text. text.items ≡ totals_body totals ++ 10 ∷ []) }
+    ensures { IfOk result (λ text. text.items ≡ answer_body (found_with totals) ++ 10 ∷ []) }
 {
     let found = Found {
         totals,

@@ -50,4 +50,3 @@ why_text (why.TooLong length) = codes "TooLong " ++ decimal length
 why_text (why.Game fault) = game_fault_text fault
 why_text (why.Twice first) = codes "Twice " ++ decimal first
 why_text (why.Repeated number) = codes "Repeated " ++ decimal number
-why_text why.MovesNotYet = codes "MovesNotYet"

@@ -1,6 +1,13 @@
+ghost use Rattle.std.specs.Prelude.{◌≡◌};
+ghost use Rattle.std.proofs.Common.{rules};
+ghost use Rattle.std.specs.Cmp.{partial_order_from_own_ties};
+ghost use Rattle.std.specs.Cmp.Rules.{comparing};
+ghost use Rattle.std.specs.Ordering.{on, nat_cmp, as_partial_cmp};
+
 use crate::chess::Move;
 use crate::list::Items;
 use crate::text::Name;
+use std::cmp::Ordering;
 
 /// Any bytes, as those of a PGN text or of a tag's value.
 pub type Bytes = Items<u8>;
@@ -46,14 +53,61 @@ pub enum Speed {
     Correspondence,
 }
 
+impl Speed {
+    ghost use Rattle.explorer_model.specs.Order.{speed_index};
+
+    /// The place among the speeds, 0 to 5.
+    pub fn index(self) -> u8
+        ensures { result ≡ speed_index self }
+    {
+        match self {
+            Speed::UltraBullet => 0,
+            Speed::Bullet => 1,
+            Speed::Blitz => 2,
+            Speed::Rapid => 3,
+            Speed::Classical => 4,
+            Speed::Correspondence => 5,
+        }
+    }
+}
+
+impl Ord for Speed {
+    ghost use Rattle.explorer_model.specs.Order.{speed_index};
+
+    ghost cmp = { on speed_index nat_cmp };
+
+    ghost total = { Prim.search (comparing, rules) };
+
+    ghost matches_partial_cmp = { Prim.search (comparing, rules) };
+
+    ghost matches_eq = { Prim.search (comparing, rules) };
+
+    fn cmp(&self, other: &Speed) -> Ordering {
+        self.index().cmp(&other.index())
+    }
+}
+
+impl PartialOrd for Speed {
+    ghost use Rattle.explorer_model.specs.Order.{speed_index};
+
+    ghost partial_cmp = { as_partial_cmp (on speed_index nat_cmp) };
+
+    ghost laws = { partial_order_from_own_ties (Prim.search (comparing, rules))
+        (Prim.search (comparing, rules)) };
+
+    fn partial_cmp(&self, other: &Speed) -> Option<Ordering> {
+        Some(self.cmp(other))
+    }
+}
+
 /// A rating group by its least rating: 0, 1000, 1200, 1400, 1600, 1800, 2000, 2200 or 2500.
-#[derive(Clone, Copy, Debug, PartialEq, Eq)]
+#[derive(Clone, Copy, Debug, PartialEq, Eq, PartialOrd, Ord)]
 pub struct Group {
     pub value: u16,
 }
 
 /// A calendar month; `month` is 1 to 12.
-#[derive(Clone, Copy, Debug, PartialEq, Eq)]
+#[derive(Clone, Copy, Debug, PartialEq, Eq, PartialOrd, Ord)]
 pub struct Month {
     pub year: u16,
     pub month: u8,
@@ -125,4 +179,13 @@ pub struct Parts {
 pub struct Placed {
     pub place: u64,
     pub bytes: Bytes,
+}
+
+/// The texts of games.
+pub type Texts = Items<Bytes>;
+
+/// Texts that are stored together: 1 to 512, each with a game.
+#[derive(Debug, Drop, PartialEq, Eq)]
+pub struct Batch {
+    pub texts: Texts,
 }

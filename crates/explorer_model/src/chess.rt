@@ -1,4 +1,11 @@
+ghost use Rattle.std.specs.Prelude.{◌≡◌};
+ghost use Rattle.std.proofs.Common.{rules};
+ghost use Rattle.std.specs.Cmp.{partial_order_from_own_ties};
+ghost use Rattle.std.specs.Cmp.Rules.{comparing};
+ghost use Rattle.std.specs.Ordering.{on, nat_cmp, as_partial_cmp};
+
 use crate::square::Square;
+use std::cmp::Ordering;
 
 #[derive(Clone, Copy, Debug, PartialEq, Eq)]
 pub enum Color {
@@ -15,6 +22,53 @@ pub enum Role {
     Rook,
     Queen,
     King,
+}
+
+impl Role {
+    ghost use Rattle.explorer_model.specs.Order.{role_index};
+
+    /// The place among the roles, 0 to 5.
+    pub fn index(self) -> u8
+        ensures { result ≡ role_index self }
+    {
+        match self {
+            Role::Pawn => 0,
+            Role::Knight => 1,
+            Role::Bishop => 2,
+            Role::Rook => 3,
+            Role::Queen => 4,
+            Role::King => 5,
+        }
+    }
+}
+
+impl Ord for Role {
+    ghost use Rattle.explorer_model.specs.Order.{role_index};
+
+    ghost cmp = { on role_index nat_cmp };
+
+    ghost total = { Prim.search (comparing, rules) };
+
+    ghost matches_partial_cmp = { Prim.search (comparing, rules) };
+
+    ghost matches_eq = { Prim.search (comparing, rules) };
+
+    fn cmp(&self, other: &Role) -> Ordering {
+        self.index().cmp(&other.index())
+    }
+}
+
+impl PartialOrd for Role {
+    ghost use Rattle.explorer_model.specs.Order.{role_index};
+
+    ghost partial_cmp = { as_partial_cmp (on role_index nat_cmp) };
+
+    ghost laws = { partial_order_from_own_ties (Prim.search (comparing, rules))
+        (Prim.search (comparing, rules)) };
+
+    fn partial_cmp(&self, other: &Role) -> Option<Ordering> {
+        Some(self.cmp(other))
+    }
 }
 
 #[derive(Clone, Copy, Debug, PartialEq, Eq)]
@@ -51,7 +105,7 @@ pub struct Position {
 }
 
 /// A move as its two squares; castling is the king's move of two squares.
-#[derive(Clone, Copy, Debug, Default, PartialEq, Eq)]
+#[derive(Clone, Copy, Debug, Default, PartialEq, Eq, PartialOrd, Ord)]
 pub struct Move {
     pub from: Square,
     pub to: Square,

@@ -84,8 +84,6 @@ pub enum Why {
     Twice { first: u64 },
     /// A stored game has its id; `number` is that game's number.
     Repeated { number: u32 },
-    /// The text has moves, which are not replayed yet.
-    MovesNotYet,
 }
 
 /// A piece that is not counted; `place` is its offset in the stream.

@@ -9,6 +9,7 @@ pub mod laws;
 pub mod list;
 pub mod notation;
 pub mod plain;
+pub mod query;
 pub mod square;
 pub mod text;
 mod texts;

@@ -1,8 +1,9 @@
-//! The words of a report line, as the refusals print themselves.
+//! The words of report lines and of answers, as their values print themselves.
 
 ghost use Rattle.std.specs.Prelude.{◌≡◌, Some};
 
 use crate::fault::{GameFault, TagFault, TagName, Why};
+use crate::query::Parameter;
 use std::fmt;
 
 impl TagName {
@@ -84,7 +85,39 @@ impl fmt::Display for Why {
             Why::Game(fault) => write!(f, "{fault}"),
             Why::Twice { first } => write!(f, "Twice {first}"),
             Why::Repeated { number } => write!(f, "Repeated {number}"),
-            Why::MovesNotYet => f.write_str("MovesNotYet"),
         }
+    }
+}
+
+impl Parameter {
+    ghost use Rattle.explorer_model.specs.Query.{parameter_text};
+
+    /// The name as a query string spells it.
+    pub fn as_str(self) -> &'static str
+        ensures { result.now ≡ parameter_text self }
+    {
+        match self {
+            Parameter::Variant => "variant",
+            Parameter::Fen => "fen",
+            Parameter::Play => "play",
+            Parameter::Speeds => "speeds",
+            Parameter::Ratings => "ratings",
+            Parameter::Since => "since",
+            Parameter::Until => "until",
+            Parameter::Moves => "moves",
+            Parameter::TopGames => "topGames",
+            Parameter::RecentGames => "recentGames",
+            Parameter::History => "history",
+        }
+    }
+}
+
+impl fmt::Display for Parameter {
+    ghost use Rattle.explorer_model.specs.Query.{parameter_text};
+
+    ghost output = { λ name. Some (parameter_text name) };
+
+    fn fmt<W: fmt::Write>(&self, f: &mut fmt::Formatter<W>) -> fmt::Result {
+        f.write_str(self.as_str())
     }
 }

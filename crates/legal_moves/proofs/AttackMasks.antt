@@ -1,10 +1,10 @@
 -- What the masks of a board tell of open lines and attacks.
-use Rattle.std.proofs.Common.{◌≡◌, ◌↔◌, ℕ, ◌<◌, ◌≤◌, ◌⊎◌, List, Option, Some, None, refl, sym, subst, inl, inr, arith}
+use Rattle.std.proofs.Common.{◌≡◌, ◌↔◌, ℕ, ◌<◌, ◌⊎◌, List, Option, Some, None, refl, sym, subst, inl, inr, arith}
 use Rattle.explorer_model.specs.declared.chess.Color.{Color}
 use Rattle.explorer_model.specs.declared.chess.Role.{Role}
 use Rattle.explorer_model.specs.declared.chess.Role.TheVariants.{Pawn, Knight, Bishop, Rook, Queen, King}
 use Rattle.explorer_model.specs.declared.chess.Piece.{Piece}
-use Rattle.explorer_model.specs.Board.{files_apart, ranks_apart, man_of, man_at, IsEmpty, IsPieceOf, IsMan, KnightStep, KingStep, RookLine, BishopLine, IsOpen, RoleAttacks, ManAttacks, IsAttacked}
+use Rattle.explorer_model.specs.Board.{files_apart, ranks_apart, man_of, man_at, IsEmpty, IsPieceOf, IsMan, RookLine, BishopLine, IsOpen, RoleAttacks, ManAttacks, IsAttacked}
 use Rattle.legal_moves.specs.declared.masks.Masks.{Masks}
 use Rattle.legal_moves.specs.Masks.{IsOccupied, IsDiagonal, IsStraight, IsMaskOf, Describes, IsClear, LeapsTo, SlidesTo}
 use Rattle.legal_moves.proofs.Facts.{man_is, is_own}
@@ -22,20 +22,6 @@ clear-open squares occupied a b is = (
 )
 
 -- Steps and lines lead both ways.
-
-pub knight_back : (a b : ℕ) → KnightStep a b ↔ KnightStep b a
-knight_back a b = (λ h. swapped a b h, λ h. swapped b a h)
-  where
-    swapped : (a b : ℕ) → KnightStep a b → KnightStep b a
-    swapped a b (inl h) = let f : files_apart a b ≡ 1 = h.0 in let r : ranks_apart a b ≡ 2 = h.1 in inl (omega arith, omega arith)
-    swapped a b (inr h) = let f : files_apart a b ≡ 2 = h.0 in let r : ranks_apart a b ≡ 1 = h.1 in inr (omega arith, omega arith)
-
-pub king_back : (a b : ℕ) → KingStep a b ↔ KingStep b a
-king_back a b = (λ h. swapped a b h, λ h. swapped b a h)
-  where
-    swapped : (a b : ℕ) → KingStep a b → KingStep b a
-    swapped a b h =
-        let f : files_apart a b ≤ 1 = h.0 in let r : ranks_apart a b ≤ 1 = h.1 in (omega arith, omega arith, λ e. h.2 (sym e))
 
 pub rook_back : (a b : ℕ) → RookLine a b ↔ RookLine b a
 rook_back a b = (λ h. swapped a b h.0 h.1, λ h. swapped b a h.0 h.1)

@@ -222,12 +222,12 @@ behind : Color → ℕ → ℕ
 behind White s = s - 8
 behind Black s = s + 8
 
-record HasPassed (squares : List (Option Piece)) (color : Color) (s : ℕ) : Type 0 where
+pub record HasPassed (squares : List (Option Piece)) (color : Color) (s : ℕ) : Type 0 where
   empty : man_at squares s ≡ None
   pawn : IsMan (opponent color) Pawn (man_at squares (behind color s))
   rank : rank_of s ≡ crossed_rank (opponent color)
 
-has_passed : (squares : List (Option Piece)) (color : Color) (s : ℕ) → HasCrossed squares color s → HasPassed squares color s
+pub has_passed : (squares : List (Option Piece)) (color : Color) (s : ℕ) → HasCrossed squares color s → HasPassed squares color s
 unfolding behind
 has_passed squares White s h = record { empty = h.1; pawn = h.3; rank = h.0 }
 has_passed squares Black s h = record { empty = h.1; pawn = h.3; rank = h.0 }
@@ -268,14 +268,14 @@ taking_diagonal p m stands h diagonal = record {
   passed_to = passed_not_to p.turn _ _ diagonal.0;
 }
 
-straight_none : (p : Position) (m : Move) → man_at p.squares m.from.index ≡ man_of p.turn Pawn → HasPassed p.squares p.turn m.to.index
+pub straight_none : (p : Position) (m : Move) → man_at p.squares m.from.index ≡ man_of p.turn Pawn → HasPassed p.squares p.turn m.to.index
     → PawnSteps p m → ⊥
 straight_none p m stands h s =
     let there : man_at p.squares m.from.index ≡ man_of (opponent p.turn) Pawn =
     ap (man_at p.squares) (straight_is_behind p.turn _ _ s.1 s.0) ∙ man_is (opponent p.turn) Pawn _ h.pawn in
     piece_not_own p.turn Pawn _ there (is_own p.turn Pawn _ stands)
 
-double_none : (p : Position) (m : Move) → HasPassed p.squares p.turn m.to.index → PawnDoubleSteps p m → ⊥
+pub double_none : (p : Position) (m : Move) → HasPassed p.squares p.turn m.to.index → PawnDoubleSteps p m → ⊥
 double_none p m h s =
     double_not_crossed p.turn (sym (double_step_rank p.turn _ _ m.from.on_board m.to.on_board s.0 s.2) ∙ h.rank)
 

@@ -9,9 +9,14 @@ pub mod Places
 pub mod Reach
 pub mod StartIsValid
 pub mod MaskFacts
+pub mod MenLemmas
+pub mod PlayedMen
 pub mod AttackMasks
 pub mod WrittenMasks
 pub mod OneKing
+pub mod MenMasks
+pub mod Steady
 pub mod Caps
 pub mod TargetLemmas
+pub mod EnPassantCaptures
 pub mod Lists

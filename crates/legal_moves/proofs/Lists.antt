@@ -9,12 +9,12 @@ use Rattle.explorer_model.specs.declared.chess.Role.{Role}
 use Rattle.explorer_model.specs.declared.chess.Role.TheVariants.{Pawn, Knight, Bishop, Rook, Queen, King}
 use Rattle.explorer_model.specs.declared.chess.Position.{Position}
 use Rattle.explorer_model.specs.declared.chess.Move.{Move}
-use Rattle.explorer_model.specs.Board.{rank_of}
-use Rattle.explorer_model.specs.Chess.{IsValid, IsPromotion, Candidate, Legal, last_rank}
-use Rattle.legal_moves.specs.Listing.{promotion_place, place_of, ListsBelow}
-use Rattle.legal_moves.specs.Masks.{IsWithout}
-use Rattle.legal_moves.proofs.TargetLemmas.{legal_promotion}
-use Rattle.legal_moves.proofs.Places.{from_is, to_from, to_before, promotion_from, place_of-injective, place_of-lt}
+use Rattle.explorer_model.specs.Board.{man_at, IsPieceOf}
+use Rattle.explorer_model.specs.Chess.{IsValid, IsPromotion, Legal}
+use Rattle.legal_moves.specs.Listing.{promotion_place, place_of, ListsBelow, Reaches, IsPromoting}
+use Rattle.legal_moves.specs.Masks.{IsMaskOf, IsWithout}
+use Rattle.legal_moves.proofs.TargetLemmas.{candidate-promotion, candidate-reaches}
+use Rattle.legal_moves.proofs.Places.{promotion_place-lt, from_is, to_from, to_before, promotion_from, place_of-injective, place_of-lt}
 use Rattle.legal_moves.proofs.Caps.{legal_moves_few}
 
 lt_or_le : (a b : ℕ) → (a < b) ⊎ (b ≤ a)
@@ -120,57 +120,111 @@ promotion_last (Some Rook) h = (omega arith, omega arith)
 promotion_last (Some Queen) h = (omega arith, omega arith)
 promotion_last (Some King) h = absurd h
 
-no_promotion : (p : Position) (m : Move) (n : ℕ) → Legal p m → 1 ≤ n → n ≤ promotion_place m.promotion → (n ≡ 5) ⊎ (rank_of m.to.index ≢ last_rank p.turn) → ⊥
-no_promotion p m n legal some high last = elim (legal_promotion p m legal) [
-  | inl none ↦ (let e : promotion_place m.promotion ≡ 0 = ap promotion_place none in omega arith)
-  | inr h ↦ elim last [
-    | inl five ↦ (let low : promotion_place m.promotion < 5 = (promotion_last m.promotion h.1).1 in omega arith)
-    | inr apart ↦ apart h.0
-  ]
-]
-
--- after the moves that promote nothing, where the square is on no last rank, or after the promotions
-pub lists-between : (p : Position) (from to n : ℕ) (moves : List Move) → to < 64 → 1 ≤ n → n < 8 → (n ≡ 5) ⊎ (rank_of to ≢ last_rank p.turn)
-    → ListsBelow p (512 * from + 8 * to + n) moves → ListsBelow p (512 * from + 8 * to + 8) moves
-lists-between p from to n moves on some few last l =
-    lists-skip p (512 * from + 8 * to + n) (512 * from + 8 * to + 8) moves l (omega arith)
+skip-between : (p : Position) (from to n k : ℕ) (moves : List Move) → to < 64 → n ≤ k → n < 8 → k ≤ 8
+    → ((m : Move) → Legal p m → m.from.index ≡ from → m.to.index ≡ to → n ≤ promotion_place m.promotion → promotion_place m.promotion < k → ⊥)
+    → ListsBelow p (512 * from + 8 * to + n) moves → ListsBelow p (512 * from + 8 * to + k) moves
+skip-between p from to n k moves on more few most none l =
+    lists-skip p (512 * from + 8 * to + n) (512 * from + 8 * to + k) moves l (omega arith)
     (λ m legal low high.
-    let parts : (m.from.index ≡ from) × (m.to.index ≡ to) × (n ≤ promotion_place m.promotion) = promotion_from m from to n on few low high in
-    let P : ℕ → Type 0 = λ s. (n ≡ 5) ⊎ (rank_of s ≢ last_rank p.turn) in
-    no_promotion p m n legal some parts.2 (subst P (sym parts.1) last))
+    let parts : (m.from.index ≡ from) × (m.to.index ≡ to) × (n ≤ promotion_place m.promotion) =
+    promotion_from m from to n on few low (let h : place_of m < 512 * from + 8 * to + k = high in omega arith) in
+    let here : m.from.index ≡ from = parts.0 in
+    let there : m.to.index ≡ to = parts.1 in
+    let h : place_of m < 512 * from + 8 * to + k = high in
+    none m legal here there parts.2 (omega arith))
+
+promoting_at : (p : Position) (m : Move) (from to : ℕ) → m.from.index ≡ from → m.to.index ≡ to → IsPromoting p m.from.index m.to.index → IsPromoting p from to
+promoting_at p m from to here there promoting =
+    let A : ℕ → Type 0 = λ a. IsPromoting p a m.to.index in
+    let B : ℕ → Type 0 = λ b. IsPromoting p from b in
+    subst B there (subst A here promoting)
+
+-- after the move that promotes nothing, where none is promoted
+pub quiet-listed : (p : Position) (from to : ℕ) (moves : List Move) → to < 64 → ¬ IsPromoting p from to
+    → ListsBelow p (512 * from + 8 * to + 1) moves → ListsBelow p (512 * from + 8 * to + 8) moves
+quiet-listed p from to moves on unpromoting l =
+    skip-between p from to 1 8 moves on (omega arith) (omega arith) (omega arith)
+    (λ m legal here there some last. elim (candidate-promotion p m legal.0) [
+      | inl none ↦ (let e : promotion_place m.promotion ≡ 0 = ap promotion_place none.0 in let h : 1 ≤ promotion_place m.promotion = some in omega arith)
+      | inr promoted ↦ unpromoting (promoting_at p m from to here there promoted.0)
+    ])
+    l
+
+-- before the promotions, and after them
+
+pub promotions-next : (p : Position) (from to : ℕ) (moves : List Move) → from < 64 → to < 64 → IsPromoting p from to
+    → ListsBelow p (512 * from + 8 * to) moves → ListsBelow p (512 * from + 8 * to + 1) moves
+promotions-next p from to moves from_on on promoting l =
+    let P : ℕ → Type 0 = λ n. ListsBelow p n moves in
+    let e : 512 * from + 8 * to ≡ 512 * from + 8 * to + 0 = omega arith in
+    skip-between p from to 0 1 moves on (omega arith) (omega arith) (omega arith)
+    (λ m legal here there low high. elim (candidate-promotion p m legal.0) [
+      | inl none ↦ none.1 (
+          let A : ℕ → Type 0 = λ a. IsPromoting p a m.to.index in
+          let B : ℕ → Type 0 = λ b. IsPromoting p from b in
+          subst A (sym here) (subst B (sym there) promoting)
+          )
+      | inr promoted ↦ (
+          let some : 1 ≤ promotion_place m.promotion = (promotion_last m.promotion promoted.1).0 in
+          let h : promotion_place m.promotion < 1 = high in
+          omega arith
+          )
+    ])
+    (subst P e l)
+
+pub promotions-listed : (p : Position) (from to : ℕ) (moves : List Move) → to < 64
+    → ListsBelow p (512 * from + 8 * to + 5) moves → ListsBelow p (512 * from + 8 * to + 8) moves
+promotions-listed p from to moves on l =
+    skip-between p from to 5 8 moves on (omega arith) (omega arith) (omega arith)
+    (λ m legal here there low high. let h : 5 ≤ promotion_place m.promotion = low in elim (candidate-promotion p m legal.0) [
+      | inl none ↦ (let e : promotion_place m.promotion ≡ 0 = ap promotion_place none.0 in omega arith)
+      | inr promoted ↦ (let last : promotion_place m.promotion < 5 = (promotion_last m.promotion promoted.1).1 in omega arith)
+    ])
+    l
 
 -- The moves from one square, by the squares that are left in a set of those that they may end on.
 
-pub record IsWalked (p : Position) (from rest : ℕ) (moves : List Move) : Type 0 where
+beyond_it : (b to : ℕ) → (b < to → ⊥) → (b ≡ to → ⊥) → to + 1 ≤ b
+beyond_it b to above apart = omega arith
+
+pub record IsWalked (p : Position) (from all rest : ℕ) (moves : List Move) : Type 0 where
   pub at : ℕ
   pub at_most : at ≤ 64
   pub lists : ListsBelow p (512 * from + 8 * at) moves
   pub left : (m : Move) → m.from.index ≡ from → Legal p m → at ≤ m.to.index → HasBit rest m.to.index
   pub above : (b : ℕ) → b < 64 → HasBit rest b → at ≤ b
+  pub within : (b : ℕ) → b < 64 → HasBit rest b → HasBit all b
 
-pub walked-none : (p : Position) (from rest : ℕ) (moves : List Move) → ListsBelow p (512 * from) moves
-    → ((m : Move) → m.from.index ≡ from → Candidate p m → HasBit rest m.to.index) → IsWalked p from rest moves
-walked-none p from rest moves l all = record {
+pub walked-none : (p : Position) (from all : ℕ) (moves : List Move) → ListsBelow p (512 * from) moves
+    → ((m : Move) → m.from.index ≡ from → HasBit all m.to.index ↔ Reaches p m) → IsWalked p from all all moves
+walked-none p from all moves l reaches = record {
   at = 0;
   at_most = omega arith;
   lists = (let P : ℕ → Type 0 = λ n. ListsBelow p n moves in let e : 512 * from ≡ 512 * from + 8 * 0 = omega arith in subst P e l);
-  left = λ m here legal _. all m here legal.0;
+  left = λ m here legal _. (reaches m here).1 (candidate-reaches p m legal.0);
   above = λ b on bit. omega arith;
+  within = λ b on bit. bit;
 }
 
 -- up to the next square that is left
-pub walked-to : (p : Position) (from rest to : ℕ) (moves : List Move) (w : IsWalked p from rest moves) → w.at ≤ to → to ≤ 64
+pub walked-to : (p : Position) (from all rest to : ℕ) (moves : List Move) (w : IsWalked p from all rest moves) → w.at ≤ to → to ≤ 64
     → ((b : ℕ) → b < to → ¬ HasBit rest b) → ListsBelow p (512 * from + 8 * to) moves
-walked-to p from rest to moves w ahead on none =
+walked-to p from all rest to moves w ahead on none =
     lists-skip p (512 * from + 8 * w.at) (512 * from + 8 * to) moves w.lists (let h : w.at ≤ to = ahead in omega arith)
     (λ m legal low high.
     let here : m.from.index ≡ from = from_is m from (let h : 512 * from + 8 * w.at ≤ place_of m = low in omega arith) (let h : place_of m < 512 * from + 8 * to = high in omega arith) in
     none m.to.index (to_before m from to here high) (w.left m here legal (to_from m from w.at here low)))
 
-pub walked-next : (p : Position) (from rest less to : ℕ) (moves more : List Move) → IsWalked p from rest moves → to < 64
+pub walked-reaches : (p : Position) (from all rest to : ℕ) (moves : List Move) → IsWalked p from all rest moves → to < 64 → HasBit rest to
+    → ((m : Move) → m.from.index ≡ from → HasBit all m.to.index ↔ Reaches p m)
+    → (m : Move) → m.from.index ≡ from → m.to.index ≡ to → Reaches p m
+walked-reaches p from all rest to moves w on bit reaches m here there =
+    (reaches m here).0 (let P : ℕ → Type 0 = λ b. HasBit all b in subst P (sym there) (w.within to on bit))
+
+pub walked-next : (p : Position) (from all rest less to : ℕ) (moves more : List Move) → IsWalked p from all rest moves → to < 64
     → ((b : ℕ) → b < to → ¬ HasBit rest b) → HasBit rest to → IsWithout rest to less
-    → ListsBelow p (512 * from + 8 * to + 8) more → IsWalked p from less more
-walked-next p from rest less to moves more w on lowest within without l = record {
+    → ListsBelow p (512 * from + 8 * to + 8) more → IsWalked p from all less more
+walked-next p from all rest less to moves more w on lowest within without l = record {
   at = to + 1;
   at_most = omega arith;
   lists = (let P : ℕ → Type 0 = λ n. ListsBelow p n more in let e : 512 * from + 8 * to + 8 ≡ 512 * from + 8 * (to + 1) = omega arith in subst P e l);
@@ -181,17 +235,74 @@ walked-next p from rest less to moves more w on lowest within without l = record
   above = λ b b_on bit.
       let old : HasBit rest b × (b ≡ to → ⊥) = (without b b_on).0 bit in
       beyond_it b to (λ below. lowest b below old.0) old.1;
+  within = λ b b_on bit. w.within b b_on ((without b b_on).0 bit).0;
 }
-  where
-    beyond_it : (b to : ℕ) → (b < to → ⊥) → (b ≡ to → ⊥) → to + 1 ≤ b
-    beyond_it b to above apart = omega arith
 
-pub walked-all : (p : Position) (from rest : ℕ) (moves : List Move) → IsWalked p from rest moves → rest ≡ 0
+pub walked-all : (p : Position) (from all rest : ℕ) (moves : List Move) → IsWalked p from all rest moves → rest ≡ 0
     → ListsBelow p (512 * from + 512) moves
-walked-all p from rest moves w none =
+walked-all p from all rest moves w none =
     let P : ℕ → Type 0 = λ n. ListsBelow p n moves in
     let e : 512 * from + 8 * 64 ≡ 512 * from + 512 = omega arith in
-    subst P e (walked-to p from rest 64 moves w w.at_most (omega arith)
+    subst P e (walked-to p from all rest 64 moves w w.at_most (omega arith)
+    (λ b _ bit. HasBit-zero b (let Q : ℕ → Type 0 = λ x. HasBit x b in subst Q none bit)))
+
+-- The moves from all squares of the own men, by those that are left.
+
+pub record IsSwept (p : Position) (rest : ℕ) (moves : List Move) : Type 0 where
+  pub at : ℕ
+  pub at_most : at ≤ 64
+  pub lists : ListsBelow p (512 * at) moves
+  pub left : (m : Move) → Legal p m → at ≤ m.from.index → HasBit rest m.from.index
+  pub above : (b : ℕ) → b < 64 → HasBit rest b → at ≤ b
+  pub own : (b : ℕ) → b < 64 → HasBit rest b → IsPieceOf p.turn (man_at p.squares b)
+
+pub swept-none : (p : Position) (own : ℕ) → IsMaskOf (IsPieceOf p.turn) p.squares own → IsSwept p own []
+swept-none p own is = record {
+  at = 0;
+  at_most = omega arith;
+  lists = lists-none p;
+  left = λ m legal _. (is m.from.index m.from.on_board).1 legal.0.0;
+  above = λ b on bit. omega arith;
+  own = λ b on bit. (is b on).0 bit;
+}
+
+from_before : (m : Move) (at : ℕ) → place_of m < 512 * at → m.from.index < at
+from_before m at high = omega arith
+
+from_from : (m : Move) (at : ℕ) → 512 * at ≤ place_of m → at ≤ m.from.index
+from_from m at low =
+    let last : promotion_place m.promotion < 8 = promotion_place-lt m.promotion in
+    let to_on : m.to.index < 64 = m.to.on_board in
+    omega arith
+
+pub swept-to : (p : Position) (rest from : ℕ) (moves : List Move) (w : IsSwept p rest moves) → w.at ≤ from → from ≤ 64
+    → ((b : ℕ) → b < from → ¬ HasBit rest b) → ListsBelow p (512 * from) moves
+swept-to p rest from moves w ahead on none =
+    lists-skip p (512 * w.at) (512 * from) moves w.lists (let h : w.at ≤ from = ahead in omega arith)
+    (λ m legal low high. none m.from.index (from_before m from high) (w.left m legal (from_from m w.at low)))
+
+pub swept-next : (p : Position) (rest less from : ℕ) (moves more : List Move) → IsSwept p rest moves → from < 64
+    → ((b : ℕ) → b < from → ¬ HasBit rest b) → HasBit rest from → IsWithout rest from less
+    → ListsBelow p (512 * from + 512) more → IsSwept p less more
+swept-next p rest less from moves more w on lowest within without l = record {
+  at = from + 1;
+  at_most = omega arith;
+  lists = (let P : ℕ → Type 0 = λ n. ListsBelow p n more in let e : 512 * from + 512 ≡ 512 * (from + 1) = omega arith in subst P e l);
+  left = λ m legal beyond.
+      let start : w.at ≤ from = w.above from on within in
+      let before : w.at ≤ m.from.index = omega arith in
+      (without m.from.index m.from.on_board).1 (w.left m legal before, λ e. omega arith);
+  above = λ b b_on bit.
+      let old : HasBit rest b × (b ≡ from → ⊥) = (without b b_on).0 bit in
+      beyond_it b from (λ below. lowest b below old.0) old.1;
+  own = λ b b_on bit. w.own b b_on ((without b b_on).0 bit).0;
+}
+
+pub swept-all : (p : Position) (rest : ℕ) (moves : List Move) → IsSwept p rest moves → rest ≡ 0 → ListsBelow p 32768 moves
+swept-all p rest moves w none =
+    let P : ℕ → Type 0 = λ n. ListsBelow p n moves in
+    let e : 512 * 64 ≡ 32768 = refl in
+    subst P e (swept-to p rest 64 moves w w.at_most (omega arith)
     (λ b _ bit. HasBit-zero b (let Q : ℕ → Type 0 = λ x. HasBit x b in subst Q none bit)))
 
 -- What a test says.
@@ -201,3 +312,10 @@ some-true b P says e = says.0 e
 
 pub none-false : (b : Bool) (P : Type 0) → IsTrue b ↔ P → b ≡ false → ¬ P
 none-false b P says e holds = let yes : b ≡ true = says.1 holds in cc
+
+-- each move that is walked through is a legal one
+pub listed_legal : (p : Position) (listed moves : List Move) (k : ℕ) (m : Move) → All (λ m. Legal p m) moves → listed ≡ moves → k < length listed
+    → m ≡ get_or listed k m → Legal p m
+listed_legal p listed moves k m sound same inside is =
+    let AreLegal : List Move → Type 0 = λ moves. All (λ m. Legal p m) moves in
+    subst (Legal p) (sym is) (subst AreLegal (sym same) sound k m inside)

@@ -1,5 +1,5 @@
 -- Sets of squares: how they are built, and what two of them have in common.
-use Rattle.std.proofs.Common.{◌≡◌, ◌↔◌, ℕ, suc, ◌+◌, ◌<◌, ◌≤◌, ◌^◌, ◌⊎◌, Bool, true, false, not, ◌==◌, IsTrue, List, length, set, Option, None, bit_and, bit_or, w64, refl, sym, ap, ◌∙◌, subst, inl, inr, arith, get_or-set_same, get_or-set_other}
+use Rattle.std.proofs.Common.{◌≡◌, ◌↔◌, ℕ, ◌+◌, ◌<◌, ◌≤◌, ◌^◌, ◌⊎◌, Bool, true, false, not, ◌==◌, IsTrue, List, length, set, Option, None, bit_and, bit_or, w64, refl, sym, ap, ◌∙◌, subst, inl, inr, arith, get_or-set_same, get_or-set_other}
 use Rattle.std.proofs.lemmas.Bool.{cases_eq}
 use Rattle.std.proofs.lemmas.Bool.Decides.{nat_tests}
 use Rattle.std.proofs.lemmas.Nat.{and_le_l}
@@ -14,9 +14,6 @@ use Rattle.legal_moves.specs.Masks.{IsMaskOf, HasSuch, IsClear, IsWithout, IsWit
 
 abbrev pub IsBuilt : (ℕ → Type 0) → ℕ → ℕ → Type 0
 IsBuilt IsSuch n mask = (b : ℕ) → b < 64 → HasBit mask b ↔ ((b < n) × IsSuch b)
-
-pub built-none : (IsSuch : ℕ → Type 0) → IsBuilt IsSuch 0 0
-built-none IsSuch b on = (λ bit. absurd (HasBit-zero b bit), λ h. let none : b < 0 = h.0 in absurd (omega arith))
 
 pub built-more : (IsSuch : ℕ → Type 0) (n mask one : ℕ) → IsBuilt IsSuch n mask → ((b : ℕ) → b < 64 → HasBit one b ↔ (b ≡ n)) → IsSuch n
     → IsBuilt IsSuch (n + 1) (bit_or mask one)
@@ -69,18 +66,9 @@ meet-says mask other fits = (
       (λ none. HasBit-zero h.0 (let P : ℕ → Type 0 = λ x. HasBit x h.0 in subst P none ((HasBit-and mask other h.0).1 (h.2, h.3)))),
 )
 
--- a set of the squares that are so many steps away, in place of what the steps are
-pub such-by : (mask targets : ℕ) (Steps IsSuch : ℕ → Type 0) → ((b : ℕ) → b < 64 → HasBit targets b ↔ Steps b)
-    → ((b : ℕ) → Steps b ↔ IsSuch b) → HasSuch mask (λ a. HasBit targets a) ↔ HasSuch mask IsSuch
-such-by mask targets Steps IsSuch tells same = (
-  λ h. (h.0, h.1, h.2, (same h.0).0 ((tells h.0 h.1).0 h.3)),
-  λ h. (h.0, h.1, h.2, (tells h.0 h.1).1 ((same h.0).1 h.3)),
-)
-
-pub line-by : (mask targets occupied square : ℕ) (Line IsSuch : ℕ → Type 0) → ((b : ℕ) → b < 64 → HasBit targets b ↔ Line b)
-    → ((b : ℕ) → Line b ↔ IsSuch b)
-    → HasSuch (bit_and mask targets) (λ a. IsClear occupied a square) ↔ HasSuch mask (λ a. IsSuch a × IsClear occupied a square)
-line-by mask targets occupied square Line IsSuch tells same = (
+pub line-by : (mask targets : ℕ) (Line IsSuch IsMore : ℕ → Type 0) → ((b : ℕ) → b < 64 → HasBit targets b ↔ Line b)
+    → ((b : ℕ) → Line b ↔ IsSuch b) → HasSuch (bit_and mask targets) IsMore ↔ HasSuch mask (λ a. IsSuch a × IsMore a)
+line-by mask targets Line IsSuch IsMore tells same = (
   λ h.
       let both : HasBit mask h.0 × HasBit targets h.0 = (HasBit-and mask targets h.0).0 h.2 in
       (h.0, h.1, both.0, ((same h.0).0 ((tells h.0 h.1).0 both.1), h.3)),
@@ -92,7 +80,7 @@ both-ways f g = (λ a. g.0 (f.0 a), λ c. f.1 (g.1 c))
 
 -- A square of the board that is written.
 
-man_at-same : (xs : List (Option Piece)) (i b : ℕ) (man : Option Piece) → length xs ≡ 64 → i < 64 → b ≡ i → man_at (set xs i man) b ≡ man
+pub man_at-same : (xs : List (Option Piece)) (i b : ℕ) (man : Option Piece) → length xs ≡ 64 → i < 64 → b ≡ i → man_at (set xs i man) b ≡ man
 man_at-same xs i b man whole on e = ap (man_at (set xs i man)) e ∙ get_or-set_same xs i man None (let h : length xs ≡ 64 = whole in omega arith)
 
 pub man_at-else : (xs : List (Option Piece)) (i b : ℕ) (man : Option Piece) → (b ≡ i → ⊥) → man_at (set xs i man) b ≡ man_at xs b
@@ -130,9 +118,6 @@ pub record IsScanned (sliders rest occupied square : ℕ) : Type 0 where
   pub within : (a : ℕ) → a < 64 → HasBit rest a → HasBit sliders a
   pub tried : (a : ℕ) → a < 64 → HasBit sliders a → HasBit rest a ⊎ ¬ IsClear occupied a square
 
-pub scanned-none : (sliders occupied square : ℕ) → IsScanned sliders sliders occupied square
-scanned-none sliders occupied square = record { within = λ a on bit. bit; tried = λ a on bit. inl bit }
-
 pub scanned-more : (sliders rest occupied square slider less : ℕ) → IsScanned sliders rest occupied square → ¬ IsClear occupied slider square
     → IsWithout rest slider less → IsScanned sliders less occupied square
 scanned-more sliders rest occupied square slider less scanned blocked without = record {
@@ -146,23 +131,51 @@ scanned-more sliders rest occupied square slider less scanned blocked without = 
   ];
 }
 
-pub scanned-all : (sliders rest occupied square : ℕ) → IsScanned sliders rest occupied square → rest ≡ 0
-    → HasSuch sliders (λ a. IsClear occupied a square) → ⊥
-scanned-all sliders rest occupied square scanned none h = elim (scanned.tried h.0 h.1 h.2) [
-  | inl left ↦ HasBit-zero h.0 (let P : ℕ → Type 0 = λ x. HasBit x h.0 in subst P none left)
-  | inr blocked ↦ blocked h.3
-]
-
 -- What a test says.
 
 pub not-says : (b : Bool) (P : Type 0) → IsTrue b ↔ P → IsTrue (not b) ↔ ¬ P
 not-says true P says = (λ (no_way : false ≡ true). cc, λ none. absurd (none (says.0 refl)))
 not-says false P says = (λ _. λ holds. let yes : false ≡ true = says.1 holds in cc, λ _. refl)
 
--- a union tells both
-pub mask-either : (A B : Option Piece → Type 0) (xs : List (Option Piece)) (a b : ℕ) → IsMaskOf A xs a → IsMaskOf B xs b
-    → IsMaskOf (λ man. A man ⊎ B man) xs (bit_or a b)
-mask-either A B xs a b is_a is_b s on = (
-  λ bit. elim ((HasBit-or a b s).0 bit) [ inl x ↦ inl ((is_a s on).0 x) | inr y ↦ inr ((is_b s on).0 y) ],
-  λ h. (HasBit-or a b s).1 (elim h [ inl x ↦ inl ((is_a s on).1 x) | inr y ↦ inr ((is_b s on).1 y) ]),
+-- A union of sets, one for each square of a set: those that are left are in the set, and the others are joined.
+
+pub record IsJoined (sliders rest joined : ℕ) (IsAmong : ℕ → ℕ → Type 0) : Type 0 where
+  pub within : (a : ℕ) → a < 64 → HasBit rest a → HasBit sliders a
+  pub sound : (s : ℕ) → s < 64 → HasBit joined s → HasSuch sliders (λ a. IsAmong a s)
+  pub complete : (a : ℕ) → a < 64 → HasBit sliders a → HasBit rest a ⊎ ((s : ℕ) → s < 64 → IsAmong a s → HasBit joined s)
+
+pub joined-none : (sliders : ℕ) (IsAmong : ℕ → ℕ → Type 0) → IsJoined sliders sliders 0 IsAmong
+joined-none sliders IsAmong = record {
+  within = λ a on bit. bit;
+  sound = λ s on bit. absurd (HasBit-zero s bit);
+  complete = λ a on bit. inl bit;
+}
+
+pub joined-more : (sliders rest joined slider more less : ℕ) (IsAmong : ℕ → ℕ → Type 0) → IsJoined sliders rest joined IsAmong → slider < 64
+    → HasBit rest slider → ((s : ℕ) → s < 64 → HasBit more s ↔ IsAmong slider s) → IsWithout rest slider less
+    → IsJoined sliders less (bit_or joined more) IsAmong
+joined-more sliders rest joined slider more less IsAmong old on_slider there says without = record {
+  within = λ a on bit. old.within a on ((without a on).0 bit).0;
+  sound = λ s on bit. elim ((HasBit-or joined more s).0 bit) [
+    | inl before ↦ old.sound s on before
+    | inr now ↦ (slider, on_slider, old.within slider on_slider there, (says s on).0 now)
+  ];
+  complete = λ a on bit. elim (old.complete a on bit) [
+    | inl left ↦ elim (cases_eq a slider) [
+      | inl e ↦ inr (λ s on_s among.
+          let P : ℕ → Type 0 = λ x. IsAmong x s in (HasBit-or joined more s).1 (inr ((says s on_s).1 (subst P e among))))
+      | inr apart ↦ inl ((without a on).1 (left, apart))
+    ]
+    | inr done ↦ inr (λ s on_s among. (HasBit-or joined more s).1 (inl (done s on_s among)))
+  ];
+}
+
+pub joined-all : (sliders rest joined : ℕ) (IsAmong : ℕ → ℕ → Type 0) → IsJoined sliders rest joined IsAmong → rest ≡ 0
+    → (s : ℕ) → s < 64 → HasBit joined s ↔ HasSuch sliders (λ a. IsAmong a s)
+joined-all sliders rest joined IsAmong old none s on = (
+  λ bit. old.sound s on bit,
+  λ h. elim (old.complete h.0 h.1 h.2) [
+    | inl left ↦ absurd (HasBit-zero h.0 (let P : ℕ → Type 0 = λ x. HasBit x h.0 in subst P none left))
+    | inr done ↦ done s on h.3
+  ],
 )

@@ -24,7 +24,7 @@ pub has_men : (p : Position) (color : Color) → IsValid p → HasMen p.squares 
 has_men p White valid = valid.white
 has_men p Black valid = valid.black
 
-color_is : (a b : Color) → is_color a b ≡ true → a ≡ b
+pub color_is : (a b : Color) → is_color a b ≡ true → a ≡ b
 color_is White White e = refl
 color_is White Black e = cc
 color_is Black White e = cc
@@ -42,7 +42,7 @@ king_of : (color : Color) (man : Option Piece) → is_king_of color man ≡ true
 king_of color None e = cc
 king_of color (Some piece) e = (color_is piece.color color (and-left _ _ e), role_is piece.role (and-right (is_color piece.color color) _ e))
 
-color_self : (color : Color) → is_color color color ≡ true
+pub color_self : (color : Color) → is_color color color ≡ true
 color_self White = refl
 color_self Black = refl
 

@@ -5,6 +5,7 @@ use Rattle.explorer_model.specs.declared.chess.Role.TheVariants.{Pawn, Knight, B
 use Rattle.explorer_model.specs.declared.chess.Move.{Move}
 use Rattle.explorer_model.specs.declared.square.Square.{Square}
 use Rattle.explorer_model.proofs.Squares.{square_eq}
+use Rattle.explorer_model.specs.Chess.{IsPromotion}
 use Rattle.legal_moves.specs.Listing.{promotion_place, place_of}
 
 pub promotion_place-lt : (o : Option Role) → promotion_place o < 8
@@ -78,6 +79,13 @@ promotions_in_place (suc zero) h = refl
 promotions_in_place (suc (suc zero)) h = refl
 promotions_in_place (suc (suc (suc zero))) h = refl
 promotions_in_place (suc (suc (suc (suc n)))) h = absurd (omega arith)
+
+pub promotions_promote : (k : ℕ) → k < 4 → IsPromotion (slice_index_or promotions k None)
+promotions_promote zero h = tt
+promotions_promote (suc zero) h = tt
+promotions_promote (suc (suc zero)) h = tt
+promotions_promote (suc (suc (suc zero))) h = tt
+promotions_promote (suc (suc (suc (suc n)))) h = absurd (omega arith)
 
 plus : (n a k : ℕ) → a ≡ 1 + k → n + a ≡ n + 1 + k
 plus n a k e = omega arith

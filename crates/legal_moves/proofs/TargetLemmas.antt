@@ -1,7 +1,8 @@
--- Each candidate ends where its man may go by geometry alone.
-use Rattle.std.proofs.Common.{◌≡◌, ℕ, ◌<◌, ◌⊎◌, Option, Some, None, sym, ap, ◌∙◌, subst, inl, inr, bit_or, arith, lit<}
+-- Where men may go, as sets of squares, and which of these moves are candidates.
+use Rattle.std.proofs.Common.{◌≡◌, ◌↔◌, ℕ, ◌<◌, ◌^◌, ◌⊎◌, true, List, Option, Some, None, bit_and, bit_or, w64, refl, sym, ap, ◌∙◌, subst, inl, inr, arith, lit<}
+use Rattle.std.specs.Int.{bit_not}
 use Rattle.step_tables.specs.Mask.{HasBit}
-use Rattle.step_tables.proofs.MaskLemmas.{HasBit-or}
+use Rattle.step_tables.proofs.MaskLemmas.{HasBit-zero, HasBit-or, HasBit-and, HasBit-but}
 use Rattle.explorer_model.specs.declared.chess.Color.{Color}
 use Rattle.explorer_model.specs.declared.chess.Color.TheVariants.{White, Black}
 use Rattle.explorer_model.specs.declared.chess.Role.{Role}
@@ -11,94 +12,403 @@ use Rattle.explorer_model.specs.declared.chess.Side.TheVariants.{Short, Long}
 use Rattle.explorer_model.specs.declared.chess.Piece.{Piece}
 use Rattle.explorer_model.specs.declared.chess.Position.{Position}
 use Rattle.explorer_model.specs.declared.chess.Move.{Move}
-use Rattle.explorer_model.specs.Board.{file_of, rank_of, ranks_apart, man_of, man_at, IsRankAhead, IsPieceOf, RoleAttacks, ManAttacks, Attacks}
-use Rattle.explorer_model.specs.Chess.{king_target, last_rank, pawn_rank, IsPromotion, PawnSteps, PawnDoubleSteps, PawnCaptures, Castles, Goes, Candidate, Legal}
-use Rattle.legal_moves.specs.Listing.{IsAheadBy, MayGo}
-use Rattle.legal_moves.proofs.Facts.{Mover, mover}
+use Rattle.explorer_model.specs.Board.{file_of, rank_of, ranks_apart, halfway, opponent, man_at, IsEmpty, IsPieceOf, IsMan, IsRankAhead, PawnDiagonal, IsOpen, RoleAttacks, ManAttacks, Attacks}
+use Rattle.explorer_model.specs.Chess.{king_home, rook_home, king_target, has_right, last_rank, pawn_rank, IsPromotion, IsSquare, HasCrossed, IsValid, PawnSteps, PawnDoubleSteps, PawnCaptures, CastlesTo, Castles, Goes, GoesAs, Candidate}
+use Rattle.legal_moves.specs.declared.sight.Sight.{Sight}
+use Rattle.legal_moves.specs.Listing.{GoesTo, ManGoesTo, Reaches, IsPromoting}
+use Rattle.legal_moves.specs.Masks.{IsOccupied, IsMaskOf, Sees}
+use Rattle.legal_moves.proofs.Facts.{no_piece, castles_to_empty, opponent-other}
+use Rattle.legal_moves.proofs.OneKing.{has_men, one_king}
 
-one_ahead : (color : Color) (from to : ℕ) → file_of from ≡ file_of to → IsRankAhead color from to → IsAheadBy color 8 from to
-one_ahead White from to file ahead = omega arith
-one_ahead Black from to file ahead = omega arith
+-- Candidates are the moves that go as a man does, with a promotion where a pawn comes to its last rank, and else with none.
 
-two_ahead : (color : Color) (from to : ℕ) → from < 64 → to < 64 → rank_of from ≡ pawn_rank color → file_of from ≡ file_of to → ranks_apart from to ≡ 2
-    → IsAheadBy color 16 from to
-two_ahead White from to from_on to_on first file apart = omega arith
-two_ahead Black from to from_on to_on first file apart = omega arith
+candidate_goes : (p : Position) (role : Role) (m : Move) → Goes p role m → GoesTo p role m
+candidate_goes p Pawn m goes = goes.0
+candidate_goes p Knight m goes = goes.0
+candidate_goes p Bishop m goes = goes.0
+candidate_goes p Rook m goes = goes.0
+candidate_goes p Queen m goes = goes.0
+candidate_goes p King m goes = goes.0
 
-pawn_may : (p : Position) (m : Move) → PawnSteps p m ⊎ PawnDoubleSteps p m ⊎ PawnCaptures p m → MayGo p.turn Pawn m.from.index m.to.index
-pawn_may p m (inl s) = inr (inl (one_ahead p.turn _ _ s.0 s.1))
-pawn_may p m (inr (inl s)) = inr (inr (two_ahead p.turn _ _ m.from.on_board m.to.on_board s.0 s.1 s.2))
-pawn_may p m (inr (inr s)) = inl s.0
+candidate_goes_as : (p : Position) (o : Option Piece) (m : Move) → GoesAs p o m → ManGoesTo p o m
+candidate_goes_as p None m goes = goes
+candidate_goes_as p (Some piece) m goes = candidate_goes p piece.role m goes
 
-own_attack : (p : Position) (m : Move) (role : Role) → man_at p.squares m.from.index ≡ man_of p.turn role → Attacks p.squares m.from.index m.to.index
-    → RoleAttacks p.squares p.turn role m.from.index m.to.index
-own_attack p m role stands attacks = let P : Option Piece → Type 0 = λ o. ManAttacks p.squares o m.from.index m.to.index in subst P stands attacks
+pub candidate-reaches : (p : Position) (m : Move) → Candidate p m → Reaches p m
+candidate-reaches p m c = (c.0, c.1, candidate_goes_as p (man_at p.squares m.from.index) m c.2)
 
-king_may : (p : Position) (m : Move) → man_at p.squares m.from.index ≡ man_of p.turn King → Attacks p.squares m.from.index m.to.index ⊎ Castles p m
-    → MayGo p.turn King m.from.index m.to.index
-king_may p m stands (inl attacks) = inl (own_attack p m King stands attacks)
-king_may p m stands (inr (inl c)) = inr (inl c.2)
-king_may p m stands (inr (inr c)) = inr (inr c.2)
+quiet_goes : (p : Position) (m : Move) (color : Color) (role : Role) → color ≡ p.turn → GoesTo p role m → m.promotion ≡ None
+    → ((rank_of m.to.index ≡ last_rank p.turn) → (color ≡ p.turn) × (role ≡ Pawn) → ⊥) → Goes p role m
+quiet_goes p m color Pawn own goes none unpromoting = (goes, inr (λ last. unpromoting last (own, refl), none))
+quiet_goes p m color Knight own goes none unpromoting = (goes, none)
+quiet_goes p m color Bishop own goes none unpromoting = (goes, none)
+quiet_goes p m color Rook own goes none unpromoting = (goes, none)
+quiet_goes p m color Queen own goes none unpromoting = (goes, none)
+quiet_goes p m color King own goes none unpromoting = (goes, none)
 
-goes_may : (p : Position) (m : Move) (role : Role) → man_at p.squares m.from.index ≡ man_of p.turn role → Goes p role m
-    → MayGo p.turn role m.from.index m.to.index
-goes_may p m Pawn stands goes = pawn_may p m goes.0
-goes_may p m Knight stands goes = own_attack p m Knight stands goes.0
-goes_may p m Bishop stands goes = (own_attack p m Bishop stands goes.0).0
-goes_may p m Rook stands goes = (own_attack p m Rook stands goes.0).0
-goes_may p m Queen stands goes = (own_attack p m Queen stands goes.0).0
-goes_may p m King stands goes = king_may p m stands goes.0
+quiet_goes_as : (p : Position) (o : Option Piece) (m : Move) → IsPieceOf p.turn o → ManGoesTo p o m → m.promotion ≡ None
+    → ((rank_of m.to.index ≡ last_rank p.turn) → IsMan p.turn Pawn o → ⊥) → GoesAs p o m
+quiet_goes_as p None m own goes none unpromoting = goes
+quiet_goes_as p (Some piece) m own goes none unpromoting = quiet_goes p m piece.color piece.role own goes none unpromoting
 
-abbrev MayGoAs : Option Piece → ℕ → ℕ → Type 0
-MayGoAs None a b = ⊥
-MayGoAs (Some piece) a b = MayGo piece.color piece.role a b
+pub quiet_candidate : (p : Position) (m : Move) → Reaches p m → m.promotion ≡ None → ¬ IsPromoting p m.from.index m.to.index → Candidate p m
+quiet_candidate p m r none unpromoting =
+    (r.0, r.1, quiet_goes_as p (man_at p.squares m.from.index) m r.0 r.2 none (λ last pawn. unpromoting (last, pawn)))
 
--- the man on a square, and the candidates from there
-pub candidate-may : (p : Position) (m : Move) (from : ℕ) (piece : Piece) → m.from.index ≡ from → man_at p.squares from ≡ Some piece → Candidate p m
-    → MayGo piece.color piece.role from m.to.index
-candidate-may p m from piece at_from stands candidate =
-    let moving : Mover p m = mover p m candidate in
-    let same : man_of p.turn moving.role ≡ Some piece = sym moving.stands ∙ ap (man_at p.squares) at_from ∙ stands in
-    let P : Option Piece → Type 0 = λ o. MayGoAs o m.from.index m.to.index in
-    let From : ℕ → Type 0 = λ s. MayGo piece.color piece.role s m.to.index in
-    subst From at_from (subst P same (goes_may p m moving.role moving.stands moving.goes))
+promoting_goes : (p : Position) (o : Option Piece) (m : Move) → IsMan p.turn Pawn o → ManGoesTo p o m → rank_of m.to.index ≡ last_rank p.turn
+    → IsPromotion m.promotion → GoesAs p o m
+promoting_goes p None m pawn goes last promotes = absurd pawn
+promoting_goes p (Some piece) m pawn goes last promotes =
+    let To : Role → Type 0 = λ role. GoesTo p role m in
+    let As : Role → Type 0 = λ role. Goes p role m in
+    subst As (sym pawn.1) (subst To pawn.1 goes, inl (last, promotes))
 
-pub candidate-none : (p : Position) (m : Move) (from : ℕ) → m.from.index ≡ from → man_at p.squares from ≡ None → Candidate p m → ⊥
-candidate-none p m from at_from empty candidate =
-    let P : Option Piece → Type 0 = λ o. IsPieceOf p.turn o in subst P (ap (man_at p.squares) at_from ∙ empty) candidate.0
+pub promoting_candidate : (p : Position) (m : Move) → Reaches p m → IsPromoting p m.from.index m.to.index → IsPromotion m.promotion → Candidate p m
+promoting_candidate p m r promoting promotes =
+    (r.0, r.1, promoting_goes p (man_at p.squares m.from.index) m promoting.1 r.2 promoting.0 promotes)
 
-pub candidate-own : (p : Position) (m : Move) (from : ℕ) (piece : Piece) → m.from.index ≡ from → man_at p.squares from ≡ Some piece → Candidate p m
-    → piece.color ≡ p.turn
-candidate-own p m from piece at_from stands candidate =
-    let P : Option Piece → Type 0 = λ o. IsPieceOf p.turn o in subst P (ap (man_at p.squares) at_from ∙ stands) candidate.0
+-- What a candidate promotes.
 
--- What a legal move promotes.
+goes_promotion : (p : Position) (m : Move) (color : Color) (role : Role) → color ≡ p.turn → Goes p role m
+    → ((m.promotion ≡ None) × ((rank_of m.to.index ≡ last_rank p.turn) → (color ≡ p.turn) × (role ≡ Pawn) → ⊥))
+    ⊎ ((rank_of m.to.index ≡ last_rank p.turn) × (color ≡ p.turn) × (role ≡ Pawn)) × IsPromotion m.promotion
+goes_promotion p m color Pawn own goes = elim goes.1 [ inl h ↦ inr ((h.0, own, refl), h.1) | inr h ↦ inl (h.1, λ last _. h.0 last) ]
+goes_promotion p m color Knight own goes = inl (goes.1, λ last pawn. let no_way : Knight ≡ Pawn = pawn.1 in cc)
+goes_promotion p m color Bishop own goes = inl (goes.1, λ last pawn. let no_way : Bishop ≡ Pawn = pawn.1 in cc)
+goes_promotion p m color Rook own goes = inl (goes.1, λ last pawn. let no_way : Rook ≡ Pawn = pawn.1 in cc)
+goes_promotion p m color Queen own goes = inl (goes.1, λ last pawn. let no_way : Queen ≡ Pawn = pawn.1 in cc)
+goes_promotion p m color King own goes = inl (goes.1, λ last pawn. let no_way : King ≡ Pawn = pawn.1 in cc)
 
-goes_promotion : (p : Position) (m : Move) (role : Role) → Goes p role m → (m.promotion ≡ None) ⊎ ((rank_of m.to.index ≡ last_rank p.turn) × IsPromotion m.promotion)
-goes_promotion p m Pawn goes = elim goes.1 [ inl h ↦ inr h | inr h ↦ inl h.1 ]
-goes_promotion p m Knight goes = inl goes.1
-goes_promotion p m Bishop goes = inl goes.1
-goes_promotion p m Rook goes = inl goes.1
-goes_promotion p m Queen goes = inl goes.1
-goes_promotion p m King goes = inl goes.1
+goes_as_promotion : (p : Position) (m : Move) (o : Option Piece) → IsPieceOf p.turn o → GoesAs p o m
+    → ((m.promotion ≡ None) × ((rank_of m.to.index ≡ last_rank p.turn) × IsMan p.turn Pawn o → ⊥))
+    ⊎ ((rank_of m.to.index ≡ last_rank p.turn) × IsMan p.turn Pawn o) × IsPromotion m.promotion
+goes_as_promotion p m None own goes = absurd own
+goes_as_promotion p m (Some piece) own goes = elim (goes_promotion p m piece.color piece.role own goes) [
+  | inl h ↦ inl (h.0, λ promoting. h.1 promoting.0 promoting.1)
+  | inr h ↦ inr ((h.0.0, (h.0.1, h.0.2)), h.1)
+]
 
-pub legal_promotion : (p : Position) (m : Move) → Legal p m → (m.promotion ≡ None) ⊎ ((rank_of m.to.index ≡ last_rank p.turn) × IsPromotion m.promotion)
-legal_promotion p m legal = let moving : Mover p m = mover p m legal.0 in goes_promotion p m moving.role moving.goes
+pub candidate-promotion : (p : Position) (m : Move) → Candidate p m
+    → ((m.promotion ≡ None) × (¬ IsPromoting p m.from.index m.to.index)) ⊎ (IsPromoting p m.from.index m.to.index × IsPromotion m.promotion)
+candidate-promotion p m c = goes_as_promotion p m (man_at p.squares m.from.index) c.0 c.2
 
--- Unions of sets.
+-- a square that is not occupied is empty
+empty_where : (o : Option Piece) → IsOccupied o → IsEmpty o → ⊥
+empty_where None h e = h
+empty_where (Some piece) h e = cc
 
-pub castling_on_board : (color : Color) (side : Side) → king_target color side < 64
-castling_on_board White Short = lit< tt
-castling_on_board White Long = lit< tt
-castling_on_board Black Short = lit< tt
-castling_on_board Black Long = lit< tt
+unoccupied : (o : Option Piece) → ¬ IsOccupied o → IsEmpty o
+unoccupied None h = refl
+unoccupied (Some piece) h = absurd (h tt)
 
-pub union_three : (a b c s : ℕ) {X Y Z : Type 0} → (X → HasBit a s) → (Y → HasBit b s) → (Z → HasBit c s) → X ⊎ Y ⊎ Z → HasBit (bit_or (bit_or a b) c) s
-union_three a b c s x y z (inl h) = (HasBit-or (bit_or a b) c s).1 (inl ((HasBit-or a b s).1 (inl (x h))))
-union_three a b c s x y z (inr (inl h)) = (HasBit-or (bit_or a b) c s).1 (inl ((HasBit-or a b s).1 (inr (y h))))
-union_three a b c s x y z (inr (inr h)) = (HasBit-or (bit_or a b) c s).1 (inr (z h))
+pub occupied-not_empty : (squares : List (Option Piece)) (mask s : ℕ) → IsMaskOf IsOccupied squares mask → s < 64 → HasBit mask s → ¬ IsEmpty (man_at squares s)
+occupied-not_empty squares mask s is on bit empty = empty_where (man_at squares s) ((is s on).0 bit) empty
 
-pub union_castling : (a b s short long : ℕ) {X : Type 0} → (X → HasBit a s) → HasBit b short → HasBit b long → X ⊎ (s ≡ short) ⊎ (s ≡ long) → HasBit (bit_or a b) s
-union_castling a b s short long x at_short at_long (inl h) = (HasBit-or a b s).1 (inl (x h))
-union_castling a b s short long x at_short at_long (inr (inl e)) = (HasBit-or a b s).1 (inr (subst (HasBit b) (sym e) at_short))
-union_castling a b s short long x at_short at_long (inr (inr e)) = (HasBit-or a b s).1 (inr (subst (HasBit b) (sym e) at_long))
+pub unoccupied-empty : (squares : List (Option Piece)) (mask s : ℕ) → IsMaskOf IsOccupied squares mask → s < 64 → ¬ HasBit mask s → IsEmpty (man_at squares s)
+unoccupied-empty squares mask s is on none = unoccupied (man_at squares s) (λ there. none ((is s on).1 there))
+
+-- Pawns go straight ahead.
+
+pub record IsAhead (color : Color) (from next : ℕ) : Type 0 where
+  pub on_board : next < 64
+  pub file : file_of from ≡ file_of next
+  pub rank : IsRankAhead color from next
+
+one_ahead : (color : Color) (from next to : ℕ) → file_of from ≡ file_of next → IsRankAhead color from next
+    → file_of from ≡ file_of to → IsRankAhead color from to → to ≡ next
+one_ahead White from next to file rank same ahead = omega arith
+one_ahead Black from next to file rank same ahead = omega arith
+
+pub steps_to : (p : Position) (m : Move) (from next : ℕ) → m.from.index ≡ from → IsAhead p.turn from next → PawnSteps p m
+    → (m.to.index ≡ next) × IsEmpty (man_at p.squares next)
+steps_to p m from next here ahead s =
+    let F : ℕ → Type 0 = λ a. file_of a ≡ file_of m.to.index in
+    let R : ℕ → Type 0 = λ a. IsRankAhead p.turn a m.to.index in
+    let to : m.to.index ≡ next = one_ahead p.turn from next m.to.index ahead.file ahead.rank (subst F here s.0) (subst R here s.1) in
+    let E : ℕ → Type 0 = λ a. IsEmpty (man_at p.squares a) in
+    (to, subst E to s.2)
+
+pub step_from : (p : Position) (m : Move) (from next : ℕ) → m.from.index ≡ from → IsAhead p.turn from next → m.to.index ≡ next
+    → IsEmpty (man_at p.squares next) → PawnSteps p m
+step_from p m from next here ahead to empty =
+    let P : ℕ → ℕ → Type 0 = λ a b. (file_of a ≡ file_of b) × IsRankAhead p.turn a b × IsEmpty (man_at p.squares b) in
+    let A : ℕ → Type 0 = λ a. P a m.to.index in
+    let B : ℕ → Type 0 = λ b. P from b in
+    subst A (sym here) (subst B (sym to) (ahead.file, ahead.rank, empty))
+
+-- the squares of a step of two
+
+pub record AreAhead (color : Color) (from next second : ℕ) : Type 0 where
+  pub first : rank_of from ≡ pawn_rank color
+  pub one : IsAhead color from next
+  pub two : IsAhead color next second
+
+two_ahead : (color : Color) (from next second to : ℕ) → rank_of from ≡ pawn_rank color → file_of from ≡ file_of next → IsRankAhead color from next
+    → file_of next ≡ file_of second → IsRankAhead color next second → from < 64 → to < 64 → file_of from ≡ file_of to → ranks_apart from to ≡ 2 → to ≡ second
+two_ahead White from next second to first file rank file_two rank_two on_from on same apart = omega arith
+two_ahead Black from next second to first file rank file_two rank_two on_from on same apart = omega arith
+
+middle : (color : Color) (from next second : ℕ) → file_of from ≡ file_of next → IsRankAhead color from next
+    → file_of next ≡ file_of second → IsRankAhead color next second → halfway from second ≡ next
+middle White from next second file rank file_two rank_two = omega arith
+middle Black from next second file rank file_two rank_two = omega arith
+
+apart_by_two : (color : Color) (from next second : ℕ) → IsRankAhead color from next → IsRankAhead color next second → ranks_apart from second ≡ 2
+apart_by_two White from next second rank rank_two = omega arith
+apart_by_two Black from next second rank rank_two = omega arith
+
+pub double_steps_to : (p : Position) (m : Move) (from next second : ℕ) → m.from.index ≡ from → AreAhead p.turn from next second → PawnDoubleSteps p m
+    → (m.to.index ≡ second) × IsEmpty (man_at p.squares next) × IsEmpty (man_at p.squares second)
+double_steps_to p m from next second here ahead s =
+    let D : ℕ → Type 0 = λ a. (rank_of a ≡ pawn_rank p.turn) × (file_of a ≡ file_of m.to.index) × (ranks_apart a m.to.index ≡ 2)
+    × IsEmpty (man_at p.squares (halfway a m.to.index)) × IsEmpty (man_at p.squares m.to.index) in
+    let d : D from = subst D here s in
+    let on_from : from < 64 = (let P : ℕ → Type 0 = λ a. a < 64 in subst P here m.from.on_board) in
+    let to : m.to.index ≡ second =
+    two_ahead p.turn from next second m.to.index ahead.first ahead.one.file ahead.one.rank ahead.two.file ahead.two.rank on_from m.to.on_board d.1 d.2 in
+    let E : ℕ → Type 0 = λ a. IsEmpty (man_at p.squares a) in
+    let H : ℕ → Type 0 = λ b. IsEmpty (man_at p.squares (halfway from b)) in
+    (to, subst E (middle p.turn from next second ahead.one.file ahead.one.rank ahead.two.file ahead.two.rank) (subst H to d.3), subst E to d.4)
+
+pub double_step_from : (p : Position) (m : Move) (from next second : ℕ) → m.from.index ≡ from → AreAhead p.turn from next second → m.to.index ≡ second
+    → IsEmpty (man_at p.squares next) → IsEmpty (man_at p.squares second) → PawnDoubleSteps p m
+double_step_from p m from next second here ahead to empty empty_two =
+    let P : ℕ → ℕ → Type 0 = λ a b. (rank_of a ≡ pawn_rank p.turn) × (file_of a ≡ file_of b) × (ranks_apart a b ≡ 2)
+    × IsEmpty (man_at p.squares (halfway a b)) × IsEmpty (man_at p.squares b) in
+    let A : ℕ → Type 0 = λ a. P a m.to.index in
+    let B : ℕ → Type 0 = λ b. P from b in
+    let E : ℕ → Type 0 = λ a. IsEmpty (man_at p.squares a) in
+    subst A (sym here) (subst B (sym to) (
+      ahead.first,
+      ahead.one.file ∙ ahead.two.file,
+      apart_by_two p.turn from next second ahead.one.rank ahead.two.rank,
+      subst E (sym (middle p.turn from next second ahead.one.file ahead.one.rank ahead.two.file ahead.two.rank)) empty,
+      empty_two,
+    ))
+
+middle_of : (color : Color) (from next to : ℕ) → rank_of from ≡ pawn_rank color → from < 64 → to < 64 → file_of from ≡ file_of to → ranks_apart from to ≡ 2
+    → file_of from ≡ file_of next → IsRankAhead color from next → halfway from to ≡ next
+middle_of White from next to first on_from on same apart file rank = omega arith
+middle_of Black from next to first on_from on same apart file rank = omega arith
+
+crosses : (p : Position) (m : Move) (from next : ℕ) → m.from.index ≡ from → IsAhead p.turn from next → PawnDoubleSteps p m
+    → (rank_of from ≡ pawn_rank p.turn) × IsEmpty (man_at p.squares next)
+crosses p m from next here ahead s =
+    let D : ℕ → Type 0 = λ a. (rank_of a ≡ pawn_rank p.turn) × (a < 64) × (file_of a ≡ file_of m.to.index) × (ranks_apart a m.to.index ≡ 2)
+    × IsEmpty (man_at p.squares (halfway a m.to.index)) in
+    let d : D from = subst D here (s.0, m.from.on_board, s.1, s.2, s.3) in
+    let E : ℕ → Type 0 = λ a. IsEmpty (man_at p.squares a) in
+    (d.0, subst E (middle_of p.turn from next m.to.index d.0 d.1 m.to.on_board d.2 d.3 ahead.file ahead.rank) d.4)
+
+-- What the set of these squares has, as far as they are empty.
+
+abbrev Advances : Position → Move → Type 0
+Advances p m = PawnSteps p m ⊎ PawnDoubleSteps p m
+
+pub advances-none : (p : Position) (m : Move) (from next : ℕ) → m.from.index ≡ from → IsAhead p.turn from next → ¬ IsEmpty (man_at p.squares next)
+    → HasBit 0 m.to.index ↔ Advances p m
+advances-none p m from next here ahead blocked = (
+  λ bit. absurd (HasBit-zero m.to.index bit),
+  λ h. absurd (blocked (elim h [ inl s ↦ (steps_to p m from next here ahead s).1 | inr s ↦ (crosses p m from next here ahead s).1 ])),
+)
+
+pub advances-one : (p : Position) (m : Move) (from next one : ℕ) → m.from.index ≡ from → IsAhead p.turn from next → IsEmpty (man_at p.squares next)
+    → ((b : ℕ) → b < 64 → HasBit one b ↔ (b ≡ next)) → (PawnDoubleSteps p m → ⊥) → HasBit one m.to.index ↔ Advances p m
+advances-one p m from next one here ahead empty only not_two = (
+  λ bit. inl (step_from p m from next here ahead ((only m.to.index m.to.on_board).0 bit) empty),
+  λ h. elim h [ inl s ↦ (only m.to.index m.to.on_board).1 (steps_to p m from next here ahead s).0 | inr s ↦ absurd (not_two s) ],
+)
+
+pub not_first : (p : Position) (m : Move) (from next : ℕ) → m.from.index ≡ from → IsAhead p.turn from next → (rank_of from ≡ pawn_rank p.turn → ⊥)
+    → PawnDoubleSteps p m → ⊥
+not_first p m from next here ahead apart s = apart (crosses p m from next here ahead s).0
+
+pub advances-both : (p : Position) (m : Move) (from next second one two : ℕ) → m.from.index ≡ from → AreAhead p.turn from next second
+    → IsEmpty (man_at p.squares next) → IsEmpty (man_at p.squares second)
+    → ((b : ℕ) → b < 64 → HasBit one b ↔ (b ≡ next)) → ((b : ℕ) → b < 64 → HasBit two b ↔ (b ≡ second))
+    → HasBit (bit_or one two) m.to.index ↔ Advances p m
+advances-both p m from next second one two here ahead empty empty_two only only_two = (
+  λ bit. elim ((HasBit-or one two m.to.index).0 bit) [
+    | inl x ↦ inl (step_from p m from next here ahead.one ((only m.to.index m.to.on_board).0 x) empty)
+    | inr y ↦ inr (double_step_from p m from next second here ahead ((only_two m.to.index m.to.on_board).0 y) empty empty_two)
+  ],
+  λ h. (HasBit-or one two m.to.index).1 (elim h [
+    | inl s ↦ inl ((only m.to.index m.to.on_board).1 (steps_to p m from next here ahead.one s).0)
+    | inr s ↦ inr ((only_two m.to.index m.to.on_board).1 (double_steps_to p m from next second here ahead s).0)
+  ]),
+)
+
+-- Pawns capture.
+
+pub captures-says : (p : Position) (m : Move) (from diagonals enemies crossed : ℕ) → m.from.index ≡ from
+    → ((to : ℕ) → to < 64 → HasBit diagonals to ↔ PawnDiagonal p.turn from to)
+    → IsMaskOf (IsPieceOf (opponent p.turn)) p.squares enemies → ((to : ℕ) → to < 64 → HasBit crossed to ↔ IsSquare p.en_passant to)
+    → HasBit (bit_and diagonals (bit_or enemies crossed)) m.to.index ↔ PawnCaptures p m
+captures-says p m from diagonals enemies crossed here says is at =
+    let D : ℕ → Type 0 = λ a. PawnDiagonal p.turn a m.to.index in (
+      λ bit.
+          let h : HasBit diagonals m.to.index × HasBit (bit_or enemies crossed) m.to.index = (HasBit-and diagonals (bit_or enemies crossed) m.to.index).0 bit in (
+            subst D (sym here) ((says m.to.index m.to.on_board).0 h.0),
+            elim ((HasBit-or enemies crossed m.to.index).0 h.1) [
+              | inl x ↦ inl ((is m.to.index m.to.on_board).0 x)
+              | inr y ↦ inr ((at m.to.index m.to.on_board).0 y)
+            ],
+          ),
+      λ s. (HasBit-and diagonals (bit_or enemies crossed) m.to.index).1 (
+        (says m.to.index m.to.on_board).1 (subst D here s.0),
+        (HasBit-or enemies crossed m.to.index).1 (elim s.1 [
+          | inl x ↦ inl ((is m.to.index m.to.on_board).1 x)
+          | inr y ↦ inr ((at m.to.index m.to.on_board).1 y)
+        ]),
+      ),
+    )
+
+-- Castling.
+
+king_home_on_board : (color : Color) → king_home color < 64
+king_home_on_board White = lit< tt
+king_home_on_board Black = lit< tt
+
+pub castling-none : (p : Position) (m : Move) (side : Side) → (CastlesTo side p m → ⊥) → HasBit 0 m.to.index ↔ CastlesTo side p m
+castling-none p m side none = (λ bit. absurd (HasBit-zero m.to.index bit), λ h. absurd (none h))
+
+pub castling-one : (p : Position) (sight : Sight) (m : Move) (side : Side) (one target : ℕ) → Sees p sight → m.from.index ≡ sight.king
+    → has_right p.rights p.turn side ≡ true → IsOpen p.squares (king_home p.turn) (rook_home p.turn side) → target ≡ king_target p.turn side
+    → ((b : ℕ) → b < 64 → HasBit one b ↔ (b ≡ target)) → HasBit one m.to.index ↔ CastlesTo side p m
+castling-one p sight m side one target sees here right open_path at only =
+    let home : IsMan p.turn King (man_at p.squares (king_home p.turn)) = (sees.valid.rights p.turn side right).0 in
+    let stands : sight.king ≡ king_home p.turn =
+    one_king p.squares p.turn (king_home p.turn) sight.king sees.valid.board (has_men p p.turn sees.valid).0 (king_home_on_board p.turn) sees.on_board home sees.king in
+    let K : ℕ → Type 0 = λ s. IsMan p.turn King (man_at p.squares s) in (
+      λ bit. (right, here ∙ stands, (only m.to.index m.to.on_board).0 bit ∙ at, subst K (sym here) sees.king, open_path),
+      λ h. (only m.to.index m.to.on_board).1 (h.2 ∙ sym at),
+    )
+
+-- Attacks that do not end on an own man.
+
+pub except-says : (mask others s : ℕ) → others < 2 ^ 64 → s < 64 → HasBit (bit_and mask (bit_not w64 others)) s ↔ (HasBit mask s × ¬ HasBit others s)
+except-says mask others s fits on = HasBit-but mask others s fits on
+
+pub others-say : (left targets own to : ℕ) {Steps Own : Type 0} → HasBit left to ↔ (HasBit targets to × ¬ HasBit own to) → HasBit targets to ↔ Steps
+    → HasBit own to ↔ Own → HasBit left to ↔ (Steps × ¬ Own)
+others-say left targets own to but says is = (
+  λ bit. (says.0 (but.0 bit).0, λ mine. (but.0 bit).1 (is.1 mine)),
+  λ h. but.1 (says.1 h.0, λ bit. h.1 (is.0 bit)),
+)
+
+pub sliders-say : (seen left targets own to : ℕ) {Line Clear Open Own : Type 0} → HasBit left to ↔ (HasBit targets to × ¬ HasBit own to)
+    → HasBit targets to ↔ Line → HasBit own to ↔ Own
+    → HasBit seen to ↔ (HasBit left to × Clear) → Clear ↔ Open → HasBit seen to ↔ ((Line × Open) × ¬ Own)
+sliders-say seen left targets own to but says is sees clear = (
+  λ bit.
+      let h = sees.0 bit in
+      let other = (others-say left targets own to but says is).0 h.0 in
+      ((other.0, clear.0 h.1), other.1),
+  λ h. sees.1 ((others-say left targets own to but says is).1 (h.0.0, h.1), clear.1 h.0.1),
+)
+
+-- What a man reaches.
+
+pub reaches-by : (p : Position) (m : Move) (from : ℕ) (piece : Piece) → m.from.index ≡ from → man_at p.squares from ≡ Some piece
+    → IsPieceOf p.turn (man_at p.squares from) → ((¬ IsPieceOf p.turn (man_at p.squares m.to.index)) × GoesTo p piece.role m) ↔ Reaches p m
+reaches-by p m from piece here stands own =
+    let at : man_at p.squares m.from.index ≡ Some piece = ap (man_at p.squares) here ∙ stands in
+    let Own : ℕ → Type 0 = λ s. IsPieceOf p.turn (man_at p.squares s) in
+    let To : Option Piece → Type 0 = λ o. ManGoesTo p o m in
+    (λ h. (subst Own (sym here) own, h.0, subst To (sym at) h.1), λ r. (r.1, subst To at r.2))
+
+pub attacks-by : (p : Position) (m : Move) (from : ℕ) (piece : Piece) → m.from.index ≡ from → man_at p.squares from ≡ Some piece
+    → RoleAttacks p.squares piece.color piece.role from m.to.index ↔ Attacks p.squares m.from.index m.to.index
+attacks-by p m from piece here stands =
+    let A : ℕ → Type 0 = λ a. Attacks p.squares a m.to.index in
+    let O : Option Piece → Type 0 = λ o. ManAttacks p.squares o from m.to.index in
+    (λ h. subst A (sym here) (subst O (sym stands) h), λ h. subst O stands (subst A here h))
+
+pub empty_not_own : (color : Color) (o : Option Piece) → IsEmpty o → ¬ IsPieceOf color o
+empty_not_own color o empty own = no_piece color o empty own
+
+enemy_not_own : (color : Color) (o : Option Piece) → IsPieceOf (opponent color) o → ¬ IsPieceOf color o
+enemy_not_own color None enemy own = enemy
+enemy_not_own color (Some piece) enemy own = opponent-other color (sym enemy ∙ own)
+
+pub crossed_empty : (squares : List (Option Piece)) (color : Color) (s : ℕ) → HasCrossed squares color s → IsEmpty (man_at squares s)
+crossed_empty squares White s h = h.1
+crossed_empty squares Black s h = h.1
+
+captures_not_own : (p : Position) (m : Move) → IsValid p → PawnCaptures p m → ¬ IsPieceOf p.turn (man_at p.squares m.to.index)
+captures_not_own p m valid s = elim s.1 [
+  | inl enemy ↦ enemy_not_own p.turn _ enemy
+  | inr at ↦ empty_not_own p.turn _ (crossed_empty p.squares p.turn m.to.index (valid.en_passant m.to.index at))
+]
+
+pub pawn-reaches : (p : Position) (m : Move) (advances captures : ℕ) → IsValid p → HasBit advances m.to.index ↔ (PawnSteps p m ⊎ PawnDoubleSteps p m)
+    → HasBit captures m.to.index ↔ PawnCaptures p m
+    → HasBit (bit_or advances captures) m.to.index ↔ ((¬ IsPieceOf p.turn (man_at p.squares m.to.index)) × GoesTo p Pawn m)
+pawn-reaches p m advances captures valid straight aside = (
+  λ bit. elim ((HasBit-or advances captures m.to.index).0 bit) [
+    | inl x ↦ elim (straight.0 x) [
+      | inl s ↦ (empty_not_own p.turn _ s.2, inl s)
+      | inr s ↦ (empty_not_own p.turn _ s.4, inr (inl s))
+    ]
+    | inr y ↦ (captures_not_own p m valid (aside.0 y), inr (inr (aside.0 y)))
+  ],
+  λ h. (HasBit-or advances captures m.to.index).1 (elim h.1 [
+    | inl s ↦ inl (straight.1 (inl s))
+    | inr (inl s) ↦ inl (straight.1 (inr s))
+    | inr (inr s) ↦ inr (aside.1 s)
+  ]),
+)
+
+pub king-reaches : (p : Position) (m : Move) (steps short long : ℕ)
+    → HasBit steps m.to.index ↔ (Attacks p.squares m.from.index m.to.index × ¬ IsPieceOf p.turn (man_at p.squares m.to.index))
+    → HasBit short m.to.index ↔ CastlesTo Short p m → HasBit long m.to.index ↔ CastlesTo Long p m
+    → HasBit (bit_or (bit_or steps short) long) m.to.index ↔ ((¬ IsPieceOf p.turn (man_at p.squares m.to.index)) × GoesTo p King m)
+king-reaches p m steps short long says says_short says_long = (
+  λ bit. elim ((HasBit-or (bit_or steps short) long m.to.index).0 bit) [
+    | inl x ↦ elim ((HasBit-or steps short m.to.index).0 x) [
+      | inl y ↦ ((says.0 y).1, inl (says.0 y).0)
+      | inr y ↦ (castles_clear (inl (says_short.0 y)), inr (inl (says_short.0 y)))
+    ]
+    | inr x ↦ (castles_clear (inr (says_long.0 x)), inr (inr (says_long.0 x)))
+  ],
+  λ h. (HasBit-or (bit_or steps short) long m.to.index).1 (elim h.1 [
+    | inl a ↦ inl ((HasBit-or steps short m.to.index).1 (inl (says.1 (a, h.0))))
+    | inr (inl c) ↦ inl ((HasBit-or steps short m.to.index).1 (inr (says_short.1 c)))
+    | inr (inr c) ↦ inr (says_long.1 c)
+  ]),
+)
+  where
+    castles_clear : Castles p m → ¬ IsPieceOf p.turn (man_at p.squares m.to.index)
+    castles_clear c = empty_not_own p.turn _ (castles_to_empty p m c)
+
+-- a pair, turned
+pub turned : {A B C : Type 0} → A ↔ (B × C) → A ↔ (C × B)
+turned f = (λ a. ((f.0 a).1, (f.0 a).0), λ h. f.1 (h.1, h.0))
+
+pub and-says : {A B C D : Type 0} → A ↔ (B × D) → B ↔ C → A ↔ (C × D)
+and-says f g = (λ a. (g.0 (f.0 a).0, (f.0 a).1), λ h. f.1 (g.1 h.0, h.1))
+
+-- men that are neither pawns nor kings go where they attack
+pub piece_goes : (p : Position) (m : Move) (role : Role) → (role ≡ Knight) ⊎ (role ≡ Bishop) ⊎ (role ≡ Rook) ⊎ (role ≡ Queen)
+    → Attacks p.squares m.from.index m.to.index ↔ GoesTo p role m
+piece_goes p m Pawn (inl e) = absurd (let no_way : Pawn ≡ Knight = e in cc)
+piece_goes p m Pawn (inr (inl e)) = absurd (let no_way : Pawn ≡ Bishop = e in cc)
+piece_goes p m Pawn (inr (inr (inl e))) = absurd (let no_way : Pawn ≡ Rook = e in cc)
+piece_goes p m Pawn (inr (inr (inr e))) = absurd (let no_way : Pawn ≡ Queen = e in cc)
+piece_goes p m Knight one = (λ h. h, λ h. h)
+piece_goes p m Bishop one = (λ h. h, λ h. h)
+piece_goes p m Rook one = (λ h. h, λ h. h)
+piece_goes p m Queen one = (λ h. h, λ h. h)
+piece_goes p m King (inl e) = absurd (let no_way : King ≡ Knight = e in cc)
+piece_goes p m King (inr (inl e)) = absurd (let no_way : King ≡ Bishop = e in cc)
+piece_goes p m King (inr (inr (inl e))) = absurd (let no_way : King ≡ Rook = e in cc)
+piece_goes p m King (inr (inr (inr e))) = absurd (let no_way : King ≡ Queen = e in cc)
+
+-- an own king stands on the square that is seen
+pub king_at : (p : Position) (sight : Sight) (from : ℕ) (piece : Piece) → Sees p sight → from < 64 → man_at p.squares from ≡ Some piece
+    → IsPieceOf p.turn (man_at p.squares from) → piece.role ≡ King → from ≡ sight.king
+king_at p sight from piece sees on stands own role =
+    let Own : Option Piece → Type 0 = λ o. IsPieceOf p.turn o in
+    let Man : Option Piece → Type 0 = λ o. IsMan p.turn King o in
+    one_king p.squares p.turn sight.king from sees.valid.board (has_men p p.turn sees.valid).0 sees.on_board on sees.king
+    (subst Man (sym stands) (subst Own stands own, role))

@@ -37,7 +37,7 @@ pub length-moved : (xs : List (Option Piece)) (from to : ℕ) (man : Option Piec
 length-moved xs from to man whole = length-set_64 _ to man (length-set_64 xs from None whole)
 
 -- `placed` with its tests, squares and men as variables
-abbrev placed_by : Bool → Bool → ℕ → ℕ → ℕ → ℕ → ℕ → Option Piece → Option Piece → Option Piece → ℕ → Option Piece
+abbrev pub placed_by : Bool → Bool → ℕ → ℕ → ℕ → ℕ → ℕ → Option Piece → Option Piece → Option Piece → ℕ → Option Piece
 placed_by takes castles from to passed home crossed arrives rook stands s =
     if s == to then arrives
     else if s == from then None
@@ -46,7 +46,7 @@ placed_by takes castles from to passed home crossed arrives rook stands s =
     else if castles && (s == crossed) then rook
     else stands
 
-placed-by : (p : Position) (m : Move) (takes castles : Bool) (s : ℕ) → takes_en_passant p m ≡ takes → is_castling p m ≡ castles
+pub placed-by : (p : Position) (m : Move) (takes castles : Bool) (s : ℕ) → takes_en_passant p m ≡ takes → is_castling p m ≡ castles
     → placed p m s
     ≡ placed_by takes castles m.from.index m.to.index (passed_pawn m) (rook_home p.turn (castling_side m)) (halfway m.from.index m.to.index)
     (arriving (man_at p.squares m.from.index) m.promotion) (man_of p.turn Rook) (man_at p.squares s) s

@@ -45,15 +45,15 @@ describes-filled xs own enemy role i before after apart whole on d e = record {
     other r q (inr h) = apart h.0
 
 -- the man that arrives is the mover's own
-record Arrives (turn : Color) (man : Option Piece) : Type 0 where
-  role : Role
-  is : man ≡ man_of turn role
+pub record Arrives (turn : Color) (man : Option Piece) : Type 0 where
+  pub role : Role
+  pub is : man ≡ man_of turn role
 
 arrives_by : (turn : Color) (role : Role) (promotion : Option Role) → Arrives turn (arriving (man_of turn role) promotion)
 arrives_by turn role None = record { role = role; is = refl }
 arrives_by turn role (Some other) = record { role = other; is = refl }
 
-arrives : (p : Position) (m : Move) → Mover p m → Arrives p.turn (arriving (man_at p.squares m.from.index) m.promotion)
+pub arrives : (p : Position) (m : Move) → Mover p m → Arrives p.turn (arriving (man_at p.squares m.from.index) m.promotion)
 arrives p m mover =
     let P : Option Piece → Type 0 = λ o. Arrives p.turn (arriving o m.promotion) in subst P (sym mover.stands) (arrives_by p.turn mover.role m.promotion)
 

@@ -1,3 +1,4 @@
 pub mod Tidy
 pub mod Listing
 pub mod Masks
+pub mod Men

@@ -1,15 +1,13 @@
 -- The order in which legal moves are listed, and what a list of the first of them has.
 use Rattle.std.specs.Prelude.{◌≡◌, ℕ, ◌+◌, ◌*◌, ◌<◌, ◌⊎◌, List, Option, Some, None}
 use Rattle.std.specs.List.{Contains, AllPairs}
-use Rattle.explorer_model.specs.declared.chess.Color.{Color}
-use Rattle.explorer_model.specs.declared.chess.Color.TheVariants.{White, Black}
 use Rattle.explorer_model.specs.declared.chess.Role.{Role}
 use Rattle.explorer_model.specs.declared.chess.Role.TheVariants.{Pawn, Knight, Bishop, Rook, Queen, King}
+use Rattle.explorer_model.specs.declared.chess.Piece.{Piece}
 use Rattle.explorer_model.specs.declared.chess.Position.{Position}
 use Rattle.explorer_model.specs.declared.chess.Move.{Move}
-use Rattle.explorer_model.specs.declared.chess.Side.TheVariants.{Short, Long}
-use Rattle.explorer_model.specs.Board.{PawnDiagonal, KnightStep, KingStep, RookLine, BishopLine}
-use Rattle.explorer_model.specs.Chess.{king_target, Legal}
+use Rattle.explorer_model.specs.Board.{rank_of, man_at, IsPieceOf, IsMan, Attacks}
+use Rattle.explorer_model.specs.Chess.{last_rank, PawnSteps, PawnDoubleSteps, PawnCaptures, Castles, Legal}
 
 abbrev pub promotion_place : Option Role → ℕ
 promotion_place None = 0
@@ -32,16 +30,23 @@ pub record ListsBelow (p : Position) (n : ℕ) (moves : List Move) : Type 0 wher
   pub complete : (m : Move) → Legal p m → place_of m < n → Contains moves m
   pub rising : AllPairs (λ a b. place_of a < place_of b) moves
 
--- straight ahead on the file by so many numbers, 8 for each rank
-abbrev pub IsAheadBy : Color → ℕ → ℕ → ℕ → Type 0
-IsAheadBy White distance from to = to ≡ from + distance
-IsAheadBy Black distance from to = from ≡ to + distance
+-- how a man of this role may go, whatever a pawn then becomes
+abbrev pub GoesTo : Position → Role → Move → Type 0
+GoesTo p Pawn m = PawnSteps p m ⊎ PawnDoubleSteps p m ⊎ PawnCaptures p m
+GoesTo p King m = Attacks p.squares m.from.index m.to.index ⊎ Castles p m
+GoesTo p _ m = Attacks p.squares m.from.index m.to.index
 
--- where a man may go whatever stands on the board
-abbrev pub MayGo : Color → Role → ℕ → ℕ → Type 0
-MayGo color Pawn from to = PawnDiagonal color from to ⊎ IsAheadBy color 8 from to ⊎ IsAheadBy color 16 from to
-MayGo color Knight from to = KnightStep from to
-MayGo color Bishop from to = BishopLine from to
-MayGo color Rook from to = RookLine from to
-MayGo color Queen from to = RookLine from to ⊎ BishopLine from to
-MayGo color King from to = KingStep from to ⊎ (to ≡ king_target color Short) ⊎ (to ≡ king_target color Long)
+abbrev pub ManGoesTo : Position → Option Piece → Move → Type 0
+ManGoesTo p None m = ⊥
+ManGoesTo p (Some piece) m = GoesTo p piece.role m
+
+-- a move that is a candidate where it promotes as it must
+abbrev pub Reaches : Position → Move → Type 0
+Reaches p m =
+    IsPieceOf p.turn (man_at p.squares m.from.index)
+    × (¬ IsPieceOf p.turn (man_at p.squares m.to.index))
+    × ManGoesTo p (man_at p.squares m.from.index) m
+
+-- a pawn goes to its last rank
+abbrev pub IsPromoting : Position → ℕ → ℕ → Type 0
+IsPromoting p from to = (rank_of to ≡ last_rank p.turn) × IsMan p.turn Pawn (man_at p.squares from)

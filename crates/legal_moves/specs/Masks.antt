@@ -1,12 +1,13 @@
 -- What masks tell of a board: a mask is a set of squares, of which bit s stands for square s.
-use Rattle.std.specs.Prelude.{◌≡◌, ◌≢◌, ℕ, ◌<◌, ◌↔◌, ◌⊎◌, List, Option, Some, None}
+use Rattle.std.specs.Prelude.{◌≡◌, ◌≢◌, ℕ, ◌<◌, ◌↔◌, ◌⊎◌, List, Option, Some, None, false, IsTrue}
 use Rattle.step_tables.specs.Mask.{HasBit}
 use Rattle.explorer_model.specs.declared.chess.Color.{Color}
 use Rattle.explorer_model.specs.declared.chess.Role.TheVariants.{Pawn, Knight, Bishop, Rook, Queen, King}
 use Rattle.explorer_model.specs.declared.chess.Piece.{Piece}
 use Rattle.explorer_model.specs.declared.chess.Position.{Position}
-use Rattle.explorer_model.specs.Board.{opponent, man_at, IsMan, IsBetween, PawnDiagonal, KnightStep, KingStep, RookLine, BishopLine}
-use Rattle.explorer_model.specs.Chess.{IsValid}
+use Rattle.explorer_model.specs.declared.chess.Move.{Move}
+use Rattle.explorer_model.specs.Board.{opponent, man_at, IsPieceOf, IsMan, InCheck, IsBetween, PawnDiagonal, KnightStep, KingStep, RookLine, BishopLine}
+use Rattle.explorer_model.specs.Chess.{IsValid, takes_en_passant}
 use Rattle.legal_moves.specs.declared.masks.Masks.{Masks}
 use Rattle.legal_moves.specs.declared.sight.Sight.{Sight}
 
@@ -79,9 +80,27 @@ pub record IsFilled (before : Masks) (s : ℕ) (after : Masks) : Type 0 where
   pub straights : IsWithout before.straights s after.straights
   pub king : IsWithout before.king s after.king
 
+-- the square lies between this one and an enemy on one of whose lines this one stands
+abbrev pub IsExposed : Masks → ℕ → ℕ → Type 0
+IsExposed masks king s =
+    HasSuch masks.straights (λ a. RookLine a king × IsBetween a s king) ⊎ HasSuch masks.diagonals (λ a. BishopLine a king × IsBetween a s king)
+
 -- what is seen of a valid position: its men, and the king of the side to move
 pub record Sees (p : Position) (sight : Sight) : Type 0 where
   pub valid : IsValid p
   pub masks : Describes p.squares (opponent p.turn) sight.masks
+  pub own : IsMaskOf (IsPieceOf p.turn) p.squares sight.own
+  pub own_pawns : IsMaskOf (IsMan p.turn Pawn) p.squares sight.own_pawns
+  pub enemies : IsMaskOf (IsPieceOf (opponent p.turn)) p.squares sight.enemies
   pub on_board : sight.king < 64
   pub king : IsMan p.turn King (man_at p.squares sight.king)
+  pub checked : IsTrue sight.checked ↔ InCheck p.squares p.turn
+  pub exposed : (s : ℕ) → s < 64 → HasBit sight.exposed s ↔ IsExposed sight.masks sight.king s
+
+-- the move takes nothing out of the way to a king that stays and is not in check
+abbrev pub IsSteady : Position → Sight → Move → Type 0
+IsSteady p sight m =
+    (¬ InCheck p.squares p.turn)
+    × (m.from.index ≢ sight.king)
+    × (¬ HasBit sight.exposed m.from.index)
+    × (takes_en_passant p m ≡ false)

@@ -1,11 +1,2 @@
--- The tidy form of a position: an en passant square stays only where a pawn can legally be taken there (FIDE 9.2.3).
-use Rattle.std.specs.Prelude.{◌≡◌, ℕ, ◌↔◌}
-use Rattle.explorer_model.specs.declared.chess.Position.{Position}
-use Rattle.explorer_model.specs.Chess.{IsSquare, CanTakeEnPassant}
-
--- q is the tidy form of p
-pub record IsTidied (p q : Position) : Type 0 where
-  pub squares : q.squares ≡ p.squares
-  pub turn : q.turn ≡ p.turn
-  pub rights : q.rights ≡ p.rights
-  pub en_passant : (s : ℕ) → IsSquare q.en_passant s ↔ CanTakeEnPassant p s
+-- The tidy form of a position.
+pub use Rattle.explorer_model.specs.Tidy.{IsTidied}

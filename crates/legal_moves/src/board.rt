@@ -7,12 +7,13 @@ ghost use Rattle.explorer_model.specs.Chess.{IsValid, Legal, after, start};
 ghost use Rattle.legal_moves.specs.Tidy.{IsTidied};
 
 use crate::generate;
-use crate::play::squares_played;
+use crate::men::Men;
+use crate::play::{men_played, squares_played};
 use crate::sight::Sight;
+use crate::tidy::open_en_passant;
 use arrayvec::ArrayVec;
 use explorer_model::chess::{Move, Position};
 use explorer_model::plain::board::opponent;
-use explorer_model::plain::legal::open_en_passant;
 use explorer_model::plain::play::{en_passant_after, rights_after};
 use explorer_model::plain::valid::{is_valid, start};
 use std::marker::Model;
@@ -21,19 +22,24 @@ use std::marker::Model;
 #[derive(Clone, Copy, Debug)]
 pub struct Board {
     position: Position,
+    /// The men of the position.
+    men: Men,
 }
 
 impl Model for Board {
     ghost use Rattle.explorer_model.specs.declared.chess.Position.{Position};
-    ghost use Rattle.explorer_model.specs.Chess.{IsValid};
+    ghost use Rattle.legal_moves.specs.Men.{men_in, IsKept};
+    ghost use Rattle.std.proofs.Common.{sym};
 
     ghost Value = { Position };
 
     ghost view = { λ b. b.position };
 
-    ghost invariant = { λ b. IsValid b.position };
+    ghost invariant = { λ b. IsKept b.position b.men };
 
-    ghost inverse = { λ p. record { position = p } };
+    ghost inverse = { λ p. record { position = p; men = men_in p.squares } };
+
+    ghost inverse_ok = { λ b kept i. record { position = b.position; men = sym kept.told i } };
 }
 
 impl Board {
@@ -41,7 +47,7 @@ impl Board {
     pub fn start() -> Board
         ensures { result ≡ start }
     {
-        Board { position: start() }
+        Board::of_valid(start())
     }
 
     /// The board of a position; `None` exactly where the position is not valid.
@@ -50,11 +56,20 @@ impl Board {
         ensures valid { IsSome result ↔ IsValid position.now }
     {
         if is_valid(position) {
-            Some(Board {
-                position: *position,
-            })
+            Some(Board::of_valid(*position))
         } else {
             None
+        }
+    }
+
+    /// The board of a valid position.
+    fn of_valid(position: Position) -> Board
+        requires { IsValid position }
+        ensures { result ≡ position }
+    {
+        Board {
+            position,
+            men: Men::of(&position.squares),
         }
     }
 
@@ -69,7 +84,7 @@ impl Board {
     pub fn checked(&self) -> bool
         ensures { IsTrue result ↔ InCheck self.now.squares self.now.turn }
     {
-        Sight::of(&self.position).in_check(&self.position)
+        Sight::of(&self.position, &self.men).checked
     }
 
     /// Every legal move, in no stated order. There are never more than 415: fifteen men have at
@@ -80,14 +95,14 @@ impl Board {
         ensures sound { All (λ m. Legal self.now m) result.items }
         ensures few { length result.items ≤ 415 }
     {
-        generate::legal(&self.position)
+        generate::legal(&self.position, &self.men)
     }
 
     /// Is there a legal move? This stops at the first square from which there is one.
     pub fn has_move(&self) -> bool
         ensures { IsTrue result ↔ ((m : Move) × Legal self.now m) }
     {
-        generate::has_move(&self.position)
+        generate::has_move(&self.position, &self.men)
     }
 
     /// The board after a legal move.
@@ -103,6 +118,7 @@ impl Board {
                 rights: rights_after(position, step),
                 en_passant: en_passant_after(position, step),
             },
+            men: men_played(position, &self.men, step),
         }
     }
 
@@ -113,9 +129,10 @@ impl Board {
     {
         Board {
             position: Position {
-                en_passant: open_en_passant(&self.position),
+                en_passant: open_en_passant(&self.position, &self.men),
                 ..self.position
             },
+            men: self.men,
         }
     }
 }

@@ -5,8 +5,10 @@ pub mod board;
 mod generate;
 pub mod laws;
 mod masks;
+mod men;
 mod play;
 mod sight;
 mod targets;
 #[cfg(test)]
 mod tests;
+mod tidy;

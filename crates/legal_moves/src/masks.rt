@@ -1,11 +1,13 @@
 //! Where the men stand, as sets of squares, and which squares they attack.
-ghost use Rattle.std.specs.Prelude.{◌≡◌, ◌<◌, ◌↔◌, ◌⊎◌, ℕ, IsTrue};
+ghost use Rattle.std.specs.Prelude.{◌≡◌, ◌<◌, ◌↔◌, ◌⊎◌, ℕ, List, Option, IsTrue};
 ghost use Rattle.step_tables.specs.Mask.{HasBit};
-ghost use Rattle.explorer_model.specs.Board.{IsMan, PawnDiagonal, KnightStep, KingStep, RookLine, BishopLine};
-ghost use Rattle.legal_moves.specs.Masks.{IsOccupied, IsMaskOf, Describes, IsClear, HasSuch, LeapsTo, SlidesTo, IsEmptied, IsFilled};
+ghost use Rattle.explorer_model.specs.Board.{IsBetween, PawnDiagonal, KnightStep, KingStep, RookLine, BishopLine};
+ghost use Rattle.explorer_model.specs.declared.chess.Piece.{Piece};
+ghost use Rattle.legal_moves.specs.Masks.{Describes, IsClear, HasSuch, IsExposed, LeapsTo, SlidesTo, IsEmptied, IsFilled};
+ghost use Rattle.legal_moves.specs.Men.{men_in};
 
-use explorer_model::chess::{Color, Piece, Role};
-use explorer_model::plain::board::{is_empty, is_man};
+use crate::men::Men;
+use explorer_model::chess::Color;
 use step_tables::{
     between, bishop_targets, black_pawn_targets, is_disjoint, king_targets, knight_targets, lowest,
     only, rook_targets, white_pawn_targets, without,
@@ -22,31 +24,6 @@ pub struct Masks {
     /// Rooks and queens.
     pub straights: u64,
     pub king: u64,
-}
-
-fn occupied_squares(squares: &[Option<Piece>; 64]) -> u64
-    ensures { IsMaskOf IsOccupied squares.now result }
-{
-    let mut mask = 0;
-    for s in 0..64u8 {
-        if !is_empty(squares[s as usize]) {
-            mask |= only(s);
-        }
-    }
-    mask
-}
-
-/// The squares of the men of this colour and role.
-pub fn squares_of_men(squares: &[Option<Piece>; 64], color: Color, role: Role) -> u64
-    ensures { IsMaskOf (IsMan color role) squares.now result }
-{
-    let mut mask = 0;
-    for s in 0..64u8 {
-        if is_man(color, role, squares[s as usize]) {
-            mask |= only(s);
-        }
-    }
-    mask
 }
 
 /// Do two sets have a square in common?
@@ -120,19 +97,34 @@ fn diagonal_attacks(occupied: u64, diagonals: u64, square: u8) -> bool
     is_one_clear(occupied, diagonals & bishop_targets(square), square)
 }
 
+/// The squares between a square and those of a set, on their lines.
+fn squares_between(sliders: u64, square: u8) -> u64
+    requires { square < 64 }
+    ensures { (s : ℕ) → s < 64 → HasBit result s ↔ HasSuch sliders (λ a. IsBetween a s square) }
+{
+    let mut passed = 0;
+    let mut rest = sliders;
+    while rest != 0 {
+        let slider = lowest(rest);
+        passed |= between(slider, square);
+        rest = without(rest, slider);
+    }
+    passed
+}
+
 impl Masks {
-    /// The masks of a board.
-    pub fn of(squares: &[Option<Piece>; 64], enemy: Color) -> Masks
-        ensures { Describes squares.now enemy result }
+    /// The masks of a board with these men.
+    pub fn of(men: &Men, enemy: Color) -> Masks
+        ensures { (squares : List (Option Piece)) → men.now ≡ men_in squares → Describes squares enemy result }
     {
-        let queens = squares_of_men(squares, enemy, Role::Queen);
+        let theirs = men.of_color(enemy);
         Masks {
-            occupied: occupied_squares(squares),
-            pawns: squares_of_men(squares, enemy, Role::Pawn),
-            knights: squares_of_men(squares, enemy, Role::Knight),
-            diagonals: squares_of_men(squares, enemy, Role::Bishop) | queens,
-            straights: squares_of_men(squares, enemy, Role::Rook) | queens,
-            king: squares_of_men(squares, enemy, Role::King),
+            occupied: men.white | men.black,
+            pawns: theirs & men.pawns,
+            knights: theirs & men.knights,
+            diagonals: theirs & (men.bishops | men.queens),
+            straights: theirs & (men.rooks | men.queens),
+            king: theirs & men.kings,
         }
     }
 
@@ -159,6 +151,15 @@ impl Masks {
         ensures { IsTrue result ↔ (LeapsTo self.now enemy square ⊎ SlidesTo self.now square) }
     {
         self.leaps_to(enemy, square) || self.slides_to(square)
+    }
+
+    /// The squares between a square and the enemies on whose lines it stands.
+    pub fn exposed(&self, square: u8) -> u64
+        requires { square < 64 }
+        ensures { (s : ℕ) → s < 64 → HasBit result s ↔ IsExposed self.now square s }
+    {
+        squares_between(self.straights & rook_targets(square), square)
+            | squares_between(self.diagonals & bishop_targets(square), square)
     }
 
     /// The masks where nothing stands on the square.

@@ -1,7 +1,9 @@
 //! Playing a move: what leaves, what goes and what arrives.
 ghost use Rattle.std.specs.Prelude.{◌≡◌};
 ghost use Rattle.explorer_model.specs.Chess.{IsValid, squares_after};
+ghost use Rattle.legal_moves.specs.Men.{IsKept, men_in};
 
+use crate::men::Men;
 use explorer_model::chess::{Move, Piece, Position, Role};
 use explorer_model::plain::board::man_of;
 use explorer_model::plain::geometry::halfway;
@@ -27,4 +29,29 @@ pub fn squares_played(position: &Position, step: Move) -> [Option<Piece>; 64]
     squares[from as usize] = None;
     squares[to as usize] = arriving(position.squares[from as usize], step.promotion);
     squares
+}
+
+/// The men after a move, in the same writes.
+pub fn men_played(position: &Position, men: &Men, step: Move) -> Men
+    requires { IsKept position.now men.now }
+    ensures { result ≡ men_in (squares_after position.now step) }
+{
+    let (from, to) = (step.from.index, step.to.index);
+    let arrives = arriving(position.squares[from as usize], step.promotion);
+    if takes_en_passant(position, step) {
+        return men
+            .written(passed_pawn(step), None)
+            .written(from, None)
+            .written(to, arrives);
+    }
+    if is_castling(position, step) {
+        let rook = man_of(position.turn, Role::Rook);
+        let home = rook_home(position.turn, castling_side(step));
+        return men
+            .written(halfway(from, to), rook)
+            .written(home, None)
+            .written(from, None)
+            .written(to, arrives);
+    }
+    men.written(from, None).written(to, arrives)
 }

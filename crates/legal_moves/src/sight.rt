@@ -1,47 +1,56 @@
 //! Which moves are legal, told by masks.
-ghost use Rattle.std.specs.Prelude.{◌≡◌, ◌<◌, ◌↔◌, ◌⊎◌, IsTrue};
-ghost use Rattle.explorer_model.specs.Board.{opponent, man_at, IsMan, RookLine, BishopLine, IsOpen, RoleAttacks, Attacks, IsAttacked, InCheck};
+ghost use Rattle.std.specs.Prelude.{◌≡◌, ◌<◌, ◌↔◌, IsTrue};
+ghost use Rattle.explorer_model.specs.Board.{opponent, man_at, IsMan, IsOpen, IsAttacked, InCheck};
 ghost use Rattle.explorer_model.specs.declared.chess.Role.TheVariants.{King};
-ghost use Rattle.explorer_model.specs.Chess.{IsValid, CastlesTo, Castles, Goes, GoesAs, Candidate, IsCastlingPathSafe, Legal, squares_after};
-ghost use Rattle.legal_moves.specs.Masks.{Describes, Sees};
+ghost use Rattle.explorer_model.specs.Chess.{CastlesTo, Castles, Candidate, IsCastlingPathSafe, Legal, squares_after};
+ghost use Rattle.legal_moves.specs.Masks.{Describes, Sees, IsSteady};
+ghost use Rattle.legal_moves.specs.Men.{IsKept};
 
-use crate::masks::{Masks, is_clear, squares_of_men};
-use explorer_model::chess::{Move, Piece, Position, Role, Side};
-use explorer_model::plain::board::{is_man, is_pawn_diagonal, is_piece_of, man_at, opponent};
-use explorer_model::plain::candidate::{
-    king_target, pawn_captures, pawn_double_steps, pawn_steps, promotes,
-};
-use explorer_model::plain::geometry::{
-    halfway, is_bishop_line, is_king_step, is_knight_step, is_rook_line,
-};
+use crate::masks::{Masks, is_clear};
+use crate::men::Men;
+use explorer_model::chess::{Move, Position, Role, Side};
+use explorer_model::plain::board::{is_man, man_at, opponent};
+use explorer_model::plain::candidate::king_target;
+use explorer_model::plain::geometry::halfway;
 use explorer_model::plain::play::{castling_side, is_castling, passed_pawn, takes_en_passant};
 use explorer_model::plain::valid::{has_right, king_home, rook_home};
-use step_tables::lowest;
-
-/// Are two squares on one file, rank or diagonal?
-fn is_queen_line(a: u8, b: u8) -> bool
-    ensures { IsTrue result ↔ (RookLine a b ⊎ BishopLine a b) }
-{
-    is_rook_line(a, b) || is_bishop_line(a, b)
-}
+use step_tables::{contains, lowest};
 
 /// What a legality test sees of a position.
 #[derive(Clone, Copy)]
 pub struct Sight {
     /// All men, and those of the side that is not to move.
     pub masks: Masks,
+    /// The men of the side to move.
+    pub own: u64,
+    pub own_pawns: u64,
+    /// The men of the side that is not to move.
+    pub enemies: u64,
     /// The square of the king of the side to move.
     pub king: u8,
+    /// Is that king attacked?
+    pub checked: bool,
+    /// The squares between that king and the enemies on whose lines it stands.
+    pub exposed: u64,
 }
 
 impl Sight {
-    pub fn of(position: &Position) -> Sight
-        requires { IsValid position.now }
+    pub fn of(position: &Position, men: &Men) -> Sight
+        requires { IsKept position.now men.now }
         ensures { Sees position.now result }
     {
+        let enemy = opponent(position.turn);
+        let own = men.of_color(position.turn);
+        let masks = Masks::of(men, enemy);
+        let king = lowest(own & men.kings);
         Sight {
-            masks: Masks::of(&position.squares, opponent(position.turn)),
-            king: lowest(squares_of_men(&position.squares, position.turn, Role::King)),
+            masks,
+            own,
+            own_pawns: own & men.pawns,
+            enemies: men.of_color(enemy),
+            king,
+            checked: masks.is_attacked(enemy, king),
+            exposed: masks.exposed(king),
         }
     }
 
@@ -54,14 +63,6 @@ impl Sight {
         self.masks.is_attacked(opponent(position.turn), square)
     }
 
-    /// Is the side to move in check?
-    pub fn in_check(&self, position: &Position) -> bool
-        requires { Sees position.now self.now }
-        ensures { IsTrue result ↔ InCheck position.now.squares position.now.turn }
-    {
-        self.is_attacked(position, self.king)
-    }
-
     fn is_open(&self, position: &Position, a: u8, b: u8) -> bool
         requires sees { Sees position.now self.now }
         requires a_on_board { a < 64 }
@@ -70,34 +71,6 @@ impl Sight {
     {
         let _turn = position.turn;
         is_clear(self.masks.occupied, a, b)
-    }
-
-    fn role_attacks(&self, position: &Position, piece: Piece, a: u8, b: u8) -> bool
-        requires sees { Sees position.now self.now }
-        requires a_on_board { a < 64 }
-        requires b_on_board { b < 64 }
-        ensures { IsTrue result ↔ RoleAttacks position.now.squares piece.color piece.role a b }
-    {
-        match piece.role {
-            Role::Pawn => is_pawn_diagonal(piece.color, a, b),
-            Role::Knight => is_knight_step(a, b),
-            Role::Bishop => is_bishop_line(a, b) && self.is_open(position, a, b),
-            Role::Rook => is_rook_line(a, b) && self.is_open(position, a, b),
-            Role::Queen => is_queen_line(a, b) && self.is_open(position, a, b),
-            Role::King => is_king_step(a, b),
-        }
-    }
-
-    fn attacks(&self, position: &Position, a: u8, b: u8) -> bool
-        requires sees { Sees position.now self.now }
-        requires a_on_board { a < 64 }
-        requires b_on_board { b < 64 }
-        ensures { IsTrue result ↔ Attacks position.now.squares a b }
-    {
-        match man_at(&position.squares, a) {
-            None => false,
-            Some(piece) => self.role_attacks(position, piece, a, b),
-        }
     }
 
     fn castles_to(&self, side: Side, position: &Position, step: Move) -> bool
@@ -122,49 +95,6 @@ impl Sight {
         ensures { IsTrue result ↔ Castles position.now step }
     {
         self.castles_to(Side::Short, position, step) || self.castles_to(Side::Long, position, step)
-    }
-
-    /// May a man of this role make the move?
-    fn goes(&self, position: &Position, role: Role, step: Move) -> bool
-        requires { Sees position.now self.now }
-        ensures { IsTrue result ↔ Goes position.now role step }
-    {
-        let (from, to) = (step.from.index, step.to.index);
-        match role {
-            Role::Pawn => {
-                (pawn_steps(position, step)
-                    || pawn_double_steps(position, step)
-                    || pawn_captures(position, step))
-                    && promotes(position.turn, step)
-            }
-            Role::King => {
-                (self.attacks(position, from, to) || self.castles(position, step))
-                    && step.promotion.is_none()
-            }
-            Role::Knight | Role::Bishop | Role::Rook | Role::Queen => {
-                self.attacks(position, from, to) && step.promotion.is_none()
-            }
-        }
-    }
-
-    fn goes_as(&self, position: &Position, man: Option<Piece>, step: Move) -> bool
-        requires { Sees position.now self.now }
-        ensures { IsTrue result ↔ GoesAs position.now man step }
-    {
-        match man {
-            None => false,
-            Some(piece) => self.goes(position, piece.role, step),
-        }
-    }
-
-    fn is_candidate(&self, position: &Position, step: Move) -> bool
-        requires { Sees position.now self.now }
-        ensures { IsTrue result ↔ Candidate position.now step }
-    {
-        let man = man_at(&position.squares, step.from.index);
-        is_piece_of(position.turn, man)
-            && !is_piece_of(position.turn, man_at(&position.squares, step.to.index))
-            && self.goes_as(position, man, step)
     }
 
     /// The masks after a candidate, written as the squares are: a rook that castles goes first, or
@@ -209,12 +139,32 @@ impl Sight {
         }
     }
 
+    /// Does the move take nothing out of the way to a king that stays and is not in check?
+    fn is_steady(&self, position: &Position, step: Move) -> bool
+        requires { Sees position.now self.now }
+        ensures { IsTrue result ↔ IsSteady position.now self.now step }
+    {
+        if self.checked {
+            return false;
+        }
+        if step.from.index == self.king {
+            return false;
+        }
+        if contains(self.exposed, step.from.index) {
+            return false;
+        }
+        !takes_en_passant(position, step)
+    }
+
     /// Does a candidate leave the own king safe?
     fn is_safe(&self, position: &Position, step: Move) -> bool
         requires sees { Sees position.now self.now }
         requires candidate { Candidate position.now step }
         ensures { IsTrue result ↔ ¬ InCheck (squares_after position.now step) position.now.turn }
     {
+        if self.is_steady(position, step) {
+            return true;
+        }
         let king = self.king_after(position, step);
         !self
             .masks_after(position, step)
@@ -236,15 +186,17 @@ impl Sight {
         !self.is_attacked(position, to)
     }
 
+    /// Is a candidate legal?
     pub fn is_legal(&self, position: &Position, step: Move) -> bool
-        requires { Sees position.now self.now }
+        requires sees { Sees position.now self.now }
+        requires candidate { Candidate position.now step }
         ensures { IsTrue result ↔ Legal position.now step }
     {
-        if !self.is_candidate(position, step) {
-            return false;
-        }
         if !self.is_safe(position, step) {
             return false;
+        }
+        if step.from.index != self.king {
+            return true;
         }
         if !self.castles(position, step) {
             return true;

@@ -1,48 +1,44 @@
-//! Where the candidates from a square may end, by the way each man goes, whatever stands there.
-ghost use Rattle.std.specs.Prelude.{◌≡◌, ◌<◌, ℕ};
+//! Where the men of the side to move may go, as sets of squares, before it is asked whether that
+//! leaves their king attacked.
+ghost use Rattle.std.specs.Prelude.{◌≡◌, ◌≢◌, ◌<◌, ◌↔◌, ◌⊎◌, ℕ};
 ghost use Rattle.step_tables.specs.Mask.{HasBit};
 ghost use Rattle.explorer_model.specs.declared.chess.Move.{Move};
-ghost use Rattle.explorer_model.specs.Board.{PawnDiagonal};
-ghost use Rattle.explorer_model.specs.Chess.{king_target, Candidate};
 ghost use Rattle.explorer_model.specs.declared.chess.Role.TheVariants.{Pawn};
-ghost use Rattle.explorer_model.specs.declared.chess.Side.TheVariants.{Short, Long};
-ghost use Rattle.legal_moves.specs.Listing.{IsAheadBy, MayGo};
+ghost use Rattle.explorer_model.specs.Board.{file_of, rank_of, man_at, IsRankAhead, IsPieceOf, IsMan, PawnDiagonal, RoleAttacks};
+ghost use Rattle.explorer_model.specs.Chess.{last_rank, PawnSteps, PawnDoubleSteps, PawnCaptures, CastlesTo, IsSquare};
+ghost use Rattle.legal_moves.specs.Listing.{Reaches};
+ghost use Rattle.legal_moves.specs.Masks.{Sees};
 
+use crate::masks::is_clear;
+use crate::sight::Sight;
 use explorer_model::chess::{Color, Piece, Position, Role, Side};
-use explorer_model::plain::candidate::king_target;
+use explorer_model::plain::candidate::{king_target, pawn_rank};
+use explorer_model::plain::geometry::rank_of;
+use explorer_model::plain::valid::{has_right, king_home, rook_home};
 use explorer_model::square::Square;
 use step_tables::{
-    bishop_targets, black_pawn_targets, king_targets, knight_targets, only, queen_targets,
-    rook_targets, white_pawn_targets,
+    bishop_targets, black_pawn_targets, contains, king_targets, knight_targets, only,
+    queen_targets, rook_targets, unblocked, white_pawn_targets,
 };
 
-/// The square so many numbers ahead on the file, 8 for each rank.
-fn ahead(color: Color, from: u8, distance: u8) -> u64
-    requires on_board { from < 64 }
-    requires few { distance < 64 }
-    ensures { (to : ℕ) → to < 64 → IsAheadBy color distance from to → HasBit result to }
+/// The next square in front of a pawn.
+fn ahead(color: Color, square: u8) -> u8
+    requires on_board { square < 64 }
+    requires inside { rank_of square ≢ last_rank color }
+    ensures on_board { result < 64 }
+    ensures file { file_of square ≡ file_of result }
+    ensures rank { IsRankAhead color square result }
 {
     match color {
-        Color::White => {
-            if from + distance < 64 {
-                only(from + distance)
-            } else {
-                0
-            }
-        }
-        Color::Black => {
-            if from >= distance {
-                only(from - distance)
-            } else {
-                0
-            }
-        }
+        Color::White => square + 8,
+        Color::Black => square - 8,
     }
 }
 
-fn pawn_diagonals(color: Color, from: u8) -> u64
+/// The squares that a pawn attacks.
+pub fn pawn_diagonals(color: Color, from: u8) -> u64
     requires { from < 64 }
-    ensures { (to : ℕ) → to < 64 → PawnDiagonal color from to → HasBit result to }
+    ensures { (to : ℕ) → to < 64 → HasBit result to ↔ PawnDiagonal color from to }
 {
     match color {
         Color::White => white_pawn_targets(from),
@@ -50,46 +46,113 @@ fn pawn_diagonals(color: Color, from: u8) -> u64
     }
 }
 
-fn pawn_targets(color: Color, from: u8) -> u64
-    requires { from < 64 }
-    ensures { (to : ℕ) → to < 64 → MayGo color Pawn from to → HasBit result to }
+/// Where a pawn may go straight ahead.
+fn pawn_advances(position: &Position, sight: &Sight, from: u8) -> u64
+    requires sees { Sees position.now sight.now }
+    requires on_board { from < 64 }
+    requires pawn { IsMan position.now.turn Pawn (man_at position.now.squares from) }
+    ensures { (m : Move) → m.from.index ≡ from
+        → HasBit result m.to.index ↔ (PawnSteps position.now m ⊎ PawnDoubleSteps position.now m) }
 {
-    pawn_diagonals(color, from) | ahead(color, from, 8) | ahead(color, from, 16)
+    let next = ahead(position.turn, from);
+    if contains(sight.masks.occupied, next) {
+        return 0;
+    }
+    if rank_of(from) != pawn_rank(position.turn) {
+        return only(next);
+    }
+    let second = ahead(position.turn, next);
+    if contains(sight.masks.occupied, second) {
+        return only(next);
+    }
+    only(next) | only(second)
 }
 
-fn castling_targets(color: Color) -> u64
-    ensures short { HasBit result (king_target color Short) }
-    ensures long { HasBit result (king_target color Long) }
+/// The en passant square, if there is one.
+fn crossed(position: &Position) -> u64
+    ensures { (to : ℕ) → to < 64 → HasBit result to ↔ IsSquare position.now.en_passant to }
 {
-    only(king_target(color, Side::Short)) | only(king_target(color, Side::Long))
-}
-
-fn role_targets(piece: Piece, from: u8) -> u64
-    requires { from < 64 }
-    ensures { (to : ℕ) → to < 64 → MayGo piece.color piece.role from to → HasBit result to }
-{
-    match piece.role {
-        Role::Pawn => pawn_targets(piece.color, from),
-        Role::Knight => knight_targets(from),
-        Role::Bishop => bishop_targets(from),
-        Role::Rook => rook_targets(from),
-        Role::Queen => queen_targets(from),
-        Role::King => king_targets(from) | castling_targets(piece.color),
+    match position.en_passant {
+        None => 0,
+        Some(square) => only(square.index),
     }
 }
 
-/// A set with each square on which a candidate from this square ends.
-pub fn targets(position: &Position, from: Square) -> u64
-    ensures { (m : Move) → m.from.index ≡ from.index → Candidate position.now m → HasBit result m.to.index }
+/// Where a pawn may capture.
+fn pawn_captures(position: &Position, sight: &Sight, from: u8) -> u64
+    requires sees { Sees position.now sight.now }
+    requires on_board { from < 64 }
+    ensures { (m : Move) → m.from.index ≡ from → HasBit result m.to.index ↔ PawnCaptures position.now m }
 {
-    match position.squares[from.index as usize] {
-        None => 0,
-        Some(piece) => {
-            if piece.color == position.turn {
-                role_targets(piece, from.index)
-            } else {
-                0
-            }
+    pawn_diagonals(position.turn, from) & (sight.enemies | crossed(position))
+}
+
+/// Where castling toward this side takes the king.
+fn castling(position: &Position, sight: &Sight, side: Side) -> u64
+    requires { Sees position.now sight.now }
+    ensures { (m : Move) → m.from.index ≡ sight.now.king → HasBit result m.to.index ↔ CastlesTo side position.now m }
+{
+    let color = position.turn;
+    if !has_right(position.rights, color, side) {
+        return 0;
+    }
+    if !is_clear(
+        sight.masks.occupied,
+        king_home(color),
+        rook_home(color, side),
+    ) {
+        return 0;
+    }
+    only(king_target(color, side))
+}
+
+/// The squares of one set that are not in another.
+fn except(mask: u64, others: u64) -> u64
+    ensures { (s : ℕ) → s < 64 → HasBit result s ↔ (HasBit mask s × ¬ HasBit others s) }
+{
+    mask & !others
+}
+
+/// The squares that a man attacks, but for those of the side to move.
+fn attacks(position: &Position, sight: &Sight, piece: Piece, from: u8) -> u64
+    requires sees { Sees position.now sight.now }
+    requires on_board { from < 64 }
+    ensures { (to : ℕ) → to < 64 → HasBit result to ↔
+        (RoleAttacks position.now.squares piece.color piece.role from to × ¬ IsPieceOf position.now.turn (man_at position.now.squares to)) }
+{
+    let _turn = position.turn;
+    let own = sight.own;
+    let occupied = sight.masks.occupied;
+    match piece.role {
+        Role::Pawn => except(pawn_diagonals(piece.color, from), own),
+        Role::Knight => except(knight_targets(from), own),
+        Role::Bishop => unblocked(from, except(bishop_targets(from), own), occupied),
+        Role::Rook => unblocked(from, except(rook_targets(from), own), occupied),
+        Role::Queen => unblocked(from, except(queen_targets(from), own), occupied),
+        Role::King => except(king_targets(from), own),
+    }
+}
+
+/// Where the man on a square may go.
+pub fn targets(position: &Position, sight: &Sight, from: Square) -> u64
+    requires sees { Sees position.now sight.now }
+    requires own { IsPieceOf position.now.turn (man_at position.now.squares from.index) }
+    ensures { (m : Move) → m.from.index ≡ from.index → HasBit result m.to.index ↔ Reaches position.now m }
+{
+    let Some(piece) = position.squares[from.index as usize] else {
+        return 0;
+    };
+    match piece.role {
+        Role::Pawn => {
+            pawn_advances(position, sight, from.index) | pawn_captures(position, sight, from.index)
+        }
+        Role::King => {
+            attacks(position, sight, piece, from.index)
+                | castling(position, sight, Side::Short)
+                | castling(position, sight, Side::Long)
+        }
+        Role::Knight | Role::Bishop | Role::Rook | Role::Queen => {
+            attacks(position, sight, piece, from.index)
         }
     }
 }

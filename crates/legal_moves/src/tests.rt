@@ -1,5 +1,7 @@
 //! Boards against what the Laws of Chess say of a few moves.
 mod legal;
+mod perft;
+mod plainly;
 
 use crate::board::Board;
 use explorer_model::chess::{Color, Move, Piece, Position, Rights, Role};

@@ -1,5 +1,4 @@
 pub mod Meaning
-pub mod PlainLemmas
 pub mod Rows
 pub mod Runs
 pub mod Shapes

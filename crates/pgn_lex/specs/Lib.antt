@@ -2,5 +2,4 @@ pub mod Bytes
 pub mod Items
 pub mod Laws
 pub mod Pair
-pub mod Plain
 pub mod Reading

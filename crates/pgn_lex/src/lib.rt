@@ -5,7 +5,6 @@ mod bytes;
 mod items;
 pub mod laws;
 mod pair;
-pub mod plain;
 mod reading;
 
 pub use reading::parts;

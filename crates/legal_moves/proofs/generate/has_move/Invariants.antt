@@ -1,6 +1,9 @@
-use Rattle.std.proofs.Common.{◌≡◌, ◌*◌, length}
-use Rattle.legal_moves.specs.Listing.{ListsBelow}
+use Rattle.std.proofs.Common.{◌≡◌, length}
+use Rattle.legal_moves.proofs.Lists.{IsSwept}
 use Rattle.legal_moves.proofs.generate.has_move.Given as goal
 
-abbrev pub invariant-loop-index : goal.invariant-loop-index
-invariant-loop-index l = ListsBelow l.position (512 * l.index) l.moves.items × (length l.moves.items ≡ 0)
+abbrev pub invariant-loop-rest : goal.invariant-loop-rest
+invariant-loop-rest l = IsSwept l.position l.rest l.moves.items × (length l.moves.items ≡ 0)
+
+abbrev pub decreases-loop-rest : goal.decreases-loop-rest
+decreases-loop-rest l = l.rest

@@ -1,6 +1,8 @@
-use Rattle.std.proofs.Common.{◌*◌}
-use Rattle.legal_moves.specs.Listing.{ListsBelow}
+use Rattle.legal_moves.proofs.Lists.{IsSwept}
 use Rattle.legal_moves.proofs.generate.legal.Given as goal
 
-abbrev pub invariant-loop-index : goal.invariant-loop-index
-invariant-loop-index l = ListsBelow l.position (512 * l.index) l.moves.items
+abbrev pub invariant-loop-rest : goal.invariant-loop-rest
+invariant-loop-rest l = IsSwept l.position l.rest l.moves.items
+
+abbrev pub decreases-loop-rest : goal.decreases-loop-rest
+decreases-loop-rest l = l.rest

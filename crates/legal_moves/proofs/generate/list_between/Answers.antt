@@ -1,19 +1,37 @@
-use Rattle.std.proofs.Common.{◌≡◌, ℕ, ◌+◌, ◌*◌, refl, sym, ◌∙◌, subst, inl, inr, arith}
+use Rattle.std.proofs.Common.{◌≡◌, ℕ, ◌+◌, ◌*◌, refl, subst, arith}
 use Rattle.legal_moves.specs.Listing.{ListsBelow}
-use Rattle.legal_moves.proofs.Lists.{lists-between}
+use Rattle.legal_moves.proofs.Lists.{some-true, none-false, quiet-listed, promotions-next, promotions-listed}
+use Rattle.legal_moves.proofs.TargetLemmas.{quiet_candidate}
 use Rattle.legal_moves.proofs.generate.list_between.Goals as goal
 
-plain_place : (a b : ℕ) → 512 * a + 8 * b + 0 + 1 ≡ 512 * a + 8 * b + 1
-plain_place a b = omega arith
+quiet_place : (a b : ℕ) → 512 * a + 8 * b + 0 + 1 ≡ 512 * a + 8 * b + 1
+quiet_place a b = omega arith
 
-pub returns-then-rank_of-last_rank : goal.returns-then-rank_of-last_rank
-returns-then-rank_of-last_rank c =
-    let P : ℕ → Type 0 = λ n. ListsBelow c.args.position.now n c.list_move.new.moves.items in
-    lists-between c.args.position.now c.args.from.index c.args.to.index 1 c.list_move.new.moves.items c.args.to.on_board (omega arith) (omega arith)
-    (inr (λ e. c.if-rank_of-last_rank.true (c.rank_of.ensures ∙ e ∙ sym c.last_rank.ensures)))
-    (subst P (plain_place c.args.from.index c.args.to.index) c.list_move.ensures)
+quiet_first : (a b : ℕ) → 512 * a + 8 * b ≡ 512 * a + 8 * b + 0
+quiet_first a b = omega arith
+
+pub list_promotions-requires-clause-before : goal.list_promotions-requires-clause-before
+list_promotions-requires-clause-before c =
+    promotions-next c.args.position.now c.args.from.index c.args.to.index c.args.moves.now.items c.args.from.on_board c.args.to.on_board
+    (some-true c.is_promoting.result _ c.is_promoting.ensures c.if-is_promoting.true) c.requires.before
+
+pub returns-then-is_promoting : goal.returns-then-is_promoting
+returns-then-is_promoting c =
+    promotions-listed c.args.position.now c.args.from.index c.args.to.index c.list_promotions.new.moves.items c.args.to.on_board c.list_promotions.ensures
+
+pub list_move-requires-clause-candidate : goal.list_move-requires-clause-candidate
+list_move-requires-clause-candidate c =
+    quiet_candidate c.args.position.now _ (c.requires.reaches _ refl refl) refl
+    (none-false c.is_promoting.result _ c.is_promoting.ensures c.if-is_promoting.false)
+
+pub list_move-requires-clause-before : goal.list_move-requires-clause-before
+list_move-requires-clause-before c =
+    let P : ℕ → Type 0 = λ n. ListsBelow c.args.position.now n c.args.moves.now.items in
+    subst P (quiet_first c.args.from.index c.args.to.index) c.requires.before
 
 pub returns : goal.returns
 returns c =
-    lists-between c.args.position.now c.args.from.index c.args.to.index 5 c.list_promotions.new.moves.items c.args.to.on_board (omega arith) (omega arith)
-    (inl refl) c.list_promotions.ensures
+    let P : ℕ → Type 0 = λ n. ListsBelow c.args.position.now n c.list_move.new.moves.items in
+    quiet-listed c.args.position.now c.args.from.index c.args.to.index c.list_move.new.moves.items c.args.to.on_board
+    (none-false c.is_promoting.result _ c.is_promoting.ensures c.if-is_promoting.false)
+    (subst P (quiet_place c.args.from.index c.args.to.index) c.list_move.ensures)

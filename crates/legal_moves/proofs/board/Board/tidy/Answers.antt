@@ -5,7 +5,10 @@ use Rattle.legal_moves.proofs.TidyLemmas.{tidied_valid}
 use Rattle.legal_moves.proofs.board.Board.tidy.Goals as goal
 
 pub invariant_of-result : goal.invariant_of-result
-invariant_of-result c = tidied_valid c.self.inside.position c.open_en_passant.result c.self.invariant c.open_en_passant.ensures
+invariant_of-result c = record {
+  valid = tidied_valid c.self.inside.position c.open_en_passant.result c.self.invariant.valid c.open_en_passant.ensures;
+  told = c.self.invariant.told;
+}
 
 pub returns : goal.returns
 returns c =

@@ -1,4 +1,4 @@
-use Rattle.std.proofs.Common.{◌↔◌, ◌⊎◌, IsTrue, subst}
+use Rattle.std.proofs.Common.{◌↔◌, ◌⊎◌, IsTrue, refl, subst}
 use Rattle.explorer_model.specs.declared.chess.Color.{Color}
 use Rattle.explorer_model.specs.Board.{opponent}
 use Rattle.explorer_model.specs.Chess.{squares_after}
@@ -6,7 +6,14 @@ use Rattle.legal_moves.specs.Masks.{LeapsTo, SlidesTo}
 use Rattle.legal_moves.proofs.AttackMasks.{attacked-says}
 use Rattle.legal_moves.proofs.MaskFacts.{both-ways, not-says}
 use Rattle.legal_moves.proofs.OneKing.{check_after}
+use Rattle.legal_moves.proofs.Steady.{steady-safe}
 use Rattle.legal_moves.proofs.sight.Sight.is_safe.Goals as goal
+
+pub returns-then-is_steady : goal.returns-then-is_steady
+returns-then-is_steady c = (
+  λ _. steady-safe c.args.position.now c.args.self.now c.args.step c.requires.sees c.requires.candidate (c.is_steady.ensures.0 c.if-is_steady.true),
+  λ _. refl,
+)
 
 pub returns : goal.returns
 returns c =

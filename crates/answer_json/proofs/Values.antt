@@ -1,0 +1,71 @@
+-- The values of lists, and that no value of an answer is a float.
+use Rattle.std.proofs.Common.{◌≡◌, ◌∙◌, refl, sym, ap, arith, ℕ, ◌+◌, ◌<◌, ◌≤◌, min, List, [], ◌∷◌, ◌++◌, map, take, length, get_or, false, Option, None, Some, Vec}
+use Rattle.std.proofs.lemmas.List.{take_more, take_min, map-append}
+use Rattle.std.proofs.Math.Seq.{take-length}
+use Rattle.std.specs.declared.alloc.Global.{Global}
+use Rattle.serde_json.proofs.Views.{view-Array}
+use Rattle.serde_json.specs.Data.{Data, Items, item, array}
+use Rattle.serde_json.specs.View.{view, items_of}
+use Rattle.serde_json.specs.Written.{has_float, items_have_float}
+use Rattle.serde_json.specs.declared.value.Value.{Value, Array}
+use Rattle.explorer_model.specs.declared.answer.Found.{Found}
+use Rattle.explorer_model.specs.declared.answer.Listed.{Listed}
+use Rattle.explorer_model.specs.declared.answer.MonthLine.{MonthLine}
+use Rattle.explorer_model.specs.declared.answer.MoveLine.{MoveLine}
+use Rattle.explorer_model.specs.declared.archive.Outcome.{Outcome}
+use Rattle.explorer_model.specs.declared.archive.Outcome.TheVariants as outcomes
+use Rattle.explorer_model.specs.Answer.{items_by, array_by, winner_value, listed_value, game_value, move_value, month_value, answer_value}
+
+items_of-map : {A : Type 0} (value : A → Data) (xs : List A) → items_of (map value xs) ≡ items_by value xs
+items_of-map value [] = refl
+items_of-map value (x ∷ xs) = ap (λ (items : Items). item (value x) items) (items_of-map value xs)
+
+take_whole : {A : Type 0} (n : ℕ) (xs : List A) → length xs ≤ n → take n xs ≡ xs
+take_whole n xs all =
+    let least : min n (length xs) ≡ length xs = omega (arith, all) in
+    sym (take_min n xs) ∙ (ap (λ k. take k xs) least ∙ take-length xs)
+
+-- one more of the list has its value
+pub one_more : {A : Type 0} (value : A → Data) (values new : List Value) (one : Value) (xs : List A) (i : ℕ) (d : A) → map view values ≡ map value (take i xs)
+    → i < length xs → view one ≡ value (get_or xs i d) → new ≡ values ++ one ∷ [] → map view new ≡ map value (take (i + 1) xs)
+one_more value values new one xs i d before within is pushed =
+    let more : take (i + 1) xs ≡ take i xs ++ get_or xs i d ∷ [] = take_more xs i d within in
+    rw (pushed, more, map-append view values (one ∷ []), map-append value (take i xs) (get_or xs i d ∷ []), before, is) refl
+
+-- all of the list have their values
+pub all_valued : {A : Type 0} (value : A → Data) (values : Vec Value Global) (xs : List A) (n : ℕ) → length xs ≤ n → map view values.items ≡ map value (take n xs)
+    → view (Array values) ≡ array_by value xs
+all_valued value values xs n all are =
+    view-Array values
+    ∙ ap (λ (items : Items). array items) (ap items_of (are ∙ ap (λ ys. map value ys) (take_whole n xs all)) ∙ items_of-map value xs)
+
+no_float_in : {A : Type 0} (value : A → Data) → ((x : A) → has_float (value x) ≡ false) → (xs : List A) → items_have_float (items_by value xs) ≡ false
+no_float_in value none [] = refl
+no_float_in value none (x ∷ xs) = rw (none x) (no_float_in value none xs)
+
+no_float-winner : (outcome : Outcome) → has_float (winner_value outcome) ≡ false
+no_float-winner outcomes.White = refl
+no_float-winner outcomes.Draw = refl
+no_float-winner outcomes.Black = refl
+
+no_float-listed : (game : Listed) → has_float (listed_value game) ≡ false
+no_float-listed game = rw (no_float-winner game.classes.outcome) refl
+
+no_float-game : (game : Option Listed) → has_float (game_value game) ≡ false
+no_float-game None = refl
+no_float-game (Some game) = no_float-listed game
+
+no_float-move : (line : MoveLine) → has_float (move_value line) ≡ false
+no_float-move line = rw (no_float-game line.game) refl
+
+no_float-month : (line : MonthLine) → has_float (month_value line) ≡ false
+no_float-month line = refl
+
+with_months : (found : Found) (history : Option (List MonthLine)) → has_float (answer_value (record found { history = history })) ≡ false
+with_months found None =
+    rw (no_float_in move_value no_float-move found.moves, no_float_in listed_value no_float-listed found.recent, no_float_in listed_value no_float-listed found.top) refl
+with_months found (Some months) =
+    rw (no_float_in month_value no_float-month months, no_float_in move_value no_float-move found.moves, no_float_in listed_value no_float-listed found.recent, no_float_in listed_value no_float-listed found.top) refl
+
+pub no_float-answer : (found : Found) → has_float (answer_value found) ≡ false
+no_float-answer found = with_months found found.history

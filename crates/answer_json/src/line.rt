@@ -1,0 +1,63 @@
+//! The lines of an answer: one for a move, and one for a month.
+ghost use Rattle.std.specs.Prelude.{◌≡◌, IfOk};
+ghost use Rattle.std.specs.List.{All};
+ghost use Rattle.serde_json.specs.View.{view};
+ghost use Rattle.explorer_model.specs.Answer.{array_by, move_value, month_value};
+ghost use Rattle.answer_json.specs.Plain.{IsPlainLine};
+
+use crate::game::game_value;
+use crate::texts::{month_text, text_of};
+use explorer_model::answer::{MonthLine, MoveLine};
+use fen_uci::write_uci;
+use serde_json::{Value, json};
+use std::alloc::{AllocError, Global};
+
+fn move_value(alloc: Global, line: &MoveLine) -> Result<Value, AllocError>
+    requires { IsPlainLine line.now }
+    ensures { IfOk result (λ value. view value ≡ move_value line.now) }
+{
+    let uci = write_uci(line.next);
+    json!(in alloc; {
+        "averageRating": line.average,
+        "black": line.totals.black,
+        "draws": line.totals.draws,
+        "game": game_value(alloc, line.game.as_ref())?,
+        "opening": null,
+        "san": text_of(line.san.as_slice()),
+        "uci": text_of(uci.as_slice()),
+        "white": line.totals.white
+    })
+}
+
+pub fn moves_value(alloc: Global, lines: &[MoveLine]) -> Result<Value, AllocError>
+    requires { All IsPlainLine lines.now }
+    ensures { IfOk result (λ value. view value ≡ array_by move_value lines.now) }
+{
+    let mut values = Vec::with_capacity(alloc, lines.len())?;
+    for line in lines {
+        values.push(move_value(alloc, line)?)?;
+    }
+    Ok(Value::Array(values))
+}
+
+fn month_value(alloc: Global, line: &MonthLine) -> Result<Value, AllocError>
+    ensures { IfOk result (λ value. view value ≡ month_value line.now) }
+{
+    let month = month_text(line.month);
+    json!(in alloc; {
+        "black": line.totals.black,
+        "draws": line.totals.draws,
+        "month": text_of(&month),
+        "white": line.totals.white
+    })
+}
+
+pub fn history_value(alloc: Global, lines: &[MonthLine]) -> Result<Value, AllocError>
+    ensures { IfOk result (λ value. view value ≡ array_by month_value lines.now) }
+{
+    let mut values = Vec::with_capacity(alloc, lines.len())?;
+    for line in lines {
+        values.push(month_value(alloc, line)?)?;
+    }
+    Ok(Value::Array(values))
+}

@@ -1,0 +1,196 @@
+ghost use Rattle.std.specs.Prelude.{◌≡◌, ◌∷◌, [], IfOk};
+ghost use Rattle.std.specs.List.{All};
+ghost use Rattle.answer_json.specs.Plain.{HasPlainId, IsPlainLine, IsPlainFound};
+
+use crate::answer::body;
+use explorer_model::answer::{Found, Listed, MonthLine, MoveLine, Totals};
+use explorer_model::archive::{Bytes, Classes, GameId, Group, Mode, Month, Outcome, Player, Speed};
+use explorer_model::chess::{Move, Role};
+use explorer_model::list::Items;
+use explorer_model::square::Square;
+use explorer_model::text::Name;
+use std::alloc::{AllocError, Global};
+use std::test::Fail;
+
+const WHITE_WON: Totals = Totals {
+    white: 1,
+    draws: 0,
+    black: 0,
+};
+
+fn one<T: Drop>(alloc: Global, item: T) -> Result<Items<T>, AllocError>
+    ensures { IfOk result (λ items. items ≡ item ∷ []) }
+{
+    let mut items = Vec::new(alloc);
+    items.push(item)?;
+    Ok(Items::from_vec(items))
+}
+
+fn player(alloc: Global, name: &str, rating: u16) -> Result<Player, AllocError> {
+    let name = Name::from_string(String::from_str(alloc, name)?);
+    Ok(Player { name, rating })
+}
+
+/// A rated game of blitz against Bob.
+fn listed(alloc: Global, white: &str, outcome: Outcome, month: Month) -> Result<Listed, AllocError>
+    ensures { IfOk result HasPlainId }
+{
+    Ok(Listed {
+        next: Move {
+            from: Square { index: 12 },
+            to: Square { index: 28 },
+            promotion: None,
+        },
+        classes: Classes {
+            id: GameId {
+                bytes: *b"aaaaaaa1",
+            },
+            white: player(alloc, white, 1500)?,
+            black: player(alloc, "Bob", 1400)?,
+            outcome,
+            mode: Mode::Rated,
+            speed: Speed::Blitz,
+            group: Group { value: 1400 },
+            month,
+        },
+    })
+}
+
+/// The game that White won, alone.
+fn won(alloc: Global, white: &str) -> Result<Items<Listed>, AllocError>
+    ensures { IfOk result (All HasPlainId) }
+{
+    let month = Month {
+        year: 2020,
+        month: 1,
+    };
+    let game = listed(alloc, white, Outcome::White, month)?;
+    one(alloc, game)
+}
+
+/// The move e4, after which White won.
+fn line(alloc: Global, white: &str) -> Result<MoveLine, AllocError>
+    ensures { IfOk result IsPlainLine }
+{
+    let month = Month {
+        year: 2020,
+        month: 1,
+    };
+    let game = listed(alloc, white, Outcome::White, month)?;
+    Ok(MoveLine {
+        next: game.next,
+        san: Bytes::from_vec(Vec::from_slice(alloc, b"e4")?),
+        average: 1500,
+        totals: WHITE_WON,
+        game: Some(game),
+    })
+}
+
+/// The answer for the start, after one game that White won by the move e4.
+fn answer(
+    alloc: Global,
+    white: &str,
+    history: Option<Items<MonthLine>>,
+) -> Result<Found, AllocError>
+    ensures { IfOk result IsPlainFound }
+{
+    let line = line(alloc, white)?;
+    Ok(Found {
+        totals: WHITE_WON,
+        moves: one(alloc, line)?,
+        top: won(alloc, white)?,
+        recent: won(alloc, white)?,
+        history,
+    })
+}
+
+/// What is written for the game that White won.
+fn game_text(alloc: Global, white: &str) -> Result<String, AllocError> {
+    format!(in alloc;
+        "{{\"black\":{{\"name\":\"Bob\",\"rating\":1400}},\"id\":\"aaaaaaa1\",\"mode\":\"rated\",\
+         \"month\":\"2020-01\",\"speed\":\"blitz\",\"uci\":\"e2e4\",\
+         \"white\":{{\"name\":\"{white}\",\"rating\":1500}},\"winner\":\"white\",\"year\":2020}}"
+    )
+}
+
+#[test]
+fn writes_worked_answers(rt: HostRuntime) -> Result<(), Fail> {
+    let alloc = rt.alloc();
+    let months = MonthLine {
+        month: Month {
+            year: 2020,
+            month: 1,
+        },
+        totals: WHITE_WON,
+    };
+    let history = "\"history\":[{\"black\":0,\"draws\":0,\"month\":\"2020-01\",\"white\":1}],";
+    let table = vec![in alloc;
+        ("Ann", "Ann", None, ""),
+        ("Ann", "Ann", Some(one(alloc, months)?), history),
+        (
+            "Ann",
+            "Ann",
+            Some(Items::from_vec(Vec::new(alloc))),
+            "\"history\":[],"
+        ),
+        ("\"Ann\" \u{dc}nal\n", "\\\"Ann\\\" \u{dc}nal\\n", None, ""),
+    ]?;
+    for (white, written, history, history_text) in table {
+        let game = game_text(alloc, written)?;
+        let text = format!(in alloc;
+            "{{\"black\":0,\"draws\":0,{history_text}\"moves\":[{{\"averageRating\":1500,\
+             \"black\":0,\"draws\":0,\"game\":{game},\"opening\":null,\"san\":\"e4\",\
+             \"uci\":\"e2e4\",\"white\":1}}],\"opening\":null,\"recentGames\":[{game}],\
+             \"topGames\":[{game}],\"white\":1}}"
+        )?;
+        let found = answer(alloc, white, history)?;
+        assert!(rt;
+            body(alloc, &found)?.as_slice() == text.as_bytes(),
+            "{text}"
+        );
+    }
+    Ok(())
+}
+
+#[test]
+fn writes_other_values(rt: HostRuntime) -> Result<(), Fail> {
+    let alloc = rt.alloc();
+    let line = MoveLine {
+        next: Move {
+            from: Square { index: 55 },
+            to: Square { index: 63 },
+            promotion: Some(Role::Knight),
+        },
+        san: Bytes::from_vec(Vec::from_slice(alloc, b"h8=N+")?),
+        average: 0,
+        totals: Totals {
+            white: 18446744073709551615,
+            draws: 20,
+            black: 300,
+        },
+        game: None,
+    };
+    let december = Month {
+        year: 987,
+        month: 12,
+    };
+    let mut game = listed(alloc, "", Outcome::Draw, december)?;
+    game.classes.mode = Mode::Casual;
+    game.classes.speed = Speed::UltraBullet;
+    let found = Found {
+        totals: Totals::default(),
+        moves: one(alloc, line)?,
+        top: Items::from_vec(Vec::new(alloc)),
+        recent: one(alloc, game)?,
+        history: None,
+    };
+    let text =
+        "{\"black\":0,\"draws\":0,\"moves\":[{\"averageRating\":0,\"black\":300,\"draws\":20,\
+         \"game\":null,\"opening\":null,\"san\":\"h8=N+\",\"uci\":\"h7h8n\",\
+         \"white\":18446744073709551615}],\"opening\":null,\"recentGames\":[{\"black\":{\"name\":\
+         \"Bob\",\"rating\":1400},\"id\":\"aaaaaaa1\",\"mode\":\"casual\",\"month\":\"0987-12\",\
+         \"speed\":\"ultraBullet\",\"uci\":\"e2e4\",\"white\":{\"name\":\"\",\"rating\":1500},\
+         \"winner\":null,\"year\":987}],\"topGames\":[],\"white\":0}";
+    assert!(rt; body(alloc, &found)?.as_slice() == text.as_bytes());
+    Ok(())
+}

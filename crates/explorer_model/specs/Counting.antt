@@ -1,0 +1,206 @@
+-- What games say of a position: how often they came there, how they ended, and what was played. A game counts once, at its first visit.
+use Rattle.std.specs.Prelude.{ℕ, ◌+◌, ◌*◌, ◌/◌, Bool, true, false, not, ◌&&◌, ◌||◌, ◌==◌, nat_le, nat_lt, cond, List, [], ◌∷◌, map, filter, filter_map, count_by, sum_by, slice_index_or, replicate, Option, Some, None}
+use Rattle.std.specs.List.{enumerate_from, position_or_len}
+use Rattle.std.specs.Ordering.{nat_cmp, is_lt}
+use Rattle.std.specs.Cmp.Lexicographic.{slice_cmp}
+use Rattle.best_lists.specs.Best.{best}
+use Rattle.explorer_model.specs.declared.answer.Listed.{Listed}
+use Rattle.explorer_model.specs.declared.answer.MonthLine.{MonthLine}
+use Rattle.explorer_model.specs.declared.answer.Totals.{Totals}
+use Rattle.explorer_model.specs.declared.archive.Classes.{Classes}
+use Rattle.explorer_model.specs.declared.archive.Month.{Month}
+use Rattle.explorer_model.specs.declared.archive.Outcome.{Outcome}
+use Rattle.explorer_model.specs.declared.archive.Outcome.TheVariants as outcomes
+use Rattle.explorer_model.specs.declared.chess.Color.{Color}
+use Rattle.explorer_model.specs.declared.chess.Color.TheVariants as colors
+use Rattle.explorer_model.specs.declared.chess.Move.{Move}
+use Rattle.explorer_model.specs.declared.chess.Role.{Role}
+use Rattle.explorer_model.specs.declared.query.Filter.{Filter}
+use Rattle.explorer_model.specs.Order.{role_index, speed_index}
+use Rattle.explorer_model.specs.Uci.{uci_text}
+use Rattle.explorer_model.specs.Visits.{Seen}
+
+-- ---- filters
+
+-- the least ratings of the groups
+abbrev pub group_ratings : List ℕ
+group_ratings = 0 ∷ 1000 ∷ 1200 ∷ 1400 ∷ 1600 ∷ 1800 ∷ 2000 ∷ 2200 ∷ 2500 ∷ []
+
+-- the place of a group among the groups
+abbrev pub group_place : ℕ → ℕ
+group_place rating = position_or_len (λ least. least == rating) group_ratings
+
+-- months in their order in time
+abbrev pub month_number : Month → ℕ
+month_number month = 12 * month.year + month.month
+
+-- no earlier than the month, where there is one
+abbrev pub is_since : Option Month → Month → Bool
+is_since None month = true
+is_since (Some first) month = nat_le (month_number first) (month_number month)
+
+-- no later than the month, where there is one
+abbrev pub is_until : Option Month → Month → Bool
+is_until None month = true
+is_until (Some last) month = nat_le (month_number month) (month_number last)
+
+-- the speed, the group and the month are among those that the filter takes
+unfoldable pub passes : Filter → Classes → Bool
+passes filter classes =
+    slice_index_or filter.speeds (speed_index classes.speed) false
+    && slice_index_or filter.groups (group_place classes.group.value) false
+    && is_since filter.since classes.month
+    && is_until filter.until classes.month
+
+-- every speed, every group and every month
+abbrev pub take_all : Filter
+take_all = record { speeds = replicate 6 true; groups = replicate 9 true; since = None; until = None }
+
+-- ---- which visits count: a test of what is played there
+
+abbrev pub any_next : Option Move → Bool
+any_next next = true
+
+-- what a pawn becomes, as a number: 0 where a move promotes nothing
+abbrev pub promotion_number : Option Role → ℕ
+promotion_number None = 0
+promotion_number (Some role) = role_index role + 1
+
+abbrev pub is_same_move : Move → Move → Bool
+is_same_move m n = (m.from.index == n.from.index) && (m.to.index == n.to.index) && (promotion_number m.promotion == promotion_number n.promotion)
+
+abbrev pub is_move : Move → Option Move → Bool
+is_move m None = false
+is_move m (Some next) = is_same_move m next
+
+-- there is a visit, and what is played there meets the test
+abbrev pub visits : (Option Move → Bool) → Option (Option Move) → Bool
+visits test None = false
+visits test (Some next) = test next
+
+abbrev pub counts : (Option Move → Bool) → Filter → Seen → Bool
+counts test filter seen = passes filter seen.classes && visits test seen.visit
+
+-- ---- totals
+
+abbrev pub is_outcome : Outcome → Outcome → Bool
+is_outcome outcomes.White outcomes.White = true
+is_outcome outcomes.Draw outcomes.Draw = true
+is_outcome outcomes.Black outcomes.Black = true
+is_outcome _ _ = false
+
+-- how many games are counted that end so
+abbrev pub count_of : Outcome → (Seen → Bool) → List Seen → ℕ
+count_of outcome counted seen = count_by (λ game. counted game && is_outcome outcome game.classes.outcome) seen
+
+abbrev pub totals_of : (Seen → Bool) → List Seen → Totals
+totals_of counted seen = record {
+  white = count_of outcomes.White counted seen;
+  draws = count_of outcomes.Draw counted seen;
+  black = count_of outcomes.Black counted seen;
+}
+
+abbrev pub total : Totals → ℕ
+total totals = totals.white + totals.draws + totals.black
+
+-- ---- the games that may be listed: those that are counted and go on
+
+-- a game by its number, with the move that it plays at its visit
+pub record Sighting : Type 0 where
+  pub number : ℕ
+  pub next : Move
+  pub classes : Classes
+
+abbrev pub sighting_by : Bool → ℕ → Classes → Option (Option Move) → Option Sighting
+sighting_by true number classes (Some (Some next)) = Some (record { number = number; next = next; classes = classes })
+sighting_by _ _ _ _ = None
+
+abbrev pub sighting : Filter → ℕ × Seen → Option Sighting
+sighting filter (number, seen) = sighting_by (passes filter seen.classes) number seen.classes seen.visit
+
+-- in the order of their numbers
+unfoldable pub sightings : Filter → List Seen → List Sighting
+sightings filter seen = filter_map (sighting filter) (enumerate_from 0 seen)
+
+abbrev pub listed : Sighting → Listed
+listed s = record { next = s.next; classes = s.classes }
+
+-- both players' ratings
+abbrev pub ratings_of : Classes → ℕ
+ratings_of classes = classes.white.rating + classes.black.rating
+
+-- the greater ratings first, then the lesser number
+abbrev pub before_by_rating : Sighting → Sighting → Bool
+before_by_rating a b =
+    nat_lt (ratings_of b.classes) (ratings_of a.classes)
+    || ((ratings_of a.classes == ratings_of b.classes) && nat_lt a.number b.number)
+
+-- the later month first, then the greater number
+abbrev pub before_by_month : Sighting → Sighting → Bool
+before_by_month a b =
+    nat_lt (month_number b.classes.month) (month_number a.classes.month)
+    || ((month_number a.classes.month == month_number b.classes.month) && nat_lt b.number a.number)
+
+-- the first so many games in an order
+abbrev pub games_by : (Sighting → Sighting → Bool) → ℕ → Filter → List Seen → List Listed
+games_by before most filter seen = map listed (best before most (sightings filter seen))
+
+-- the game of a move that just one game plays
+abbrev pub the_only : List Sighting → Option Listed
+the_only (s ∷ []) = Some (listed s)
+the_only _ = None
+
+abbrev pub game_of_move : Move → Filter → List Seen → Option Listed
+game_of_move m filter_ seen = the_only (filter (λ s. is_same_move m s.next) (sightings filter_ seen))
+
+-- ---- the moves
+
+-- each value once, where the test tells when two are one
+abbrev pub distinct : {A : Type 0} → (A → A → Bool) → List A → List A
+distinct is_same [] = []
+distinct is_same (x ∷ xs) = x ∷ filter (λ y. not (is_same x y)) (distinct is_same xs)
+
+unfoldable pub moves_played : Filter → List Seen → List Move
+moves_played filter seen = distinct is_same_move (map (λ s. s.next) (sightings filter seen))
+
+abbrev pub move_totals : Filter → List Seen → Move → Totals
+move_totals filter seen m = totals_of (counts (is_move m) filter) seen
+
+-- the greater total first, then the lesser text of UCI
+abbrev pub before_by_total : Filter → List Seen → Move → Move → Bool
+before_by_total filter seen a b =
+    let of_a = total (move_totals filter seen a) in
+    let of_b = total (move_totals filter seen b) in
+    nat_lt of_b of_a || ((of_a == of_b) && is_lt (slice_cmp nat_cmp (uci_text a) (uci_text b)))
+
+abbrev pub first_moves : ℕ → Filter → List Seen → List Move
+first_moves most filter seen = best (before_by_total filter seen) most (moves_played filter seen)
+
+-- the rating of the player who is to move
+abbrev pub rating_of : Color → Classes → ℕ
+rating_of colors.White classes = classes.white.rating
+rating_of colors.Black classes = classes.black.rating
+
+abbrev pub rating_sum : Color → (Seen → Bool) → List Seen → ℕ
+rating_sum turn counted seen = sum_by (λ game. cond (counted game) (rating_of turn game.classes) 0) seen
+
+-- the mean rating of the players who play the move, rounded down
+abbrev pub average_of : Color → Move → Filter → List Seen → ℕ
+average_of turn m filter seen = rating_sum turn (counts (is_move m) filter) seen / total (move_totals filter seen m)
+
+-- ---- the months
+
+abbrev pub is_same_month : Month → Month → Bool
+is_same_month a b = month_number a == month_number b
+
+abbrev pub is_in_month : Month → Filter → Seen → Bool
+is_in_month month filter seen = counts any_next filter seen && is_same_month month seen.classes.month
+
+unfoldable pub months_counted : Filter → List Seen → List Month
+months_counted filter_ seen = distinct is_same_month (map (λ game. game.classes.month) (filter (counts any_next filter_) seen))
+
+abbrev pub before_in_time : Month → Month → Bool
+before_in_time a b = nat_lt (month_number a) (month_number b)
+
+abbrev pub month_line : Filter → List Seen → Month → MonthLine
+month_line filter seen month = record { month = month; totals = totals_of (is_in_month month filter) seen }

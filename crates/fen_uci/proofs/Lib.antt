@@ -1,0 +1,9 @@
+pub mod Moves
+pub mod Searching
+pub mod Written
+pub mod Splitting
+pub mod Ranks
+pub mod Positions
+pub mod Determined
+pub mod Respelling
+pub mod Rereading

@@ -1,0 +1,11 @@
+-- The ranks of a text.
+use Rattle.std.specs.Prelude.{ℕ, ◌==◌, Bool, List, [], Option, Some, None}
+use Rattle.std.specs.List.{slice_split}
+
+abbrev pub is_slash : ℕ → Bool
+is_slash b = b == 47
+
+-- what stands between the slashes of a text, where there is a text
+abbrev pub ranks_of : Option (List ℕ) → List (List ℕ)
+ranks_of None = []
+ranks_of (Some text) = slice_split is_slash text

@@ -1,0 +1,140 @@
+//! Positions as FEN writes them.
+ghost use Rattle.std.specs.Prelude.{◌≡◌, ◌+◌, ◌≤◌, ◌++◌, ◌∷◌, [], length};
+ghost use Rattle.arrayvec.specs.ArrayVec.{array_vec_len};
+ghost use Rattle.explorer_model.specs.Fen.{man_letter, empty_text, run_text, ranks_text, turn_text, right_text, rights_text, crossing_text, fen_text};
+
+use crate::letters::{letter_of, push_square, small_letter};
+use arrayvec::ArrayVec;
+use explorer_model::chess::{Color, Piece, Rights};
+use explorer_model::square::Square;
+use legal_moves::board::Board;
+
+fn man_letter(man: Piece) -> u8
+    ensures { result ≡ man_letter man.color man.role }
+{
+    match man.color {
+        Color::White => letter_of(man.role),
+        Color::Black => small_letter(man.role),
+    }
+}
+
+/// Appends the digit of a run of empty squares.
+fn push_empty(text: &mut ArrayVec<u8, 96>, run: u8)
+    requires room { array_vec_len text.old + run ≤ 96 }
+    requires rank { run ≤ 8 }
+    ensures text { text.new.items ≡ text.old.items ++ empty_text run }
+    ensures room { array_vec_len text.new ≤ array_vec_len text.old + run }
+{
+    if run > 0 {
+        text.push(b'0' + run);
+    }
+}
+
+/// Appends the squares of a rank, from file a to file h.
+fn push_rank(text: &mut ArrayVec<u8, 96>, squares: &[Option<Piece>])
+    requires room { array_vec_len text.old + length squares.now ≤ 96 }
+    requires rank { length squares.now ≤ 8 }
+    ensures text { text.new.items ≡ text.old.items ++ run_text 0 squares.now }
+    ensures room { array_vec_len text.new ≤ array_vec_len text.old + length squares.now }
+{
+    let mut run = 0;
+    for man in squares {
+        match man {
+            None => run += 1,
+            Some(piece) => {
+                push_empty(text, run);
+                text.push(man_letter(*piece));
+                run = 0;
+            }
+        }
+    }
+    push_empty(text, run);
+}
+
+fn push_ranks(text: &mut ArrayVec<u8, 96>, squares: &[Option<Piece>; 64])
+    requires { array_vec_len text.old + 71 ≤ 96 }
+    ensures text { text.new.items ≡ text.old.items ++ ranks_text squares.now 7 }
+    ensures room { array_vec_len text.new ≤ array_vec_len text.old + 71 }
+{
+    push_rank(text, &squares[56..]);
+    for rank in (0..7usize).rev() {
+        text.push(b'/');
+        push_rank(text, &squares[8 * rank..8 * rank + 8]);
+    }
+}
+
+fn push_turn(text: &mut ArrayVec<u8, 96>, turn: Color)
+    requires { array_vec_len text.old + 1 ≤ 96 }
+    ensures text { text.new.items ≡ text.old.items ++ turn_text turn }
+    ensures room { array_vec_len text.new ≡ array_vec_len text.old + 1 }
+{
+    text.push(match turn {
+        Color::White => b'w',
+        Color::Black => b'b',
+    });
+}
+
+fn push_right(text: &mut ArrayVec<u8, 96>, right: bool, letter: u8)
+    requires { array_vec_len text.old + 1 ≤ 96 }
+    ensures text { text.new.items ≡ text.old.items ++ right_text right letter }
+    ensures room { array_vec_len text.new ≤ array_vec_len text.old + 1 }
+{
+    if right {
+        text.push(letter);
+    }
+}
+
+fn push_rights(text: &mut ArrayVec<u8, 96>, rights: Rights)
+    requires { array_vec_len text.old + 4 ≤ 96 }
+    ensures text { text.new.items ≡ text.old.items ++ rights_text rights }
+    ensures room { array_vec_len text.new ≤ array_vec_len text.old + 4 }
+{
+    if !(rights.white_short || rights.white_long || rights.black_short || rights.black_long) {
+        text.push(b'-');
+        return;
+    }
+    push_right(text, rights.white_short, b'K');
+    push_right(text, rights.white_long, b'Q');
+    push_right(text, rights.black_short, b'k');
+    push_right(text, rights.black_long, b'q');
+}
+
+fn push_crossing(text: &mut ArrayVec<u8, 96>, en_passant: Option<Square>)
+    requires { array_vec_len text.old + 2 ≤ 96 }
+    ensures text { text.new.items ≡ text.old.items ++ crossing_text en_passant }
+    ensures room { array_vec_len text.new ≤ array_vec_len text.old + 2 }
+{
+    match en_passant {
+        None => text.push(b'-'),
+        Some(square) => push_square(text, square.index),
+    }
+}
+
+/// Appends the halfmove clock and the number of the move, which are not kept.
+fn push_counts(text: &mut ArrayVec<u8, 96>)
+    requires { array_vec_len text.old + 4 ≤ 96 }
+    ensures { text.new.items ≡ text.old.items ++ (32 ∷ 48 ∷ 32 ∷ 49 ∷ []) }
+{
+    text.push(b' ');
+    text.push(b'0');
+    text.push(b' ');
+    text.push(b'1');
+}
+
+/// The six fields of the board's position, the en passant square as it stands, and the counts
+/// `0 1`.
+pub fn write_fen(board: &Board) -> ArrayVec<u8, 96>
+    ensures { result.items ≡ fen_text board.now }
+{
+    let position = board.position();
+    let mut text = ArrayVec::new();
+    push_ranks(&mut text, &position.squares);
+    text.push(b' ');
+    push_turn(&mut text, position.turn);
+    text.push(b' ');
+    push_rights(&mut text, position.rights);
+    text.push(b' ');
+    push_crossing(&mut text, position.en_passant);
+    push_counts(&mut text);
+    text
+}
