@@ -1,0 +1,5 @@
+pub mod Determined
+pub mod Names
+pub mod Numbers
+pub mod Played
+pub mod Splits

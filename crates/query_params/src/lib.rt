@@ -1,0 +1,16 @@
+//! What a query string asks: its parameters, or the first that is malformed.
+#![tactic(auto)]
+
+mod asking;
+mod given;
+pub mod laws;
+mod lists;
+mod pairs;
+mod parameters;
+mod position;
+mod values;
+
+pub use asking::query;
+
+#[cfg(test)]
+mod tests;
