@@ -1,0 +1,189 @@
+-- The rows of singles are tallied for the games whose singles these are.
+use Rattle.std.proofs.Common.{◌≡◌, ℕ, ◌+◌, ◌<◌, Bool, true, false, ◌&&◌, cond, is_some, List, [], ◌∷◌, ◌++◌, map, length, get_or, refl, sym, ap, ◌∙◌, arith}
+use Rattle.std.specs.List.{AllByRecursion, sum_by, flat_map, filter, enumerate_from}
+use Rattle.std.specs.List.Sorted.{IsPermutation, IsSorted}
+use Rattle.std.specs.declared.cmp.Ordering.{Ordering}
+use Rattle.std.specs.declared.cmp.Ordering.TheVariants.{Less, Equal, Greater}
+use Rattle.std.specs.Ordering.{is_lt, nat_cmp, ordering_then}
+use Rattle.std.proofs.lemmas.List.{get_or-map, length-map}
+use Rattle.std.proofs.lemmas.List.Elements.{All-from_recursion}
+use Rattle.std.proofs.lemmas.List.Sums.{sum_by-cons}
+use Rattle.std.proofs.lemmas.List.Sorted.{IsPermutation-map, sum_by-IsPermutation}
+use Rattle.best_lists.specs.Best.{best, IsStrictTotalOrder}
+use Rattle.best_lists.specs.Ranking.{before_by_rating, before_by_month, by_rating_is_order, by_month_is_order}
+use Rattle.best_lists.specs.declared.entry.Entry.{Entry}
+use Rattle.best_lists.proofs.Same.{ties, best-same}
+use Rattle.tally_rows.specs.declared.parts.Parts.{Parts}
+use Rattle.tally_rows.specs.declared.row.Row.{Row}
+use Rattle.tally_rows.specs.declared.single.Single.{Single}
+use Rattle.tally_rows.specs.Adding.{sum_at, listed_at, SameAt, IsSound}
+use Rattle.tally_rows.specs.Parts.{parts_order, same_parts}
+use Rattle.tally_rows.specs.Row.{parts_of, row_of, is_white, is_draw, is_black, month_rank, combined_rows}
+use Rattle.tally_rows.specs.Single.{single_order, single_of, AreSingles}
+use Rattle.tally_rows.specs.Tallied.{entries, has_move, mover_rating, rating_sum, track_month, Tallied}
+use Rattle.tally_rows.specs.Track.{Track, has}
+use Rattle.tally_rows.proofs.AddsUp.{AddsUp, AddsUp-same, tallied_from}
+use Rattle.tally_rows.proofs.Combining.{SameAt-combined_rows, IsSound-row_of, IsSound-combined_rows, combined_rows-ordered}
+use Rattle.tally_rows.proofs.EntryLists.{entry_of}
+use Rattle.tally_rows.proofs.Visits.{has-parts_at, parts_at-AreOf}
+use Rattle.tally_rows.proofs.Sums.{sum_by-map, sum_by-filter, sum_by-flat_map}
+
+-- ---- lists
+
+flat_map-map : {X Y Z : Type 0} (f : Y → List Z) (g : X → Y) (xs : List X) → flat_map f (map g xs) ≡ flat_map (λ x. f (g x)) xs
+flat_map-map f g [] = refl
+flat_map-map f g (x ∷ xs) = ap (λ l. f (g x) ++ l) (flat_map-map f g xs)
+
+flat_map-filter : {X Y : Type 0} (p : X → Bool) (f : X → List Y) (xs : List X) → flat_map (λ x. cond (p x) (f x) []) xs ≡ flat_map f (filter p xs)
+flat_map-filter p f [] = refl
+flat_map-filter p f (x ∷ xs) =
+    elim (p x) as (λ b. cond b (f x) [] ++ flat_map (λ y. cond (p y) (f y) []) xs ≡ flat_map f (cond b (x ∷ filter p xs) (filter p xs))) [
+      | true ↦ ap (λ l. f x ++ l) (flat_map-filter p f xs)
+      | false ↦ flat_map-filter p f xs
+    ]
+
+flat_map-agree : {X Y : Type 0} (p : X → Bool) (f g : X → List Y) → ((x : X) → p x ≡ true → f x ≡ g x) → (xs : List X)
+    → flat_map f (filter p xs) ≡ flat_map g (filter p xs)
+flat_map-agree p f g e [] = refl
+flat_map-agree p f g e (x ∷ xs) =
+    elim (p x) as (λ b. p x ≡ b → flat_map f (cond b (x ∷ filter p xs) (filter p xs)) ≡ flat_map g (cond b (x ∷ filter p xs) (filter p xs))) [
+      | true ↦ λ d i. e x d i ++ flat_map-agree p f g e xs i
+      | false ↦ λ d. flat_map-agree p f g e xs
+    ] refl
+
+-- one value for each that passes, if there is any at all
+flat_map-one : {X Y : Type 0} (b : Bool) (p : X → Bool) (f : X → Y) (xs : List X)
+    → flat_map (λ x. cond b (f x ∷ []) []) (filter p xs) ≡ map f (filter (λ x. b && p x) xs)
+flat_map-one b p f [] = refl
+flat_map-one true p f (x ∷ xs) =
+    elim (p x) as (λ c. flat_map (λ y. f y ∷ []) (cond c (x ∷ filter p xs) (filter p xs)) ≡ map f (cond c (x ∷ filter p xs) (filter p xs))) [
+      | true ↦ ap (λ l. f x ∷ l) (flat_map-one true p f xs)
+      | false ↦ flat_map-one true p f xs
+    ]
+flat_map-one false p f (x ∷ xs) =
+    elim (p x) as (λ c. flat_map (λ y. []) (cond c (x ∷ filter p xs) (filter p xs)) ≡ map f (filter (λ y. false) xs)) [
+      | true ↦ flat_map-one false p f xs
+      | false ↦ flat_map-one false p f xs
+    ]
+
+pub sum_by-enumerate : {X : Type 0} (f : X → ℕ) (n : ℕ) (xs : List X) → sum_by (λ p. f p.1) (enumerate_from n xs) ≡ sum_by f xs
+sum_by-enumerate f n [] = refl
+sum_by-enumerate f n (x ∷ xs) =
+    omega (arith, sum_by-cons (λ p. f p.1) (n, x) (enumerate_from (n + 1) xs), sum_by-cons f x xs, sum_by-enumerate f (n + 1) xs)
+
+-- ---- the singles of games, each as a row, add up to the games
+
+pub row_of-parts : (s : Single) → parts_of (row_of s) ≡ s.parts
+unfolding row_of
+row_of-parts s = refl
+
+module _ (tracks : List Track) (singles : List Single) (given : AreSingles tracks singles) (c : Parts) where
+  sum_at-singles : (f : Row → ℕ) (g : Track → ℕ) → ((p : ℕ × Track) → f (row_of (single_of c p)) ≡ g p.1)
+      → sum_at f c (map row_of singles) ≡ sum_by (λ t. cond (has c t) (g t) 0) tracks
+  sum_at-singles f g e =
+      sum_by-map (λ row. cond (same_parts c (parts_of row)) (f row) 0) row_of singles
+      ∙ ap (λ h. sum_by h singles) (λ i s. cond (same_parts c (row_of-parts s i)) (f (row_of s)) 0)
+      ∙ sym (sum_by-filter (λ s. f (row_of s)) (λ s. same_parts c s.parts) singles)
+      ∙ ap (sum_by (λ s. f (row_of s))) (given.at c)
+      ∙ sum_by-map (λ s. f (row_of s)) (single_of c) (filter (λ p. has c p.1) (enumerate_from 0 tracks))
+      ∙ ap (λ h. sum_by h (filter (λ p. has c p.1) (enumerate_from 0 tracks))) (λ i p. e p i)
+      ∙ sum_by-filter (λ p. g p.1) (λ p. has c p.1) (enumerate_from 0 tracks)
+      ∙ sum_by-enumerate (λ t. cond (has c t) (g t) 0) 0 tracks
+
+  listed_at-singles : (f : Row → List Entry) (rank : Track → ℕ)
+      → ((p : ℕ × Track) → has c p.1 ≡ true → f (row_of (single_of c p)) ≡ cond (is_some c.next) (entry_of rank p.0 p.1 ∷ []) [])
+      → listed_at f c (map row_of singles) ≡ entries rank (has_move c) 0 tracks
+  unfolding entries
+  listed_at-singles f rank e =
+      flat_map-map (λ row. cond (same_parts c (parts_of row)) (f row) []) row_of singles
+      ∙ ap (λ h. flat_map h singles) (λ i s. cond (same_parts c (row_of-parts s i)) (f (row_of s)) [])
+      ∙ flat_map-filter (λ s. same_parts c s.parts) (λ s. f (row_of s)) singles
+      ∙ ap (flat_map (λ s. f (row_of s))) (given.at c)
+      ∙ flat_map-map (λ s. f (row_of s)) (single_of c) (filter (λ p. has c p.1) (enumerate_from 0 tracks))
+      ∙ flat_map-agree (λ p. has c p.1) (λ p. f (row_of (single_of c p))) (λ p. cond (is_some c.next) (entry_of rank p.0 p.1 ∷ []) []) e
+      (enumerate_from 0 tracks)
+      ∙ flat_map-one (is_some c.next) (λ p. has c p.1) (λ p. entry_of rank p.0 p.1) (enumerate_from 0 tracks)
+
+  both : (a b : Bool) → cond {A = ℕ} a (cond b 1 0) 0 ≡ cond {A = ℕ} (a && b) 1 0
+  both true b = refl
+  both false b = refl
+
+  moved : (a b : Bool) (n : ℕ) → cond {A = ℕ} a (cond b n 0) 0 ≡ cond {A = ℕ} (b && a) n 0
+  moved true true n = refl
+  moved true false n = refl
+  moved false true n = refl
+  moved false false n = refl
+
+  AddsUp-singles : AddsUp tracks (map row_of singles) c
+  unfolding row_of
+  AddsUp-singles = record {
+    white = sum_at-singles (λ r. r.white) (λ t. cond (is_white t.classes.outcome) 1 0) (λ p. refl)
+        ∙ ap (λ h. sum_by h tracks) (λ i t. both (has c t) (is_white t.classes.outcome) i);
+    draws = sum_at-singles (λ r. r.draws) (λ t. cond (is_draw t.classes.outcome) 1 0) (λ p. refl)
+        ∙ ap (λ h. sum_by h tracks) (λ i t. both (has c t) (is_draw t.classes.outcome) i);
+    black = sum_at-singles (λ r. r.black) (λ t. cond (is_black t.classes.outcome) 1 0) (λ p. refl)
+        ∙ ap (λ h. sum_by h tracks) (λ i t. both (has c t) (is_black t.classes.outcome) i);
+    ratings = sum_at-singles (λ r. r.ratings) (λ t. cond (is_some c.next) (mover_rating c.key t.classes) 0) (λ p. refl)
+        ∙ ap (λ h. sum_by h tracks) (λ i t. moved (has c t) (is_some c.next) (mover_rating c.key t.classes) i);
+    top = ap (best before_by_rating 4) (listed_at-singles (λ r. r.top) rating_sum (λ p e. refl));
+    recent = ap (best before_by_month 4) (listed_at-singles (λ r. r.recent) track_month
+        (λ p e. ap (λ m. cond (is_some c.next) (record { rank = month_rank m; number = p.0 } ∷ []) [])
+        (parts_at-AreOf c.key p.1 c (has-parts_at c p.1 e)).month));
+  }
+
+-- ---- singles that stand in another order
+
+SameAt-permutation : (xs ys : List Row) → IsPermutation xs ys → (c : Parts) → SameAt xs ys c
+SameAt-permutation xs ys h c = record {
+  white = sym (sum_by-IsPermutation (λ row. cond (same_parts c (parts_of row)) row.white 0) xs ys h);
+  draws = sym (sum_by-IsPermutation (λ row. cond (same_parts c (parts_of row)) row.draws 0) xs ys h);
+  black = sym (sum_by-IsPermutation (λ row. cond (same_parts c (parts_of row)) row.black 0) xs ys h);
+  ratings = sym (sum_by-IsPermutation (λ row. cond (same_parts c (parts_of row)) row.ratings 0) xs ys h);
+  top = lists by_rating_is_order (λ r. r.top);
+  recent = lists by_month_is_order (λ r. r.recent);
+}
+  where
+    lists : {before : Entry → Entry → Bool} → IsStrictTotalOrder before → (f : Row → List Entry)
+        → best before 4 (listed_at f c xs) ≡ best before 4 (listed_at f c ys)
+    lists {before} order f =
+        let at = λ (row : Row). cond (same_parts c (parts_of row)) (f row) [] in
+        best-same order 4 (listed_at f c xs) (listed_at f c ys)
+        (λ e. sum_by-flat_map (λ d. cond (ties before e d) 1 0) at xs
+        ∙ sym (sum_by-IsPermutation (λ row. sum_by (λ d. cond (ties before e d) 1 0) (at row)) xs ys h)
+        ∙ sym (sum_by-flat_map (λ d. cond (ties before e d) 1 0) at ys))
+
+-- ---- the order of the sort
+
+first_order : (p q : Ordering) → is_lt (ordering_then p q) ≡ false → is_lt p ≡ false
+first_order Less q e = e
+first_order Equal q e = refl
+first_order Greater q e = refl
+
+parts_sorted : (singles : List Single) → IsSorted single_order singles → IsSorted parts_order (map parts_of (map row_of singles))
+parts_sorted [] h = λ k d low high. absurd (omega arith)
+parts_sorted (s ∷ ss) h = λ k d low high.
+    let singles = s ∷ ss in
+    let rows = map row_of singles in
+    let long = length-map singles row_of in
+    let longer = length-map rows parts_of in
+    let at = λ (j : ℕ) (below : j < length singles).
+    get_or-map parts_of rows j (row_of s) d (omega arith) ∙ ap parts_of (get_or-map row_of singles j s (row_of s) below) ∙ row_of-parts (get_or singles j s) in
+    let tested : is_lt (parts_order (get_or singles (k + 1) s).parts (get_or singles k s).parts) ≡ false =
+    first_order _ (nat_cmp (get_or singles (k + 1) s).number (get_or singles k s).number) (h k s low (omega arith)) in
+    rw (at (k + 1) (omega arith), at k (omega arith)) tested
+
+pub Tallied-singles : (tracks : List Track) (singles sorted : List Single) → AreSingles tracks singles → IsPermutation singles sorted
+    → IsSorted single_order sorted → Tallied tracks (combined_rows (map row_of sorted))
+Tallied-singles tracks singles sorted given moved order =
+    let rows = map row_of sorted in
+    let adds = λ (c : Parts).
+    AddsUp-same tracks rows (combined_rows rows) c (SameAt-combined_rows rows c)
+    (AddsUp-same tracks (map row_of singles) rows c (SameAt-permutation (map row_of singles) rows (IsPermutation-map row_of singles sorted moved) c)
+    (AddsUp-singles tracks singles given c)) in
+    tallied_from tracks (combined_rows rows) adds
+    (All-from_recursion IsSound (combined_rows rows) (IsSound-combined_rows rows (each sorted)))
+    (combined_rows-ordered rows (parts_sorted sorted order))
+  where
+    each : (ss : List Single) → AllByRecursion IsSound (map row_of ss)
+    each [] = tt
+    each (s ∷ ss) = (IsSound-row_of s, each ss)

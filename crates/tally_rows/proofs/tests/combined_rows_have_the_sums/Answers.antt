@@ -1,0 +1,21 @@
+use Rattle.std.proofs.Common.{◌≡◌, ◌+◌, ap, sym, ◌∙◌, arith}
+use Rattle.tally_rows.specs.Row.{parts_of}
+use Rattle.tally_rows.proofs.Combining.{row_of-one}
+use Rattle.tally_rows.proofs.FromSingles.{row_of-parts}
+use Rattle.tally_rows.proofs.tests.combined_rows_have_the_sums.Goals as goal
+
+pub combine-both-requires-clause-same : goal.combine-both-requires-clause-same
+combine-both-requires-clause-same g c =
+    ap parts_of c.of-one.ensures.row ∙ row_of-parts c.single.result ∙ c.single.ensures ∙ sym c.single-2.ensures
+    ∙ sym (row_of-parts c.single-2.result) ∙ ap parts_of (sym c.of-other.ensures.row)
+
+pub combine-both-requires-clause-fit : goal.combine-both-requires-clause-fit
+combine-both-requires-clause-fit g c =
+    let one : c.of-one.result.white + c.of-one.result.draws + c.of-one.result.black ≡ 1 = rw c.of-one.ensures.row (row_of-one c.single.result) in
+    let other : c.of-other.result.white + c.of-other.result.draws + c.of-other.result.black ≡ 1 = rw c.of-other.ensures.row (row_of-one c.single-2.result) in
+    record {
+      white = omega arith;
+      draws = omega arith;
+      black = omega arith;
+      ratings = omega (arith, c.of-one.ensures.small, c.of-other.ensures.small);
+    }

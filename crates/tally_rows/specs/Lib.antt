@@ -1,0 +1,11 @@
+pub mod Parts
+pub mod Track
+pub mod Row
+pub mod Tallied
+pub mod Single
+pub mod Adding
+pub mod Grid
+pub mod Tally
+pub mod Games
+pub mod Recount
+pub mod Cover

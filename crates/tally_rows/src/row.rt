@@ -1,0 +1,153 @@
+//! A row: games with five parts in common, counted.
+ghost use Rattle.std.specs.Prelude.{◌≡◌, ◌<◌, ◌^◌, cond, is_some};
+ghost use Rattle.tally_rows.specs.Parts.{same_parts};
+ghost use Rattle.tally_rows.specs.Row.{parts_of, combined, row_of, rating_entries, month_entries, is_white, is_draw, is_black, month_rank, Fit};
+
+use crate::{Parts, Single};
+use best_lists::{Best4, ByMonth, ByRating};
+use explorer_model::archive::{Group, Month, Outcome, Speed};
+use explorer_model::chess::Move;
+
+/// The games that visit a position and have there the same next move, month, speed and group.
+#[derive(Clone, Debug, PartialEq, Eq, Drop)]
+pub struct Row {
+    /// The position's key.
+    pub key: [u8; 34],
+    /// The move that was played there, or None where the games end there.
+    pub next: Option<Move>,
+    pub month: Month,
+    pub speed: Speed,
+    pub group: Group,
+    /// How many of the games White won.
+    pub white: u32,
+    pub draws: u32,
+    /// How many of the games Black won.
+    pub black: u32,
+    /// The sum of the ratings of those who played the move; 0 without one.
+    pub ratings: u64,
+    /// The best games by the sum of both ratings; none without a move.
+    pub top: Best4<ByRating>,
+    /// The latest games, by `12 * year + month`; none without a move.
+    pub recent: Best4<ByMonth>,
+}
+
+impl Row {
+    /// What the row's games have in common.
+    pub fn parts(&self) -> Parts
+        ensures { result ≡ parts_of self.now }
+    {
+        Parts {
+            key: self.key,
+            next: self.next,
+            month: self.month,
+            speed: self.speed,
+            group: self.group,
+        }
+    }
+
+    /// Whether both rows count games with the same five parts.
+    #[tactic(auto, unfolding(crate::specs::Parts::same_parts, crate::specs::Parts::parts_order))]
+    pub fn has_parts_of(&self, other: &Row) -> bool
+        ensures { result ≡ same_parts (parts_of self.now) (parts_of other.now) }
+    {
+        self.parts().cmp(&other.parts()).is_eq()
+    }
+
+    /// The row of one game.
+    #[tactic(auto, unfolding(crate::specs::Row::row_of))]
+    pub fn of(single: &Single) -> Row
+        ensures row { result ≡ row_of single.now }
+        ensures small { result.ratings < 2 ^ 16 }
+    {
+        let (white, draws, black) = counts_of(single.outcome);
+        Row {
+            key: single.parts.key,
+            next: single.parts.next,
+            month: single.parts.month,
+            speed: single.parts.speed,
+            group: single.parts.group,
+            white,
+            draws,
+            black,
+            ratings: ratings_of(single),
+            top: top_of(single),
+            recent: recent_of(single),
+        }
+    }
+
+    /// The row of the games of both. A game that counts in both counts twice.
+    #[tactic(auto, unfolding(crate::specs::Row::combined))]
+    pub fn combine(&self, other: &Row) -> Row
+        requires same { parts_of self.now ≡ parts_of other.now }
+        requires fit { Fit self.now other.now }
+        ensures { result ≡ combined self.now other.now }
+    {
+        Row {
+            key: self.key,
+            next: self.next,
+            month: self.month,
+            speed: self.speed,
+            group: self.group,
+            white: self.white + other.white,
+            draws: self.draws + other.draws,
+            black: self.black + other.black,
+            ratings: self.ratings + other.ratings,
+            top: self.top.join(&other.top),
+            recent: self.recent.join(&other.recent),
+        }
+    }
+}
+
+/// One game, counted for White, as a draw or for Black.
+fn counts_of(outcome: Outcome) -> (u32, u32, u32)
+    ensures white { result.0 ≡ cond (is_white outcome) 1 0 }
+    ensures draws { result.1 ≡ cond (is_draw outcome) 1 0 }
+    ensures black { result.2 ≡ cond (is_black outcome) 1 0 }
+{
+    match outcome {
+        Outcome::White => (1, 0, 0),
+        Outcome::Draw => (0, 1, 0),
+        Outcome::Black => (0, 0, 1),
+    }
+}
+
+/// The rating of the side to move, where it moves.
+fn ratings_of(single: &Single) -> u64
+    ensures rating { result ≡ cond (is_some single.now.parts.next) single.now.rating 0 }
+    ensures small { result < 2 ^ 16 }
+{
+    if single.parts.next.is_some() {
+        u64::from(single.rating)
+    } else {
+        0
+    }
+}
+
+/// The game by the sum of both ratings, where a move follows.
+fn top_of(single: &Single) -> Best4<ByRating>
+    ensures { result ≡ rating_entries single.now }
+{
+    if single.parts.next.is_some() {
+        Best4::one(single.sum, single.number)
+    } else {
+        Best4::empty()
+    }
+}
+
+/// The game by its month, where a move follows.
+fn recent_of(single: &Single) -> Best4<ByMonth>
+    ensures { result ≡ month_entries single.now }
+{
+    if single.parts.next.is_some() {
+        Best4::one(month_rank(single.parts.month), single.number)
+    } else {
+        Best4::empty()
+    }
+}
+
+/// What recent games are listed by.
+fn month_rank(month: Month) -> u32
+    ensures { result ≡ month_rank month }
+{
+    12 * u32::from(month.year) + u32::from(month.month)
+}

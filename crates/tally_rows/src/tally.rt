@@ -1,0 +1,69 @@
+//! A batch that is counted.
+ghost use Rattle.std.specs.Prelude.{◌≡◌, ℕ, List};
+ghost use Rattle.tally_rows.specs.Tally.{IsCounted};
+
+use crate::Row;
+use explorer_model::archive::{Batch, Classes};
+use explorer_model::list::Items;
+use std::marker::Model;
+
+/// A batch of 1 to 512 texts, each with a game and no two with one id, with the classes of its games in their order and the
+/// rows that count them.
+#[derive(Debug, Drop)]
+pub struct Tally {
+    batch: Batch,
+    classes: Items<Classes>,
+    rows: Items<Row>,
+}
+
+impl Model for Tally {
+    ghost use Rattle.tally_rows.specs.Tally.{Counted, IsCounted};
+
+    ghost Value = { Counted };
+
+    ghost view = { λ t. record { batch = t.batch; classes = t.classes; rows = t.rows } };
+
+    ghost invariant = { λ t. IsCounted (record { batch = t.batch; classes = t.classes; rows = t.rows }) };
+}
+
+impl Tally {
+    /// The tally of a batch whose games have these classes and these rows.
+    pub fn new(batch: Batch, classes: Items<Classes>, rows: Items<Row>) -> Tally
+        requires { IsCounted (record { batch = batch; classes = classes; rows = rows }) }
+        ensures { result ≡ record { batch = batch; classes = classes; rows = rows } }
+    {
+        Tally {
+            batch,
+            classes,
+            rows,
+        }
+    }
+
+    /// The batch alone.
+    pub fn into_batch(self) -> Batch
+        ensures { result ≡ self.batch }
+    {
+        self.batch
+    }
+
+    pub fn batch(&self) -> &Batch
+        ensures batch { result.now ≡ self.now.batch }
+        ensures counted { IsCounted self.now }
+    {
+        &self.batch
+    }
+
+    /// What the tags say of the games, in the order of the texts.
+    pub fn classes(&self) -> &[Classes]
+        ensures { result.now ≡ self.now.classes }
+    {
+        self.classes.as_slice()
+    }
+
+    /// The rows in their order: by key, move, month, speed and group.
+    pub fn rows(&self) -> &[Row]
+        ensures { result.now ≡ self.now.rows }
+    {
+        self.rows.as_slice()
+    }
+}
