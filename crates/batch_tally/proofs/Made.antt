@@ -1,0 +1,177 @@
+-- A tally, made of accepted texts.
+use Rattle.std.proofs.Common.{◌≡◌, ◌≢◌, ◌+◌, ◌<◌, ◌≤◌, ℕ, List, [], ◌∷◌, map, length, Option, Some, None, Result, Ok, Err, sym, ap, ◌∙◌, subst, refl, inl, inr, arith}
+use Rattle.std.specs.List.{All, AllByRecursion, AllZip}
+use Rattle.std.proofs.lemmas.List.{length-map}
+use Rattle.std.proofs.lemmas.List.Elements.{All-from_recursion, recursion_from_All}
+use Rattle.explorer_model.specs.declared.archive.Classes.{Classes}
+use Rattle.explorer_model.specs.declared.archive.Game.{Game}
+use Rattle.explorer_model.specs.declared.archive.Token.{Token}
+use Rattle.explorer_model.specs.declared.chess.Move.{Move}
+use Rattle.explorer_model.specs.declared.chess.Position.{Position}
+use Rattle.explorer_model.specs.declared.fault.GameFault.{GameFault}
+use Rattle.explorer_model.specs.declared.notation.SanForm.{SanForm}
+use Rattle.explorer_model.specs.Chess.{start, after, Legal}
+use Rattle.explorer_model.specs.Cuts.{text_limit}
+use Rattle.explorer_model.specs.Games.{Score, score, Plays, GameOfScore}
+use Rattle.explorer_model.specs.Imports.{batch_of}
+use Rattle.explorer_model.specs.San.{AnswersAs, san_form}
+use Rattle.explorer_model.specs.Visits.{IsTextOf}
+use Rattle.explorer_model.proofs.Readings.{Err-not-Ok, Ok-injective, map-ok}
+use Rattle.tally_rows.specs.declared.row.Row.{Row}
+use Rattle.tally_rows.specs.declared.single.Single.{Single}
+use Rattle.tally_rows.specs.Games.{singles_from}
+use Rattle.tally_rows.specs.Single.{AreSingles}
+use Rattle.tally_rows.specs.Tallied.{Tallied}
+use Rattle.tally_rows.specs.Tally.{IsTrackOf, IsCounted}
+use Rattle.tally_rows.specs.Track.{Track}
+use Rattle.batch_tally.specs.declared.accepting.Accepted.{Accepted}
+use Rattle.batch_tally.specs.Accepting.{candidate_as, AreCandidates}
+use Rattle.batch_tally.specs.Singles.{AreLegal, IsCountOf}
+use Rattle.batch_tally.specs.Steps.{AreLegalFrom}
+use Rattle.batch_tally.specs.Tallying.{Counts}
+
+-- ---- the moves of a game are legal
+
+named-legal : (p : Position) (form : Option SanForm) (m : Move) → AnswersAs p form (Ok m) → Legal p m
+named-legal p None m is = absurd (Err-not-Ok _ m (sym is))
+named-legal p (Some form) m answer = answer.0
+
+plays-legal : (p : Position) (ply : ℕ) (tokens : List Token) (moves : List Move) → Plays p ply tokens (Ok moves) → AreLegalFrom p moves
+plays-legal p ply [] moves is = let P : List Move → Type 0 = λ ms. AreLegalFrom p ms in subst P (sym (Ok-injective moves [] is)) tt
+plays-legal p ply (token ∷ tokens) moves (inl played) =
+    let m : Move = played.0 in
+    let rest = map-ok (λ ms. m ∷ ms) (λ fault. fault) played.1 moves (sym played.4) in
+    let R : Result (List Move) GameFault → Type 0 = λ r. Plays (after p m) (ply + 1) tokens r in
+    let P : List Move → Type 0 = λ ms. AreLegalFrom p ms in
+    subst P rest.2 (named-legal p (san_form token.text) m played.2, plays-legal (after p m) (ply + 1) tokens rest.0 (subst R rest.1 played.3))
+plays-legal p ply (token ∷ tokens) moves (inr failed) = absurd (Err-not-Ok _ moves (sym failed.2))
+
+score-legal : (reading : Result Score GameFault) (game : Game) → GameOfScore reading (Ok game) → AreLegal game
+score-legal (Err fault) game is = absurd (Err-not-Ok fault game (sym is))
+score-legal (Ok found) game of =
+    let moves = map-ok (λ ms. record { classes = found.classes; moves = ms }) (λ fault. fault) of.0 game (sym of.2) in
+    let R : Result (List Move) GameFault → Type 0 = λ r. Plays start 1 found.tokens r in
+    let G : Game → Type 0 = λ g. AreLegal g in
+    subst G moves.2 (plays-legal start 1 found.tokens moves.0 (subst R moves.1 of.1))
+
+pub games-legal : (accepted : List Accepted) → All (λ a. IsTextOf a.text a.game) accepted → All (λ a. AreLegal a.game) accepted
+games-legal accepted each = All-from_recursion (λ a. AreLegal a.game) accepted (legal-each accepted (recursion_from_All (λ a. IsTextOf a.text a.game) accepted each))
+  where
+    legal-each : (accepted : List Accepted) → AllByRecursion (λ a. IsTextOf a.text a.game) accepted → AllByRecursion (λ a. AreLegal a.game) accepted
+    legal-each [] each = tt
+    legal-each (a ∷ accepted) each = (score-legal (score a.text) a.game each.0, legal-each accepted each.1)
+
+-- ---- lists of parts of them
+
+pub places-are : (accepted : List Accepted) → map (λ a. a.place) accepted ≡ map (λ candidate. candidate.place) (map candidate_as accepted)
+places-are [] = refl
+places-are (a ∷ accepted) = ap (λ l. a.place ∷ l) (places-are accepted)
+
+texts-are : (accepted : List Accepted) → map (λ a. a.text) accepted ≡ map (λ candidate. candidate.text) (map candidate_as accepted)
+texts-are [] = refl
+texts-are (a ∷ accepted) = ap (λ l. a.text ∷ l) (texts-are accepted)
+
+games-are : (accepted : List Accepted) → map (λ a. a.game) accepted ≡ map (λ candidate. candidate.game) (map candidate_as accepted)
+games-are [] = refl
+games-are (a ∷ accepted) = ap (λ l. a.game ∷ l) (games-are accepted)
+
+pub classes-are : (accepted : List Accepted) → map (λ a. a.game.classes) accepted ≡ map (λ candidate. candidate.game.classes) (map candidate_as accepted)
+classes-are [] = refl
+classes-are (a ∷ accepted) = ap (λ l. a.game.classes ∷ l) (classes-are accepted)
+
+classes-of-games : (accepted : List Accepted) → map (λ a. a.game.classes) accepted ≡ map (λ game. game.classes) (map (λ a. a.game) accepted)
+classes-of-games [] = refl
+classes-of-games (a ∷ accepted) = ap (λ l. a.game.classes ∷ l) (classes-of-games accepted)
+
+zip-games : (accepted : List Accepted) → AllByRecursion (λ a. IsTextOf a.text a.game) accepted → AllZip IsTextOf (map (λ a. a.text) accepted) (map (λ a. a.game) accepted)
+zip-games [] each = tt
+zip-games (a ∷ accepted) each = (each.0, zip-games accepted each.1)
+
+short-texts : (accepted : List Accepted) → AllByRecursion (λ a. length a.text ≤ text_limit) accepted → AllByRecursion (λ text. length text ≤ text_limit) (map (λ a. a.text) accepted)
+short-texts [] each = tt
+short-texts (a ∷ accepted) each = (each.0, short-texts accepted each.1)
+
+-- ---- the tally
+
+-- what the tally is made of
+pub record IsMade (accepted : List Accepted) (singles : List Single) (texts : List (List ℕ)) (classes : List Classes) (rows : List Row) : Type 0 where
+  pub some : accepted ≢ []
+  pub known : AreCandidates accepted
+  pub texts_are : texts ≡ map (λ a. a.text) accepted
+  pub classes_are : classes ≡ map (λ a. a.game.classes) accepted
+  pub count : IsCountOf accepted singles
+  pub rows_are : (tracks : List Track) → AreSingles tracks singles → Tallied tracks rows
+  pub law : (tracks : List Track) → AreSingles tracks (singles_from 0 tracks)
+
+made-rows : (accepted : List Accepted) (singles : List Single) (texts : List (List ℕ)) (classes : List Classes) (rows : List Row)
+    (made : IsMade accepted singles texts classes rows) → Tallied made.count.tracks rows
+made-rows accepted singles texts classes rows made =
+    let S : List Single → Type 0 = λ s. AreSingles made.count.tracks s in
+    made.rows_are made.count.tracks (subst S (sym made.count.singles_are) (made.law made.count.tracks))
+
+some-length : (accepted : List Accepted) → accepted ≢ [] → 0 < length accepted
+some-length [] some = absurd (some refl)
+some-length (a ∷ accepted) some = omega arith
+
+pub made-counted : (accepted : List Accepted) (singles : List Single) (texts : List (List ℕ)) (classes : List Classes) (rows : List Row)
+    → IsMade accepted singles texts classes rows
+    → IsCounted (record { batch = record { texts = texts }; classes = classes; rows = rows })
+made-counted accepted singles texts classes rows made =
+    let Texts : List (List ℕ) → Type 0 = λ ts. IsCounted (record { batch = record { texts = ts }; classes = classes; rows = rows }) in
+    let Tags : List Classes → Type 0 = λ cs. IsCounted (record { batch = record { texts = map (λ a. a.text) accepted }; classes = cs; rows = rows }) in
+    let many : length (map (λ a. a.text) accepted) ≡ length accepted = length-map accepted (λ a. a.text) in
+    let first = some-length accepted made.some in
+    let few = made.known.few in
+    subst Texts (sym made.texts_are) (subst Tags (sym made.classes_are) (record {
+      some = omega (arith, many, first);
+      few = omega (arith, many, few);
+      short = All-from_recursion (λ text. length text ≤ text_limit) (map (λ a. a.text) accepted)
+          (short-texts accepted (recursion_from_All (λ a. length a.text ≤ text_limit) accepted made.known.short));
+      different = made.known.different;
+      tally = record {
+        games = map (λ a. a.game) accepted;
+        are_games = zip-games accepted (recursion_from_All (λ a. IsTextOf a.text a.game) accepted made.known.games);
+        classes_are = classes-of-games accepted;
+        tracks = made.count.tracks;
+        are_tracks = made.count.are_tracks;
+        tallied = made-rows accepted singles texts classes rows made;
+      };
+    }))
+
+batch-made : (accepted : List Accepted) → accepted ≢ [] → batch_of (map candidate_as accepted) ≡ Some (record { texts = map (λ a. a.text) accepted })
+batch-made [] some = absurd (some refl)
+batch-made (a ∷ accepted) some = ap (λ l. Some (record { texts = l })) (sym (texts-are (a ∷ accepted)))
+
+pub made-counts : (accepted : List Accepted) (singles : List Single) (texts : List (List ℕ)) (classes : List Classes) (rows : List Row)
+    → IsMade accepted singles texts classes rows
+    → Counts (map candidate_as accepted) (record { batch = record { texts = texts }; classes = classes; rows = rows })
+made-counts accepted singles texts classes rows made =
+    let Z : List Game → Type 0 = λ gs. AllZip IsTrackOf gs made.count.tracks in
+    record {
+      batch = batch-made accepted made.some ∙ ap (λ l. Some (record { texts = l })) (sym made.texts_are);
+      classes = made.classes_are ∙ classes-are accepted;
+      tracks = made.count.tracks;
+      are_tracks = subst Z (games-are accepted) made.count.are_tracks;
+      tallied = made-rows accepted singles texts classes rows made;
+    }
+
+-- the parts of a tally, as the code makes them
+pub made-of : (accepted lent : List Accepted) (singles : List Single) (texts made_texts : List (List ℕ)) (classes made_classes : List Classes) (rows made_rows : List Row)
+    → accepted ≢ [] → AreCandidates accepted → lent ≡ accepted
+    → texts ≡ made_texts → made_texts ≡ map (λ a. a.text) accepted
+    → classes ≡ made_classes → made_classes ≡ map (λ a. a.game.classes) accepted
+    → IsCountOf lent singles
+    → rows ≡ made_rows → ((tracks : List Track) → AreSingles tracks singles → Tallied tracks made_rows)
+    → ((tracks : List Track) → AreSingles tracks (singles_from 0 tracks))
+    → IsMade accepted singles texts classes rows
+made-of accepted lent singles texts made_texts classes made_classes rows made_rows some known borrowed t texts_are k classes_are count r rows_are law =
+    let C : List Accepted → Type 0 = λ l. IsCountOf l singles in
+    record {
+      some = some;
+      known = known;
+      texts_are = t ∙ texts_are;
+      classes_are = k ∙ classes_are;
+      count = subst C borrowed count;
+      rows_are = λ tracks of. (let R : List Row → Type 0 = λ rows. Tallied tracks rows in subst R (sym r) (rows_are tracks of));
+      law = law;
+    }

@@ -1,0 +1,107 @@
+-- The steps of a game, one after another.
+use Rattle.std.proofs.Common.{◌≡◌, ◌++◌, ◌+◌, ◌-◌, ◌<◌, ◌≤◌, ℕ, zero, suc, List, [], ◌∷◌, take, drop, length, get_or, inl, inr, Option, Some, None, sym, ap, ◌∙◌, subst, refl, arith}
+use Rattle.std.specs.Prelude.{slice_get}
+use Rattle.std.specs.List.{AllZip}
+use Rattle.std.proofs.lemmas.Bool.{cases_lt}
+use Rattle.std.proofs.lemmas.List.{append_assoc, append-nil}
+use Rattle.std.proofs.lemmas.Option.{none-some, slice_get_within, get_or_from_slice_get, slice_get-get_or}
+use Rattle.std.proofs.Math.ListN.{drop_of_length-le}
+use Rattle.std.proofs.Math.Seq.{drop-cons}
+use Rattle.explorer_model.specs.declared.chess.Move.{Move}
+use Rattle.explorer_model.specs.declared.chess.Position.{Position}
+use Rattle.explorer_model.specs.Chess.{start, after, Legal}
+use Rattle.explorer_model.specs.Keys.{key}
+use Rattle.explorer_model.specs.Tidy.{IsTidied}
+use Rattle.explorer_model.specs.Visits.{Stage, stages, stage_limit}
+use Rattle.batch_tally.specs.declared.steps.Step.{Step}
+use Rattle.batch_tally.specs.Steps.{AreLegalFrom, IsStepAt, stages_within, Stepping}
+
+next-place : (i : ℕ) → suc i ≡ i + 1
+next-place i = omega arith
+
+pub get-some : {X : Type 0} (xs : List X) (i : ℕ) (x : X) → slice_get xs i ≡ Some x → drop i xs ≡ x ∷ drop (i + 1) xs
+get-some xs i x is =
+    drop-cons xs i x (slice_get_within xs i x is)
+    ∙ ap (λ y. y ∷ drop (suc i) xs) (get_or_from_slice_get xs i x x is)
+    ∙ ap (λ n. x ∷ drop n xs) (next-place i)
+
+pub get-none : {X : Type 0} (xs : List X) (i : ℕ) → slice_get xs i ≡ None → drop i xs ≡ []
+get-none [] i is = drop_of_length-le [] {i = i} (omega arith)
+get-none (x ∷ xs) i is = elim (cases_lt i (length (x ∷ xs))) [
+  | inl below ↦ absurd (none-some (get_or (x ∷ xs) i x) (sym is ∙ slice_get-get_or (x ∷ xs) i x below))
+  | inr past ↦ drop_of_length-le (x ∷ xs) past
+]
+
+pub legal-next : (p : Position) (moves : List Move) (ply : ℕ) (m : Move) → slice_get moves ply ≡ Some m → AreLegalFrom p (drop ply moves) → Legal p m
+legal-next p moves ply m is legal = let P : List Move → Type 0 = λ ms. AreLegalFrom p ms in (subst P (get-some moves ply m is) legal).0
+
+-- the step at the board
+pub step-at : (p tidy : Position) (next : Option Move) (step : Step) → IsTidied p tidy → step.key ≡ key tidy → step.next ≡ next
+    → IsStepAt (record { position = p; next = next }) step
+step-at p tidy next step tidied keyed follows = ((tidy, tidied, keyed), follows)
+
+take-stage : (n : ℕ) (p : Position) (m : Move) (moves : List Move) → 0 < n
+    → stages_within n p (m ∷ moves) ≡ record { position = p; next = Some m } ∷ stages_within (n - 1) (after p m) moves
+take-stage zero p m moves some = absurd (omega (arith, some))
+take-stage (suc n) p m moves some =
+    let fewer : n ≡ suc n - 1 = omega arith in
+    ap (λ k. record { position = p; next = Some m } ∷ stages_within k (after p m) moves) fewer
+
+take-nothing : (n : ℕ) (xs : List Stage) → n ≡ 0 → take n xs ≡ []
+take-nothing n xs is = ap (λ k. take k xs) is
+
+take-last : (n : ℕ) (p : Position) → 0 < n → stages_within n p [] ≡ record { position = p; next = None } ∷ []
+take-last zero p some = absurd (omega (arith, some))
+take-last (suc zero) p some = refl
+take-last (suc (suc n)) p some = refl
+
+pub one-step : (moves : List Move) (board next : Position) (steps more : List Step) (ply : ℕ) (m : Move) (step : Step)
+    → ply < stage_limit → slice_get moves ply ≡ Some m → next ≡ after board m → more ≡ steps ++ step ∷ []
+    → IsStepAt (record { position = board; next = Some m }) step
+    → Stepping moves board steps ply → Stepping moves next more (ply + 1)
+one-step moves board next steps more ply m step below is plays pushed at stepping =
+    let left : drop ply moves ≡ m ∷ drop (ply + 1) moves = get-some moves ply m is in
+    let L : List Move → Type 0 = λ ms. AreLegalFrom board ms in
+    let B : Position → Type 0 = λ p. AreLegalFrom p (drop (ply + 1) moves) in
+    let Whole : List Step → Type 0 = λ s. AllZip IsStepAt (stages_within stage_limit start moves) s in
+    let fewer : stage_limit - ply - 1 ≡ stage_limit - (ply + 1) = omega (arith, below) in
+    let stages_are : stages_within (stage_limit - ply) board (drop ply moves)
+    ≡ record { position = board; next = Some m } ∷ stages_within (stage_limit - (ply + 1)) next (drop (ply + 1) moves) =
+    ap (λ ms. stages_within (stage_limit - ply) board ms) left
+    ∙ take-stage (stage_limit - ply) board m (drop (ply + 1) moves) (omega (arith, below))
+    ∙ ap (λ n. record { position = board; next = Some m } ∷ stages_within n (after board m) (drop (ply + 1) moves)) fewer
+    ∙ ap (λ p. record { position = board; next = Some m } ∷ stages_within (stage_limit - (ply + 1)) p (drop (ply + 1) moves)) (sym plays) in
+    record {
+      legal = subst B (sym plays) (subst L left stepping.legal).1;
+      completes = λ rest zip.
+          (let Z : List Stage → Type 0 = λ ss. AllZip IsStepAt ss (step ∷ rest) in
+          let joined : steps ++ step ∷ rest ≡ more ++ rest = sym (append_assoc steps (step ∷ []) rest) ∙ ap (λ s. s ++ rest) (sym pushed) in
+          subst Whole joined (stepping.completes (step ∷ rest) (subst Z (sym stages_are) (at, zip))));
+    }
+
+pub last-step : (moves : List Move) (board : Position) (steps more : List Step) (ply : ℕ) (step : Step)
+    → ply < stage_limit → slice_get moves ply ≡ None → more ≡ steps ++ step ∷ []
+    → IsStepAt (record { position = board; next = None }) step
+    → Stepping moves board steps ply → AllZip IsStepAt (stages_within stage_limit start moves) more
+last-step moves board steps more ply step below is pushed at stepping =
+    let Whole : List Step → Type 0 = λ s. AllZip IsStepAt (stages_within stage_limit start moves) s in
+    let Z : List Stage → Type 0 = λ ss. AllZip IsStepAt ss (step ∷ []) in
+    let stages_are : stages_within (stage_limit - ply) board (drop ply moves) ≡ record { position = board; next = None } ∷ [] =
+    ap (λ ms. stages_within (stage_limit - ply) board ms) (get-none moves ply is)
+    ∙ take-last (stage_limit - ply) board (omega (arith, below)) in
+    subst Whole (sym pushed) (stepping.completes (step ∷ []) (subst Z (sym stages_are) (at, tt)))
+
+pub all-steps : (moves : List Move) (board : Position) (steps : List Step) (ply : ℕ) → stage_limit ≤ ply
+    → Stepping moves board steps ply → AllZip IsStepAt (stages_within stage_limit start moves) steps
+all-steps moves board steps ply above stepping =
+    let Whole : List Step → Type 0 = λ s. AllZip IsStepAt (stages_within stage_limit start moves) s in
+    let Z : List Stage → Type 0 = λ ss. AllZip IsStepAt ss [] in
+    let none : stages_within (stage_limit - ply) board (drop ply moves) ≡ [] =
+    take-nothing (stage_limit - ply) (stages board (drop ply moves)) (omega (arith, above)) in
+    subst Whole (append-nil steps) (stepping.completes [] (subst Z (sym none) tt))
+
+pub begins : (moves : List Move) (board : Position) (steps : List Step) → board ≡ start → steps ≡ [] → AreLegalFrom start moves → Stepping moves board steps 0
+begins moves board steps at_start none legal =
+    let P : Position → Type 0 = λ p. Stepping moves p steps 0 in
+    let Q : List Step → Type 0 = λ s. Stepping moves start s 0 in
+    subst P (sym at_start) (subst Q (sym none) (record { legal = legal; completes = λ rest zip. zip }))

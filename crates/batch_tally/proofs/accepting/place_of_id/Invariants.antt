@@ -1,0 +1,8 @@
+use Rattle.std.proofs.Common.{◌≡◌, map, find, drop}
+use Rattle.explorer_model.specs.Imports.{has_id_of}
+use Rattle.batch_tally.specs.Accepting.{candidate_as}
+use Rattle.batch_tally.proofs.accepting.place_of_id.Given as goal
+
+abbrev pub invariant-loop-text : goal.invariant-loop-text
+invariant-loop-text l =
+    find (has_id_of l.game) (map candidate_as l.accepted) ≡ find (has_id_of l.game) (map candidate_as (drop l.text-index l.accepted))

@@ -1,0 +1,12 @@
+use Rattle.batch_tally.proofs.Whole.{are-candidates, is-tallying}
+use Rattle.batch_tally.proofs.tallying.tally.Goals as goal
+
+pub tally_of-requires : goal.tally_of-requires
+tally_of-requires g c =
+    are-candidates c.args.texts.items c.in_ok-readings.readings.items c.in_ok-group.group.accepted.items
+    c.requires.few c.requires.short c.in_ok-readings.ensures c.in_ok-group.ensures.accepted
+
+pub returns : goal.returns
+returns g c =
+    is-tallying c.args.texts.items c.in_ok-readings.readings.items c.in_ok-group.group.accepted.items c.as_slice.result.now _
+    c.in_ok-readings.ensures c.in_ok-group.ensures.accepted c.as_slice.ensures.value c.in_ok-places.ensures c.in_ok-group.ensures.refused c.in_ok-tally.ensures

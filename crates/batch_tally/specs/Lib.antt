@@ -1,0 +1,5 @@
+pub mod Accepting
+pub mod Reading
+pub mod Singles
+pub mod Steps
+pub mod Tallying

@@ -1,0 +1,12 @@
+//! A batch of texts, replayed and counted: which texts are accepted, why others are refused, and the rows of the games.
+#![tactic(auto)]
+
+mod accepting;
+mod reading;
+mod singles;
+mod steps;
+mod tallying;
+#[cfg(test)]
+mod tests;
+
+pub use tallying::{Tallying, tally};

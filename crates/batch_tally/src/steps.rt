@@ -1,0 +1,50 @@
+//! The positions that a game visits.
+ghost use Rattle.std.specs.Prelude.{◌≡◌, List, slice_get, IfOk};
+ghost use Rattle.std.specs.List.{AllZip};
+ghost use Rattle.explorer_model.specs.Chess.{start};
+ghost use Rattle.explorer_model.specs.Visits.{stage_limit};
+ghost use Rattle.batch_tally.specs.Steps.{AreLegalFrom, IsStepAt, stages_within};
+
+use explorer_model::chess::Move;
+use legal_moves::board::Board;
+use packed_keys::pack;
+use std::alloc::{AllocError, Global};
+
+/// The number of positions in which a game is looked for: those of plies 0 to 50.
+const STAGE_LIMIT: usize = 51;
+
+/// A position by the key of its tidy form, and the move that follows there, if the game goes on.
+#[derive(Clone, Copy, Debug)]
+pub struct Step {
+    pub key: [u8; 34],
+    pub next: Option<Move>,
+}
+
+/// The first 51 positions of the moves, from the starting position.
+pub fn steps_of(alloc: Global, moves: &[Move]) -> Result<Vec<Step>, AllocError>
+    requires { AreLegalFrom start moves.now }
+    ensures { IfOk result (λ steps. AllZip IsStepAt (stages_within stage_limit start moves.now) steps.items) }
+{
+    let mut board = Board::start();
+    let mut steps = Vec::with_capacity(alloc, STAGE_LIMIT)?;
+    for ply in 0..STAGE_LIMIT {
+        let next = move_at(moves, ply);
+        let tidy = board.tidy();
+        steps.push(Step {
+            key: pack(&tidy.position()),
+            next,
+        })?;
+        match next {
+            Some(step) => board = board.play(step),
+            None => break,
+        }
+    }
+    Ok(steps)
+}
+
+/// The move of a ply, counted from 0.
+fn move_at(moves: &[Move], ply: usize) -> Option<Move>
+    ensures { result ≡ slice_get moves.now ply }
+{
+    moves.get(ply).copied()
+}

@@ -1,0 +1,101 @@
+//! Texts tallied: what is accepted and counted, and what is refused.
+ghost use Rattle.std.specs.Prelude.{◌≡◌, ◌≤◌, length, map, IfOk};
+ghost use Rattle.std.specs.List.{All};
+ghost use Rattle.batch_tally.specs.Accepting.{candidate_as, AreCandidates};
+ghost use Rattle.batch_tally.specs.Tallying.{IsTallying, IsTallyMade};
+
+use crate::accepting::{Accepted, accept};
+use crate::reading::read_all;
+use crate::singles::singles_of;
+use explorer_model::archive::{Batch, Bytes, Classes, Game, Placed, Texts};
+use explorer_model::fault::Refusal;
+use explorer_model::list::Items;
+use outside::Gate;
+use std::alloc::{AllocError, Global};
+use tally_rows::{Tally, rows_of};
+
+/// What becomes of a list of texts.
+#[derive(Debug, Drop)]
+pub struct Tallying {
+    /// The accepted texts, counted; none where no text is accepted.
+    pub tally: Option<Tally>,
+    /// The place of each accepted text, in order.
+    pub places: Vec<u64>,
+    /// Each refusal, in the order of the texts.
+    pub refused: Vec<Refusal>,
+}
+
+/// Replays, accepts and counts up to 512 texts of at most 65,536 bytes each. The texts go to as many leaves as there are workers,
+/// in order; each leaf goes through the gate before its first text.
+pub fn tally<G: Gate>(
+    alloc: Global,
+    texts: Vec<Placed>,
+    workers: usize,
+    gate: &G,
+) -> Result<Tallying, AllocError>
+    requires some_workers { 1 ≤ workers }
+    requires few_workers { workers ≤ 16 }
+    requires few { length texts.items ≤ 512 }
+    requires short { All (λ text. length text.bytes ≤ 65536) texts.items }
+    ensures { IfOk result (λ tallying. IsTallying texts.items tallying) }
+{
+    let readings = read_all(alloc, texts, workers, gate)?;
+    let group = accept(alloc, readings)?;
+    let places = places_of(alloc, group.accepted.as_slice())?;
+    let tally = tally_of(alloc, group.accepted)?;
+    Ok(Tallying {
+        tally,
+        places,
+        refused: group.refused,
+    })
+}
+
+/// The places of accepted texts.
+fn places_of(alloc: Global, accepted: &[Accepted]) -> Result<Vec<u64>, AllocError>
+    ensures { IfOk result (λ places. places.items ≡ map (λ candidate. candidate.place) (map candidate_as accepted.now)) }
+{
+    let mut places = Vec::with_capacity(alloc, accepted.len())?;
+    for text in accepted {
+        places.push(text.place)?;
+    }
+    Ok(places)
+}
+
+/// The tally of accepted texts.
+fn tally_of(alloc: Global, accepted: Vec<Accepted>) -> Result<Option<Tally>, AllocError>
+    requires { AreCandidates accepted.items }
+    ensures { IfOk result (λ tally. IsTallyMade (map candidate_as accepted.items) tally) }
+{
+    if accepted.is_empty() {
+        return Ok(None);
+    }
+    tally_rows::laws::singles_of_first_visits();
+    let singles = singles_of(alloc, accepted.as_slice())?;
+    let rows = rows_of(alloc, singles)?;
+    let (texts, classes) = texts_and_classes(alloc, accepted)?;
+    Ok(Some(Tally::new(
+        Batch {
+            texts: Texts::from_vec(texts),
+        },
+        Items::from_vec(classes),
+        Items::from_vec(rows),
+    )))
+}
+
+/// Accepted texts, and what their tags say, apart.
+fn texts_and_classes(
+    alloc: Global,
+    accepted: Vec<Accepted>,
+) -> Result<(Vec<Bytes>, Vec<Classes>), AllocError>
+    ensures texts { IfOk result (λ parts. parts.0.items ≡ map (λ a. a.text) accepted.items) }
+    ensures classes { IfOk result (λ parts. parts.1.items ≡ map (λ a. a.game.classes) accepted.items) }
+{
+    let mut texts = Vec::with_capacity(alloc, accepted.len())?;
+    let mut classes = Vec::with_capacity(alloc, accepted.len())?;
+    for Accepted { text, game, .. } in accepted {
+        let Game { classes: tags, .. } = game;
+        texts.push(text)?;
+        classes.push(tags)?;
+    }
+    Ok((texts, classes))
+}

@@ -1,0 +1,151 @@
+ghost use Rattle.std.specs.Prelude.{◌≤◌, length, IsTrue};
+ghost use Rattle.std.specs.List.{All};
+
+use crate::tallying::{Tallying, tally};
+use explorer_model::archive::{Bytes, Placed};
+use explorer_model::fault::{GameFault, Refusal, Why};
+use outside::FreeGate;
+use std::alloc::{AllocError, Global};
+use std::test::Fail;
+
+/// A worked game with this id, and this movetext, which ends with `1-0`.
+fn text(alloc: Global, place: u64, id: &str, movetext: &str) -> Result<Placed, AllocError> {
+    let text = format!(in alloc;
+        "[Event \"Rated blitz game\"]\n[Site \"https://lichess.org/{id}\"]\n\
+         [White \"Ann\"]\n[Black \"Bob\"]\n[Result \"1-0\"]\n[UTCDate \"2020.01.15\"]\n\
+         [WhiteElo \"1500\"]\n[BlackElo \"1400\"]\n[TimeControl \"300+0\"]\n\n{movetext}\n"
+    )?;
+    Ok(Placed {
+        place,
+        bytes: Bytes::from_vec(text.into_bytes()),
+    })
+}
+
+/// The tally of the texts, where they are few and short enough to be tallied.
+fn tallied(
+    alloc: Global,
+    texts: Vec<Placed>,
+    workers: usize,
+) -> Result<Option<Tallying>, AllocError> {
+    if workers == 0 || 16 < workers || 512 < texts.len() || !are_short(texts.as_slice()) {
+        return Ok(None);
+    }
+    Ok(Some(tally(alloc, texts, workers, &FreeGate)?))
+}
+
+fn are_short(texts: &[Placed]) -> bool
+    ensures { IsTrue result → All (λ text. length text.bytes ≤ 65536) texts.now }
+{
+    for text in texts {
+        if 65_536 < text.bytes.len() {
+            return false;
+        }
+    }
+    true
+}
+
+/// How many rows a tally has; 0 without one.
+fn row_count(tallying: &Option<Tallying>) -> usize {
+    match tallying {
+        Some(
+            Tallying {
+                tally: Some(tally),
+                ..
+            },
+        ) => tally.rows().len(),
+        _ => 0,
+    }
+}
+
+#[test]
+fn counts_a_game_once_in_each_position(rt: HostRuntime) -> Result<(), Fail> {
+    let table = [
+        ("1-0", 1),
+        ("1. e4 c5?! 1-0", 3),
+        // The starting position comes back with ply 4, and the move there is the first one.
+        ("1. Nf3 Nf6 2. Ng1 Ng8 3. e4 1-0", 5),
+    ];
+    for (movetext, rows) in table {
+        let mut texts = Vec::new(rt.alloc());
+        texts.push(text(rt.alloc(), 0, "aaaaaaa1", movetext)?)?;
+        let tallying = tallied(rt.alloc(), texts, 1)?;
+        assert_eq!(rt; row_count(&tallying), rows);
+    }
+    Ok(())
+}
+
+/// Two games with moves, one of them twice, and one that is refused but does not block its id.
+fn mixed(alloc: Global) -> Result<Vec<Placed>, AllocError> {
+    let mut texts = Vec::new(alloc);
+    texts.push(text(alloc, 0, "aaaaaaa2", "1. e4 1/2")?)?;
+    texts.push(text(alloc, 200, "aaaaaaa1", "1. e4 e5 1-0")?)?;
+    texts.push(text(alloc, 400, "aaaaaaa2", "1. d4 1-0")?)?;
+    texts.push(text(alloc, 600, "aaaaaaa1", "1. c4 1-0")?)?;
+    Ok(texts)
+}
+
+#[test]
+fn refuses_the_second_text_with_an_id(rt: HostRuntime) -> Result<(), Fail> {
+    for workers in [1, 2, 8, 16] {
+        let texts = mixed(rt.alloc())?;
+        let Some(tallying) = tallied(rt.alloc(), texts, workers)? else {
+            assert!(rt; false);
+            return Ok(());
+        };
+        assert!(rt; tallying.places.as_slice() == [200, 400].as_slice());
+        assert!(rt;
+            tallying.refused.as_slice()
+                == [
+                    Refusal {
+                        place: 0,
+                        why: Why::Game(GameFault::NoTermination),
+                    },
+                    Refusal {
+                        place: 600,
+                        why: Why::Twice { first: 200 },
+                    },
+                ]
+                .as_slice()
+        );
+        // The start with e4 and with d4, e4 with e5, and the two last positions.
+        assert_eq!(rt; row_count(&Some(tallying)), 5);
+    }
+    Ok(())
+}
+
+#[test]
+fn tallies_as_many_texts_as_a_batch_has(rt: HostRuntime) -> Result<(), Fail> {
+    let mut texts = Vec::new(rt.alloc());
+    for number in 0..512u64 {
+        let id = format!(in rt.alloc(); "{number:08}")?;
+        texts.push(text(rt.alloc(), number, id.as_str(), "1. e4 e5 1-0")?)?;
+    }
+    let tallying = tallied(rt.alloc(), texts, 8)?;
+    assert_eq!(rt; row_count(&tallying), 3);
+    assert!(rt; matches!(&tallying, Some(t) if t.places.len() == 512));
+    Ok(())
+}
+
+#[test]
+fn tallies_the_longest_game(rt: HostRuntime) -> Result<(), Fail> {
+    let mut moves = String::new(rt.alloc());
+    for _ in 0..256 {
+        moves.push_str("Nf3 Nf6 Ng1 Ng8 ")?;
+    }
+    moves.push_str("1-0")?;
+    let mut texts = Vec::new(rt.alloc());
+    texts.push(text(rt.alloc(), 0, "aaaaaaa1", moves.as_str())?)?;
+    let tallying = tallied(rt.alloc(), texts, 4)?;
+    // Four positions, each with the move that is played there first.
+    assert_eq!(rt; row_count(&tallying), 4);
+    Ok(())
+}
+
+#[test]
+fn makes_no_batch_of_refused_texts(rt: HostRuntime) -> Result<(), Fail> {
+    let mut texts = Vec::new(rt.alloc());
+    texts.push(text(rt.alloc(), 7, "aaaaaaa1", "1. e5 1-0")?)?;
+    let tallying = tallied(rt.alloc(), texts, 2)?;
+    assert!(rt; matches!(&tallying, Some(t) if t.tally.is_none() && t.refused.len() == 1));
+    Ok(())
+}
