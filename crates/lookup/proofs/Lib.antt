@@ -1,0 +1,5 @@
+pub mod Bridge
+pub mod Months
+pub mod Made
+pub mod Determined
+pub mod Journal

@@ -1,0 +1,2 @@
+pub mod FromRows
+pub mod Tallies

@@ -1,0 +1,4 @@
+//! Answers from rows.
+#![tactic(auto)]
+
+pub mod laws;
