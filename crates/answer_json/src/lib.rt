@@ -3,6 +3,7 @@
 
 pub mod answer;
 mod game;
+pub mod laws;
 mod line;
 pub mod refusal;
 #[cfg(test)]

@@ -6,3 +6,4 @@ pub mod Counting
 pub mod Candidates
 pub mod Made
 pub mod Whole
+pub mod Determined

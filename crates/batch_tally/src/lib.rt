@@ -2,6 +2,7 @@
 #![tactic(auto)]
 
 mod accepting;
+pub mod laws;
 mod reading;
 mod singles;
 mod steps;

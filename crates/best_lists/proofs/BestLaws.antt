@@ -4,7 +4,7 @@ use Rattle.std.specs.List.{All, flat_map}
 use Rattle.std.proofs.lemmas.List.{take_all, take-take, length-take}
 use Rattle.std.proofs.lemmas.List.Elements.{All-cons, All-head, All-tail}
 use Rattle.std.proofs.lemmas.List.Kept.{AllPairs-cons}
-use Rattle.best_lists.specs.Best.{IsStrictTotalOrder, better, worse, best_one, others, best, IsBestFirst, SplitsBest}
+use Rattle.explorer_model.specs.Best.{IsStrictTotalOrder, better, worse, best_one, others, best, IsBestFirst, SplitsBest}
 use Rattle.best_lists.proofs.Ranked.{put, ranked, Behind, InOrder, put-least, put-comm, not_before-trans, before-asym, InOrder-ranked, InOrder-take, ranked-InOrder, ranked-comm, top-both, ranked-first_left, ranked-first_right, Behind-InOrder}
 
 -- `IsBestFirst`, by recursion

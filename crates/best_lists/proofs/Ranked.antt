@@ -1,7 +1,7 @@
 -- A list in its order, by insertion, of which the best are the first few.
 use Rattle.std.proofs.Common.{◌≡◌, ℕ, zero, suc, Bool, true, false, List, [], ◌∷◌, ◌++◌, length, take, if◌then◌else◌, refl, sym, ap, ◌∙◌, append-nil, arith}
 use Rattle.std.proofs.lemmas.List.{take-take}
-use Rattle.best_lists.specs.Best.{IsStrictTotalOrder}
+use Rattle.explorer_model.specs.Best.{IsStrictTotalOrder}
 
 module _ {X : Type 0} (before : X → X → Bool) where
   -- x among values in order, past those that are before it

@@ -5,7 +5,7 @@ use Rattle.std.specs.List.Sorted.{IsPermutation}
 use Rattle.std.proofs.lemmas.List.{length-take, take-append-drop}
 use Rattle.std.proofs.lemmas.List.Sums.{sum_by-cons}
 use Rattle.std.proofs.lemmas.List.Sorted.{sum_by-IsPermutation}
-use Rattle.best_lists.specs.Best.{IsStrictTotalOrder, best, IsBestFirst}
+use Rattle.explorer_model.specs.Best.{IsStrictTotalOrder, best, IsBestFirst}
 use Rattle.best_lists.proofs.Ranked.{put, ranked, put-comm, length-ranked}
 use Rattle.best_lists.proofs.BestLaws.{best_is, IsBestFirst-ranked}
 

@@ -2,7 +2,7 @@
 use Rattle.std.specs.Prelude.{◌≡◌, ℕ, Bool, ◌||◌, ◌&&◌, ◌==◌, nat_lt}
 use Rattle.std.proofs.Common.{arith}
 use Rattle.std.proofs.lemmas.Bool.Decides.{nat_tests}
-use Rattle.best_lists.specs.Best.{IsStrictTotalOrder}
+use Rattle.explorer_model.specs.Best.{IsStrictTotalOrder}
 use Rattle.best_lists.specs.Entry.{moved_by}
 use Rattle.best_lists.specs.declared.entry.Entry.{Entry}
 

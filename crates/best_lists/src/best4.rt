@@ -2,7 +2,7 @@
 ghost use Rattle.std.specs.Prelude.{◌≡◌, ℕ, ◌+◌, ◌≤◌, ◌<◌, ◌^◌, List, [], ◌∷◌, ◌++◌, length, map, MatchOption};
 ghost use Rattle.std.specs.List.{All};
 ghost use Rattle.best_lists.specs.declared.entry.Entry.{Entry};
-ghost use Rattle.best_lists.specs.Best.{best, IsBestFirst, SplitsBest};
+ghost use Rattle.explorer_model.specs.Best.{best, IsBestFirst, SplitsBest};
 ghost use Rattle.best_lists.specs.Entry.{moved_by};
 
 use crate::{Entry, Ranking};

@@ -1,7 +1,7 @@
 //! What a merge of best lists rests on.
 ghost use Rattle.std.specs.Prelude.{◌≡◌, ℕ, List, ◌++◌, map};
 ghost use Rattle.best_lists.specs.declared.entry.Entry.{Entry};
-ghost use Rattle.best_lists.specs.Best.{best};
+ghost use Rattle.explorer_model.specs.Best.{best};
 ghost use Rattle.best_lists.specs.Entry.{moved_by};
 
 use crate::Ranking;

@@ -1,7 +1,7 @@
 //! Which of two entries is better.
 ghost use Rattle.std.specs.Prelude.{◌≡◌, Bool};
 ghost use Rattle.best_lists.specs.declared.entry.Entry.{Entry};
-ghost use Rattle.best_lists.specs.Best.{IsStrictTotalOrder};
+ghost use Rattle.explorer_model.specs.Best.{IsStrictTotalOrder};
 ghost use Rattle.best_lists.specs.Ranking.{KeepsWhenMoved, before_by_rating, by_rating_is_order, by_rating_keeps, before_by_month, by_month_is_order, by_month_keeps};
 
 use crate::Entry;

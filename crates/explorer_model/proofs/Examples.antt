@@ -18,7 +18,7 @@ use Rattle.explorer_model.specs.Finds.{history_of}
 use Rattle.explorer_model.specs.Imports.{groups, Piece, Read, fates, fates_from, refusals}
 use Rattle.explorer_model.specs.Query.{names_given, speed_names, most_moves, most_games, month_named, query_from, value_in, bad}
 use Rattle.explorer_model.specs.Visits.{Seen}
-use Rattle.best_lists.specs.Best.{best, best_one, others}
+use Rattle.explorer_model.specs.Best.{best, best_one, others}
 
 -- ---- games
 

@@ -4,7 +4,7 @@ use Rattle.std.proofs.lemmas.Bool.Decides.{nat_tests}
 use Rattle.std.proofs.lemmas.List.Sums.{sum_by-cons, sum_by-le-sum_by}
 use Rattle.std.specs.Prelude.{sum_by, filter, map}
 use Rattle.std.specs.List.{AllZip}
-use Rattle.best_lists.specs.Best.{best, best_one, others, better, worse}
+use Rattle.explorer_model.specs.Best.{best, best_one, others, better, worse}
 use Rattle.explorer_model.specs.declared.answer.Found.{Found}
 use Rattle.explorer_model.specs.declared.answer.MoveLine.{MoveLine}
 use Rattle.explorer_model.specs.declared.answer.Totals.{Totals}

@@ -1,7 +1,7 @@
 -- What is found for a query in a journal: the recount of its games, replayed from their texts.
 use Rattle.std.specs.Prelude.{◌≡◌, Bool, true, false, List, map, length, Option, Some, None}
 use Rattle.std.specs.List.{AllZip}
-use Rattle.best_lists.specs.Best.{best}
+use Rattle.explorer_model.specs.Best.{best}
 use Rattle.explorer_model.specs.declared.answer.Found.{Found}
 use Rattle.explorer_model.specs.declared.answer.MonthLine.{MonthLine}
 use Rattle.explorer_model.specs.declared.answer.MoveLine.{MoveLine}

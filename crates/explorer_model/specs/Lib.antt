@@ -1,4 +1,5 @@
 pub mod Answer
+pub mod Best
 pub mod Board
 pub mod Chess
 pub mod Classes

@@ -21,3 +21,9 @@ GivesBy view (Err stop) reading = Fails stop reading
 -- the answer is the reading
 abbrev pub Gives : {A F : Type 0} → Result A (Stop F) → Result A F → Type 0
 Gives answer reading = GivesBy (λ x. x) answer reading
+
+-- the answer is one that the relation allows
+abbrev pub Answers : {A F : Type 0} → Result A (Stop F) → (Result A F → Type 0) → Type 0
+Answers (Ok value) Allows = Allows (Ok value)
+Answers (Err (stops.Fault fault)) Allows = Allows (Err fault)
+Answers (Err stops.OutOfMemory) Allows = Unit {0}

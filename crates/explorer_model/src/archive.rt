@@ -120,14 +120,14 @@ pub struct GameId {
 }
 
 /// One side of a game; the rating is 0 to 4000.
-#[derive(Debug, Drop)]
+#[derive(Clone, Debug, Drop)]
 pub struct Player {
     pub name: Name,
     pub rating: u16,
 }
 
 /// What a game's tags say of it.
-#[derive(Debug, Drop)]
+#[derive(Clone, Debug, Drop)]
 pub struct Classes {
     pub id: GameId,
     pub white: Player,

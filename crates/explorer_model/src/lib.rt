@@ -1,4 +1,3 @@
-//! The plain types of the explorer, and the definitions that every contract of it cites.
 #![tactic(auto)]
 
 pub mod answer;
@@ -8,7 +7,6 @@ pub mod fault;
 pub mod laws;
 pub mod list;
 pub mod notation;
-pub mod plain;
 pub mod query;
 pub mod square;
 pub mod text;

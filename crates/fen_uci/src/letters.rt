@@ -6,7 +6,7 @@ ghost use Rattle.explorer_model.specs.Fen.{all_roles};
 
 use arrayvec::ArrayVec;
 use explorer_model::chess::Role;
-use explorer_model::plain::geometry::{file_of, rank_of};
+use plain_chess::geometry::{file_of, rank_of};
 
 pub fn letter_of(role: Role) -> u8
     ensures { result ≡ letter_of role }

@@ -10,7 +10,7 @@ use crate::letters::role_named;
 use crate::splits::split_before;
 use arrayvec::ArrayVec;
 use explorer_model::chess::{Color, Piece};
-use explorer_model::plain::board::man_of;
+use plain_chess::board::man_of;
 
 /// The man that a letter names: a small letter's code is 32 above its capital's.
 fn man_named(letter: u8) -> Option<Option<Piece>>

@@ -11,8 +11,8 @@ use crate::placement::placement;
 use crate::state::{crossing, rights, turn};
 use explorer_model::chess::{Color, Piece, Position};
 use explorer_model::notation::FenFault;
-use explorer_model::plain::valid::{has_men, has_pawns_inside};
 use legal_moves::board::Board;
+use plain_chess::valid::{has_men, has_pawns_inside};
 
 fn are_men_valid(squares: &[Option<Piece>; 64]) -> bool
     ensures { IsTrue result ↔ (HasMen squares.now White × HasMen squares.now Black × HasPawnsInside squares.now) }

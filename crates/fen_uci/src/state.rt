@@ -10,9 +10,9 @@ ghost use Rattle.explorer_model.specs.Fen.{field, is_filled, turn_named, GivesTu
 use crate::fields::field;
 use crate::letters::square_named;
 use explorer_model::chess::{Color, Piece, Rights, Role, Side};
-use explorer_model::plain::board::{in_check, is_man, man_at, opponent};
-use explorer_model::plain::valid::{has_crossed, has_right, king_home, rook_home};
 use explorer_model::square::Square;
+use plain_chess::board::{in_check, is_man, man_at, opponent};
+use plain_chess::valid::{has_crossed, has_right, king_home, rook_home};
 
 fn turn_named(text: &[u8]) -> Option<Color>
     ensures { result ≡ turn_named text.now }

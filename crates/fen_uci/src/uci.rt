@@ -7,10 +7,10 @@ use crate::letters::{push_square, small_letter, square_named};
 use arrayvec::ArrayVec;
 use explorer_model::chess::{Move, Position, Role, Side};
 use explorer_model::notation::{UciFault, UciForm};
-use explorer_model::plain::board::{is_man, man_at};
-use explorer_model::plain::candidate::king_target;
-use explorer_model::plain::valid::{has_right, king_home, rook_home};
 use legal_moves::board::Board;
+use plain_chess::board::{is_man, man_at};
+use plain_chess::candidate::king_target;
+use plain_chess::valid::{has_right, king_home, rook_home};
 
 /// The move in the notation of UCI; castling is the king's move of two squares, as `e1g1`.
 pub fn write_uci(step: Move) -> ArrayVec<u8, 5>

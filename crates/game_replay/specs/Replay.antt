@@ -1,5 +1,5 @@
 -- What replaying answers: a game, or the first fault. Want of memory is free.
-use Rattle.std.specs.Prelude.{◌≡◌, ℕ, ◌+◌, ◌++◌, List, drop, Result, Ok, Err}
+use Rattle.std.specs.Prelude.{◌≡◌, ℕ, ◌+◌, ◌++◌, List, drop, Result}
 use Rattle.std.specs.Result.{result_map_both}
 use Rattle.explorer_model.specs.declared.archive.Game.{Game}
 use Rattle.explorer_model.specs.declared.archive.Token.{Token}
@@ -7,16 +7,10 @@ use Rattle.explorer_model.specs.declared.chess.Move.{Move}
 use Rattle.explorer_model.specs.declared.chess.Position.{Position}
 use Rattle.explorer_model.specs.declared.fault.GameFault.{GameFault}
 use Rattle.explorer_model.specs.declared.fault.Stop.{Stop}
-use Rattle.explorer_model.specs.declared.fault.Stop.TheVariants as stops
 use Rattle.explorer_model.specs.Chess.{start}
 use Rattle.explorer_model.specs.Games as games
+use Rattle.explorer_model.specs.Stop.{Answers}
 use Rattle.game_replay.specs.declared.score.Scored.{Scored}
-
--- the answer is one that the relation allows
-abbrev pub Answers : {A F : Type 0} → Result A (Stop F) → (Result A F → Type 0) → Type 0
-Answers (Ok value) Allows = Allows (Ok value)
-Answers (Err (stops.Fault fault)) Allows = Allows (Err fault)
-Answers (Err stops.OutOfMemory) Allows = Unit {0}
 
 -- the answer is the text's game, or its first fault
 abbrev pub GivesGame : List ℕ → Result Game (Stop GameFault) → Type 0

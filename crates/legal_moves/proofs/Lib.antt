@@ -3,6 +3,7 @@ pub mod Facts
 pub mod Victim
 pub mod Kept
 pub mod PlayLemmas
+pub mod SameMoves
 pub mod TidyLemmas
 pub mod Sums
 pub mod Places

@@ -13,9 +13,9 @@ use crate::sight::Sight;
 use crate::tidy::open_en_passant;
 use arrayvec::ArrayVec;
 use explorer_model::chess::{Move, Position};
-use explorer_model::plain::board::opponent;
-use explorer_model::plain::play::{en_passant_after, rights_after};
-use explorer_model::plain::valid::{is_valid, start};
+use plain_chess::board::opponent;
+use plain_chess::play::{en_passant_after, rights_after};
+use plain_chess::valid::{is_valid, start};
 use std::marker::Model;
 
 /// A valid position, ready to be asked for its moves.

@@ -13,10 +13,10 @@ use crate::sight::Sight;
 use crate::targets::targets;
 use arrayvec::ArrayVec;
 use explorer_model::chess::{Move, Position, Role};
-use explorer_model::plain::board::{is_man, man_at};
-use explorer_model::plain::candidate::last_rank;
-use explorer_model::plain::geometry::rank_of;
 use explorer_model::square::Square;
+use plain_chess::board::{is_man, man_at};
+use plain_chess::candidate::last_rank;
+use plain_chess::geometry::rank_of;
 use step_tables::{lowest, without};
 
 /// What a pawn may become, in the order in which moves are listed.

@@ -14,3 +14,8 @@ pub fn legal_moves_keep_validity()
 pub fn tidy_forms_decide_same()
     ensures { (p q p_tidied q_tidied : Position) → IsTidied p p_tidied → IsTidied q q_tidied → Same p q ↔ (p_tidied ≡ q_tidied) }
 {}
+
+/// Two positions that are the same have the same legal moves.
+pub fn same_positions_have_the_same_moves()
+    ensures { (p q : Position) (m : Move) → IsValid p → IsValid q → Same p q → Legal p m → Legal q m }
+{}

@@ -7,7 +7,7 @@ ghost use Rattle.legal_moves.specs.Masks.{IsMaskOf};
 ghost use Rattle.legal_moves.specs.Men.{is_of, set_of, men_in, IsSetWritten, AreWritten};
 
 use explorer_model::chess::{Color, Piece, Role};
-use explorer_model::plain::board::is_piece_of;
+use plain_chess::board::is_piece_of;
 use step_tables::{only, without};
 
 /// The squares of the men of each colour, and of each role.

@@ -5,12 +5,10 @@ ghost use Rattle.legal_moves.specs.Men.{IsKept, men_in};
 
 use crate::men::Men;
 use explorer_model::chess::{Move, Piece, Position, Role};
-use explorer_model::plain::board::man_of;
-use explorer_model::plain::geometry::halfway;
-use explorer_model::plain::play::{
-    arriving, castling_side, is_castling, passed_pawn, takes_en_passant,
-};
-use explorer_model::plain::valid::rook_home;
+use plain_chess::board::man_of;
+use plain_chess::geometry::halfway;
+use plain_chess::play::{arriving, castling_side, is_castling, passed_pawn, takes_en_passant};
+use plain_chess::valid::rook_home;
 
 /// The squares after a move, in at most four writes: a rook that castles goes first, or a pawn
 /// that is taken en passant.

@@ -9,11 +9,11 @@ ghost use Rattle.legal_moves.specs.Men.{IsKept};
 use crate::masks::{Masks, is_clear};
 use crate::men::Men;
 use explorer_model::chess::{Move, Position, Role, Side};
-use explorer_model::plain::board::{is_man, man_at, opponent};
-use explorer_model::plain::candidate::king_target;
-use explorer_model::plain::geometry::halfway;
-use explorer_model::plain::play::{castling_side, is_castling, passed_pawn, takes_en_passant};
-use explorer_model::plain::valid::{has_right, king_home, rook_home};
+use plain_chess::board::{is_man, man_at, opponent};
+use plain_chess::candidate::king_target;
+use plain_chess::geometry::halfway;
+use plain_chess::play::{castling_side, is_castling, passed_pawn, takes_en_passant};
+use plain_chess::valid::{has_right, king_home, rook_home};
 use step_tables::{contains, lowest};
 
 /// What a legality test sees of a position.

@@ -12,10 +12,10 @@ ghost use Rattle.legal_moves.specs.Masks.{Sees};
 use crate::masks::is_clear;
 use crate::sight::Sight;
 use explorer_model::chess::{Color, Piece, Position, Role, Side};
-use explorer_model::plain::candidate::{king_target, pawn_rank};
-use explorer_model::plain::geometry::rank_of;
-use explorer_model::plain::valid::{has_right, king_home, rook_home};
 use explorer_model::square::Square;
+use plain_chess::candidate::{king_target, pawn_rank};
+use plain_chess::geometry::rank_of;
+use plain_chess::valid::{has_right, king_home, rook_home};
 use step_tables::{
     bishop_targets, black_pawn_targets, contains, king_targets, knight_targets, only,
     queen_targets, rook_targets, unblocked, white_pawn_targets,

@@ -5,9 +5,9 @@ mod plainly;
 
 use crate::board::Board;
 use explorer_model::chess::{Color, Move, Piece, Position, Rights, Role};
-use explorer_model::plain::legal::is_legal;
-use explorer_model::plain::valid::start;
 use explorer_model::square::Square;
+use plain_chess::legal::is_legal;
+use plain_chess::valid::start;
 
 const NO_RIGHTS: Rights = Rights {
     white_short: false,

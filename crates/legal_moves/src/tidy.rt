@@ -8,8 +8,8 @@ use crate::men::Men;
 use crate::sight::Sight;
 use crate::targets::pawn_diagonals;
 use explorer_model::chess::{Move, Position};
-use explorer_model::plain::board::opponent;
 use explorer_model::square::Square;
+use plain_chess::board::opponent;
 use step_tables::{lowest, without};
 
 /// Can a pawn legally be taken on this square, the en passant square?

@@ -1,7 +1,7 @@
 -- An answer that is made from rows.
 use Rattle.std.specs.Prelude.{◌≡◌, ◌/◌, ◌≤◌, ℕ, Bool, true, false, List, map, take, length, Option, Some, None, option_and_then}
 use Rattle.std.specs.List.{AllZip}
-use Rattle.best_lists.specs.Best.{best}
+use Rattle.explorer_model.specs.Best.{best}
 use Rattle.best_lists.specs.Ranking.{before_by_rating, before_by_month}
 use Rattle.explorer_model.specs.declared.answer.Found.{Found}
 use Rattle.explorer_model.specs.declared.answer.MonthLine.{MonthLine}

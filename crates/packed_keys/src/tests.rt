@@ -1,7 +1,6 @@
 //! Keys whose bytes are known from the layout, and bytes that are no key.
 use crate::{pack, unpack};
 use explorer_model::chess::{Color, Piece, Position, Rights, Role};
-use explorer_model::plain::valid::start;
 use explorer_model::square::Square;
 
 const NO_RIGHTS: Rights = Rights {
@@ -42,6 +41,40 @@ fn three_kings() -> [Option<Piece>; 64] {
     });
     squares[63] = squares[1];
     squares
+}
+
+/// The starting position (FIDE 2.3).
+fn start() -> Position {
+    let home = [
+        Role::Rook,
+        Role::Knight,
+        Role::Bishop,
+        Role::Queen,
+        Role::King,
+        Role::Bishop,
+        Role::Knight,
+        Role::Rook,
+    ];
+    let man = |color, role| Some(Piece { color, role });
+    let mut squares = [None; 64];
+    for file in 0..8 {
+        squares[file] = man(Color::White, home[file]);
+        squares[8 + file] = man(Color::White, Role::Pawn);
+        squares[48 + file] = man(Color::Black, Role::Pawn);
+        squares[56 + file] = man(Color::Black, home[file]);
+    }
+    let rights = Rights {
+        white_short: true,
+        white_long: true,
+        black_short: true,
+        black_long: true,
+    };
+    Position {
+        squares,
+        turn: Color::White,
+        rights,
+        en_passant: None,
+    }
 }
 
 #[test]

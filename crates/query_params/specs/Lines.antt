@@ -4,14 +4,13 @@ use Rattle.std.specs.Result.{result_map_both}
 use Rattle.explorer_model.specs.declared.chess.Move.{Move}
 use Rattle.explorer_model.specs.declared.chess.Position.{Position}
 use Rattle.explorer_model.specs.declared.fault.Stop.{Stop}
-use Rattle.explorer_model.specs.declared.fault.Stop.TheVariants as stops
 use Rattle.explorer_model.specs.declared.notation.FenFault.{FenFault}
 use Rattle.explorer_model.specs.declared.query.BadParameter.{BadParameter}
 use Rattle.explorer_model.specs.declared.query.Parameter.TheVariants.{Variant, Fen}
 use Rattle.explorer_model.specs.declared.query.Query.{Query}
 use Rattle.explorer_model.specs.Fen.{FenReads}
 use Rattle.explorer_model.specs.Query.{Line, bad, MovesRead, QueryReads, asked, standard_only, query_from}
-use Rattle.explorer_model.specs.Stop.{◌>>=◌}
+use Rattle.explorer_model.specs.Stop.{◌>>=◌, Answers}
 use Rattle.query_params.specs.declared.position.Line as code
 
 -- a text in FEN is this root, or is none
@@ -39,6 +38,4 @@ query_by pairs root line = asked standard_only true Variant pairs >>= λ standar
 
 -- the answer is the query of the text, or the first parameter that is malformed; want of memory is free
 abbrev pub GivesQuery : List ℕ → Result Query (Stop BadParameter) → Type 0
-GivesQuery text (Ok query) = QueryReads text (Ok query)
-GivesQuery text (Err (stops.Fault fault)) = QueryReads text (Err fault)
-GivesQuery text (Err stops.OutOfMemory) = Unit {0}
+GivesQuery text answer = Answers answer (QueryReads text)

@@ -7,9 +7,9 @@ use crate::grammar::parse;
 use explorer_model::chess::{Move, Piece, Position, Role};
 use explorer_model::fault::SanFault;
 use explorer_model::notation::{NamedMove, SanForm};
-use explorer_model::plain::board::man_at;
-use explorer_model::plain::geometry::{file_of, rank_of};
-use explorer_model::plain::play::{castling_side, is_castling, takes_en_passant};
+use plain_chess::board::man_at;
+use plain_chess::geometry::{file_of, rank_of};
+use plain_chess::play::{castling_side, is_castling, takes_en_passant};
 
 /// Does the move take something, en passant included?
 pub fn captures(position: &Position, step: Move) -> bool

@@ -9,10 +9,10 @@ use crate::reader::captures;
 use arrayvec::ArrayVec;
 use explorer_model::chess::{Move, Piece, Position, Role, Side};
 use explorer_model::notation::{CheckMark, Start};
-use explorer_model::plain::board::man_at;
-use explorer_model::plain::geometry::{file_of, rank_of};
-use explorer_model::plain::play::{castling_side, is_castling};
 use explorer_model::square::Square;
+use plain_chess::board::man_at;
+use plain_chess::geometry::{file_of, rank_of};
+use plain_chess::play::{castling_side, is_castling};
 
 /// Does the same kind of piece go to the same target from another square?
 fn goes_like(position: &Position, step: Move, other: Move) -> bool

@@ -3,7 +3,7 @@ use Rattle.std.proofs.Common.{◌≡◌, ℕ, ◌+◌, Bool, true, false, ◌&&�
 use Rattle.std.specs.List.{All, Any, Contains, AllByRecursion, sum_by, count_by}
 use Rattle.std.specs.List.Sorted.{IsStrictlySortedBy}
 use Rattle.std.proofs.lemmas.List.Sums.{sum_by-cons}
-use Rattle.best_lists.specs.Best.{best}
+use Rattle.explorer_model.specs.Best.{best}
 use Rattle.best_lists.specs.Ranking.{before_by_rating, before_by_month, by_rating_is_order, by_month_is_order}
 use Rattle.best_lists.proofs.BestLaws.{best-best}
 use Rattle.explorer_model.specs.declared.archive.Outcome.{Outcome}

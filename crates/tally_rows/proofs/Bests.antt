@@ -1,6 +1,6 @@
 -- The best of lists in a row.
 use Rattle.std.proofs.Common.{◌≡◌, ℕ, Bool, List, ◌++◌, sym, ap, ◌∙◌}
-use Rattle.best_lists.specs.Best.{best, IsStrictTotalOrder}
+use Rattle.explorer_model.specs.Best.{best, IsStrictTotalOrder}
 use Rattle.best_lists.proofs.BestLaws.{best-append, best-best}
 
 module _ {X : Type 0} {before : X → X → Bool} (order : IsStrictTotalOrder before) (n : ℕ) where

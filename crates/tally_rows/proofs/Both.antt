@@ -5,7 +5,7 @@ use Rattle.std.specs.List.Sorted.{IsStrictlySortedBy}
 use Rattle.std.proofs.lemmas.List.{map-append}
 use Rattle.std.proofs.lemmas.List.Sums.{sum_by-append}
 use Rattle.std.proofs.lemmas.List.Concat.{flat_map-append}
-use Rattle.best_lists.specs.Best.{best, IsStrictTotalOrder}
+use Rattle.explorer_model.specs.Best.{best, IsStrictTotalOrder}
 use Rattle.best_lists.specs.Entry.{moved_by}
 use Rattle.best_lists.specs.Ranking.{by_rating_is_order, by_month_is_order, KeepsWhenMoved, by_rating_keeps, by_month_keeps}
 use Rattle.best_lists.specs.declared.entry.Entry.{Entry}

@@ -5,7 +5,7 @@ use Rattle.std.specs.Cmp.{tied_itself}
 use Rattle.std.specs.List.{Any, AllByRecursion, count_by, sum_by}
 use Rattle.std.specs.List.Sorted.{IsStrictlySortedBy}
 use Rattle.std.proofs.lemmas.List.Elements.{recursion_from_All}
-use Rattle.best_lists.specs.Best.{best}
+use Rattle.explorer_model.specs.Best.{best}
 use Rattle.best_lists.specs.Ranking.{before_by_rating, before_by_month}
 use Rattle.explorer_model.specs.declared.archive.Outcome.{Outcome}
 use Rattle.tally_rows.specs.declared.parts.Parts.{Parts}

@@ -3,7 +3,7 @@ use Rattle.std.proofs.Common.{◌≡◌, ℕ, ◌+◌, Bool, true, false, ◌&&�
 use Rattle.std.specs.Cmp.{both_ways}
 use Rattle.std.specs.List.{AllZip, AllByRecursion, count_by, sum_by, flat_map, list_any, enumerate_from}
 use Rattle.std.proofs.lemmas.Bool.{lt-ltb}
-use Rattle.best_lists.specs.Best.{best, IsStrictTotalOrder}
+use Rattle.explorer_model.specs.Best.{best, IsStrictTotalOrder}
 use Rattle.best_lists.specs.Ranking.{by_rating_is_order, by_month_is_order}
 use Rattle.best_lists.specs.declared.entry.Entry.{Entry}
 use Rattle.best_lists.proofs.BestLaws.{best-flat_map}

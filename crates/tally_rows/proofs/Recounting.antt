@@ -5,7 +5,7 @@ use Rattle.std.specs.List.{All, Any, AllZip, AllByRecursion, sum_by, count_by, f
 use Rattle.std.proofs.lemmas.Bool.Decides.{nat_tests}
 use Rattle.std.proofs.lemmas.List.Elements.{recursion_from_All, All-append, All-filter, All-cons, All-nil, All-head, All-tail, All-map}
 use Rattle.std.proofs.lemmas.List.{take_all, length-map}
-use Rattle.best_lists.specs.Best.{best, IsStrictTotalOrder}
+use Rattle.explorer_model.specs.Best.{best, IsStrictTotalOrder}
 use Rattle.best_lists.specs.Ranking as entry_order
 use Rattle.best_lists.proofs.BestLaws.{best-map, best_is, All-best}
 use Rattle.best_lists.proofs.Ranked.{ranked, length-ranked}

@@ -4,7 +4,7 @@ use Rattle.std.specs.Option.{option_map, option_and_then}
 use Rattle.std.specs.List.{All, AllByRecursion, filter, filter_map, cons_option, enumerate_from, slice_get}
 use Rattle.std.proofs.lemmas.List.{length_push}
 use Rattle.std.proofs.lemmas.List.Elements.{All-from_recursion, recursion_from_All, All-filter}
-use Rattle.best_lists.specs.Best.{best, IsStrictTotalOrder}
+use Rattle.explorer_model.specs.Best.{best, IsStrictTotalOrder}
 use Rattle.best_lists.specs.declared.entry.Entry.{Entry}
 use Rattle.best_lists.proofs.BestLaws.{best-map, best-nil, best-one, take-best, All-best}
 use Rattle.best_lists.proofs.Same.{best-IsBestOf}

@@ -1,5 +1,5 @@
 -- The singles of games that are taken at first visits.
-use Rattle.std.proofs.Common.{◌≡◌, ℕ, ◌+◌, Bool, true, false, cond, if◌then◌else◌, ◌&&◌, ◌||◌, true≢false, List, [], ◌∷◌, ◌++◌, map, Option, Some, None, sym, ap, ◌∙◌, subst, refl, bytes_eq, filter, find}
+use Rattle.std.proofs.Common.{◌≡◌, ℕ, ◌+◌, Bool, true, false, cond, if◌then◌else◌, ◌||◌, true≢false, List, [], ◌∷◌, ◌++◌, map, Option, Some, None, sym, ap, ◌∙◌, refl, bytes_eq, filter, find}
 use Rattle.std.specs.Prelude.{option_map}
 use Rattle.std.specs.List.{list_any, enumerate_from}
 use Rattle.std.proofs.lemmas.Bool.{false_from_ne_true}
@@ -8,15 +8,12 @@ use Rattle.std.proofs.lemmas.List.Elements.{filter-append}
 use Rattle.std.proofs.lemmas.Option.{none-some}
 use Rattle.std.specs.Prelude.{unwrap_or}
 use Rattle.std.proofs.lemmas.Slice.Eq.{bytes_eq-Decides}
-use Rattle.std.proofs.lemmas.List.{append_assoc, append-nil}
 use Rattle.explorer_model.specs.declared.archive.Classes.{Classes}
-use Rattle.explorer_model.specs.declared.chess.Move.{Move}
 use Rattle.tally_rows.specs.declared.parts.Parts.{Parts}
 use Rattle.tally_rows.specs.declared.single.Single.{Single}
 use Rattle.tally_rows.specs.Games.{has_key, first_steps, parts_in, single_at, game_singles, singles_from}
 use Rattle.tally_rows.specs.Parts.{same_parts}
 use Rattle.tally_rows.specs.Single.{single_of, AreSingles}
-use Rattle.tally_rows.specs.Tallied.{mover_rating}
 use Rattle.tally_rows.specs.Track.{Step, Track, visit, parts_at, is_some_where, has}
 use Rattle.tally_rows.proofs.PartsOrder.{same_parts-is}
 

@@ -1,7 +1,7 @@
 -- Rows as what they add up to at each five parts, whether or not these stand in one row.
 use Rattle.std.specs.Prelude.{◌≡◌, ℕ, ◌+◌, ◌<◌, cond, List, []}
 use Rattle.std.specs.List.{sum_by, flat_map}
-use Rattle.best_lists.specs.Best.{best}
+use Rattle.explorer_model.specs.Best.{best}
 use Rattle.best_lists.specs.Ranking.{before_by_rating, before_by_month}
 use Rattle.best_lists.specs.declared.entry.Entry.{Entry}
 use Rattle.tally_rows.specs.declared.parts.Parts.{Parts}

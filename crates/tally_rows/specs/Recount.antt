@@ -1,7 +1,7 @@
 -- What is counted in a position of the games whose parts there are picked, from the games and from the rows of a cover.
 use Rattle.std.specs.Prelude.{◌≡◌, ℕ, ◌+◌, Bool, ◌&&◌, cond, List, [], ◌∷◌, ◌++◌, map, length, is_some, bytes_eq}
 use Rattle.std.specs.List.{sum_by, count_by, flat_map}
-use Rattle.best_lists.specs.Best.{best}
+use Rattle.explorer_model.specs.Best.{best}
 use Rattle.best_lists.specs.Entry.{moved_by}
 use Rattle.best_lists.specs.Ranking.{before_by_rating, before_by_month}
 use Rattle.best_lists.specs.declared.entry.Entry.{Entry}

@@ -1,6 +1,6 @@
 -- Rows, alone and put together.
 use Rattle.std.specs.Prelude.{ℕ, ◌+◌, ◌*◌, ◌<◌, ◌^◌, Bool, true, false, cond, if◌then◌else◌, List, [], ◌∷◌, ◌++◌, is_some, map}
-use Rattle.best_lists.specs.Best.{best}
+use Rattle.explorer_model.specs.Best.{best}
 use Rattle.best_lists.specs.Entry.{moved_by}
 use Rattle.best_lists.specs.declared.entry.Entry.{Entry}
 use Rattle.best_lists.specs.Ranking.{before_by_rating, before_by_month}

@@ -2,7 +2,7 @@
 use Rattle.std.specs.Prelude.{◌≡◌, ℕ, ◌+◌, ◌%◌, Bool, true, ◌&&◌, ◌==◌, cond, List, map, slice_index, is_some}
 use Rattle.std.specs.List.{All, Any, Contains, filter, count_by, sum_by, enumerate_from}
 use Rattle.std.specs.List.Sorted.{IsStrictlySortedBy}
-use Rattle.best_lists.specs.Best.{best}
+use Rattle.explorer_model.specs.Best.{best}
 use Rattle.best_lists.specs.Ranking.{before_by_rating, before_by_month}
 use Rattle.best_lists.specs.declared.entry.Entry.{Entry}
 use Rattle.explorer_model.specs.declared.archive.Classes.{Classes}

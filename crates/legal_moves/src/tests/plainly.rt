@@ -2,9 +2,9 @@
 use super::{ALL_RIGHTS, NO_RIGHTS, WHITE_RIGHTS, position};
 use crate::board::Board;
 use explorer_model::chess::{Color, Move, Position, Role};
-use explorer_model::plain::geometry::rank_of;
-use explorer_model::plain::legal::is_legal;
 use explorer_model::square::Square;
+use plain_chess::geometry::rank_of;
+use plain_chess::legal::is_legal;
 
 const PROMOTIONS: [Option<Role>; 7] = [
     None,

@@ -1,5 +1,5 @@
 use Rattle.std.proofs.Common.{◌≡◌, subst}
-use Rattle.best_lists.specs.Best.{best, IsBestFirst}
+use Rattle.explorer_model.specs.Best.{best, IsBestFirst}
 use Rattle.best_lists.proofs.BestLaws.{IsBestFirst-best}
 use Rattle.best_lists.proofs.best4.Best4.entries.Goals as goal
 

@@ -1,6 +1,6 @@
 use Rattle.std.proofs.Common.{◌≡◌, ◌-◌, ◌++◌, [], length, arith}
 use Rattle.std.proofs.lemmas.Bool.Decides.{nat_tests}
-use Rattle.best_lists.specs.Best.{best}
+use Rattle.explorer_model.specs.Best.{best}
 use Rattle.best_lists.proofs.BestLaws.{best-best, best-nil, best-zero, taken-all}
 use Rattle.best_lists.proofs.best4.Best4.join.Given.{Over}
 use Rattle.best_lists.proofs.best4.Best4.join.Goals as goal

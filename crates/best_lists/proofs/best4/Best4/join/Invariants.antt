@@ -1,5 +1,5 @@
 use Rattle.std.proofs.Common.{◌≡◌, ◌-◌, ◌≤◌, ◌++◌, length}
-use Rattle.best_lists.specs.Best.{best, IsBestFirst}
+use Rattle.explorer_model.specs.Best.{best, IsBestFirst}
 use Rattle.best_lists.proofs.best4.Best4.join.Given as goal
 
 abbrev pub invariant-loop-left : goal.invariant-loop-left

@@ -1,0 +1,24 @@
+//! The law of tallying. It is the contract of a function that only cites the laws below it.
+ghost use Rattle.std.specs.Prelude.{◌≡◌, List};
+ghost use Rattle.explorer_model.specs.declared.archive.Placed.{Placed};
+ghost use Rattle.batch_tally.specs.declared.tallying.Tallying.{Tallying};
+ghost use Rattle.batch_tally.specs.Tallying.{IsTallying};
+
+use game_replay::laws::game_is_determined;
+use legal_moves::laws::tidy_forms_decide_same;
+use tally_rows::laws::tallied_rows_are_determined;
+
+/// Texts have one tallying, however many workers there are: any two answers for the same texts are equal.
+pub fn tallying_is_determined()
+    ensures places { (texts : List Placed) (tallying other : Tallying) → IsTallying texts tallying → IsTallying texts other
+        → tallying.places.items ≡ other.places.items }
+    ensures refused { (texts : List Placed) (tallying other : Tallying) → IsTallying texts tallying → IsTallying texts other
+        → tallying.refused.items ≡ other.refused.items }
+    ensures tally { (texts : List Placed) (tallying other : Tallying) → IsTallying texts tallying → IsTallying texts other
+        → tallying.tally ≡ other.tally }
+{
+    game_is_determined();
+    tidy_forms_decide_same();
+    explorer_model::laws::same_is_an_equivalence();
+    tallied_rows_are_determined();
+}
