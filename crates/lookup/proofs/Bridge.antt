@@ -3,6 +3,7 @@ use Rattle.std.proofs.Common.{◌≡◌, ◌↔◌, ◌+◌, ℕ, zero, suc, Boo
 use Rattle.std.specs.Prelude.{option_map}
 use Rattle.std.specs.List.{AllByRecursion, AllZip}
 use Rattle.std.proofs.lemmas.Slice.Eq.{bytes_eq-Decides}
+use Rattle.std.proofs.lemmas.Option.{none-some, same_Some}
 use Rattle.explorer_model.specs.declared.archive.Game.{Game}
 use Rattle.explorer_model.specs.declared.archive.Token.{Token}
 use Rattle.explorer_model.specs.declared.chess.Move.{Move}
@@ -115,3 +116,30 @@ sees laws at bytes text game track valid tidy of tracked = (
       (valid-stages laws stage_limit start game.moves laws.starts (score-legal (score text) game of))
       tracked.steps,
 )
+
+-- ---- the move that follows
+
+-- what follows where a game first comes to a position is legal there
+visit-legal : Laws → ((p q : Position) (m : Move) → IsValid p → IsValid q → Same p q → Legal p m → Legal q m)
+    → (at : Position) → IsValid at → (next : Move) (n : ℕ) (p : Position) (moves : List Move) → IsValid p → ArePlayed p moves
+    → FirstVisit at (take n (stages p moves)) (Some (Some next)) → Legal at next
+visit-legal laws same at valid next zero p moves p_valid played is = absurd (none-some (Some next) (sym is))
+visit-legal laws same at valid next (suc n) p [] p_valid played (inl here) = absurd (none-some next (sym (same_Some (Some next) None here.1)))
+visit-legal laws same at valid next (suc n) p [] p_valid played (inr (elsewhere, later)) = absurd (nothing n later)
+  where
+    nothing : (n : ℕ) → FirstVisit at (take n []) (Some (Some next)) → ⊥
+    nothing zero is = none-some (Some next) (sym is)
+    nothing (suc n) is = none-some (Some next) (sym is)
+visit-legal laws same at valid next (suc n) p (m ∷ moves) p_valid played (inl here) =
+    let L : Move → Type 0 = λ m. Legal at m in
+    subst L (sym (same_Some next m (same_Some (Some next) (Some m) here.1))) (same p at m p_valid valid here.0 played.0)
+visit-legal laws same at valid next (suc n) p (m ∷ moves) p_valid played (inr (elsewhere, later)) =
+    visit-legal laws same at valid next n (after p m) moves (laws.keeps p m p_valid played.0) played.1 later
+
+pub follows-legally : Laws → ((p q : Position) (m : Move) → IsValid p → IsValid q → Same p q → Legal p m → Legal q m)
+    → (at : Position) (bytes : List ℕ) (text : List ℕ) (game : Game) (track : Track) (next : Move)
+    → IsValid at → IsTidyKey at bytes → IsTextOf text game → IsTrackOf game track → visit bytes track ≡ Some (Some next) → Legal at next
+follows-legally laws same at bytes text game track next valid tidy of tracked is =
+    let V : Option (Option Move) → Type 0 = λ v. FirstVisit at (take stage_limit (stages start game.moves)) v in
+    visit-legal laws same at valid next stage_limit start game.moves laws.starts (score-legal (score text) game of)
+    (subst V is (sees laws at bytes text game track valid tidy of tracked).1)

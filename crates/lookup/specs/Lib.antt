@@ -1,2 +1,9 @@
 pub mod FromRows
+pub mod Hits
+pub mod Lines
+pub mod Listing
+pub mod MoveSums
+pub mod RowTests
+pub mod Selection
+pub mod Sums
 pub mod Tallies

@@ -1,11 +1,12 @@
 //! Laws of looking up. Each is the contract of a function that only cites the laws below it.
-ghost use Rattle.std.specs.Prelude.{◌≡◌, ℕ, List, map};
+ghost use Rattle.std.specs.Prelude.{◌≡◌, ℕ, List, map, Some};
 ghost use Rattle.explorer_model.specs.declared.answer.Found.{Found};
 ghost use Rattle.explorer_model.specs.declared.archive.Batch.{Batch};
 ghost use Rattle.explorer_model.specs.declared.archive.Game.{Game};
+ghost use Rattle.explorer_model.specs.declared.chess.Move.{Move};
 ghost use Rattle.explorer_model.specs.declared.chess.Position.{Position};
 ghost use Rattle.explorer_model.specs.declared.query.Query.{Query};
-ghost use Rattle.explorer_model.specs.Chess.{IsValid};
+ghost use Rattle.explorer_model.specs.Chess.{IsValid, Legal};
 ghost use Rattle.explorer_model.specs.Finds.{IsFound, IsFoundOf};
 ghost use Rattle.explorer_model.specs.Tidy.{IsTidyKey};
 ghost use Rattle.explorer_model.specs.Visits.{IsTextOf, IsSeenFrom};
@@ -16,12 +17,14 @@ ghost use Rattle.tally_rows.specs.declared.row.Row.{Row};
 ghost use Rattle.tally_rows.specs.Cover.{seen_at};
 ghost use Rattle.tally_rows.specs.Recount.{all_of};
 ghost use Rattle.tally_rows.specs.Tally.{Counted, IsCounted, IsTrackOf};
-ghost use Rattle.tally_rows.specs.Track.{Track};
+ghost use Rattle.tally_rows.specs.Track.{Track, visit};
 
 use explorer_model::laws::first_visit_is_determined;
 use game_replay::laws::game_is_determined;
 use legal_moves::board::Board;
-use legal_moves::laws::{legal_moves_keep_validity, tidy_forms_decide_same};
+use legal_moves::laws::{
+    legal_moves_keep_validity, same_positions_have_the_same_moves, tidy_forms_decide_same,
+};
 use packed_keys::laws::equal_keys_mean_equal_positions;
 use san_codec::laws::notation_is_determined;
 
@@ -33,6 +36,18 @@ pub fn tracks_see_what_games_see()
 {
     legal_moves_keep_validity();
     tidy_forms_decide_same();
+    equal_keys_mean_equal_positions();
+    let _start = Board::start().position();
+}
+
+/// The move that a game's track tells to follow at the key of a position is legal in that position.
+pub fn tracks_tell_legal_moves()
+    ensures { (at : Position) (bytes : List ℕ) (text : List ℕ) (game : Game) (track : Track) (next : Move)
+        → IsValid at → IsTidyKey at bytes → IsTextOf text game → IsTrackOf game track → visit bytes track ≡ Some (Some next) → Legal at next }
+{
+    legal_moves_keep_validity();
+    tidy_forms_decide_same();
+    same_positions_have_the_same_moves();
     equal_keys_mean_equal_positions();
     let _start = Board::start().position();
 }

@@ -1,0 +1,187 @@
+-- Rows that are picked of counted tallies are sound: they count some game each, and have room.
+use Rattle.std.proofs.Common.{◌≡◌, ℕ, ◌+◌, ◌*◌, ◌<◌, ◌≤◌, ◌^◌, Bool, true, false, ◌&&◌, cond, is_some, List, [], ◌∷◌, map, filter, length, length-append, refl, sym, ap, subst, ◌∙◌, arith}
+use Rattle.std.specs.List.{All, AllByRecursion, AllZip, sum_by, count_by, enumerate_from}
+use Rattle.std.proofs.lemmas.List.Elements.{All-nil, All-cons, All-append, All-map, All-filter, All-weaker}
+use Rattle.std.proofs.lemmas.List.Sums.{sum_by-cons, count_by-le-length}
+use Rattle.best_lists.proofs.BestLaws.{All-best}
+use Rattle.explorer_model.specs.Best.{best}
+use Rattle.best_lists.specs.Ranking.{before_by_rating, before_by_month}
+use Rattle.best_lists.specs.declared.entry.Entry.{Entry}
+use Rattle.explorer_model.specs.declared.archive.Classes.{Classes}
+use Rattle.explorer_model.specs.declared.archive.Game.{Game}
+use Rattle.explorer_model.specs.Visits.{IsTextOf}
+use Rattle.tally_rows.specs.declared.parts.Parts.{Parts}
+use Rattle.tally_rows.specs.declared.row.Row.{Row}
+use Rattle.tally_rows.specs.Adding as adding
+use Rattle.tally_rows.specs.Recount.{all_of, picks, picked_sum, is_counted, GivesPicked}
+use Rattle.tally_rows.specs.Row.{parts_of}
+use Rattle.tally_rows.specs.Tallied.{is_black_to_move, mover_rating, rating_sum, track_month, entries, has_move, IsTally, Tallied}
+use Rattle.tally_rows.specs.Tally.{Counted, IsCounted, IsTrackOf}
+use Rattle.tally_rows.specs.Track.{Track, has}
+use Rattle.tally_rows.proofs.AddsUp.{count-outcomes}
+use Rattle.tally_rows.proofs.Members.{IsIn, All-from_IsIn, All-IsIn}
+use Rattle.tally_rows.proofs.Sums.{sum_by-add}
+use Rattle.lookup.specs.Hits.{NumberedRow, rows_from, games_counted, game_limit, games_of, IsSound, AreSound}
+use Rattle.lookup.specs.Sums.{sum_where}
+use Rattle.lookup.specs.Tallies.{tracks_in}
+use Rattle.lookup.proofs.Bridges.{rows_in, tracks-length, sum-picked}
+use Rattle.lookup.proofs.Numbered.{numbered}
+use Rattle.lookup.proofs.Ratings.{AreRatings, game-ratings}
+
+-- what is known of tallied rows
+pub record Laws : Type 0 where
+  pub gives : (cover : List (List Track)) (tallies : List (List Row)) → AllZip Tallied cover tallies
+      → (bytes : List ℕ) (pick : Parts → Bool) → GivesPicked bytes pick cover tallies
+  pub sound : (tracks : List Track) (rows : List Row) → Tallied tracks rows → All adding.IsSound rows
+
+-- ---- how many games
+
+all-games : (tallies : List Counted) (each : AllByRecursion IsCounted tallies) → length (all_of (tracks_in tallies each)) ≡ games_counted tallies
+all-games [] each = refl
+all-games (tally ∷ tallies) each =
+    length-append each.0.tally.tracks (all_of (tracks_in tallies each.1))
+    ∙ (λ i. tracks-length tally each.0 i + all-games tallies each.1 i)
+    ∙ sym (sum_by-cons (λ (t : Counted). length t.classes) tally tallies)
+
+module _ (key : List ℕ) (pick : Parts → Bool) (tallies : List Counted) where
+  sum-all : (count : Row → ℕ) → sum_by (λ hit. count hit.row) (rows_from key pick 0 tallies) ≡ sum_by (picked_sum key pick count) (rows_in tallies)
+  unfolding sum_where
+  sum-all count = sym (sum-picked key pick pick (λ row. true) (λ row. and_true (picks key pick row)) count 0 tallies)
+    where
+      and_true : (b : Bool) → b ≡ (b && true)
+      and_true true = refl
+      and_true false = refl
+
+  games-split : (hits : List NumberedRow) → sum_by (λ hit. games_of hit.row) hits
+      ≡ sum_by (λ hit. hit.row.white) hits + sum_by (λ hit. hit.row.draws) hits + sum_by (λ hit. hit.row.black) hits
+  games-split hits =
+      sum_by-add (λ (hit : NumberedRow). hit.row.white + hit.row.draws) (λ hit. hit.row.black) hits
+      ∙ ap (λ n. n + sum_by (λ hit. hit.row.black) hits) (sum_by-add (λ (hit : NumberedRow). hit.row.white) (λ hit. hit.row.draws) hits)
+
+  -- a game is in at most one row of a position
+  games-few : (each : AllByRecursion IsCounted tallies) → GivesPicked key pick (tracks_in tallies each) (rows_in tallies)
+      → sum_by (λ hit. games_of hit.row) (rows_from key pick 0 tallies) ≤ games_counted tallies
+  games-few each gives =
+      let tracks = all_of (tracks_in tallies each) in
+      let hits = rows_from key pick 0 tallies in
+      omega (
+        arith,
+        games-split hits,
+        sum-all (λ row. row.white) ∙ gives.white,
+        sum-all (λ row. row.draws) ∙ gives.draws,
+        sum-all (λ row. row.black) ∙ gives.black,
+        count-outcomes (is_counted key pick) tracks,
+        count_by-le-length (is_counted key pick) tracks,
+        all-games tallies each,
+      )
+
+-- ---- ratings
+
+mover-bound : (key : List ℕ) (classes : Classes) → AreRatings classes → mover_rating key classes ≤ 65535
+mover-bound key classes are = by (is_black_to_move key)
+  where
+    by : (b : Bool) → cond b classes.black.rating classes.white.rating ≤ 65535
+    by true = omega (arith, are.black)
+    by false = omega (arith, are.white)
+
+ratings-bound : (key : List ℕ) (parts : Parts) (tracks : List Track) → AllByRecursion (λ t. AreRatings t.classes) tracks
+    → sum_by (λ t. cond (has_move parts t) (mover_rating key t.classes) 0) tracks ≤ 65535 * count_by (has parts) tracks
+ratings-bound key parts [] are = omega arith
+ratings-bound key parts (t ∷ tracks) are =
+    omega (
+      arith,
+      sum_by-cons (λ s. cond (has_move parts s) (mover_rating key s.classes) 0) t tracks,
+      sum_by-cons (λ s. cond (has parts s) 1 0) t tracks,
+      one (is_some parts.next) (has parts t) (mover-bound key t.classes are.0),
+      ratings-bound key parts tracks are.1,
+    )
+  where
+    one : (a b : Bool) → mover_rating key t.classes ≤ 65535 → cond (a && b) (mover_rating key t.classes) 0 ≤ 65535 * cond {A = ℕ} b 1 0
+    one true true le = omega arith
+    one true false le = omega arith
+    one false true le = omega arith
+    one false false le = omega arith
+
+-- the games of texts have their ratings
+track-ratings : (texts : List (List ℕ)) (games : List Game) (tracks : List Track) → AllZip IsTextOf texts games → AllZip IsTrackOf games tracks
+    → AllByRecursion (λ t. AreRatings t.classes) tracks
+track-ratings [] [] [] of tracked = tt
+track-ratings [] [] (t ∷ tracks) of tracked = absurd tracked
+track-ratings [] (g ∷ games) tracks of tracked = absurd of
+track-ratings (x ∷ texts) [] tracks of tracked = absurd of
+track-ratings (x ∷ texts) (g ∷ games) [] of tracked = absurd tracked
+track-ratings (x ∷ texts) (g ∷ games) (t ∷ tracks) of tracked =
+    (subst AreRatings (sym tracked.0.classes) (game-ratings x g of.0), track-ratings texts games tracks of.1 tracked.1)
+
+-- ---- numbers
+
+module _ (rank : Track → ℕ) (test : Track → Bool) where
+  entries-below : (n m : ℕ) (tracks : List Track) → n + length tracks ≤ m → All (λ entry. entry.number < m) (entries rank test n tracks)
+  unfolding entries
+  entries-below n m tracks le =
+      All-map (λ (entry : Entry). entry.number < m) (λ (p : ℕ × Track). record { rank = rank p.1; number = p.0 })
+      (filter (λ p. test p.1) (enumerate_from n tracks))
+      (All-filter (λ p. test p.1) (λ p. p.0 < m) (enumerate_from n tracks) (numbers n tracks le))
+    where
+      numbers : (n : ℕ) (ts : List Track) → n + length ts ≤ m → All (λ (p : ℕ × Track). p.0 < m) (enumerate_from n ts)
+      numbers n [] le = All-nil (λ (p : ℕ × Track). p.0 < m)
+      numbers n (t ∷ ts) le = All-cons (λ (p : ℕ × Track). p.0 < m) (n, t) (enumerate_from (n + 1) ts) (omega arith) (numbers (n + 1) ts (omega arith))
+
+  best-fit : (before : Entry → Entry → Bool) (first : ℕ) (tracks : List Track) → first + length tracks ≤ game_limit
+      → All (λ entry. entry.number + first < 2 ^ 32) (best before 4 (entries rank test 0 tracks))
+  best-fit before first tracks le =
+      All-best before (λ (entry : Entry). entry.number + first < 2 ^ 32) 4 (entries rank test 0 tracks)
+      (All-weaker (λ (entry : Entry). entry.number < length tracks) (λ entry. entry.number + first < 2 ^ 32) (λ entry below. omega arith)
+      (entries rank test 0 tracks) (entries-below 0 (length tracks) tracks (omega arith)))
+
+-- ---- each row
+
+row-sound : Laws → (tally : Counted) (counted : IsCounted tally) (first : ℕ) → first + length tally.classes ≤ game_limit
+    → All (λ row. IsSound (numbered first row)) tally.rows
+row-sound laws tally counted first le = All-from_IsIn (λ row. IsSound (numbered first row)) tally.rows sound
+  where
+    sound : (row : Row) → IsIn row tally.rows → IsSound (numbered first row)
+    sound row m =
+        let tracks = counted.tally.tracks in
+        let tallied = counted.tally.tallied in
+        let counts = All-IsIn (IsTally tracks) tally.rows tallied.each row m in
+        let fine = All-IsIn adding.IsSound tally.rows (laws.sound tracks tally.rows tallied) row m in
+        let within : first + length tracks ≤ game_limit = omega (arith, tracks-length tally counted) in
+        let fits = λ (list : List Entry). All (λ entry. entry.number + first < 2 ^ 32) list in
+        record {
+          some = fine.seen;
+          ratings = omega (
+            arith,
+            counts.white,
+            counts.draws,
+            counts.black,
+            counts.ratings,
+            count-outcomes (has (parts_of row)) tracks,
+            ratings-bound row.key (parts_of row) tracks
+                (track-ratings tally.batch.texts counted.tally.games tracks counted.tally.are_games counted.tally.are_tracks),
+          );
+          top = subst fits (sym counts.top) (best-fit rating_sum (has_move (parts_of row)) before_by_rating first tracks within);
+          recent = subst fits (sym counts.recent) (best-fit track_month (has_move (parts_of row)) before_by_month first tracks within);
+        }
+
+rows-sound : Laws → (key : List ℕ) (pick : Parts → Bool) (first : ℕ) (tallies : List Counted) → AllByRecursion IsCounted tallies
+    → first + games_counted tallies ≤ game_limit → All IsSound (rows_from key pick first tallies)
+unfolding rows_from
+rows-sound laws key pick first [] each le = All-nil IsSound
+rows-sound laws key pick first (tally ∷ tallies) each le =
+    let split = sum_by-cons (λ (t : Counted). length t.classes) tally tallies in
+    All-append IsSound (map (numbered first) (filter (picks key pick) tally.rows)) (rows_from key pick (first + length tally.classes) tallies)
+    (All-map IsSound (numbered first) (filter (picks key pick) tally.rows)
+    (All-filter (picks key pick) (λ row. IsSound (numbered first row)) tally.rows (row-sound laws tally each.0 first (omega (arith, split)))))
+    (rows-sound laws key pick (first + length tally.classes) tallies each.1 (omega (arith, split)))
+
+pub are-sound : Laws → (tallies : List Counted) → AllByRecursion IsCounted tallies → games_counted tallies ≤ game_limit
+    → (key : List ℕ) (pick : Parts → Bool) → AreSound (rows_from key pick 0 tallies)
+are-sound laws tallies each le key pick = record {
+  each = rows-sound laws key pick 0 tallies each (omega arith);
+  few = omega (arith, games-few key pick tallies each (laws.gives (tracks_in tallies each) (rows_in tallies) (tallied tallies each) key pick));
+}
+  where
+    tallied : (ts : List Counted) (e : AllByRecursion IsCounted ts) → AllZip Tallied (tracks_in ts e) (rows_in ts)
+    tallied [] e = tt
+    tallied (t ∷ ts) e = (e.0.tally.tallied, tallied ts e.1)

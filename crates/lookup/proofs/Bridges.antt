@@ -1,0 +1,242 @@
+-- What is summed, listed and told apart of hits is what is of the rows of all tallies that pass the filter.
+use Rattle.std.proofs.Common.{◌≡◌, ℕ, ◌+◌, Bool, true, false, ◌&&◌, ◌||◌, ◌==◌, nat_lt, cond, if◌then◌else◌, List, [], ◌∷◌, ◌++◌, map, length, bytes_eq, suc, Option, None, refl, sym, ap, ◌∙◌, zero-add}
+use Rattle.std.specs.List.{AllByRecursion, AllZip, sum_by, flat_map, filter, filter_map, cons_option}
+use Rattle.std.specs.Ordering.{nat_cmp, is_lt}
+use Rattle.std.specs.Cmp.Lexicographic.{slice_cmp}
+use Rattle.std.proofs.lemmas.List.{map-append, length-map}
+use Rattle.std.proofs.lemmas.List.Elements.{filter-append, filter_map-append}
+use Rattle.std.proofs.lemmas.Grind.{flat_map-append}
+use Rattle.std.proofs.lemmas.List.Sums.{sum_by-cons, sum_by-append}
+use Rattle.best_lists.specs.Entry.{moved_by}
+use Rattle.best_lists.specs.Ranking.{before_by_rating, before_by_month}
+use Rattle.best_lists.specs.declared.entry.Entry.{Entry}
+use Rattle.explorer_model.specs.declared.archive.Month.{Month}
+use Rattle.explorer_model.specs.declared.chess.Move.{Move}
+use Rattle.explorer_model.specs.declared.query.Filter.{Filter}
+use Rattle.explorer_model.specs.Best.{best}
+use Rattle.explorer_model.specs.Counting.{any_next, is_move, is_same_move, is_same_month, before_in_time, distinct, total}
+use Rattle.explorer_model.specs.Uci.{uci_text}
+use Rattle.tally_rows.specs.declared.parts.Parts.{Parts}
+use Rattle.tally_rows.specs.declared.row.Row.{Row}
+use Rattle.tally_rows.specs.Cover.{passes_parts, meets, meets_in, rows_totals, rows_ratings, rows_moves, rows_months, rows_month_line, rows_before}
+use Rattle.tally_rows.specs.Recount.{all_of, picks, picked_sum, picked_lists, cover_lists}
+use Rattle.tally_rows.specs.Row.{parts_of}
+use Rattle.tally_rows.specs.Tally.{Counted, IsCounted, IsTrackOf}
+use Rattle.lookup.specs.Hits.{NumberedRow, in_months, in_cells, rows_from}
+use Rattle.lookup.specs.Sums.{sum_where, totals_where, ratings_where, entries_where, is_of_month, top_where, recent_where, moves_in, months_in, before_by_total, history_in}
+use Rattle.lookup.specs.Tallies.{tracks_in}
+use Rattle.lookup.proofs.Numbered.{numbered, passes-both}
+
+-- the rows of each tally
+abbrev pub rows_in : List Counted → List (List Row)
+rows_in tallies = map (λ tally. tally.rows) tallies
+
+-- the rows that the filter takes, with their numbers
+abbrev pub hits_of : List ℕ → Filter → List Counted → List NumberedRow
+hits_of key wanted tallies = rows_from key (meets wanted any_next) 0 tallies
+
+zip-length : {A B : Type 0} (R : A → B → Type 0) (xs : List A) (ys : List B) → AllZip R xs ys → length xs ≡ length ys
+zip-length R [] [] h = refl
+zip-length R [] (y ∷ ys) h = absurd h
+zip-length R (x ∷ xs) [] h = absurd h
+zip-length R (x ∷ xs) (y ∷ ys) h = ap suc (zip-length R xs ys h.1)
+
+-- a batch has a track for each of its classes
+pub tracks-length : (tally : Counted) (counted : IsCounted tally) → length counted.tally.tracks ≡ length tally.classes
+tracks-length tally counted =
+    sym (zip-length IsTrackOf counted.tally.games counted.tally.tracks counted.tally.are_tracks)
+    ∙ sym (ap (λ l. length l) counted.tally.classes_are ∙ length-map counted.tally.games (λ game. game.classes))
+
+-- ---- tests of rows that are picked
+
+module _ (key : List ℕ) (wanted : Filter) where
+  pub picks-test : (test : Option Move → Bool) (row : Row) → picks key (meets wanted test) row ≡ (picks key (meets wanted any_next) row && test row.next)
+  unfolding picks
+  picks-test test row = all (bytes_eq row.key key) (passes_parts wanted (parts_of row)) (test row.next)
+    where
+      all : (a b c : Bool) → (a && (b && c)) ≡ ((a && (b && true)) && c)
+      all true true c = refl
+      all true false c = refl
+      all false b c = refl
+
+  pub picks-month : (month : Month) (row : Row) → picks key (meets_in month wanted) row ≡ (picks key (meets wanted any_next) row && is_of_month month row)
+  unfolding picks
+  picks-month month row = all (bytes_eq row.key key) (passes_parts wanted (parts_of row)) (is_same_month month row.month)
+    where
+      all : (a b c : Bool) → (a && (b && c)) ≡ ((a && (b && true)) && c)
+      all true true c = refl
+      all true false c = refl
+      all false b c = refl
+
+  pub picks-cells : (row : Row) → picks key (meets wanted any_next) row ≡ (picks key (in_months wanted) row && in_cells wanted (parts_of row))
+  unfolding picks
+  picks-cells row =
+      ap (λ b. bytes_eq row.key key && b) (sym (passes-both wanted (parts_of row)))
+      ∙ all (bytes_eq row.key key) (in_months wanted (parts_of row)) (in_cells wanted (parts_of row))
+    where
+      all : (a b c : Bool) → (a && (b && c)) ≡ ((a && b) && c)
+      all true b c = refl
+      all false b c = refl
+
+-- ---- sums and lists, of one tally after another
+
+module _ (key : List ℕ) (pick narrow : Parts → Bool) (test : Row → Bool) (agree : (row : Row) → picks key narrow row ≡ (picks key pick row && test row)) where
+  sum-rows : (count : Row → ℕ) (first : ℕ) (rows : List Row)
+      → sum_by (λ (hit : NumberedRow). cond (test hit.row) (count hit.row) 0) (map (numbered first) (filter (picks key pick) rows)) ≡ picked_sum key narrow count rows
+  sum-rows count first [] = refl
+  sum-rows count first (row ∷ rows) =
+      let f = λ (hit : NumberedRow). cond (test hit.row) (count hit.row) 0 in
+      let later = filter (picks key pick) rows in
+      elim (picks key pick row) as (λ b. sum_by f (map (numbered first) (cond b (row ∷ later) later))
+      ≡ cond (b && test row) (count row) 0 + picked_sum key narrow count rows) [
+        | true ↦ sum_by-cons f (numbered first row) (map (numbered first) later) ∙ ap (λ n. cond (test row) (count row) 0 + n) (sum-rows count first rows)
+        | false ↦ sum-rows count first rows ∙ sym (zero-add (picked_sum key narrow count rows))
+      ]
+      ∙ ap (λ b. cond b (count row) 0 + picked_sum key narrow count rows) (sym (agree row))
+      ∙ sym (sum_by-cons (λ r. cond (picks key narrow r) (count r) 0) row rows)
+
+  pub sum-picked : (count : Row → ℕ) (first : ℕ) (tallies : List Counted)
+      → sum_by (picked_sum key narrow count) (rows_in tallies) ≡ sum_where (rows_from key pick first tallies) test count
+  unfolding sum_where rows_from
+  sum-picked count first [] = refl
+  sum-picked count first (tally ∷ tallies) =
+      sum_by-cons (picked_sum key narrow count) tally.rows (rows_in tallies)
+      ∙ (λ i. sym (sum-rows count first tally.rows) i + sum-picked count (first + length tally.classes) tallies i)
+      ∙ sym (sum_by-append (λ (hit : NumberedRow). cond (test hit.row) (count hit.row) 0) (map (numbered first) (filter (picks key pick) tally.rows))
+      (rows_from key pick (first + length tally.classes) tallies))
+
+  pub totals-picked : (first : ℕ) (tallies : List Counted) → rows_totals key (rows_in tallies) narrow ≡ totals_where (rows_from key pick first tallies) test
+  totals-picked first tallies =
+      let white = sum-picked (λ row. row.white) first tallies in
+      let draws = sum-picked (λ row. row.draws) first tallies in
+      let black = sum-picked (λ row. row.black) first tallies in
+      λ i. record { white = white i; draws = draws i; black = black i }
+
+  lists-rows : (list : Row → List Entry) (first : ℕ) (rows : List Row)
+      → flat_map (λ (hit : NumberedRow). cond (test hit.row) (map (moved_by hit.first) (list hit.row)) []) (map (numbered first) (filter (picks key pick) rows))
+      ≡ map (moved_by first) (picked_lists key narrow list rows)
+  lists-rows list first [] = refl
+  lists-rows list first (row ∷ rows) =
+      let f = λ (hit : NumberedRow). cond (test hit.row) (map (moved_by hit.first) (list hit.row)) [] in
+      let later = filter (picks key pick) rows in
+      elim (picks key pick row) as (λ b. flat_map f (map (numbered first) (cond b (row ∷ later) later))
+      ≡ map (moved_by first) (cond (b && test row) (list row) []) ++ map (moved_by first) (picked_lists key narrow list rows)) [
+        | true ↦ (λ i. moved (test row) i ++ lists-rows list first rows i)
+        | false ↦ lists-rows list first rows
+      ]
+      ∙ ap (λ b. map (moved_by first) (cond b (list row) []) ++ map (moved_by first) (picked_lists key narrow list rows)) (sym (agree row))
+      ∙ sym (map-append (moved_by first) (cond (picks key narrow row) (list row) []) (picked_lists key narrow list rows))
+    where
+      moved : (b : Bool) → cond b (map (moved_by first) (list row)) [] ≡ map (moved_by first) (cond b (list row) [])
+      moved true = refl
+      moved false = refl
+
+  pub lists-picked : (list : Row → List Entry) (first : ℕ) (tallies : List Counted) (each : AllByRecursion IsCounted tallies)
+      → cover_lists key narrow list first (tracks_in tallies each) (rows_in tallies) ≡ entries_where (rows_from key pick first tallies) test list
+  unfolding cover_lists entries_where rows_from
+  lists-picked list first [] each = refl
+  lists-picked list first (tally ∷ tallies) each =
+      let f = λ (hit : NumberedRow). cond (test hit.row) (map (moved_by hit.first) (list hit.row)) [] in
+      let here = map (numbered first) (filter (picks key pick) tally.rows) in
+      let rest = rows_from key pick (first + length tally.classes) tallies in
+      ap (λ n. map (moved_by first) (picked_lists key narrow list tally.rows) ++ cover_lists key narrow list (first + n) (tracks_in tallies each.1) (rows_in tallies))
+      (tracks-length tally each.0)
+      ∙ (λ i. sym (lists-rows list first tally.rows) i ++ lists-picked list (first + length tally.classes) tallies each.1 i)
+      ∙ sym (flat_map-append f here rest)
+
+-- ---- moves and months
+
+module _ (key : List ℕ) (pick : Parts → Bool) where
+  moves-rows : (first : ℕ) (rows : List Row)
+      → filter_map (λ row. if picks key pick row then row.next else None) rows
+      ≡ filter_map (λ (hit : NumberedRow). hit.row.next) (map (numbered first) (filter (picks key pick) rows))
+  moves-rows first [] = refl
+  moves-rows first (row ∷ rows) =
+      elim (picks key pick row) as (λ b. cons_option (if b then row.next else None) (filter_map (λ r. if picks key pick r then r.next else None) rows)
+      ≡ filter_map (λ (hit : NumberedRow). hit.row.next) (map (numbered first) (cond b (row ∷ filter (picks key pick) rows) (filter (picks key pick) rows)))) [
+        | true ↦ ap (cons_option row.next) (moves-rows first rows)
+        | false ↦ moves-rows first rows
+      ]
+
+  moves-picked : (first : ℕ) (tallies : List Counted)
+      → filter_map (λ row. if picks key pick row then row.next else None) (all_of (rows_in tallies))
+      ≡ filter_map (λ (hit : NumberedRow). hit.row.next) (rows_from key pick first tallies)
+  unfolding rows_from
+  moves-picked first [] = refl
+  moves-picked first (tally ∷ tallies) =
+      filter_map-append (λ row. if picks key pick row then row.next else None) tally.rows (all_of (rows_in tallies))
+      ∙ (λ i. moves-rows first tally.rows i ++ moves-picked (first + length tally.classes) tallies i)
+      ∙ sym (filter_map-append (λ (hit : NumberedRow). hit.row.next) (map (numbered first) (filter (picks key pick) tally.rows))
+      (rows_from key pick (first + length tally.classes) tallies))
+
+  months-rows : (first : ℕ) (rows : List Row)
+      → map (λ (hit : NumberedRow). hit.row.month) (map (numbered first) rows) ≡ map (λ row. row.month) rows
+  months-rows first [] = refl
+  months-rows first (row ∷ rows) = ap (λ l. row.month ∷ l) (months-rows first rows)
+
+  months-picked : (first : ℕ) (tallies : List Counted)
+      → map (λ row. row.month) (filter (picks key pick) (all_of (rows_in tallies))) ≡ map (λ (hit : NumberedRow). hit.row.month) (rows_from key pick first tallies)
+  unfolding rows_from
+  months-picked first [] = refl
+  months-picked first (tally ∷ tallies) =
+      let here = filter (picks key pick) tally.rows in
+      let rest = filter (picks key pick) (all_of (rows_in tallies)) in
+      ap (map (λ row. row.month)) (filter-append (picks key pick) tally.rows (all_of (rows_in tallies)))
+      ∙ map-append (λ row. row.month) here rest
+      ∙ (λ i. sym (months-rows first here) i ++ months-picked (first + length tally.classes) tallies i)
+      ∙ sym (map-append (λ (hit : NumberedRow). hit.row.month) (map (numbered first) here) (rows_from key pick (first + length tally.classes) tallies))
+
+-- ---- in the words of the answer
+
+module _ (key : List ℕ) (wanted : Filter) (tallies : List Counted) where
+  pub totals-are : (test : Option Move → Bool) → rows_totals key (rows_in tallies) (meets wanted test) ≡ totals_where (hits_of key wanted tallies) (λ row. test row.next)
+  totals-are test = totals-picked key (meets wanted any_next) (meets wanted test) (λ row. test row.next) (picks-test key wanted test) 0 tallies
+
+  pub ratings-are : (test : Option Move → Bool) → rows_ratings key (rows_in tallies) (meets wanted test) ≡ ratings_where (hits_of key wanted tallies) (λ row. test row.next)
+  ratings-are test = sum-picked key (meets wanted any_next) (meets wanted test) (λ row. test row.next) (picks-test key wanted test) (λ row. row.ratings) 0 tallies
+
+  pub month-totals-are : (month : Month) → rows_totals key (rows_in tallies) (meets_in month wanted) ≡ totals_where (hits_of key wanted tallies) (is_of_month month)
+  month-totals-are month = totals-picked key (meets wanted any_next) (meets_in month wanted) (is_of_month month) (picks-month key wanted month) 0 tallies
+
+  pub lists-are : (each : AllByRecursion IsCounted tallies) (test : Option Move → Bool) (list : Row → List Entry)
+      → cover_lists key (meets wanted test) list 0 (tracks_in tallies each) (rows_in tallies) ≡ entries_where (hits_of key wanted tallies) (λ row. test row.next) list
+  lists-are each test list = lists-picked key (meets wanted any_next) (meets wanted test) (λ row. test row.next) (picks-test key wanted test) list 0 tallies each
+
+  pub moves-are : rows_moves key (rows_in tallies) wanted ≡ moves_in (hits_of key wanted tallies)
+  unfolding rows_moves moves_in
+  moves-are = ap (distinct is_same_move) (moves-picked key (meets wanted any_next) 0 tallies)
+
+  pub months-are : rows_months key (rows_in tallies) wanted ≡ months_in (hits_of key wanted tallies)
+  unfolding rows_months months_in
+  months-are = ap (distinct is_same_month) (months-picked key (meets wanted any_next) 0 tallies)
+
+  pub before-is : (a b : Move) → rows_before key (rows_in tallies) wanted a b ≡ before_by_total (hits_of key wanted tallies) a b
+  before-is a b =
+      let of_a = totals-are (is_move a) in
+      let of_b = totals-are (is_move b) in
+      λ i. nat_lt (total (of_b i)) (total (of_a i))
+      || ((total (of_a i) == total (of_b i)) && is_lt (slice_cmp nat_cmp (uci_text a) (uci_text b)))
+
+  -- the same totals, of the rows of the months of which the filter takes the cells
+  pub cell-totals-are : rows_totals key (rows_in tallies) (meets wanted any_next)
+      ≡ totals_where (rows_from key (in_months wanted) 0 tallies) (λ row. in_cells wanted (parts_of row))
+  cell-totals-are =
+      totals-picked key (in_months wanted) (meets wanted any_next) (λ row. in_cells wanted (parts_of row)) (picks-cells key wanted) 0 tallies
+
+  pub top-is : (each : AllByRecursion IsCounted tallies) (test : Option Move → Bool)
+      → best before_by_rating 4 (cover_lists key (meets wanted test) (λ row. row.top) 0 (tracks_in tallies each) (rows_in tallies))
+      ≡ top_where (hits_of key wanted tallies) (λ row. test row.next)
+  top-is each test = ap (best before_by_rating 4) (lists-are each test (λ row. row.top))
+
+  pub recent-is : (each : AllByRecursion IsCounted tallies) (test : Option Move → Bool)
+      → best before_by_month 4 (cover_lists key (meets wanted test) (λ row. row.recent) 0 (tracks_in tallies each) (rows_in tallies))
+      ≡ recent_where (hits_of key wanted tallies) (λ row. test row.next)
+  recent-is each test = ap (best before_by_month 4) (lists-are each test (λ row. row.recent))
+
+  pub first-moves-are : (most : ℕ) → best (rows_before key (rows_in tallies) wanted) most (rows_moves key (rows_in tallies) wanted)
+      ≡ best (before_by_total (hits_of key wanted tallies)) most (moves_in (hits_of key wanted tallies))
+  first-moves-are most = λ i. best (λ a b. before-is a b i) most (moves-are i)
+
+  pub history-is : (let months = rows_months key (rows_in tallies) wanted in map (rows_month_line key (rows_in tallies) wanted) (best before_in_time (length months) months))
+      ≡ history_in (hits_of key wanted tallies)
+  history-is = λ i. map (λ month. record { month = month; totals = month-totals-are month i }) (best before_in_time (length (months-are i)) (months-are i))

@@ -1,0 +1,389 @@
+-- The games of entries are found by their numbers.
+use Rattle.std.proofs.Common.{◌≡◌, ℕ, suc, ◌+◌, ◌-◌, ◌<◌, ◌≤◌, ◌==◌, Bool, true, false, ◌&&◌, ◌||◌, cond, ◌⊎◌, inl, inr, List, [], ◌∷◌, ◌++◌, length, take, get_or, map, filter, Option, Some, None, is_some, option_map, Result, Ok, Err, IfOk, bytes_eq, refl, sym, ap, ◌∙◌, subst, arith}
+use Rattle.std.specs.Prelude.{option_and_then, filter_map}
+use Rattle.std.specs.List.{All, AllByRecursion, AllZip, Contains, find, flat_map, list_any, slice_get, enumerate_from, cons_option}
+use Rattle.std.proofs.lemmas.Bool.Decides.{nat_tests}
+use Rattle.std.proofs.lemmas.List.{map-append, length-map}
+use Rattle.std.proofs.lemmas.List.Elements.{All-head, All-take}
+use Rattle.std.proofs.lemmas.Slice.Eq.{bytes_eq-Decides}
+use Rattle.std.proofs.lemmas.Option.{slice_get-map, slice_get_within}
+use Rattle.best_lists.proofs.BestLaws.{All-best}
+use Rattle.best_lists.specs.Entry.{moved_by}
+use Rattle.best_lists.specs.Ranking.{before_by_rating, before_by_month}
+use Rattle.best_lists.specs.declared.entry.Entry.{Entry}
+use Rattle.explorer_model.specs.Best.{best}
+use Rattle.explorer_model.specs.Counting.{any_next}
+use Rattle.explorer_model.specs.declared.answer.Listed.{Listed}
+use Rattle.explorer_model.specs.declared.archive.Classes.{Classes}
+use Rattle.explorer_model.specs.declared.archive.Game.{Game}
+use Rattle.explorer_model.specs.declared.chess.Move.{Move}
+use Rattle.explorer_model.specs.declared.query.Filter.{Filter}
+use Rattle.lookup.specs.Hits.{NumberedRow, rows_from}
+use Rattle.lookup.specs.Listing.{lists_number, next_where, all_classes, listed_where, AreEntriesOf, IsListingOf, IsOnlyListingOf}
+use Rattle.lookup.specs.Sums.{entries_where}
+use Rattle.lookup.specs.Tallies.{tracks_in}
+use Rattle.lookup.proofs.Places.{get-left, get-right}
+use Rattle.tally_rows.specs.declared.parts.Parts.{Parts}
+use Rattle.tally_rows.specs.declared.row.Row.{Row}
+use Rattle.tally_rows.specs.Cover.{meets, listing, listed_by}
+use Rattle.tally_rows.specs.Recount.{all_of, picks}
+use Rattle.tally_rows.specs.Row.{parts_of}
+use Rattle.tally_rows.specs.Tallied.{entries, has_move, rating_sum, track_month, IsTally}
+use Rattle.tally_rows.specs.Tally.{Counted, IsCounted, IsTrackOf}
+use Rattle.tally_rows.specs.Track.{Track, visit, parts_at, has}
+use Rattle.tally_rows.proofs.Members.{IsIn, All-from_IsIn, All-IsIn, IsIn-from_Contains, Contains-IsIn, Found-map}
+use Rattle.tally_rows.proofs.Visits.{has-parts_at}
+
+-- ---- the game of an entry of a row
+
+-- the entry's number is the place of a game that passes a test
+pub record IsAt (test : Track → Bool) (first : ℕ) (tracks : List Track) (entry : Entry) : Type 0 where
+  pub place : ℕ
+  pub is : entry.number ≡ first + place
+  pub track : Track
+  pub at : slice_get tracks place ≡ Some track
+  pub passes : test track ≡ true
+
+module _ (rank : Track → ℕ) (test : Track → Bool) where
+  entry_of : ℕ × Track → Entry
+  entry_of p = record { rank = rank p.1; number = p.0 }
+
+  at-later : (first : ℕ) (t : Track) (ts : List Track) (entry : Entry) → IsAt test (first + 1) ts entry → IsAt test first (t ∷ ts) entry
+  at-later first t ts entry h = record { place = suc h.place; is = omega (arith, h.is); track = h.track; at = h.at; passes = h.passes }
+
+  at-by : (first : ℕ) (t : Track) (ts : List Track) (rest : List (ℕ × Track)) (entry : Entry) (b : Bool) → test t ≡ b
+      → (IsIn entry (map (λ p. record { rank = rank p.1; number = p.0 }) rest) → IsAt test (first + 1) ts entry)
+      → IsIn entry (map (λ p. record { rank = rank p.1; number = p.0 }) (cond b ((first, t) ∷ rest) rest)) → IsAt test first (t ∷ ts) entry
+  at-by first t ts rest entry true e later (inl is) =
+      record { place = 0; is = (let n : entry.number ≡ first = ap (λ x. x.number) is in omega (arith, n)); track = t; at = refl; passes = e }
+  at-by first t ts rest entry true e later (inr m) = at-later first t ts entry (later m)
+  at-by first t ts rest entry false e later m = at-later first t ts entry (later m)
+
+  entries-at : (first : ℕ) (tracks : List Track) (entry : Entry) → IsIn entry (entries rank test first tracks) → IsAt test first tracks entry
+  unfolding entries
+  entries-at first [] entry m = absurd m
+  entries-at first (t ∷ ts) entry m =
+      at-by first t ts (filter (λ p. test p.1) (enumerate_from (first + 1) ts)) entry (test t) refl (entries-at (first + 1) ts entry) m
+
+  best-at : (before : Entry → Entry → Bool) (tracks : List Track) (list : List Entry) (entry : Entry)
+      → list ≡ best before 4 (entries rank test 0 tracks) → IsIn entry list → IsAt test 0 tracks entry
+  best-at before tracks list entry is m =
+      let P : Entry → Type 0 = IsAt test 0 tracks in
+      let all = entries rank test 0 tracks in
+      All-IsIn P (best before 4 all) (All-best before P 4 all (All-from_IsIn P all (entries-at 0 tracks))) entry (subst (IsIn entry) is m)
+
+-- the entries of a list of a row are games that have the row's parts, and a move among them
+abbrev pub ListsGames : (Row → List Entry) → Type 0
+ListsGames list = (tracks : List Track) (row : Row) → IsTally tracks row → (entry : Entry) → IsIn entry (list row) → IsAt (has_move (parts_of row)) 0 tracks entry
+
+pub top-lists : ListsGames (λ row. row.top)
+top-lists tracks row tally entry m = best-at rating_sum (has_move (parts_of row)) before_by_rating tracks row.top entry tally.top m
+
+pub recent-lists : ListsGames (λ row. row.recent)
+recent-lists tracks row tally entry m = best-at track_month (has_move (parts_of row)) before_by_month tracks row.recent entry tally.recent m
+
+-- the move of a row is what a game plays in the position
+record Plays (key : List ℕ) (track : Track) (row : Row) : Type 0 where
+  next : Move
+  of_row : row.next ≡ Some next
+  of_track : visit key track ≡ Some (Some next)
+
+visited-by : (key : List ℕ) (t : Track) (o : Option (Option Move)) (c : Parts)
+    → option_map (λ next. record { key = key; next = next; month = t.classes.month; speed = t.classes.speed; group = t.classes.group }) o ≡ Some c
+    → o ≡ Some c.next
+visited-by key t None c e = cc
+visited-by key t (Some next) c e =
+    let same : c ≡ record { key = key; next = next; month = t.classes.month; speed = t.classes.speed; group = t.classes.group } = cc in
+    ap Some (sym (ap (λ p. p.next) same))
+
+visited : (key : List ℕ) (t : Track) (c : Parts) → parts_at key t ≡ Some c → visit key t ≡ Some c.next
+unfolding parts_at
+visited key t c e = visited-by key t (visit key t) c e
+
+plays-by : (key : List ℕ) (track : Track) (row : Row) → row.key ≡ key → (o : Option Move) → row.next ≡ o
+    → (is_some o && has (parts_of row) track) ≡ true → Plays key track row
+plays-by key track row of None is plays = cc
+plays-by key track row of (Some next) is plays =
+    let there = visited row.key track (parts_of row) (has-parts_at (parts_of row) track plays) in
+    record { next = next; of_row = is; of_track = ap (λ k. visit k track) (sym of) ∙ there ∙ ap Some is }
+
+plays-there : (key : List ℕ) (track : Track) (row : Row) → row.key ≡ key → has_move (parts_of row) track ≡ true → Plays key track row
+plays-there key track row of plays = plays-by key track row of row.next refl plays
+
+-- ---- the games of the entries of rows
+
+-- the game at a place plays the move of the row
+record IsPlayedAt (key : List ℕ) (tracks : List Track) (place : ℕ) (row : Row) : Type 0 where
+  track : Track
+  at : slice_get tracks place ≡ Some track
+  plays : Plays key track row
+
+-- so does the game of each entry of the list of a row, by its number
+record Tells (list : Row → List Entry) (key : List ℕ) (first : ℕ) (tracks : List Track) (hit : NumberedRow) (entry : Entry) : Type 0 where
+  place : ℕ
+  is : entry.number + hit.first ≡ first + place
+  played : IsPlayedAt key tracks place hit.row
+
+in-either : {X : Type 0} (xs ys : List X) (x : X) → IsIn x (xs ++ ys) → IsIn x xs ⊎ IsIn x ys
+in-either [] ys x m = inr m
+in-either (y ∷ xs) ys x (inl e) = inl (inl e)
+in-either (y ∷ xs) ys x (inr m) = elim (in-either xs ys x m) [ inl l ↦ inl (inr l) | inr r ↦ inr r ]
+
+record IsKept {X : Type 0} (p : X → Bool) (x : X) (xs : List X) : Type 0 where
+  is_in : IsIn x xs
+  passes : p x ≡ true
+
+kept-by : {X : Type 0} (p : X → Bool) (x y : X) (ys : List X) (b : Bool) → p y ≡ b → (IsIn x (filter p ys) → IsKept p x ys)
+    → IsIn x (cond b (y ∷ filter p ys) (filter p ys)) → IsKept p x (y ∷ ys)
+kept-by p x y ys true e later (inl is) = record { is_in = inl is; passes = ap p is ∙ e }
+kept-by p x y ys true e later (inr m) = (let k = later m in record { is_in = inr k.is_in; passes = k.passes })
+kept-by p x y ys false e later m = (let k = later m in record { is_in = inr k.is_in; passes = k.passes })
+
+kept : {X : Type 0} (p : X → Bool) (xs : List X) (x : X) → IsIn x (filter p xs) → IsKept p x xs
+kept p [] x m = absurd m
+kept p (y ∷ ys) x m = kept-by p x y ys (p y) refl (kept p ys x) m
+
+games-long : (games : List Game) (tracks : List Track) → AllZip IsTrackOf games tracks → map (λ game. game.classes) games ≡ map (λ track. track.classes) tracks
+games-long [] [] zip = refl
+games-long [] (t ∷ tracks) zip = absurd zip
+games-long (g ∷ games) [] zip = absurd zip
+games-long (g ∷ games) (t ∷ tracks) zip =
+    ap (λ c. c ∷ map {A = Game} (λ game. game.classes) games) (sym zip.0.classes) ∙ ap (λ l. t.classes ∷ l) (games-long games tracks zip.1)
+
+own-classes : (tally : Counted) → (is : IsCounted tally) → tally.classes ≡ map (λ track. track.classes) is.tally.tracks
+own-classes tally is = is.tally.classes_are ∙ games-long is.tally.games is.tally.tracks is.tally.are_tracks
+
+left-true : (a b : Bool) → (a && b) ≡ true → a ≡ true
+left-true true b e = refl
+left-true false b e = e
+
+module _ (list : Row → List Entry) (lists : ListsGames list) (key : List ℕ) (pick : Parts → Bool) where
+  picks-own_key : (row : Row) → picks key pick row ≡ true → row.key ≡ key
+  unfolding picks
+  picks-own_key row e = (bytes_eq-Decides row.key key).0 (left-true (bytes_eq row.key key) (pick (parts_of row)) e)
+
+  tells-here : (tally : Counted) (is : IsCounted tally) (first : ℕ) (rest : List Track) (row : Row) → IsIn row (filter (picks key pick) tally.rows)
+      → (entry : Entry) → IsIn entry (list row) → Tells list key first (is.tally.tracks ++ rest) (record { row = row; first = first }) entry
+  tells-here tally is first rest row m entry n =
+      let tracks = is.tally.tracks in
+      let k = kept (picks key pick) tally.rows row m in
+      let found = lists tracks row (All-IsIn (IsTally tracks) tally.rows is.tally.tallied.each row k.is_in) entry n in
+      record {
+        place = found.place;
+        is = omega (arith, found.is);
+        played = record {
+          track = found.track;
+          at = get-left tracks rest found.place (slice_get_within tracks found.place found.track found.at) ∙ found.at;
+          plays = plays-there key found.track row (picks-own_key row k.passes) found.passes;
+        };
+      }
+
+  tells-later : (tally : Counted) (is : IsCounted tally) (first : ℕ) (rest : List Track) (hit : NumberedRow) (entry : Entry)
+      → Tells list key (first + length tally.classes) rest hit entry → Tells list key first (is.tally.tracks ++ rest) hit entry
+  tells-later tally is first rest hit entry told =
+      let tracks = is.tally.tracks in
+      let long : length tally.classes ≡ length tracks = ap length (own-classes tally is) ∙ length-map tracks (λ track. track.classes) in
+      let place = length tracks + told.place in
+      let back : place - length tracks ≡ told.place = omega arith in
+      record {
+        place = place;
+        is = omega (arith, told.is, long);
+        played = record {
+          track = told.played.track;
+          at = get-right tracks rest place (omega arith) ∙ ap (slice_get rest) back ∙ told.played.at;
+          plays = told.played.plays;
+        };
+      }
+
+  rows-tell : (tallies : List Counted) (each : AllByRecursion IsCounted tallies) (first : ℕ) (hit : NumberedRow) → IsIn hit (rows_from key pick first tallies)
+      → (entry : Entry) → IsIn entry (list hit.row) → Tells list key first (all_of (tracks_in tallies each)) hit entry
+  unfolding rows_from
+  rows-tell [] each first hit m entry n = absurd m
+  rows-tell (tally ∷ tallies) each first hit m entry n =
+      elim (in-either (map {B = NumberedRow} (λ row. record { row = row; first = first }) (filter (picks key pick) tally.rows)) (rows_from key pick (first + length tally.classes) tallies) hit m) [
+        | inl here ↦ (
+            let found = Found-map {Y = NumberedRow} (λ row. record { row = row; first = first }) (filter (picks key pick) tally.rows) hit here in
+            let own : IsIn entry (list found.value) = subst (λ h. IsIn entry (list h.row)) (sym found.holds) n in
+            subst (λ h. Tells list key first (each.0.tally.tracks ++ all_of (tracks_in tallies each.1)) h entry) found.holds
+            (tells-here tally each.0 first (all_of (tracks_in tallies each.1)) found.value found.is_in entry own))
+        | inr later ↦
+            tells-later tally each.0 first (all_of (tracks_in tallies each.1)) hit entry
+            (rows-tell tallies each.1 (first + length tally.classes) hit later entry n)
+      ]
+
+-- what is known of all games
+classes-tracks : (tallies : List Counted) (each : AllByRecursion IsCounted tallies)
+    → all_classes tallies ≡ map (λ track. track.classes) (all_of (tracks_in tallies each))
+classes-tracks [] each = refl
+classes-tracks (tally ∷ tallies) each =
+    ap (λ l. l ++ all_classes tallies) (own-classes tally each.0)
+    ∙ ap (λ l. map {A = Track} (λ track. track.classes) each.0.tally.tracks ++ l) (classes-tracks tallies each.1)
+    ∙ sym (map-append (λ track. track.classes) each.0.tally.tracks (all_of (tracks_in tallies each.1)))
+
+-- ---- the first row that lists a number
+
+record IsFirst {X : Type 0} (p : X → Bool) (xs : List X) : Type 0 where
+  value : X
+  is : find p xs ≡ Some value
+  is_in : IsIn value xs
+  passes : p value ≡ true
+
+first-by : {X : Type 0} (p : X → Bool) (y : X) (ys : List X) (b : Bool) → p y ≡ b → (list_any p ys ≡ true → IsFirst p ys)
+    → (b || list_any p ys) ≡ true → IsFirst p (y ∷ ys)
+first-by p y ys true e later some =
+    record { value = y; is = ap (λ b. cond b (Some y) (find p ys)) e; is_in = inl refl; passes = e }
+first-by p y ys false e later some =
+    let rest = later some in
+    record { value = rest.value; is = ap (λ b. cond b (Some y) (find p ys)) e ∙ rest.is; is_in = inr rest.is_in; passes = rest.passes }
+
+find-first : {X : Type 0} (p : X → Bool) (xs : List X) → list_any p xs ≡ true → IsFirst p xs
+find-first p [] some = cc
+find-first p (y ∷ ys) some = first-by p y ys (p y) refl (find-first p ys) some
+
+or-right : (a b : Bool) → b ≡ true → (a || b) ≡ true
+or-right true b e = refl
+or-right false b e = e
+
+any-IsIn : {X : Type 0} (p : X → Bool) (xs : List X) (x : X) → IsIn x xs → p x ≡ true → list_any p xs ≡ true
+any-IsIn p [] x m e = absurd m
+any-IsIn p (y ∷ ys) x (inl is) e = ap (λ b. b || list_any p ys) (ap p (sym is) ∙ e)
+any-IsIn p (y ∷ ys) x (inr m) e = or-right (p y) (list_any p ys) (any-IsIn p ys x m e)
+
+-- an entry of the rows is listed by one of them
+moved-lists : (list : Row → List Entry) (hit : NumberedRow) (entry : Entry) → IsIn entry (map (moved_by hit.first) (list hit.row))
+    → lists_number list entry.number hit ≡ true
+moved-lists list hit entry m =
+    let found = Found-map (moved_by hit.first) (list hit.row) entry m in
+    let same : found.value.number + hit.first ≡ entry.number = ap (λ e. e.number) found.holds in
+    any-IsIn (λ e. e.number + hit.first == entry.number) (list hit.row) found.value found.is_in (grind (arith, nat_tests))
+
+part-lists : (list : Row → List Entry) (hit : NumberedRow) (entry : Entry) (b : Bool) → IsIn entry (cond b (map (moved_by hit.first) (list hit.row)) [])
+    → lists_number list entry.number hit ≡ true
+part-lists list hit entry true m = moved-lists list hit entry m
+part-lists list hit entry false m = absurd m
+
+stands-listed : (list : Row → List Entry) (test : Row → Bool) (hits : List NumberedRow) (entry : Entry) → IsIn entry (entries_where hits test list)
+    → list_any (lists_number list entry.number) hits ≡ true
+unfolding entries_where
+stands-listed list test [] entry m = absurd m
+stands-listed list test (hit ∷ hits) entry m =
+    elim (in-either (cond (test hit.row) (map (moved_by hit.first) (list hit.row)) [])
+    (flat_map (λ h. cond (test h.row) (map (moved_by h.first) (list h.row)) []) hits) entry m) [
+      | inl here ↦ ap (λ b. b || list_any (lists_number list entry.number) hits) (part-lists list hit entry (test hit.row) here)
+      | inr later ↦ or-right (lists_number list entry.number hit) (list_any (lists_number list entry.number) hits) (stands-listed list test hits entry later)
+    ]
+
+-- ---- the game of an entry is found
+
+both-found : (next : Option Move) (classes : Option Classes) (m : Move) (c : Classes) → next ≡ Some m → classes ≡ Some c
+    → option_and_then {U = Listed} (λ (n : Move). option_map {U = Listed} (λ (d : Classes). record { next = n; classes = d }) classes) next
+    ≡ Some (record { next = m; classes = c })
+both-found next classes m c is_next are =
+    ap (option_and_then {U = Listed} (λ (n : Move). option_map {U = Listed} (λ (d : Classes). record { next = n; classes = d }) classes)) is_next
+    ∙ ap (option_map {U = Listed} (λ (d : Classes). record { next = m; classes = d })) are
+
+track-listed : (key : List ℕ) (found : Option Track) (track : Track) (m : Move) → found ≡ Some track → visit key track ≡ Some (Some m)
+    → option_and_then (λ (t : Track). listed_by (visit key t) t) found ≡ Some (record { next = m; classes = track.classes })
+track-listed key found track m is plays =
+    ap (option_and_then (λ (t : Track). listed_by (visit key t) t)) is ∙ ap (λ v. listed_by v track) plays
+
+record IsFoundAs (key : List ℕ) (tracks : List Track) (entry : Entry) (found : Option Listed) : Type 0 where
+  game : Listed
+  found_is : found ≡ Some game
+  listing_is : listing key tracks entry ≡ Some game
+
+module _ (list : Row → List Entry) (lists : ListsGames list) (key : List ℕ) (pick : Parts → Bool)
+    (tallies : List Counted) (each : AllByRecursion IsCounted tallies) (entry : Entry) where
+  next-is : (hits : List NumberedRow) (first : IsFirst (lists_number list entry.number) hits) (m : Move) → first.value.row.next ≡ Some m
+      → next_where list hits entry.number ≡ Some m
+  unfolding next_where
+  next-is hits first m is = ap (option_and_then (λ (hit : NumberedRow). hit.row.next)) first.is ∙ is
+
+  entry-found : (hits : List NumberedRow) → hits ≡ rows_from key pick 0 tallies → list_any (lists_number list entry.number) hits ≡ true
+      → IsFoundAs key (all_of (tracks_in tallies each)) entry (listed_where list tallies hits entry.number)
+  entry-found hits are listed =
+      let tracks = all_of (tracks_in tallies each) in
+      let first = find-first (lists_number list entry.number) hits listed in
+      let hit = first.value in
+      let by = find-first (λ e. e.number + hit.first == entry.number) (list hit.row) first.passes in
+      let told = rows-tell list lists key pick tallies each 0 hit (subst (IsIn hit) are first.is_in) by.value by.is_in in
+      let same : by.value.number + hit.first ≡ entry.number = (let passes = by.passes in grind (arith, nat_tests)) in
+      let place : told.place ≡ entry.number = omega (arith, told.is, same) in
+      let track = told.played.track in
+      let plays = told.played.plays in
+      let at : slice_get tracks entry.number ≡ Some track = ap (slice_get tracks) (sym place) ∙ told.played.at in
+      let classes : slice_get (all_classes tallies) entry.number ≡ Some track.classes =
+      ap (λ l. slice_get l entry.number) (classes-tracks tallies each) ∙ slice_get-map (λ t. t.classes) tracks entry.number
+      ∙ ap (option_map (λ (t : Track). t.classes)) at in
+      let next = next-is hits first plays.next plays.of_row in
+      record {
+        game = record { next = plays.next; classes = track.classes };
+        found_is = both-found (next_where list hits entry.number) (slice_get (all_classes tallies) entry.number) plays.next track.classes next classes;
+        listing_is = track-listed key (slice_get tracks entry.number) track plays.next at plays.of_track;
+      }
+
+-- and the games of entries, in order
+some-cons : (g : Listed) (rest : List Listed) (found : Option Listed) → found ≡ Some g → map Some (cons_option found rest) ≡ Some g ∷ map Some rest
+some-cons g rest found is = ap (λ f. map Some (cons_option f rest)) is
+
+entries-found : (key : List ℕ) (tracks : List Track) (h : Entry → Option Listed) (entries : List Entry)
+    → ((entry : Entry) → IsIn entry entries → IsFoundAs key tracks entry (h entry))
+    → map Some (filter_map h entries) ≡ map (listing key tracks) entries
+entries-found key tracks h [] each = refl
+entries-found key tracks h (e ∷ es) each =
+    let found = each e (inl refl) in
+    some-cons found.game (filter_map h es) (h e) found.found_is
+    ∙ ap (λ l. Some found.game ∷ l) (entries-found key tracks h es (λ x m. each x (inr m)))
+    ∙ ap (λ g. g ∷ map (listing key tracks) es) (sym found.listing_is)
+
+-- what is looked up by the numbers of entries are their games
+pub listings : (list : Row → List Entry) → ListsGames list → (tallies : List Counted) (hits : List NumberedRow) (entries : List Entry) (listed : List Listed)
+    → listed ≡ filter_map (λ entry. listed_where list tallies hits entry.number) entries
+    → IsListingOf list tallies hits entries listed
+listings list lists tallies hits entries listed is = λ key wanted test each are.
+    ap (map Some) is ∙ entries-found key (all_of (tracks_in tallies each)) (λ entry. listed_where list tallies hits entry.number) entries
+    (λ entry m. entry-found list lists key (meets wanted any_next) tallies each entry hits are.rows
+    (stands-listed list test hits entry
+    (IsIn-from_Contains (entries_where hits test list) entry
+    (All-IsIn (λ e. Contains (entries_where hits test list) e) entries are.stand entry m))))
+
+pub only-listing : (list : Row → List Entry) → ListsGames list → (tallies : List Counted) (hits : List NumberedRow) (entry : Entry) (game : Option Listed)
+    → game ≡ listed_where list tallies hits entry.number
+    → IsOnlyListingOf list tallies hits (entry ∷ []) game
+only-listing list lists tallies hits entry game is = λ key wanted test each are.
+    let found = entry-found list lists key (meets wanted any_next) tallies each entry hits are.rows
+    (stands-listed list test hits entry
+    (IsIn-from_Contains (entries_where hits test list) entry
+    (All-head (λ e. Contains (entries_where hits test list) e) entry [] are.stand))) in
+    is ∙ found.found_is ∙ sym found.listing_is
+
+pub alone : (entries : List Entry) (d : Entry) → 1 ≤ length entries → length entries < 2 → entries ≡ get_or entries 0 d ∷ []
+alone [] d some few = absurd (omega arith)
+alone (e ∷ []) d some few = refl
+alone (e ∷ f ∷ es) d some few = absurd (omega arith)
+
+-- the best of entries stand among them
+pub best-stand : (before : Entry → Entry → Bool) (n : ℕ) (entries : List Entry) → All (λ entry. Contains entries entry) (best before n entries)
+best-stand before n entries =
+    All-best before (λ entry. Contains entries entry) n entries
+    (All-from_IsIn (λ entry. Contains entries entry) entries (λ entry m. Contains-IsIn entries entry m))
+
+-- and so do the first few of these
+pub first-entries : (list : Row → List Entry) (key : List ℕ) (wanted : Filter) (tallies : List Counted) (hits : List NumberedRow) (test : Row → Bool)
+    (before : Entry → Entry → Bool) (n most : ℕ) → hits ≡ rows_from key (meets wanted any_next) 0 tallies
+    → AreEntriesOf list key wanted tallies hits test (take most (best before n (entries_where hits test list)))
+first-entries list key wanted tallies hits test before n most are = record {
+  rows = are;
+  stand = All-take (λ entry. Contains (entries_where hits test list) entry) most (best before n (entries_where hits test list))
+      (best-stand before n (entries_where hits test list));
+}
+
+pub best-entries : (list : Row → List Entry) (key : List ℕ) (wanted : Filter) (tallies : List Counted) (hits : List NumberedRow) (test : Row → Bool)
+    (before : Entry → Entry → Bool) (n : ℕ) → hits ≡ rows_from key (meets wanted any_next) 0 tallies
+    → AreEntriesOf list key wanted tallies hits test (best before n (entries_where hits test list))
+best-entries list key wanted tallies hits test before n are = record { rows = are; stand = best-stand before n (entries_where hits test list) }
+
+-- where there is a value, what follows from what holds of it
+pub if-ok : {A E : Type 0} (P Q : A → Type 0) (result : Result A E) → ((value : A) → P value → Q value) → IfOk result P → IfOk result Q
+if-ok P Q (Ok value) follows holds = follows value holds
+if-ok P Q (Err error) follows holds = holds

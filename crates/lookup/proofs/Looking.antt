@@ -1,0 +1,92 @@
+-- What is put together of hits is an answer that is made from them.
+use Rattle.std.proofs.Common.{◌≡◌, ℕ, Bool, List, [], ◌∷◌, map, take, Result, Ok, Err, IfOk, refl, subst}
+use Rattle.std.specs.List.{AllByRecursion, AllZip, Contains}
+use Rattle.std.proofs.lemmas.List.Elements.{All-from_recursion, recursion_from_All, All-take}
+use Rattle.best_lists.specs.declared.entry.Entry.{Entry}
+use Rattle.best_lists.specs.Ranking.{before_by_rating, before_by_month}
+use Rattle.best_lists.proofs.BestLaws.{All-best}
+use Rattle.explorer_model.specs.Best.{best}
+use Rattle.explorer_model.specs.declared.answer.Found.{Found}
+use Rattle.explorer_model.specs.declared.answer.MoveLine.{MoveLine}
+use Rattle.explorer_model.specs.declared.chess.Move.{Move}
+use Rattle.explorer_model.specs.declared.query.Query.{Query}
+use Rattle.lookup.specs.declared.moves.MoveSum.{MoveSum}
+use Rattle.lookup.specs.FromRows.{IsFromRows}
+use Rattle.lookup.specs.Hits.{NumberedRow, in_months, in_cells, rows_from}
+use Rattle.lookup.specs.Lines.{IsLineMade, IsPutTogether}
+use Rattle.lookup.specs.Listing.{AreEntriesOf}
+use Rattle.lookup.specs.MoveSums.{sum_as}
+use Rattle.lookup.specs.Sums.{any_row, totals_where, entries_where, moves_in, before_by_total}
+use Rattle.lookup.specs.Tallies.{tracks_in}
+use Rattle.lookup.proofs.Bridges.{rows_in, hits_of}
+use Rattle.lookup.proofs.FromHits.{IsHitsLine, IsFromHits, from-hits}
+use Rattle.lookup.proofs.Listings.{best-stand}
+use Rattle.tally_rows.specs.declared.row.Row.{Row}
+use Rattle.tally_rows.specs.Row.{parts_of}
+use Rattle.tally_rows.specs.Tally.{Counted, IsCounted}
+
+-- ---- the sums of moves
+
+-- what holds of each move of rows holds of the moves that are listed first
+pub sums-have : (P : Move → Type 0) (hits : List NumberedRow) (most : ℕ) → AllByRecursion P (moves_in hits)
+    → AllByRecursion (λ (sum : MoveSum). P sum.next) (map (sum_as hits) (best (before_by_total hits) most (moves_in hits)))
+sums-have P hits most each =
+    mapped (best (before_by_total hits) most (moves_in hits))
+    (recursion_from_All P (best (before_by_total hits) most (moves_in hits))
+    (All-best (before_by_total hits) P most (moves_in hits) (All-from_recursion P (moves_in hits) each)))
+  where
+    mapped : (moves : List Move) → AllByRecursion P moves → AllByRecursion (λ (sum : MoveSum). P sum.next) (map (sum_as hits) moves)
+    mapped [] each = tt
+    mapped (m ∷ moves) each = (each.0, mapped moves each.1)
+
+pub sums-are : (hits : List NumberedRow) (moves : List Move) → AllByRecursion (λ (sum : MoveSum). sum ≡ sum_as hits sum.next) (map (sum_as hits) moves)
+sums-are hits [] = tt
+sums-are hits (m ∷ moves) = (refl, sums-are hits moves)
+
+-- ---- the answer
+
+module _ (query : Query) (bytes : List ℕ) (tallies : List Counted) (each : AllByRecursion IsCounted tallies) where
+  abbrev own_hits : List NumberedRow
+  own_hits = hits_of bytes query.filter tallies
+
+  lines-made : (moves : List Move) (lines : List MoveLine)
+      → AllZip (λ (sum : MoveSum) line. IsLineMade query.at tallies own_hits sum.next line) (map (sum_as own_hits) moves) lines
+      → AllZip (IsHitsLine query bytes tallies each) moves lines
+  lines-made [] [] zip = tt
+  lines-made [] (line ∷ lines) zip = absurd zip
+  lines-made (m ∷ moves) [] zip = absurd zip
+  lines-made (m ∷ moves) (line ∷ lines) zip =
+      let made = zip.0 bytes query.filter each refl in (
+        record { next = made.next; san = made.san; average = made.average; totals = made.totals; game = made.game },
+        lines-made moves lines zip.1,
+      )
+
+  entries-of : (list : Row → List Entry) (before : Entry → Entry → Bool) (n : ℕ)
+      → AreEntriesOf list bytes query.filter tallies own_hits any_row (take n (best before 4 (entries_where own_hits any_row list)))
+  entries-of list before n = record {
+    rows = refl;
+    stand = All-take (λ entry. Contains (entries_where own_hits any_row list) entry) n (best before 4 (entries_where own_hits any_row list)) (best-stand before 4 (entries_where own_hits any_row list));
+  }
+
+  put-own : (found : Found) → found.totals ≡ totals_where (rows_from bytes (in_months query.filter) 0 tallies) (λ row. in_cells query.filter (parts_of row))
+      → IsPutTogether query tallies own_hits found → IsFromHits query bytes tallies each found
+  put-own found totals is = record {
+    totals = totals;
+    moves = lines-made (best (before_by_total own_hits) query.moves (moves_in own_hits)) found.moves is.lines;
+    top = is.top bytes query.filter any_row each (entries-of (λ row. row.top) before_by_rating query.top);
+    recent = is.recent bytes query.filter any_row each (entries-of (λ row. row.recent) before_by_month query.recent);
+    history = is.history;
+  }
+
+  pub put-together : (hits : List NumberedRow) (found : Found) → hits ≡ own_hits
+      → found.totals ≡ totals_where (rows_from bytes (in_months query.filter) 0 tallies) (λ row. in_cells query.filter (parts_of row))
+      → IsPutTogether query tallies hits found
+      → IsFromRows query bytes (tracks_in tallies each) (rows_in tallies) found
+  put-together hits found rows totals is =
+      let P : List NumberedRow → Type 0 = λ h. IsPutTogether query tallies h found in
+      from-hits query bytes tallies each found (put-own found totals (subst P rows is))
+
+-- two facts of what is given
+pub both-ok : {A E : Type 0} (P Q : A → Type 0) (result : Result A E) → IfOk result P → IfOk result Q → IfOk result (λ value. P value × Q value)
+both-ok P Q (Ok value) p q = (p, q)
+both-ok P Q (Err error) p q = tt

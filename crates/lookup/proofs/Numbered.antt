@@ -1,0 +1,126 @@
+-- Rows that are picked of tallies, one tally after another.
+use Rattle.std.proofs.Common.{◌≡◌, ℕ, ◌+◌, ◌<◌, Bool, true, false, ◌&&◌, cond, List, [], ◌∷◌, ◌++◌, map, filter, take, length, get_or, bytes_eq, refl, sym, ap, subst, ◌∙◌, zero-add, append_assoc, arith}
+use Rattle.std.specs.List.{AllByRecursion}
+use Rattle.std.proofs.lemmas.List.{append-nil, take_more}
+use Rattle.std.proofs.lemmas.List.Elements.{filter-append, filter_agree}
+use Rattle.std.proofs.lemmas.List.Sums.{sum_by-cons}
+use Rattle.tally_rows.specs.declared.parts.Parts.{Parts}
+use Rattle.tally_rows.specs.declared.row.Row.{Row}
+use Rattle.tally_rows.specs.Cover.{passes_parts, meets}
+use Rattle.tally_rows.specs.Recount.{picks}
+use Rattle.tally_rows.specs.Row.{parts_of}
+use Rattle.tally_rows.specs.Tally.{Counted}
+use Rattle.explorer_model.specs.declared.query.Filter.{Filter}
+use Rattle.explorer_model.specs.Counting.{any_next, group_place, is_since, is_until}
+use Rattle.explorer_model.specs.Order.{speed_index}
+use Rattle.lookup.specs.Hits.{NumberedRow, in_months, in_cells, rows_from, games_counted}
+
+-- a row with the number of the first game of its batch
+abbrev pub numbered : ℕ → Row → NumberedRow
+numbered first row = record { row = row; first = first }
+
+-- ---- filters, one after another
+
+module _ {X : Type 0} where
+  pub filter-both : (p q : X → Bool) (xs : List X) → filter q (filter p xs) ≡ filter (λ x. p x && q x) xs
+  filter-both p q [] = refl
+  filter-both p q (x ∷ xs) =
+      elim (p x) as (λ b. filter q (cond b (x ∷ filter p xs) (filter p xs)) ≡ cond (b && q x) (x ∷ filter (λ y. p y && q y) xs) (filter (λ y. p y && q y) xs)) [
+        | true ↦ ap (λ l. cond (q x) (x ∷ l) l) (filter-both p q xs)
+        | false ↦ filter-both p q xs
+      ]
+
+module _ {X Y : Type 0} where
+  pub map-filter : (p : Y → Bool) (f : X → Y) (xs : List X) → filter p (map f xs) ≡ map f (filter (λ x. p (f x)) xs)
+  map-filter p f [] = refl
+  map-filter p f (x ∷ xs) =
+      elim (p (f x)) as (λ b. cond b (f x ∷ filter p (map f xs)) (filter p (map f xs)) ≡ map f (cond b (x ∷ filter (λ y. p (f y)) xs) (filter (λ y. p (f y)) xs))) [
+        | true ↦ ap (λ l. f x ∷ l) (map-filter p f xs)
+        | false ↦ map-filter p f xs
+      ]
+
+-- ---- the rows of tallies
+
+module _ (key : List ℕ) (pick : Parts → Bool) where
+  -- the rows of one position whose parts are picked
+  pub picked-rows : (rows : List Row) → filter (λ row. pick (parts_of row)) (filter (λ row. bytes_eq row.key key) rows) ≡ filter (picks key pick) rows
+  unfolding picks
+  picked-rows rows = filter-both (λ row. bytes_eq row.key key) (λ row. pick (parts_of row)) rows
+
+  pub rows_from-nil : (first : ℕ) → rows_from key pick first [] ≡ []
+  unfolding rows_from
+  rows_from-nil first = refl
+
+  rows_from-append : (first : ℕ) (xs ys : List Counted)
+      → rows_from key pick first (xs ++ ys) ≡ rows_from key pick first xs ++ rows_from key pick (first + games_counted xs) ys
+  unfolding rows_from
+  rows_from-append first [] ys = ap (λ n. rows_from key pick n ys) (omega arith)
+  rows_from-append first (x ∷ xs) ys =
+      ap (λ l. map (numbered first) (filter (picks key pick) x.rows) ++ l)
+      (rows_from-append (first + length x.classes) xs ys
+      ∙ ap (λ n. rows_from key pick (first + length x.classes) xs ++ rows_from key pick n ys) (omega (arith, sum_by-cons (λ (t : Counted). length t.classes) x xs)))
+      ∙ sym (append_assoc (map (numbered first) (filter (picks key pick) x.rows)) (rows_from key pick (first + length x.classes) xs) _)
+
+  -- with one tally more
+  pub rows_from-more : (tallies : List Counted) (i : ℕ) (d : Counted) → i < length tallies
+      → rows_from key pick 0 (take (i + 1) tallies)
+      ≡ rows_from key pick 0 (take i tallies) ++ map (numbered (games_counted (take i tallies))) (filter (picks key pick) (get_or tallies i d).rows)
+  unfolding rows_from
+  rows_from-more tallies i d below =
+      ap (rows_from key pick 0) (take_more tallies i d below)
+      ∙ rows_from-append 0 (take i tallies) (get_or tallies i d ∷ [])
+      ∙ ap (λ l. rows_from key pick 0 (take i tallies) ++ l)
+      (append-nil (map (numbered (0 + games_counted (take i tallies))) (filter (picks key pick) (get_or tallies i d).rows))
+      ∙ ap (λ n. map (numbered n) (filter (picks key pick) (get_or tallies i d).rows)) (zero-add (games_counted (take i tallies))))
+
+pub AllByRecursion-more : {X : Type 0} (P : X → Type 0) (xs : List X) (i : ℕ) (d : X) → i < length xs → AllByRecursion P (take i xs) → P (get_or xs i d)
+    → AllByRecursion P (take (i + 1) xs)
+AllByRecursion-more P xs i d below each one = subst (AllByRecursion P) (sym (take_more xs i d below)) (push (take i xs) each)
+  where
+    push : (ys : List _) → AllByRecursion P ys → AllByRecursion P (ys ++ get_or xs i d ∷ [])
+    push [] h = (one, tt)
+    push (y ∷ ys) h = (h.0, push ys h.1)
+
+-- ---- rows of months, and of them those of cells
+
+pub passes-both : (wanted : Filter) (parts : Parts) → (in_months wanted parts && in_cells wanted parts) ≡ meets wanted any_next parts
+unfolding passes_parts
+passes-both wanted parts =
+    all (is_since wanted.since parts.month) (is_until wanted.until parts.month)
+    (get_or wanted.speeds (speed_index parts.speed) false) (get_or wanted.groups (group_place parts.group.value) false)
+  where
+    all : (a b c d : Bool) → ((a && b) && (c && d)) ≡ ((((c && d) && a) && b) && true)
+    all true true true true = refl
+    all true true true false = refl
+    all true true false d = refl
+    all true false true true = refl
+    all true false true false = refl
+    all true false false d = refl
+    all false b true true = refl
+    all false b true false = refl
+    all false b false d = refl
+
+pub filter-rows_from : (key : List ℕ) (pick test : Parts → Bool) (first : ℕ) (tallies : List Counted)
+    → filter (λ hit. test (parts_of hit.row)) (rows_from key pick first tallies) ≡ rows_from key (λ parts. pick parts && test parts) first tallies
+unfolding rows_from picks
+filter-rows_from key pick test first [] = refl
+filter-rows_from key pick test first (tally ∷ tallies) =
+    filter-append (λ (hit : NumberedRow). test (parts_of hit.row)) (map (numbered first) (filter (picks key pick) tally.rows)) (rows_from key pick (first + length tally.classes) tallies)
+    ∙ ap (λ l. l ++ filter (λ hit. test (parts_of hit.row)) (rows_from key pick (first + length tally.classes) tallies))
+    (map-filter (λ (hit : NumberedRow). test (parts_of hit.row)) (numbered first) (filter (picks key pick) tally.rows)
+    ∙ ap (map (numbered first)) (filter-both (picks key pick) (λ row. test (parts_of row)) tally.rows
+    ∙ filter_agree (λ row. picks key pick row && test (parts_of row)) (picks key (λ parts. pick parts && test parts))
+    (λ row. three (bytes_eq row.key key) (pick (parts_of row)) (test (parts_of row))) tally.rows))
+    ∙ ap (λ l. map (numbered first) (filter (picks key (λ parts. pick parts && test parts)) tally.rows) ++ l)
+    (filter-rows_from key pick test (first + length tally.classes) tallies)
+  where
+    three : (a b c : Bool) → ((a && b) && c) ≡ (a && (b && c))
+    three true b c = refl
+    three false b c = refl
+
+-- the rows of the wanted months, speeds and groups
+pub cells-kept : (key : List ℕ) (wanted : Filter) (tallies : List Counted)
+    → filter (λ hit. in_cells wanted (parts_of hit.row)) (rows_from key (in_months wanted) 0 tallies) ≡ rows_from key (meets wanted any_next) 0 tallies
+cells-kept key wanted tallies =
+    filter-rows_from key (in_months wanted) (in_cells wanted) 0 tallies
+    ∙ ap (λ pick. rows_from key pick 0 tallies) (λ i parts. passes-both wanted parts i)

@@ -1,0 +1,77 @@
+-- Places in lists one after another, as loops come to them.
+use Rattle.std.proofs.Common.{◌≡◌, ℕ, zero, suc, ◌+◌, ◌-◌, ◌<◌, ◌≤◌, Bool, true, false, cond, List, [], ◌∷◌, ◌++◌, length, take, drop, get_or, map, Option, Some, None, refl, sym, ap, ◌∙◌, arith}
+use Rattle.std.specs.Prelude.{option_and_then, filter_map}
+use Rattle.std.specs.List.{cons_option, find, slice_get}
+use Rattle.std.proofs.lemmas.List.{take_more, drop_more, drop_all, length-map}
+use Rattle.std.proofs.lemmas.List.Elements.{filter_map-append}
+use Rattle.best_lists.specs.declared.entry.Entry.{Entry}
+use Rattle.lookup.specs.declared.hits.Hit.{Hit}
+use Rattle.lookup.specs.Hits.{NumberedRow, hit_as}
+use Rattle.lookup.specs.Listing.{lists_number, next_where, all_classes}
+use Rattle.lookup.proofs.Rows.{hit-within, hit-at}
+use Rattle.tally_rows.specs.declared.row.Row.{Row}
+use Rattle.tally_rows.specs.Tally.{Counted}
+
+-- ---- places in lists one after another
+
+pub get-left : {X : Type 0} (xs ys : List X) (k : ℕ) → k < length xs → slice_get (xs ++ ys) k ≡ slice_get xs k
+get-left [] ys k within = absurd (omega arith)
+get-left (x ∷ xs) ys zero within = refl
+get-left (x ∷ xs) ys (suc k) within = get-left xs ys k (omega arith)
+
+pub get-right : {X : Type 0} (xs ys : List X) (k : ℕ) → length xs ≤ k → slice_get (xs ++ ys) k ≡ slice_get ys (k - length xs)
+get-right [] ys k past = (let e : k ≡ k - 0 = omega arith in ap (slice_get ys) e)
+get-right (x ∷ xs) ys zero past = absurd (omega arith)
+get-right (x ∷ xs) ys (suc k) past =
+    let e : k - length xs ≡ suc k - suc (length xs) = omega arith in
+    get-right xs ys k (omega arith) ∙ ap (slice_get ys) e
+
+-- ---- the first row that lists a number
+
+module _ (list : Row → List Entry) (hits : List Hit) (i : ℕ) (hit : Hit) (within : i < length hits) (is : hit ≡ get_or hits i hit) (number : ℕ) where
+  rest-is : drop i (map hit_as hits) ≡ hit_as hit ∷ drop (i + 1) (map hit_as hits)
+  rest-is =
+      drop_more (map hit_as hits) i (hit_as hit) (hit-within hits i hit within is)
+      ∙ ap (λ h. h ∷ drop (i + 1) (map hit_as hits)) (hit-at hits i hit within is)
+
+  next-by : (b : Bool) → lists_number list number (hit_as hit) ≡ b
+      → next_where list (drop i (map hit_as hits)) number ≡ cond b hit.row.now.next (next_where list (drop (i + 1) (map hit_as hits)) number)
+  unfolding next_where
+  next-by true lists =
+      ap (λ l. option_and_then (λ h. h.row.next) (find (lists_number list number) l)) rest-is
+      ∙ ap (λ b. option_and_then (λ (h : NumberedRow). h.row.next) (cond b (Some (hit_as hit)) (find (lists_number list number) (drop (i + 1) (map hit_as hits))))) lists
+  next-by false lists =
+      ap (λ l. option_and_then (λ h. h.row.next) (find (lists_number list number) l)) rest-is
+      ∙ ap (λ b. option_and_then (λ (h : NumberedRow). h.row.next) (cond b (Some (hit_as hit)) (find (lists_number list number) (drop (i + 1) (map hit_as hits))))) lists
+
+  pub next-found : lists_number list number (hit_as hit) ≡ true → next_where list (drop i (map hit_as hits)) number ≡ hit.row.now.next
+  next-found lists = next-by true lists
+
+  pub next-later : lists_number list number (hit_as hit) ≡ false
+      → next_where list (drop i (map hit_as hits)) number ≡ next_where list (drop (i + 1) (map hit_as hits)) number
+  next-later lists = next-by false lists
+
+pub next-none : (list : Row → List Entry) (hits : List Hit) (i number : ℕ) → length hits ≤ i → next_where list (drop i (map hit_as hits)) number ≡ None
+unfolding next_where
+next-none list hits i number beyond =
+    ap (λ l. option_and_then (λ (h : NumberedRow). h.row.next) (find (lists_number list number) l)) (drop_all i (map hit_as hits) (omega (arith, length-map hits hit_as)))
+
+-- ---- what is known of the game of a number
+
+module _ (tallies : List Counted) (i : ℕ) (tally : Counted) (within : i < length tallies) (is : tally ≡ get_or tallies i tally) (left : ℕ) where
+  classes-are : all_classes (drop i tallies) ≡ tally.classes ++ all_classes (drop (i + 1) tallies)
+  classes-are = ap all_classes (drop_more tallies i tally within ∙ ap (λ t. t ∷ drop (i + 1) tallies) (sym is))
+
+  pub classes-here : left < length tally.classes → slice_get (all_classes (drop i tallies)) left ≡ slice_get tally.classes left
+  classes-here below = ap (λ l. slice_get l left) classes-are ∙ get-left tally.classes (all_classes (drop (i + 1) tallies)) left below
+
+  pub classes-later : length tally.classes ≤ left → slice_get (all_classes (drop i tallies)) left ≡ slice_get (all_classes (drop (i + 1) tallies)) (left - length tally.classes)
+  classes-later past = ap (λ l. slice_get l left) classes-are ∙ get-right tally.classes (all_classes (drop (i + 1) tallies)) left past
+
+-- ---- what is found of one entry more
+
+pub found-next : {X Y : Type 0} (h : X → Option Y) (xs : List X) (i : ℕ) (d : X) → i < length xs → (found : Option Y) → h (get_or xs i d) ≡ found
+    → filter_map h (take (i + 1) xs) ≡ filter_map h (take i xs) ++ cons_option found []
+found-next h xs i d within found is =
+    ap (filter_map h) (take_more xs i d within) ∙ filter_map-append h (take i xs) (get_or xs i d ∷ [])
+    ∙ ap (λ f. filter_map h (take i xs) ++ cons_option f []) is

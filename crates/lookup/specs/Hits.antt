@@ -1,0 +1,60 @@
+-- Rows of a position, with the numbers that their games have among the games of all batches.
+use Rattle.std.specs.Prelude.{ℕ, ◌+◌, ◌*◌, ◌<◌, ◌≤◌, ◌^◌, Bool, false, ◌&&◌, List, [], ◌∷◌, ◌++◌, map, filter, length, slice_index_or}
+use Rattle.std.specs.List.{All, sum_by}
+use Rattle.explorer_model.specs.declared.query.Filter.{Filter}
+use Rattle.explorer_model.specs.Counting.{group_place, is_since, is_until}
+use Rattle.explorer_model.specs.Order.{speed_index}
+use Rattle.lookup.specs.declared.hits.Hit.{Hit}
+use Rattle.tally_rows.specs.declared.parts.Parts.{Parts}
+use Rattle.tally_rows.specs.declared.row.Row.{Row}
+use Rattle.tally_rows.specs.Recount.{picks}
+use Rattle.tally_rows.specs.Tally.{Counted}
+
+-- a row, and the number of the first game of its batch
+pub record NumberedRow : Type 0 where
+  pub row : Row
+  pub first : ℕ
+
+abbrev pub hit_as : Hit → NumberedRow
+hit_as hit = record { row = hit.row.now; first = hit.first }
+
+-- ---- which rows
+
+-- the month is among those that the filter takes
+abbrev pub in_months : Filter → Parts → Bool
+in_months wanted parts = is_since wanted.since parts.month && is_until wanted.until parts.month
+
+-- the speed and the group are among those that the filter takes
+abbrev pub in_cells : Filter → Parts → Bool
+in_cells wanted parts =
+    slice_index_or wanted.speeds (speed_index parts.speed) false && slice_index_or wanted.groups (group_place parts.group.value) false
+
+-- the rows of a position that are picked by their parts, of tallies whose games are numbered one after another from a first one on
+unfoldable pub rows_from : List ℕ → (Parts → Bool) → ℕ → List Counted → List NumberedRow
+rows_from key pick first [] = []
+rows_from key pick first (tally ∷ tallies) =
+    map (λ row. record { row = row; first = first }) (filter (picks key pick) tally.rows) ++ rows_from key pick (first + length tally.classes) tallies
+
+-- how many games the tallies count
+abbrev pub games_counted : List Counted → ℕ
+games_counted tallies = sum_by (λ tally. length tally.classes) tallies
+
+-- the most games that are counted
+abbrev pub game_limit : ℕ
+game_limit = 131072
+
+-- ---- what is known of such rows
+
+abbrev pub games_of : Row → ℕ
+games_of row = row.white + row.draws + row.black
+
+-- a row counts some game, a player's rating is less than 2^16, and the numbers of its games have room
+pub record IsSound (hit : NumberedRow) : Type 0 where
+  pub some : 0 < games_of hit.row
+  pub ratings : hit.row.ratings ≤ 65535 * games_of hit.row
+  pub top : All (λ entry. entry.number + hit.first < 2 ^ 32) hit.row.top
+  pub recent : All (λ entry. entry.number + hit.first < 2 ^ 32) hit.row.recent
+
+pub record AreSound (hits : List NumberedRow) : Type 0 where
+  pub each : All IsSound hits
+  pub few : sum_by (λ hit. games_of hit.row) hits ≤ game_limit

@@ -1,0 +1,61 @@
+-- The games of entries, as they are looked up by their numbers.
+use Rattle.std.specs.Prelude.{◌≡◌, ℕ, ◌+◌, ◌==◌, Bool, List, map, Option, Some, option_map, option_and_then}
+use Rattle.std.specs.List.{All, AllByRecursion, Contains, find, flat_map, list_any, slice_get}
+use Rattle.best_lists.specs.declared.entry.Entry.{Entry}
+use Rattle.explorer_model.specs.Counting.{any_next}
+use Rattle.explorer_model.specs.declared.answer.Listed.{Listed}
+use Rattle.explorer_model.specs.declared.archive.Classes.{Classes}
+use Rattle.explorer_model.specs.declared.chess.Move.{Move}
+use Rattle.explorer_model.specs.declared.query.Filter.{Filter}
+use Rattle.lookup.specs.declared.listing.Listing.{Listing}
+use Rattle.lookup.specs.declared.listing.Listing.TheVariants.{Top, Recent}
+use Rattle.lookup.specs.Hits.{NumberedRow, rows_from}
+use Rattle.lookup.specs.Sums.{entries_where}
+use Rattle.lookup.specs.Tallies.{tracks_in}
+use Rattle.tally_rows.specs.declared.row.Row.{Row}
+use Rattle.tally_rows.specs.Cover.{meets, listing, only_entry}
+use Rattle.tally_rows.specs.Recount.{all_of}
+use Rattle.tally_rows.specs.Tally.{Counted, IsCounted}
+
+-- the entries of a list of a row
+abbrev pub list_of : Listing → Row → List Entry
+list_of Top row = row.top
+list_of Recent row = row.recent
+
+module _ (list : Row → List Entry) where
+  -- whether the row lists the game of a number among all games
+  abbrev pub lists_number : ℕ → NumberedRow → Bool
+  lists_number number hit = list_any (λ entry. entry.number + hit.first == number) (list hit.row)
+
+  -- the move of the first row that lists the game
+  unfoldable pub next_where : List NumberedRow → ℕ → Option Move
+  next_where hits number = option_and_then (λ hit. hit.row.next) (find (lists_number number) hits)
+
+-- what is known of all games, in the order of their numbers
+abbrev pub all_classes : List Counted → List Classes
+all_classes tallies = flat_map (λ tally. tally.classes) tallies
+
+-- the game of a number, with its move
+abbrev pub listed_where : (Row → List Entry) → List Counted → List NumberedRow → ℕ → Option Listed
+listed_where list tallies hits number =
+    option_and_then (λ next. option_map (λ classes. record { next = next; classes = classes }) (slice_get (all_classes tallies) number))
+    (next_where list hits number)
+
+-- the rows are those of a position, and the entries are theirs
+pub record AreEntriesOf (list : Row → List Entry) (key : List ℕ) (wanted : Filter) (tallies : List Counted) (hits : List NumberedRow) (test : Row → Bool) (entries : List Entry) : Type 0 where
+  pub rows : hits ≡ rows_from key (meets wanted any_next) 0 tallies
+  pub stand : All (λ entry. Contains (entries_where hits test list) entry) entries
+
+-- what is listed are the games of the entries
+abbrev pub IsListingOf : (Row → List Entry) → List Counted → List NumberedRow → List Entry → List Listed → Type 0
+IsListingOf list tallies hits entries listed =
+    (key : List ℕ) (wanted : Filter) (test : Row → Bool) (each : AllByRecursion IsCounted tallies)
+    → AreEntriesOf list key wanted tallies hits test entries
+    → map Some listed ≡ map (listing key (all_of (tracks_in tallies each))) entries
+
+-- the game of the one entry is listed, or nothing
+abbrev pub IsOnlyListingOf : (Row → List Entry) → List Counted → List NumberedRow → List Entry → Option Listed → Type 0
+IsOnlyListingOf list tallies hits entries game =
+    (key : List ℕ) (wanted : Filter) (test : Row → Bool) (each : AllByRecursion IsCounted tallies)
+    → AreEntriesOf list key wanted tallies hits test entries
+    → game ≡ option_and_then (listing key (all_of (tracks_in tallies each))) (only_entry entries)

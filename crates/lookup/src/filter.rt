@@ -1,0 +1,67 @@
+//! Which rows a filter takes.
+ghost use Rattle.std.specs.Prelude.{◌≡◌, ◌==◌, false, position, slice_index_or};
+ghost use Rattle.explorer_model.specs.Counting.{group_place, group_ratings, month_number, is_since, is_until};
+ghost use Rattle.lookup.specs.Hits.{in_months, in_cells};
+ghost use Rattle.tally_rows.specs.Row.{parts_of};
+
+use explorer_model::archive::{Group, Month};
+use explorer_model::query::Filter;
+use tally_rows::Row;
+
+/// The least ratings of the groups.
+const GROUP_RATINGS: [u16; 9] = [0, 1000, 1200, 1400, 1600, 1800, 2000, 2200, 2500];
+
+/// Whether the filter takes the row's month.
+pub fn is_in_months(filter: &Filter, row: &Row) -> bool
+    ensures { result ≡ in_months filter.now (parts_of row.now) }
+{
+    is_since(filter.since, row.month) && is_until(filter.until, row.month)
+}
+
+/// Whether the filter takes the row's speed and group.
+pub fn is_in_cells(filter: &Filter, row: &Row) -> bool
+    ensures { result ≡ in_cells filter.now (parts_of row.now) }
+{
+    filter.speeds[usize::from(row.speed.index())] && is_in_groups(filter, row.group)
+}
+
+/// The place of the group among the groups, 0 to 8, or None for a rating that is no group's least.
+pub fn group_place(group: Group) -> Option<usize>
+    ensures { result ≡ position (λ least. least == group.value) group_ratings }
+{
+    GROUP_RATINGS.iter().position(|least| *least == group.value)
+}
+
+fn is_in_groups(filter: &Filter, group: Group) -> bool
+    ensures { result ≡ slice_index_or filter.now.groups (group_place group.value) false }
+{
+    match group_place(group) {
+        Some(place) => filter.groups[place],
+        None => false,
+    }
+}
+
+/// Months in their order in time.
+fn month_number(month: Month) -> u32
+    ensures { result ≡ month_number month }
+{
+    12 * u32::from(month.year) + u32::from(month.month)
+}
+
+fn is_since(since: Option<Month>, month: Month) -> bool
+    ensures { result ≡ is_since since month }
+{
+    match since {
+        Some(first) => month_number(first) <= month_number(month),
+        None => true,
+    }
+}
+
+fn is_until(until: Option<Month>, month: Month) -> bool
+    ensures { result ≡ is_until until month }
+{
+    match until {
+        Some(last) => month_number(month) <= month_number(last),
+        None => true,
+    }
+}

@@ -1,0 +1,87 @@
+//! The rows that a query counts.
+ghost use Rattle.std.specs.Prelude.{◌≡◌, ℕ, ◌≤◌, Bool, List, ◌++◌, map, filter, bytes_eq, IfOk, OnOk};
+ghost use Rattle.std.specs.List.{AllByRecursion};
+ghost use Rattle.lookup.specs.Hits.{AreSound, hit_as, in_months, in_cells, rows_from, games_counted, game_limit};
+ghost use Rattle.tally_rows.specs.declared.parts.Parts.{Parts};
+ghost use Rattle.tally_rows.specs.Row.{parts_of};
+ghost use Rattle.tally_rows.specs.Tally.{Counted, IsCounted};
+
+use crate::filter::{is_in_cells, is_in_months};
+use crate::rows_at::rows_at;
+use explorer_model::query::Filter;
+use std::alloc::{AllocError, Global};
+use tally_rows::laws::{cover_gives_what_is_picked, tallied_rows_are_sound};
+use tally_rows::{Row, Tally};
+
+/// A row of the position that is asked for.
+#[derive(Clone, Copy, Debug)]
+pub struct Hit<'a> {
+    pub row: &'a Row,
+    /// The number of the first game of the row's batch.
+    pub first: u32,
+}
+
+/// The rows of the position with the key whose month the filter takes, of all speeds and groups.
+pub fn hits_in_months<'a>(
+    alloc: Global,
+    tallies: &'a [Tally],
+    key: &[u8; 34],
+    wanted: &Filter,
+) -> Result<Vec<Hit<'a>>, AllocError>
+    requires few { games_counted tallies.now ≤ game_limit }
+    ensures rows { IfOk result (λ hits. map hit_as hits.items ≡ rows_from key.now (in_months wanted.now) 0 tallies.now) }
+    ensures counted { IfOk result (λ _. AllByRecursion IsCounted tallies.now) }
+{
+    let mut hits = Vec::new(alloc);
+    let mut first = 0;
+    for tally in tallies {
+        add_hits(&mut hits, rows_of(tally, key), first, wanted)?;
+        first += tally.classes().len() as u32;
+    }
+    Ok(hits)
+}
+
+/// The tally's rows of the position with the key.
+fn rows_of<'a>(tally: &'a Tally, key: &[u8; 34]) -> &'a [Row]
+    ensures rows { result.now ≡ filter (λ row. bytes_eq row.key key.now) tally.now.rows }
+    ensures counted { IsCounted tally.now }
+{
+    // What a tally is known to be says that its rows are in order.
+    let _counted = tally.batch();
+    rows_at(tally.rows(), key)
+}
+
+/// Adds those of the rows whose month the filter takes.
+fn add_hits<'a>(
+    hits: &mut Vec<Hit<'a>>,
+    rows: &'a [Row],
+    first: u32,
+    wanted: &Filter,
+) -> Result<(), AllocError>
+    ensures { OnOk result (map hit_as hits.new.items
+        ≡ map hit_as hits.old.items ++ map (λ row. record { row = row; first = first }) (filter (λ row. in_months wanted.now (parts_of row)) rows.now)) }
+{
+    for row in rows {
+        if is_in_months(wanted, row) {
+            hits.push(Hit { row, first })?;
+        }
+    }
+    Ok(())
+}
+
+/// Those of the rows whose speed and group the filter takes.
+pub fn keep_cells<'a>(mut hits: Vec<Hit<'a>>, wanted: &Filter) -> Vec<Hit<'a>>
+    ensures { map hit_as result.items ≡ filter (λ hit. in_cells wanted.now (parts_of hit.row)) (map hit_as hits.entry.items) }
+{
+    hits.retain(|hit| is_in_cells(wanted, hit.row));
+    hits
+}
+
+/// The law that rows which are picked of tallies are sound, however they are picked.
+pub fn picked_rows_are_sound()
+    ensures { (tallies : List Counted) → AllByRecursion IsCounted tallies → games_counted tallies ≤ game_limit
+        → (key : List ℕ) (pick : Parts → Bool) → AreSound (rows_from key pick 0 tallies) }
+{
+    cover_gives_what_is_picked();
+    tallied_rows_are_sound();
+}

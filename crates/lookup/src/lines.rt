@@ -1,0 +1,99 @@
+//! The lines of moves in an answer.
+ghost use Rattle.std.specs.Prelude.{◌≡◌, ◌≢◌, ◌↔◌, ◌/◌, ◌*◌, ◌<◌, ◌≤◌, ℕ, List, map, IfOk, option_and_then};
+ghost use Rattle.std.specs.List.{AllByRecursion, AllPairs, AllZip, Contains};
+ghost use Rattle.explorer_model.specs.declared.chess.Move.{Move};
+ghost use Rattle.explorer_model.specs.declared.query.Filter.{Filter};
+ghost use Rattle.explorer_model.specs.Chess.{Legal};
+ghost use Rattle.explorer_model.specs.Counting.{any_next, total};
+ghost use Rattle.lookup.specs.Hits.{hit_as, rows_from, game_limit, AreSound};
+ghost use Rattle.lookup.specs.Lines.{IsAveraged, IsLineMade};
+ghost use Rattle.lookup.specs.MoveSums.{sum_as};
+ghost use Rattle.lookup.specs.Sums.{top_where, plays};
+ghost use Rattle.lookup.specs.Tallies.{tracks_in};
+ghost use Rattle.tally_rows.specs.Cover.{meets, listing, only_entry};
+ghost use Rattle.tally_rows.specs.Recount.{all_of};
+ghost use Rattle.tally_rows.specs.Tally.{IsCounted};
+
+use crate::best_games::top_of_move;
+use crate::hits::Hit;
+use crate::listing::only_listed;
+use crate::moves::MoveSum;
+use crate::notation::san_of;
+use explorer_model::answer::{Listed, MoveLine};
+use explorer_model::chess::Move as Step;
+use legal_moves::board::Board;
+use std::alloc::{AllocError, Global};
+use tally_rows::Tally;
+
+/// The lines of moves that are legal on the board, in their order.
+pub fn lines_of(
+    alloc: Global,
+    board: &Board,
+    tallies: &[Tally],
+    hits: &[Hit],
+    sums: &[MoveSum],
+) -> Result<Vec<MoveLine>, AllocError>
+    requires sound { AreSound (map hit_as hits.now) }
+    requires legal { AllByRecursion (λ sum. Legal board.now sum.next) sums.now }
+    requires averaged { AllByRecursion (λ sum. IsAveraged (map hit_as hits.now) sum.next) sums.now }
+    requires sums { AllByRecursion (λ sum. sum ≡ sum_as (map hit_as hits.now) sum.next) sums.now }
+    ensures { IfOk result (λ lines. AllZip (λ sum line. IsLineMade board.now tallies.now (map hit_as hits.now) sum.next line) sums.now lines.items) }
+{
+    let legal = board.legal();
+    let mut lines = Vec::with_capacity(alloc, sums.len())?;
+    for sum in sums {
+        lines.push(line_of(alloc, board, legal.as_slice(), tallies, hits, sum)?)?;
+    }
+    Ok(lines)
+}
+
+/// The line of a move; `legal` are the legal moves of the board.
+fn line_of(
+    alloc: Global,
+    board: &Board,
+    legal: &[Step],
+    tallies: &[Tally],
+    hits: &[Hit],
+    sum: &MoveSum,
+) -> Result<MoveLine, AllocError>
+    requires each { (m : Move) → Contains legal.now m ↔ Legal board.now m }
+    requires once { AllPairs (λ a b. a ≢ b) legal.now }
+    requires sound { AreSound (map hit_as hits.now) }
+    requires legal { Legal board.now sum.now.next }
+    requires averaged { IsAveraged (map hit_as hits.now) sum.now.next }
+    requires sum { sum.now ≡ sum_as (map hit_as hits.now) sum.now.next }
+    ensures { IfOk result (λ line. IsLineMade board.now tallies.now (map hit_as hits.now) sum.now.next line) }
+{
+    Ok(MoveLine {
+        next: sum.next,
+        san: san_of(alloc, board, legal, sum.next)?,
+        average: average_of(sum),
+        totals: sum.totals,
+        game: only_game(alloc, tallies, hits, sum.next)?,
+    })
+}
+
+/// The mean rating of those who played the move, rounded down.
+fn average_of(sum: &MoveSum) -> u32
+    requires played { 0 < total sum.now.totals }
+    requires few { total sum.now.totals ≤ game_limit }
+    requires rated { sum.now.ratings ≤ 65535 * total sum.now.totals }
+    ensures { result ≡ sum.now.ratings / total sum.now.totals }
+{
+    (sum.ratings / (sum.totals.white + sum.totals.draws + sum.totals.black)) as u32
+}
+
+/// The game of a move that just one game plays.
+fn only_game(
+    alloc: Global,
+    tallies: &[Tally],
+    hits: &[Hit],
+    next: Step,
+) -> Result<Option<Listed>, AllocError>
+    requires { AreSound (map hit_as hits.now) }
+    ensures { IfOk result (λ game. (key : List ℕ) (wanted : Filter) (each : AllByRecursion IsCounted tallies.now)
+        → map hit_as hits.now ≡ rows_from key (meets wanted any_next) 0 tallies.now
+        → game ≡ option_and_then (listing key (all_of (tracks_in tallies.now each))) (only_entry (top_where (map hit_as hits.now) (plays next)))) }
+{
+    only_listed(alloc, tallies, hits, top_of_move(hits, next).entries())
+}

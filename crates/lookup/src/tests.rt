@@ -1,0 +1,303 @@
+ghost use Rattle.std.specs.Prelude.{◌≤◌, length, IsTrue, IfOk, IfSome};
+ghost use Rattle.std.specs.List.{All};
+ghost use Rattle.explorer_model.specs.Chess.{IsValid};
+ghost use Rattle.lookup.specs.Hits.{games_counted, game_limit};
+
+use crate::look_rows;
+use batch_tally::tally;
+use explorer_model::answer::{Found, Listed, MonthLine, MoveLine, Totals};
+use explorer_model::archive::{Bytes, Month, Placed};
+use explorer_model::list::Items;
+use explorer_model::query::{Filter, Query};
+use legal_moves::board::Board;
+use outside::FreeGate;
+use std::alloc::{AllocError, Global};
+use std::str;
+use std::test::Fail;
+use tally_rows::Tally;
+
+/// A game, told apart by White's name of three letters.
+#[derive(Clone, Copy)]
+struct Played<'a> {
+    white: &'a str,
+    ratings: (u16, u16),
+    time: &'a str,
+    date: &'a str,
+    moves: &'a str,
+    result: &'a str,
+}
+
+fn text_of(alloc: Global, game: &Played) -> Result<Placed, AllocError> {
+    let (white, date, time) = (game.white, game.date, game.time);
+    let (own, other) = game.ratings;
+    let (moves, result) = (game.moves, game.result);
+    let text = format!(in alloc;
+        "[Event \"Rated game\"]\n[Site \"https://lichess.org/{white}00000\"]\n\
+         [White \"{white}\"]\n[Black \"Bob\"]\n[Result \"{result}\"]\n[UTCDate \"{date}\"]\n\
+         [WhiteElo \"{own}\"]\n[BlackElo \"{other}\"]\n[TimeControl \"{time}\"]\n\n{moves} {result}\n"
+    )?;
+    Ok(Placed {
+        place: 0,
+        bytes: Bytes::from_vec(text.into_bytes()),
+    })
+}
+
+fn are_short(texts: &[Placed]) -> bool
+    ensures { IsTrue result → All (λ text. length text.bytes ≤ 65536) texts.now }
+{
+    for text in texts {
+        if 65_536 < text.bytes.len() {
+            return false;
+        }
+    }
+    true
+}
+
+fn tally_of(alloc: Global, games: &[Played]) -> Result<Option<Tally>, AllocError> {
+    let mut texts = Vec::new(alloc);
+    for game in games {
+        texts.push(text_of(alloc, game)?)?;
+    }
+    if 512 < texts.len() || !are_short(texts.as_slice()) {
+        return Ok(None);
+    }
+    Ok(tally(alloc, texts, 1, &FreeGate)?.tally)
+}
+
+/// Both, where they are as small as batches are.
+fn both(first: Tally, second: Tally) -> Option<[Tally; 2]>
+    ensures { IfSome result (λ tallies. games_counted tallies ≤ game_limit) }
+{
+    if 512 < first.classes().len() || 512 < second.classes().len() {
+        return None;
+    }
+    Some([first, second])
+}
+
+/// What is asked of the starting position.
+#[derive(Clone, Copy)]
+struct Asked {
+    filter: Filter,
+    moves: u32,
+    top: u8,
+    recent: u8,
+    history: bool,
+}
+
+const EVERY_GAME: Filter = Filter {
+    speeds: [true; 6],
+    groups: [true; 9],
+    since: None,
+    until: None,
+};
+
+fn everything_of(filter: Filter) -> Asked {
+    Asked {
+        filter,
+        moves: 12,
+        top: 4,
+        recent: 4,
+        history: true,
+    }
+}
+
+fn query_of(alloc: Global, asked: &Asked) -> Query
+    ensures at { IsValid result.at }
+    ensures top { result.top ≤ 4 }
+    ensures recent { result.recent ≤ 4 }
+{
+    let start = Board::start().position();
+    Query {
+        root: start,
+        plays: Items::from_vec(Vec::new(alloc)),
+        at: start,
+        filter: asked.filter,
+        moves: asked.moves,
+        top: asked.top.min(4),
+        recent: asked.recent.min(4),
+        history: asked.history,
+    }
+}
+
+fn push_totals(alloc: Global, text: &mut String, totals: &Totals) -> Result<(), AllocError> {
+    let (white, draws, black) = (totals.white, totals.draws, totals.black);
+    text.push_str(format!(in alloc; "{white}/{draws}/{black}")?.as_str())
+}
+
+fn push_games(text: &mut String, games: &[Listed]) -> Result<(), AllocError> {
+    for game in games {
+        text.push_str(" ")?;
+        text.push_str(game.classes.white.name.as_str())?;
+    }
+    Ok(())
+}
+
+fn push_moves(alloc: Global, text: &mut String, lines: &[MoveLine]) -> Result<(), AllocError> {
+    for line in lines {
+        let san = str::from_utf8(line.san.as_slice()).unwrap_or("?");
+        let average = line.average;
+        text.push_str(format!(in alloc; " {san} {average} ")?.as_str())?;
+        push_totals(alloc, text, &line.totals)?;
+        if let Some(game) = &line.game {
+            text.push_str(" ")?;
+            text.push_str(game.classes.white.name.as_str())?;
+        }
+    }
+    Ok(())
+}
+
+fn push_months(alloc: Global, text: &mut String, lines: &[MonthLine]) -> Result<(), AllocError> {
+    for line in lines {
+        let (year, month) = (line.month.year, line.month.month);
+        text.push_str(format!(in alloc; " {year}-{month} ")?.as_str())?;
+        push_totals(alloc, text, &line.totals)?;
+    }
+    Ok(())
+}
+
+/// The answer in one line; a game stands there as its White's name.
+fn told(alloc: Global, found: &Found) -> Result<String, AllocError> {
+    let mut text = String::new(alloc);
+    push_totals(alloc, &mut text, &found.totals)?;
+    text.push_str("; moves")?;
+    push_moves(alloc, &mut text, found.moves.as_slice())?;
+    text.push_str("; top")?;
+    push_games(&mut text, found.top.as_slice())?;
+    text.push_str("; recent")?;
+    push_games(&mut text, found.recent.as_slice())?;
+    if let Some(months) = &found.history {
+        text.push_str("; months")?;
+        push_months(alloc, &mut text, months.as_slice())?;
+    }
+    Ok(text)
+}
+
+fn ann() -> Played<'static> {
+    Played {
+        white: "Ann",
+        ratings: (1500, 1400),
+        time: "300+0",
+        date: "2020.01.15",
+        moves: "1. e4 e5",
+        result: "1-0",
+    }
+}
+
+fn first_batch(alloc: Global) -> Result<Option<Tally>, AllocError> {
+    let bea = Played {
+        white: "Bea",
+        ratings: (1702, 1700),
+        time: "600+0",
+        date: "2020.02.01",
+        moves: "1. e4 c5",
+        result: "0-1",
+    };
+    tally_of(alloc, &[ann(), bea])
+}
+
+fn second_batch(alloc: Global) -> Result<Option<Tally>, AllocError> {
+    let cid = Played {
+        white: "Cid",
+        ratings: (2000, 1900),
+        date: "2019.12.31",
+        moves: "1. d4 d5",
+        result: "1/2-1/2",
+        ..ann()
+    };
+    let dan = Played {
+        white: "Dan",
+        ratings: (1500, 1450),
+        date: "2020.02.29",
+        moves: "1. e4",
+        ..ann()
+    };
+    let eve = Played {
+        white: "Eve",
+        moves: "",
+        ..ann()
+    };
+    tally_of(alloc, &[cid, dan, eve])
+}
+
+fn two_batches(alloc: Global) -> Result<Option<[Tally; 2]>, AllocError>
+    ensures { IfOk result (λ made. IfSome made (λ tallies. games_counted tallies ≤ game_limit)) }
+{
+    match (first_batch(alloc)?, second_batch(alloc)?) {
+        (Some(first), Some(second)) => Ok(both(first, second)),
+        _ => Ok(None),
+    }
+}
+
+/// Everything of the rapid games, of the group of 1400, since January 2020, and until then.
+fn narrowed() -> [Asked; 4] {
+    let january = Some(Month {
+        year: 2020,
+        month: 1,
+    });
+    [
+        everything_of(Filter {
+            speeds: [false, false, false, true, false, false],
+            ..EVERY_GAME
+        }),
+        everything_of(Filter {
+            groups: [false, false, false, true, false, false, false, false, false],
+            ..EVERY_GAME
+        }),
+        everything_of(Filter {
+            since: january,
+            ..EVERY_GAME
+        }),
+        everything_of(Filter {
+            until: january,
+            ..EVERY_GAME
+        }),
+    ]
+}
+
+#[test]
+fn two_batches_with_every_filter(rt: HostRuntime) -> Result<(), Fail> {
+    let Some(tallies) = two_batches(rt.alloc())? else {
+        assert!(rt; false);
+        return Ok(());
+    };
+    let [rapid, group_1400, since, until] = narrowed();
+    let short = Asked {
+        moves: 1,
+        top: 2,
+        recent: 1,
+        history: false,
+        ..everything_of(EVERY_GAME)
+    };
+    let table = [
+        (
+            everything_of(EVERY_GAME),
+            "3/1/1; moves e4 1567 2/0/1 d4 2000 0/1/0 Cid; top Cid Bea Dan Ann; \
+             recent Dan Bea Ann Cid; months 2019-12 0/1/0 2020-1 2/0/0 2020-2 1/0/1",
+        ),
+        (
+            rapid,
+            "0/0/1; moves e4 1702 0/0/1 Bea; top Bea; recent Bea; months 2020-2 0/0/1",
+        ),
+        (
+            group_1400,
+            "3/0/0; moves e4 1500 2/0/0; top Dan Ann; recent Dan Ann; \
+             months 2020-1 2/0/0 2020-2 1/0/0",
+        ),
+        (
+            since,
+            "3/0/1; moves e4 1567 2/0/1; top Bea Dan Ann; recent Dan Bea Ann; \
+             months 2020-1 2/0/0 2020-2 1/0/1",
+        ),
+        (
+            until,
+            "2/1/0; moves d4 2000 0/1/0 Cid e4 1500 1/0/0 Ann; top Cid Ann; recent Ann Cid; \
+             months 2019-12 0/1/0 2020-1 2/0/0",
+        ),
+        (short, "3/1/1; moves e4 1567 2/0/1; top Cid Bea; recent Dan"),
+    ];
+    for (asked, answer) in &table {
+        let found = look_rows(rt.alloc(), &tallies, &query_of(rt.alloc(), asked))?;
+        assert_eq!(rt; told(rt.alloc(), &found)?.as_str(), *answer);
+    }
+    Ok(())
+}
