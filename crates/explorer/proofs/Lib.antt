@@ -1,5 +1,14 @@
+pub mod Answering
 pub mod Asking
+pub mod Commands
 pub mod Ending
-pub mod Judging
-pub mod Reading
-pub mod Telling
+pub mod Feeding
+pub mod Groups
+pub mod Holding
+pub mod Matching
+pub mod Merging
+pub mod Places
+pub mod Settling
+pub mod Shortness
+pub mod Stops
+pub mod Taking

@@ -1,6 +1,6 @@
 pub mod Asked
-pub mod Counting
 pub mod Faults
-pub mod Judged
+pub mod Grouping
+pub mod Importing
 pub mod Report
 pub mod Run

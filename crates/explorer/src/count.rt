@@ -1,25 +1,25 @@
-ghost use Rattle.std.specs.Prelude.{◌≡◌, ◌≢◌, ◌⊎◌, ◌+◌, ◌<◌, ◌≤◌, ◌^◌, ℕ, List, [], ◌∷◌, ◌++◌, length, true, false, Some, Err, IfSome, IfOk, IfErr, OnOk, OnErr};
+//! The command `count`: reads a stream, tallies its games and answers a query.
+ghost use Rattle.std.specs.Prelude.{◌≡◌, ◌≢◌, ◌⊎◌, ◌+◌, ◌<◌, ◌≤◌, ◌^◌, ℕ, List, Option, [], ◌++◌, length, true, false, Some, Ok, Err, IfSome, IfOk, IfErr, OnOk, OnErr};
 ghost use Rattle.outside.specs.Stream.{Rose, NeverFalls};
-ghost use Rattle.explorer_model.specs.Answer.{answer_body};
+ghost use Rattle.explorer_model.specs.Cuts.{cuts};
+ghost use Rattle.explorer_model.specs.Query.{QueryReads};
+ghost use Rattle.explorer_model.specs.declared.query.BadParameter.{BadParameter as ABadParameter};
 ghost use Rattle.pgn_cut.specs.Cutter.{came, cuts_of_rest};
-ghost use Rattle.explorer.specs.declared.judged.Verdict.TheVariants.{Accepted};
-ghost use Rattle.explorer.specs.Faults.{StopsReading, HasCause, IsFaultless, moment};
-ghost use Rattle.explorer.specs.Run.{IsCounted};
-ghost use Rattle.explorer.specs.Report.{found_with, report_line};
-ghost use Rattle.explorer.specs.Counting.{CountsCuts, Feeds, Grew, IsRead, games, counted_on};
+ghost use Rattle.explorer.specs.declared.command.Command.{Command as ACommand};
+ghost use Rattle.explorer.specs.Asked.{Asks};
+ghost use Rattle.explorer.specs.Faults.{StopsReading, HasCause, IsFaultOf, IsFaultless, moment};
+ghost use Rattle.explorer.specs.Importing.{Ends, Feeds, Fills, Grew, IsRead, IsReady, WhereFull};
+ghost use Rattle.explorer.specs.Run.{IsCounted, query_string};
 
+use crate::answer::line_for;
 use crate::fault::Fault;
-use crate::judged::{Judged, Verdict, judge};
-use answer_json::answer::body;
-use answer_json::refusal::why_text;
-use explorer_model::answer::{Found, Totals};
-use explorer_model::archive::Outcome;
-use explorer_model::fault::Why;
-use explorer_model::list::Items;
+use crate::import::{Full, Import};
+use explorer_model::fault::Stop;
 use outside::{Sink, Source};
-use pgn_cut::cut::Cut;
 use pgn_cut::cutter::Cutter;
-use std::alloc::{AllocError, Global};
+use query_params::laws::query_is_determined;
+use query_params::query;
+use std::alloc::Global;
 
 /// How many bytes of input a run takes at most.
 pub const LIMIT: u64 = 1 << 40;
@@ -27,179 +27,88 @@ pub const LIMIT: u64 = 1 << 40;
 /// How many bytes one read asks for.
 const BUFFER: usize = 4096;
 
-/// What was counted so far, and whether each report line was written.
-#[derive(Clone, Copy, Debug)]
-pub struct Counted {
-    pub totals: Totals,
-    pub all_reported: bool,
-}
-
-impl Counted {
-    ghost use Rattle.std.specs.Prelude.{◌≡◌, ◌+◌, ◌<◌, ◌≤◌, ◌^◌, [], ◌∷◌, IfSome, OnOk, OnErr};
-    ghost use Rattle.pgn_cut.specs.Cut.{meaning, cuts_in};
-    ghost use Rattle.explorer.specs.Judged.{IsShort};
-    ghost use Rattle.explorer.specs.Counting.{Counts, CountsCuts, games, counted_on, none_counted};
-
-    fn new() -> Self
-        ensures { result ≡ none_counted }
-    {
-        Counted {
-            totals: Totals::default(),
-            all_reported: true,
-        }
-    }
-
-    /// Judges the cut, if there is one, and counts or reports it.
-    fn settle<E: Sink>(
-        &mut self,
-        alloc: Global,
-        cut: Option<Cut>,
-        errors: &mut E,
-    ) -> Result<(), AllocError>
-        requires short { IfSome cut (λ cut. IsShort (meaning cut)) }
-        requires games { games self.old.totals < 2 ^ 63 }
-        ensures games { games self.new.totals ≤ games self.old.totals + 1 }
-        ensures counts { OnOk result (CountsCuts self.old self.new (E.written errors.old) (E.written errors.new) (E.write_fault_count errors.old) (E.write_fault_count errors.new) (cuts_in cut)) }
-        ensures counter { OnErr result (self.new ≡ self.old) }
-        ensures written { OnErr result (E.written errors.new ≡ E.written errors.old) }
-        ensures faults { OnErr result (E.write_fault_count errors.new ≡ E.write_fault_count errors.old) }
-    {
-        let Some(cut) = cut else {
-            return Ok(());
-        };
-        let judged = judge(alloc, cut)?;
-        self.add(alloc, judged, errors)
-    }
-
-    /// Counts what was judged, or reports why it is refused.
-    fn add<E: Sink>(
-        &mut self,
-        alloc: Global,
-        judged: Judged,
-        errors: &mut E,
-    ) -> Result<(), AllocError>
-        requires { games self.old.totals < 2 ^ 63 }
-        ensures games { games self.new.totals ≤ games self.old.totals + 1 }
-        ensures counts { OnOk result (Counts self.old self.new (E.written errors.old) (E.written errors.new) (E.write_fault_count errors.old) (E.write_fault_count errors.new) (judged ∷ [])) }
-        ensures counter { OnErr result (self.new ≡ self.old) }
-        ensures written { OnErr result (E.written errors.new ≡ E.written errors.old) }
-        ensures faults { OnErr result (E.write_fault_count errors.new ≡ E.write_fault_count errors.old) }
-    {
-        match judged.verdict {
-            Verdict::Accepted(outcome) => {
-                self.totals = with_one_more(self.totals, outcome);
-            }
-            Verdict::Refused(why) => {
-                let line = line_of(alloc, judged.place, &why)?;
-                if errors.write(line.as_slice()).is_err() {
-                    self.all_reported = false;
-                }
-            }
-        }
-        Ok(())
-    }
-}
-
-fn with_one_more(totals: Totals, outcome: Outcome) -> Totals
-    requires { games totals < 2 ^ 63 }
-    ensures { result ≡ counted_on totals (record { place = 0; verdict = Accepted outcome } ∷ []) }
-{
-    let mut totals = totals;
-    match outcome {
-        Outcome::White => totals.white += 1,
-        Outcome::Draw => totals.draws += 1,
-        Outcome::Black => totals.black += 1,
-    }
-    totals
-}
-
-fn line_of(alloc: Global, place: u64, why: &Why) -> Result<Vec<u8>, AllocError>
-    ensures { IfOk result (λ line. line.items ≡ report_line place why.now) }
-{
-    let mut line = place.to_string(alloc)?.into_bytes();
-    line.push(b' ')?;
-    line.extend_from_slice(why_text(alloc, why)?.as_slice())?;
-    line.push(b'\n')?;
-    Ok(line)
-}
-
-/// What is printed for the totals.
-fn answer_of(alloc: Global, totals: Totals) -> Result<Vec<u8>, AllocError>
-    ensures { IfOk result (λ text. text.items ≡ answer_body (found_with totals) ++ 10 ∷ []) }
-{
-    let found = Found {
-        totals,
-        moves: Items::from_vec(Vec::new(alloc)),
-        top: Items::from_vec(Vec::new(alloc)),
-        recent: Items::from_vec(Vec::new(alloc)),
-        history: None,
-    };
-    let mut text = body(alloc, &found)?;
-    text.push(b'\n')?;
-    Ok(text)
-}
-
-/// Cuts the next bytes of the stream, and counts or reports the cuts that end in them.
+/// Cuts the next bytes of the stream, and takes the cuts that end in them.
 fn feed<E: Sink>(
     alloc: Global,
     bytes: &[u8],
+    workers: usize,
     cutter: &mut Cutter,
-    counted: &mut Counted,
+    import: &mut Import,
     errors: &mut E,
-) -> Result<(), AllocError>
+) -> Result<(), Stop<Full>>
+    requires some_workers { 1 ≤ workers }
+    requires few_workers { workers ≤ 16 }
     requires room { came cutter.old + length bytes.now < 2 ^ 62 }
-    requires games { games counted.old.totals ≤ came cutter.old }
+    requires ready { IsReady import.old }
     ensures came { OnOk result (came cutter.new ≡ came cutter.old + length bytes.now) }
-    ensures games { OnOk result (games counted.new.totals ≤ came cutter.new) }
-    ensures feeds { OnOk result (Feeds (cuts_of_rest cutter.old) (cuts_of_rest cutter.new) counted.old counted.new (E.written errors.old) (E.written errors.new) (E.write_fault_count errors.old) (E.write_fault_count errors.new) bytes.now) }
-    ensures grew { counted.old.all_reported ≡ true → OnErr result (Grew (E.written errors.old) (E.written errors.new) (E.write_fault_count errors.old) (E.write_fault_count errors.new)) }
+    ensures ready { OnOk result (IsReady import.new) }
+    ensures feeds { OnOk result ((past : List ℕ) (w : Option (List ℕ)) (f : ℕ) → Feeds past (cuts_of_rest cutter.old) import.old w (E.written errors.old) f (E.write_fault_count errors.old)
+        → Feeds (past ++ bytes.now) (cuts_of_rest cutter.new) import.new w (E.written errors.new) f (E.write_fault_count errors.new)) }
+    ensures full { IfErr result (λ stop. WhereFull stop (λ games stored. (past : List ℕ) (w : Option (List ℕ)) (f : ℕ) (rest : List ℕ) → Feeds past (cuts_of_rest cutter.old) import.old w (E.written errors.old) f (E.write_fault_count errors.old)
+        → Fills games stored ((past ++ bytes.now) ++ rest))) }
+    ensures grew { Grew (E.written errors.old) (E.written errors.new) (E.write_fault_count errors.old) (E.write_fault_count errors.new) }
     ensures never_falls { NeverFalls (E.write_fault_count errors.old) (E.write_fault_count errors.new) }
 {
     let mut at = 0;
     'feeding: while at < bytes.len() {
         let fed = cutter.feed(alloc, &bytes[at..])?;
-        counted.settle(alloc, fed.cut, errors)?;
-        at += fed.taken;
+        match import.take(alloc, fed.cut, workers, errors) {
+            Ok(()) => at += fed.taken,
+            Err(stop) => return Err(stop),
+        }
     }
     Ok(())
 }
 
-/// Counts or reports the last cut of the stream.
+/// Takes the last cut of the stream.
 fn finish<E: Sink>(
     alloc: Global,
+    workers: usize,
     cutter: Cutter,
-    counted: Counted,
+    import: Import,
     errors: &mut E,
-) -> Result<Counted, AllocError>
-    requires { games counted.totals < 2 ^ 63 }
-    ensures counts { IfOk result (λ new. CountsCuts counted new (E.written errors.old) (E.written errors.new) (E.write_fault_count errors.old) (E.write_fault_count errors.new) (cuts_of_rest cutter [])) }
-    ensures written { OnErr result (E.written errors.new ≡ E.written errors.old) }
-    ensures faults { OnErr result (E.write_fault_count errors.new ≡ E.write_fault_count errors.old) }
+) -> Result<Import, Stop<Full>>
+    requires some_workers { 1 ≤ workers }
+    requires few_workers { workers ≤ 16 }
+    requires ready { IsReady import }
+    ensures ready { IfOk result (λ new. IsReady new) }
+    ensures ends { IfOk result (λ new. (stream : List ℕ) (w : Option (List ℕ)) (f : ℕ) → Feeds stream (cuts_of_rest cutter) import w (E.written errors.old) f (E.write_fault_count errors.old)
+        → Ends (cuts stream) new w (E.written errors.new) f (E.write_fault_count errors.new)) }
+    ensures full { IfErr result (λ stop. WhereFull stop (λ games bytes. (stream : List ℕ) (w : Option (List ℕ)) (f : ℕ) → Feeds stream (cuts_of_rest cutter) import w (E.written errors.old) f (E.write_fault_count errors.old)
+        → Fills games bytes stream)) }
+    ensures grew { Grew (E.written errors.old) (E.written errors.new) (E.write_fault_count errors.old) (E.write_fault_count errors.new) }
+    ensures never_falls { NeverFalls (E.write_fault_count errors.old) (E.write_fault_count errors.new) }
 {
-    let mut counted = counted;
-    counted.settle(alloc, cutter.end(), errors)?;
-    Ok(counted)
+    let mut import = import;
+    match import.finish(alloc, cutter.end(), workers, errors) {
+        Ok(()) => Ok(import),
+        Err(stop) => Err(stop),
+    }
 }
 
-/// Reads the input to its end, and counts or reports each of its cuts.
+/// Reads the input to its end, and stores or reports each of its cuts.
 fn read_all<I: Source, E: Sink>(
     alloc: Global,
+    workers: usize,
     input: &mut I,
     errors: &mut E,
-) -> Result<Counted, Fault>
-    ensures read { IfOk result (λ counted. IfSome (I.left input.old) (λ stream. IsRead stream (I.left input.new) (E.written errors.old) (E.written errors.new) counted)) }
-    ensures clean { IfOk result (λ counted. counted.all_reported ≡ true → E.write_fault_count errors.new ≡ E.write_fault_count errors.old) }
-    ensures lost { IfOk result (λ counted. counted.all_reported ≡ false → Rose (E.write_fault_count errors.old) (E.write_fault_count errors.new)) }
+) -> Result<Import, Fault>
+    requires some_workers { 1 ≤ workers }
+    requires few_workers { workers ≤ 16 }
+    ensures read { IfOk result (λ import. IfSome (I.left input.old) (λ stream. IsRead stream (I.left input.new) (E.written errors.old) (E.written errors.new) import)) }
+    ensures ready { IfOk result (λ import. IsReady import) }
+    ensures clean { IfOk result (λ import. import.all_reported ≡ true → E.write_fault_count errors.new ≡ E.write_fault_count errors.old) }
+    ensures lost { IfOk result (λ import. import.all_reported ≡ false → Rose (E.write_fault_count errors.old) (E.write_fault_count errors.new)) }
     ensures sound { OnOk result (I.read_fault_count input.new ≡ I.read_fault_count input.old) }
     ensures below { OnOk result (I.given input.new < I.given input.old + LIMIT) }
 
-    ensures stops { IfErr result (λ fault. StopsReading fault (I.given input.old) (I.given input.new) (I.read_fault_count input.old) (I.read_fault_count input.new)) }
-    ensures within { OnErr result (I.given input.new ≡ I.given input.old + LIMIT → (result ≡ Err Fault.TooMuchInput) ⊎ (result ≡ Err Fault.OutOfMemory)) }
+    ensures stops { IfErr result (λ fault. StopsReading fault (I.left input.old) (I.given input.old) (I.given input.new) (I.read_fault_count input.old) (I.read_fault_count input.new)) }
+    ensures within { OnErr result (I.given input.new ≡ I.given input.old + LIMIT → (result ≡ Err Fault.TooMuchInput) ⊎ (result ≡ Err Fault.OutOfMemory) ⊎ ((games : ℕ) × (bytes : ℕ) × (result ≡ Err (Fault.Full games bytes)))) }
     ensures grew { Grew (E.written errors.old) (E.written errors.new) (E.write_fault_count errors.old) (E.write_fault_count errors.new) }
     ensures never_falls { NeverFalls (E.write_fault_count errors.old) (E.write_fault_count errors.new) }
 {
     let mut cutter = Cutter::new();
-    let mut counted = Counted::new();
+    let mut import = Import::new(alloc);
     let mut buffer = [0; BUFFER];
     let mut taken = 0;
     'reading: while taken < LIMIT {
@@ -209,44 +118,77 @@ fn read_all<I: Source, E: Sink>(
             return Err(Fault::ReadFault);
         };
         if count == 0 {
-            let Ok(counted) = finish(alloc, cutter, counted, errors) else {
-                return Err(Fault::OutOfMemory);
+            return match finish(alloc, workers, cutter, import, errors) {
+                Ok(import) => Ok(import),
+                Err(stop) => Err(fault_of(stop)),
             };
-            return Ok(counted);
         }
-        let Ok(()) = feed(alloc, &piece[..count], &mut cutter, &mut counted, errors) else {
-            return Err(Fault::OutOfMemory);
-        };
-        taken += count as u64;
+        match feed(
+            alloc,
+            &piece[..count],
+            workers,
+            &mut cutter,
+            &mut import,
+            errors,
+        ) {
+            Ok(()) => taken += count as u64,
+            Err(stop) => return Err(fault_of(stop)),
+        }
     }
     Err(Fault::TooMuchInput)
 }
 
-/// The command `count`: reads the input, and prints the answer for the starting position.
+fn fault_of(stop: Stop<Full>) -> Fault
+    ensures { IsFaultOf stop result }
+{
+    match stop {
+        Stop::Fault(full) => Fault::Full {
+            games: full.games,
+            bytes: full.bytes,
+        },
+        Stop::OutOfMemory => Fault::OutOfMemory,
+    }
+}
+
+/// Judges the query, reads the input, and prints the answer to the query over the games of the input.
 pub fn count<I: Source, O: Sink, E: Sink>(
     alloc: Global,
+    query_text: &[u8],
+    workers: usize,
     input: &mut I,
     output: &mut O,
     errors: &mut E,
 ) -> Result<(), Fault>
-    ensures counted { OnOk result (IfSome (I.left input.old) (λ stream. IsCounted stream (I.left input.new) (O.written output.old) (O.written output.new) (E.written errors.old) (E.written errors.new))) }
-    ensures faultless { OnOk result (IsFaultless (moment (I.given input.old) (I.read_fault_count input.old) (O.write_fault_count output.old) (E.write_fault_count errors.old)) (moment (I.given input.new) (I.read_fault_count input.new) (O.write_fault_count output.new) (E.write_fault_count errors.new))) }
-    ensures caused { (words : List (List ℕ)) → IfErr result (λ fault. HasCause fault words (moment (I.given input.old) (I.read_fault_count input.old) (O.write_fault_count output.old) (E.write_fault_count errors.old)) (moment (I.given input.new) (I.read_fault_count input.new) (O.write_fault_count output.new) (E.write_fault_count errors.new))) }
-    ensures within { I.given input.new ≡ I.given input.old + LIMIT → (result ≡ Err Fault.TooMuchInput) ⊎ (result ≡ Err Fault.OutOfMemory) }
+    requires some_workers { 1 ≤ workers }
+    requires few_workers { workers ≤ 16 }
+    ensures counted { OnOk result (IfSome (I.left input.old) (λ stream. IsCounted query_text.now stream (I.left input.new) (O.written output.old) (O.written output.new) (E.written errors.old) (E.written errors.new))) }
+    ensures faultless { OnOk result (IsFaultless (moment (I.left input.old) (I.given input.old) (I.read_fault_count input.old) (O.write_fault_count output.old) (E.write_fault_count errors.old)) (moment (I.left input.new) (I.given input.new) (I.read_fault_count input.new) (O.write_fault_count output.new) (E.write_fault_count errors.new))) }
+    ensures caused { (words : List (List ℕ)) (command : ACommand) → Asks words command → query_string command ≡ query_text.now → IfErr result (λ fault. HasCause fault words (moment (I.left input.old) (I.given input.old) (I.read_fault_count input.old) (O.write_fault_count output.old) (E.write_fault_count errors.old)) (moment (I.left input.new) (I.given input.new) (I.read_fault_count input.new) (O.write_fault_count output.new) (E.write_fault_count errors.new))) }
+    ensures malformed { (parameter : ABadParameter) → QueryReads query_text.now (Err parameter) → (result ≡ Err (Fault.BadParameter parameter.name)) ⊎ (result ≡ Err Fault.OutOfMemory) }
+    ensures within { I.given input.new ≡ I.given input.old + LIMIT → (result ≡ Err Fault.TooMuchInput) ⊎ (result ≡ Err Fault.OutOfMemory) ⊎ ((games : ℕ) × (bytes : ℕ) × (result ≡ Err (Fault.Full games bytes))) }
     ensures named { result ≢ Err Fault.Usage }
     ensures whole { result ≡ Err Fault.WriteFault → IfSome (I.left input.old) (λ _. I.left input.new ≡ Some []) }
     ensures unprinted { IfErr result (λ fault. fault ≢ Fault.WriteFault → O.written output.new ≡ O.written output.old) }
     ensures grew { Grew (E.written errors.old) (E.written errors.new) (E.write_fault_count errors.old) (E.write_fault_count errors.new) }
     ensures never_falls { NeverFalls (E.write_fault_count errors.old) (E.write_fault_count errors.new) }
 {
-    let counted = read_all(alloc, input, errors)?;
-    let Ok(text) = answer_of(alloc, counted.totals) else {
+    query_is_determined();
+    let query = match query(alloc, query_text) {
+        Ok(query) => query,
+        Err(Stop::Fault(bad)) => return Err(Fault::of_query(bad)),
+        Err(Stop::OutOfMemory) => return Err(Fault::OutOfMemory),
+    };
+    let import = match read_all(alloc, workers, input, errors) {
+        Ok(import) => import,
+        Err(fault) => return Err(fault),
+    };
+    let Ok(line) = line_for(alloc, import.tallies.as_slice(), &query) else {
         return Err(Fault::OutOfMemory);
     };
-    let Ok(()) = output.write(text.as_slice()) else {
+    let Ok(()) = output.write(line.as_slice()) else {
         return Err(Fault::WriteFault);
     };
-    if !counted.all_reported {
+    if !import.all_reported {
         return Err(Fault::WriteFault);
     }
     Ok(())

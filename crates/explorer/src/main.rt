@@ -1,11 +1,13 @@
 //! The opening explorer: reads games of chess and answers what was played in a position.
 #![tactic(auto)]
 
+mod answer;
 mod command;
 mod count;
 mod fault;
+mod grouping;
 mod host;
-mod judged;
+mod import;
 mod program;
 mod status;
 #[cfg(test)]
@@ -45,7 +47,7 @@ fn main(rt: HostRuntime) -> ExitCode {
             &mut errors,
             &mut RealHost,
         ),
-        Err(fault) => program::tell(fault, &mut errors),
+        Err(fault) => program::tell(rt.alloc(), fault, &mut errors),
     };
     ExitCode::from(status.number)
 }

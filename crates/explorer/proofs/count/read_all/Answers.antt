@@ -1,38 +1,63 @@
 use Rattle.std.proofs.Common.{◌≡◌, ℕ, [], ◌++◌, take, length, length-take, refl, subst, ◌∙◌, arith}
 use Rattle.outside.specs.Stream.{Reads}
-use Rattle.explorer_model.specs.Cuts.{cuts}
-use Rattle.pgn_cut.specs.Cutter.{cuts_of_rest}
-use Rattle.explorer.specs.Counting.{none_counted}
-use Rattle.explorer.proofs.Reading.{took_none, took_more, is_read_if, grew_on}
-use Rattle.explorer.proofs.Telling.{feeds_none, feeds_on, counts_cuts_on, counts_grew}
+use Rattle.explorer.proofs.Feeding.{took_none, took_more, is_read, fills_end, fills_within}
+use Rattle.explorer.proofs.Stops.{stops_full, where_on}
+use Rattle.explorer.proofs.Taking.{grew_none, grew_on, never_falls_on}
 use Rattle.explorer.proofs.count.read_all.Goals as goal
 
 pub reading-init : goal.reading-init
-reading-init g c = rw c.new-counted.ensures (record {
+reading-init g c = record {
   given = omega arith;
   within = omega arith;
   so_far = c.new-cutter.ensures.came;
-  few = omega arith;
+  ready = c.new-import.ensures.ready;
   sound = refl;
-  bytes = ([], took_none (g.I.Source.left c.args.input.now), feeds_none cuts (cuts_of_rest c.new-cutter.result) none_counted (g.E.Sink.written c.args.errors.now) (g.E.Sink.write_fault_count c.args.errors.now) c.new-cutter.ensures.cuts);
-})
+  bytes = (
+    [],
+    took_none (g.I.Source.left c.args.input.now),
+    record {
+      done = [];
+      cut = c.new-cutter.ensures.cuts;
+      imports = c.new-import.ensures.imports (g.E.Sink.written c.args.errors.now) (g.E.Sink.write_fault_count c.args.errors.now);
+    },
+  );
+  grew = grew_none (g.E.Sink.written c.args.errors.now) (g.E.Sink.write_fault_count c.args.errors.now);
+  never_falls = (omega arith, λ small. small);
+}
 
-pub returns-then-count-eq0-clause-read : goal.returns-then-count-eq0-clause-read
-returns-then-count-eq0-clause-read g c =
+pub returns-in-Ok-finish-clause-read : goal.returns-in-Ok-finish-clause-read
+returns-in-Ok-finish-clause-read g c =
     let so_far = c.reading.invariant.bytes in
     let reads = subst (λ (n : ℕ). Reads (g.I.Source.left c.reading.input) (g.I.Source.left c.read.new.self) n c.read.new.into) c.if-count-eq0.true c.in-Ok.ensures.next in
-    is_read_if _ _ _ so_far.0 c.read.new.into (cuts_of_rest c.reading.cutter) c.reading.counted c.in-Ok-finish.counted _ _ _ _ _ _ so_far.1 reads so_far.2 c.in-Ok-finish.ensures.counts
+    is_read _ _ _ so_far.0 c.read.new.into c.in-Ok-finish.import _ _ _ _ so_far.1 reads c.in-Ok-finish.ensures.ready (c.in-Ok-finish.ensures.ends so_far.0 (g.E.Sink.written c.args.errors.now) (g.E.Sink.write_fault_count c.args.errors.now) so_far.2)
 
-pub returns-then-count-eq0-clause-grew : goal.returns-then-count-eq0-clause-grew
-returns-then-count-eq0-clause-grew g c =
+pub returns-in-Ok-finish-clause-clean : goal.returns-in-Ok-finish-clause-clean
+returns-in-Ok-finish-clause-clean g c =
     let so_far = c.reading.invariant.bytes in
-    let whole = counts_cuts_on none_counted c.reading.counted c.in-Ok-finish.counted _ _ _ _ _ _ so_far.2.done _ so_far.2.counts c.in-Ok-finish.ensures.counts in
-    counts_grew none_counted c.in-Ok-finish.counted _ _ _ _ _ whole.counts refl
+    (c.in-Ok-finish.ensures.ends so_far.0 (g.E.Sink.written c.args.errors.now) (g.E.Sink.write_fault_count c.args.errors.now) so_far.2).reports.clean
+
+pub returns-in-Ok-finish-clause-lost : goal.returns-in-Ok-finish-clause-lost
+returns-in-Ok-finish-clause-lost g c =
+    let so_far = c.reading.invariant.bytes in
+    (c.in-Ok-finish.ensures.ends so_far.0 (g.E.Sink.written c.args.errors.now) (g.E.Sink.write_fault_count c.args.errors.now) so_far.2).reports.failed refl
+
+pub returns-in-Ok-finish-clause-grew : goal.returns-in-Ok-finish-clause-grew
+returns-in-Ok-finish-clause-grew g c = grew_on _ _ _ _ _ _ c.reading.invariant.grew c.reading.invariant.never_falls c.finish.ensures.grew c.finish.ensures.never_falls
+
+pub returns-in-Err-clause-stops : goal.returns-in-Err-clause-stops
+returns-in-Err-clause-stops g c =
+    let so_far = c.reading.invariant.bytes in
+    let reads = subst (λ (n : ℕ). Reads (g.I.Source.left c.reading.input) (g.I.Source.left c.read.new.self) n c.read.new.into) c.if-count-eq0.true c.in-Ok.ensures.next in
+    stops_full c.in-Err.stop _ _ _ _ _ _ c.fault_of.ensures (where_on c.in-Err.stop _ _ (λ games bytes full.
+    fills_end _ _ _ so_far.0 c.read.new.into games bytes so_far.1 reads (full so_far.0 (g.E.Sink.written c.args.errors.now) (g.E.Sink.write_fault_count c.args.errors.now) so_far.2)) c.in-Err.ensures.full)
+
+pub returns-in-Err-clause-grew : goal.returns-in-Err-clause-grew
+returns-in-Err-clause-grew g c = grew_on _ _ _ _ _ _ c.reading.invariant.grew c.reading.invariant.never_falls c.finish.ensures.grew c.finish.ensures.never_falls
 
 pub reading-preserved : goal.reading-preserved
 reading-preserved g c =
-    let so_far = c.reading.invariant.bytes in
     let before = c.reading.invariant in
+    let so_far = before.bytes in
     let part = take c.in-Ok.count c.read.new.into in
     let room = length-take c.min-room.result c.reading.buffer in
     let long : length part ≡ c.in-Ok.count = omega (arith, length-take c.in-Ok.count c.read.new.into, c.in-Ok.ensures.within) in
@@ -40,12 +65,19 @@ reading-preserved g c =
       given = omega (arith, c.in-Ok.ensures.given, before.given);
       within = omega (arith, c.in-Ok.ensures.within, c.read.auto.into, room, c.min-room.ensures, c.reading-test.true);
       so_far = omega (arith, c.in-Ok-feed.ensures.came, before.so_far, long);
-      few = c.in-Ok-feed.ensures.games;
+      ready = c.in-Ok-feed.ensures.ready;
       sound = c.in-Ok.ensures.faultless ∙ before.sound;
-      bytes = (so_far.0 ++ part, took_more _ _ _ so_far.0 c.read.new.into c.in-Ok.count so_far.1 c.in-Ok.ensures.next, feeds_on _ _ _ _ _ _ _ _ _ _ _ _ so_far.0 part so_far.2 c.in-Ok-feed.ensures.feeds);
+      bytes = (so_far.0 ++ part, took_more _ _ _ so_far.0 c.read.new.into c.in-Ok.count so_far.1 c.in-Ok.ensures.next, c.in-Ok-feed.ensures.feeds so_far.0 (g.E.Sink.written c.args.errors.now) (g.E.Sink.write_fault_count c.args.errors.now) so_far.2);
+      grew = grew_on _ _ _ _ _ _ before.grew before.never_falls c.feed.ensures.grew c.feed.ensures.never_falls;
+      never_falls = never_falls_on _ _ _ before.never_falls c.feed.ensures.never_falls;
     }
 
-pub returns-in_default-feed-clause-grew : goal.returns-in_default-feed-clause-grew
-returns-in_default-feed-clause-grew g c =
+pub returns-in-Err-feed-clause-stops : goal.returns-in-Err-feed-clause-stops
+returns-in-Err-feed-clause-stops g c =
     let so_far = c.reading.invariant.bytes in
-    grew_on none_counted c.reading.counted _ _ _ _ _ _ _ refl so_far.2.counts.counts c.in_default-feed.ensures.grew c.feed.ensures.never_falls
+    stops_full c.in-Err-feed.stop _ _ _ _ _ _ c.fault_of-in-Err-feed.ensures (where_on c.in-Err-feed.stop _ _ (λ games stored full.
+    fills_within _ _ (so_far.0 ++ take c.in-Ok.count c.read.new.into) games stored (took_more _ _ _ so_far.0 c.read.new.into c.in-Ok.count so_far.1 c.in-Ok.ensures.next)
+    (λ rest. full so_far.0 (g.E.Sink.written c.args.errors.now) (g.E.Sink.write_fault_count c.args.errors.now) rest so_far.2)) c.in-Err-feed.ensures.full)
+
+pub returns-in-Err-feed-clause-grew : goal.returns-in-Err-feed-clause-grew
+returns-in-Err-feed-clause-grew g c = grew_on _ _ _ _ _ _ c.reading.invariant.grew c.reading.invariant.never_falls c.feed.ensures.grew c.feed.ensures.never_falls

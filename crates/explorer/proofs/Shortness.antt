@@ -1,4 +1,4 @@
--- What is known of judged cuts, and of the cuts of a cutter.
+-- Each text among the cuts of a stream can be read.
 use Rattle.std.proofs.Common.{◌≡◌, ℕ, ◌+◌, ◌≤◌, List, [], ◌∷◌, ◌++◌, length, take, drop, if◌then◌else◌, Option, None, Some, refl, sym, subst, nat_le, nat_eq, Bool, true, false, arith, length-append, length-take}
 use Rattle.std.specs.Prelude.{IfSome}
 use Rattle.std.specs.List.{starts_with, All}
@@ -13,16 +13,7 @@ use Rattle.pgn_cut.specs.Cutter.{cuts_from_stage, cuts_of_rest}
 use Rattle.pgn_cut.specs.declared.cutter.Cutter.{Cutter}
 use Rattle.pgn_cut.specs.declared.cutter.Stage.{Stage}
 use Rattle.pgn_cut.specs.declared.cutter.Stage.TheVariants.{Mark, Before, Within}
-use Rattle.explorer.specs.declared.judged.Judged.{Judged}
-use Rattle.explorer.specs.Judged.{AreJudged, IsShort}
-
-pub AreJudged-append : (cuts more : List Cut) (judged others : List Judged) → AreJudged cuts judged → AreJudged more others → AreJudged (cuts ++ more) (judged ++ others)
-AreJudged-append [] more [] others h k = k
-AreJudged-append [] more (one ∷ judged) others h k = absurd h
-AreJudged-append (cut ∷ cuts) more [] others h k = absurd h
-AreJudged-append (cut ∷ cuts) more (one ∷ judged) others h k = (h.0, AreJudged-append cuts more judged others h.1 k)
-
--- ---- each text among the cuts is short
+use Rattle.explorer.specs.Grouping.{IsShort}
 
 short_text : (place : ℕ) (text : List ℕ) (n : ℕ) (fits : Bool) → nat_le n text_limit ≡ fits → length text ≤ n → IsShort (if fits then Text (record { place = place; bytes = text }) else TooLong place n)
 short_text place text n true is within = let small : n ≤ text_limit = leb-true n text_limit is in omega arith

@@ -1,0 +1,307 @@
+//! Answers to queries over a few games.
+use super::{NO_GAME, ONE_WHITE, Tags, faultless, game, listed, named, one_move, run_on, tagged};
+use std::alloc::{AllocError, Global};
+use std::test::Fail;
+
+/// Whether a count of the text answers the query so, with nothing to report.
+fn answers(rt: &HostRuntime, text: &str, query: &str, answer: &str) -> Result<bool, AllocError> {
+    let seen = run_on(rt, &["count", query], text, 4096, faultless(rt.alloc()))?;
+    let printed = seen.output.bytes() == answer.as_bytes();
+    let reported = seen.errors.bytes() == b"".as_slice();
+    Ok(seen.status == 0 && printed && reported)
+}
+
+#[test]
+fn answers_with_the_move_that_was_played(rt: HostRuntime) -> Result<(), Fail> {
+    let alloc = rt.alloc();
+    let commented = "1. e4 { [%eval 0.17] [%clk 0:00:30] } 1... c5?! { [%clk 0:00:29] } 1-0";
+    let pinned = "1. d4 Nf6 2. c4 e6 3. Nc3 Bb4 4. e3 b6 5. Nge2 1-0";
+    let returning = "1. Nf3 Nf6 2. Ng1 Ng8 3. e4 1-0";
+    let en_passant = "1. e4 e6 2. e5 d5 3. exd6 1-0";
+    let castling = "1. e2e4 e5 2. Ng1f3 Nc6+ 3. Bc4 Bc5# 4. 0-0 Nf6 1-0";
+    let table = [
+        (commented, "", "1500", "e4", "e2e4"),
+        (commented, "play=e2e4", "1400", "c5", "c7c5"),
+        (
+            commented,
+            "fen=rnbqkbnr/pppppppp/8/8/4P3/8/PPPP1PPP/RNBQKBNR+b+KQkq+e3+0+1",
+            "1400",
+            "c5",
+            "c7c5",
+        ),
+        (
+            commented,
+            "fen=rnbqkbnr/pppppppp/8/8/4P3/8/PPPP1PPP/RNBQKBNR+b+KQkq+-+0+1",
+            "1400",
+            "c5",
+            "c7c5",
+        ),
+        (
+            pinned,
+            "play=d2d4,g8f6,c2c4,e7e6,b1c3,f8b4,e2e3,b7b6",
+            "1500",
+            "Ne2",
+            "g1e2",
+        ),
+        (returning, "", "1500", "Nf3", "g1f3"),
+        (
+            en_passant,
+            "play=e2e4,e7e6,e4e5,d7d5",
+            "1500",
+            "exd6",
+            "e5d6",
+        ),
+        (
+            en_passant,
+            "fen=rnbqkbnr/ppp2ppp/4p3/3pP3/8/8/PPPP1PPP/RNBQKBNR+w+KQkq+d6+0+3",
+            "1500",
+            "exd6",
+            "e5d6",
+        ),
+        (
+            castling,
+            "play=e2e4,e7e5,g1f3,b8c6,f1c4,f8c5",
+            "1500",
+            "O-O",
+            "e1g1",
+        ),
+        (
+            castling,
+            "play=e2e4,e7e5,g1f3,b8c6,f1c4,f8c5,e1g1",
+            "1400",
+            "Nf6",
+            "g8f6",
+        ),
+        (
+            castling,
+            "play=e2e4,e7e5,g1f3,b8c6,f1c4,f8c5,e1h1",
+            "1400",
+            "Nf6",
+            "g8f6",
+        ),
+    ];
+    for (movetext, query, rating, san, uci) in table {
+        let text = game(alloc, "1-0", movetext)?;
+        let answer = one_move(alloc, "", rating, san, uci)?;
+        assert!(rt;
+            answers(&rt, text.as_str(), query, answer.as_str())?,
+            "{movetext} {query}"
+        );
+    }
+    Ok(())
+}
+
+#[test]
+fn answers_over_no_game_where_none_is_asked_for(rt: HostRuntime) -> Result<(), Fail> {
+    let text = game(rt.alloc(), "1-0", "1. e4 e6 2. e5 d5 3. exd6 1-0")?;
+    for query in [
+        "fen=1r2k3/8/8/8/8/8/8/R3K3+w+Q+-+0+1&play=e1c1",
+        "fen=rnbqkbnr/ppp2ppp/4p3/3pP3/8/8/PPPP1PPP/RNBQKBNR+w+KQkq+-+0+3",
+        "since=2020-02&until=2020-01",
+        "since=2020-02",
+        "until=2019-12",
+    ] {
+        assert!(rt; answers(&rt, text.as_str(), query, NO_GAME)?, "{query}");
+    }
+    Ok(())
+}
+
+#[test]
+fn answers_with_the_months_that_are_asked_for(rt: HostRuntime) -> Result<(), Fail> {
+    let alloc = rt.alloc();
+    let text = game(alloc, "1-0", "1. e4 c5 1-0")?;
+    let month = "\"history\":[{\"black\":0,\"draws\":0,\"month\":\"2020-01\",\"white\":1}],";
+    for (query, history) in [
+        ("history=true", month),
+        ("since=2020-01&until=2020-01&history=true", month),
+        ("since=2020-01&until=2020-01&history=false", ""),
+    ] {
+        let answer = one_move(alloc, history, "1500", "e4", "e2e4")?;
+        assert!(rt;
+            answers(&rt, text.as_str(), query, answer.as_str())?,
+            "{query}"
+        );
+    }
+    Ok(())
+}
+
+#[test]
+fn filters_by_speed_and_group(rt: HostRuntime) -> Result<(), Fail> {
+    let alloc = rt.alloc();
+    let table = [
+        (
+            "1500",
+            "1400",
+            "15+0",
+            "speeds=ultraBullet",
+            "speeds=bullet,blitz,rapid,classical,correspondence",
+        ),
+        (
+            "1500",
+            "1400",
+            "30+0",
+            "speeds=bullet",
+            "speeds=ultraBullet,blitz,rapid,classical,correspondence",
+        ),
+        (
+            "1500",
+            "1400",
+            "60+3",
+            "speeds=blitz",
+            "speeds=ultraBullet,bullet,rapid,classical,correspondence",
+        ),
+        (
+            "1500",
+            "1400",
+            "300+3",
+            "speeds=rapid,blitz",
+            "speeds=ultraBullet,bullet,rapid,classical,correspondence",
+        ),
+        (
+            "1500",
+            "1400",
+            "900+14",
+            "speeds=rapid",
+            "speeds=ultraBullet,bullet,blitz,classical,correspondence",
+        ),
+        (
+            "1500",
+            "1400",
+            "900+15",
+            "speeds=classical",
+            "speeds=ultraBullet,bullet,blitz,rapid,correspondence",
+        ),
+        (
+            "1500",
+            "1400",
+            "-",
+            "speeds=correspondence",
+            "speeds=ultraBullet,bullet,blitz,rapid,classical",
+        ),
+        (
+            "2499",
+            "2500",
+            "300+0",
+            "ratings=2200",
+            "ratings=0,1000,1200,1400,1600,1800,2000,2500",
+        ),
+        (
+            "2500",
+            "2500",
+            "300+0",
+            "ratings=2500",
+            "ratings=0,1000,1200,1400,1600,1800,2000,2200",
+        ),
+        (
+            "999",
+            "1000",
+            "300+0",
+            "ratings=0",
+            "ratings=1000,1200,1400,1600,1800,2000,2200,2500",
+        ),
+        (
+            "1000",
+            "1000",
+            "300+0",
+            "ratings=1000",
+            "ratings=0,1200,1400,1600,1800,2000,2200,2500",
+        ),
+        (
+            "1500",
+            "1400",
+            "300+0",
+            "ratings=1400&speeds=blitz",
+            "ratings=1400&speeds=rapid",
+        ),
+        (
+            "1500",
+            "1400",
+            "300+0",
+            "ratings=1200,1400",
+            "ratings=1600&speeds=blitz",
+        ),
+    ];
+    for (white_rating, black_rating, time, finding, missing) in table {
+        let tags = Tags {
+            id: "aaaaaaa1",
+            outcome: "1-0",
+            white_rating,
+            black_rating,
+            time,
+        };
+        let text = tagged(alloc, &tags, "1-0")?;
+        assert!(rt;
+            answers(&rt, text.as_str(), finding, ONE_WHITE)?,
+            "{time} {finding}"
+        );
+        assert!(rt;
+            answers(&rt, text.as_str(), missing, NO_GAME)?,
+            "{time} {missing}"
+        );
+    }
+    Ok(())
+}
+
+#[test]
+fn orders_moves_of_equal_totals_by_their_text(rt: HostRuntime) -> Result<(), Fail> {
+    let alloc = rt.alloc();
+    let first = named(alloc, "aaaaaaa1", "1-0", "1. e4 1-0")?;
+    let second = named(alloc, "aaaaaaa2", "0-1", "1. d4 0-1")?;
+    let text = format!(in alloc; "{first}{second}")?;
+    let won = listed(alloc, "aaaaaaa1", "e2e4", "white")?;
+    let lost = listed(alloc, "aaaaaaa2", "d2d4", "black")?;
+    let answer = format!(in alloc;
+        "{{\"black\":1,\"draws\":0,\"moves\":[\
+         {{\"averageRating\":1500,\"black\":1,\"draws\":0,\"game\":{lost},\"opening\":null,\
+         \"san\":\"d4\",\"uci\":\"d2d4\",\"white\":0}},\
+         {{\"averageRating\":1500,\"black\":0,\"draws\":0,\"game\":{won},\"opening\":null,\
+         \"san\":\"e4\",\"uci\":\"e2e4\",\"white\":1}}],\"opening\":null,\
+         \"recentGames\":[{lost},{won}],\"topGames\":[{won},{lost}],\"white\":1}}\n"
+    )?;
+    assert!(rt; answers(&rt, text.as_str(), "", answer.as_str())?);
+    Ok(())
+}
+
+/// The answer over five games that White won and that began with `1. e4`.
+fn five_games(alloc: Global, top: &str, recent: &str) -> Result<String, AllocError> {
+    format!(in alloc;
+        "{{\"black\":0,\"draws\":0,\"moves\":[{{\"averageRating\":1500,\"black\":0,\"draws\":0,\
+         \"game\":null,\"opening\":null,\"san\":\"e4\",\"uci\":\"e2e4\",\"white\":5}}],\
+         \"opening\":null,\"recentGames\":[{recent}],\"topGames\":[{top}],\"white\":5}}\n"
+    )
+}
+
+#[test]
+fn lists_four_of_five_equal_games(rt: HostRuntime) -> Result<(), Fail> {
+    let alloc = rt.alloc();
+    let mut text = String::new(alloc);
+    for id in ["aaaaaaa0", "aaaaaaa1", "aaaaaaa2", "aaaaaaa3", "aaaaaaa4"] {
+        let game = named(alloc, id, "1-0", "1. e4 1-0")?;
+        text.push_str(game.as_str())?;
+    }
+    let zero = listed(alloc, "aaaaaaa0", "e2e4", "white")?;
+    let one = listed(alloc, "aaaaaaa1", "e2e4", "white")?;
+    let two = listed(alloc, "aaaaaaa2", "e2e4", "white")?;
+    let three = listed(alloc, "aaaaaaa3", "e2e4", "white")?;
+    let four = listed(alloc, "aaaaaaa4", "e2e4", "white")?;
+    let top = format!(in alloc; "{zero},{one},{two},{three}")?;
+    let recent = format!(in alloc; "{four},{three},{two},{one}")?;
+    let two_recent = format!(in alloc; "{four},{three}")?;
+    for (query, top, recent) in [
+        ("", top.as_str(), recent.as_str()),
+        ("colour=red&topGames=9", top.as_str(), recent.as_str()),
+        (
+            "topGames=1&recentGames=2",
+            zero.as_str(),
+            two_recent.as_str(),
+        ),
+        ("topGames=0", "", recent.as_str()),
+    ] {
+        let answer = five_games(alloc, top, recent)?;
+        assert!(rt;
+            answers(&rt, text.as_str(), query, answer.as_str())?,
+            "{query}"
+        );
+    }
+    Ok(())
+}

@@ -1,0 +1,206 @@
+//! Streams of texts: which games count, and what is reported of the others.
+ghost use Rattle.std.specs.Prelude.{◌<◌};
+
+use super::{NO_GAME, ONE_DRAW, ONE_WHITE, Tags, faultless, game, named, one_move, run_on, tagged};
+use std::alloc::{AllocError, Global};
+use std::test::Fail;
+
+/// Whether a count of the text at this read size, where no call fails, prints the answer and
+/// reports so.
+fn counts(
+    rt: &HostRuntime,
+    text: &str,
+    piece: usize,
+    answer: &str,
+    report: &str,
+) -> Result<bool, AllocError>
+    requires { 0 < piece }
+{
+    let alloc = rt.alloc();
+    let failing = faultless(alloc);
+    let seen = run_on(rt, &["count"], text, piece, failing)?;
+    let printed = seen.output.bytes() == answer.as_bytes();
+    let reported = seen.errors.bytes() == report.as_bytes();
+    Ok(seen.status == 0 && printed && reported)
+}
+
+#[test]
+fn answers_alike_at_each_read_size(rt: HostRuntime) -> Result<(), Fail> {
+    let alloc = rt.alloc();
+    let unknown = game(alloc, "*", "*")?;
+    let differs = game(alloc, "1-0", "0-1")?;
+    let draw = game(alloc, "1/2-1/2", "1/2-1/2")?;
+    let text = format!(in alloc; "hello\n{unknown}\n{differs}{draw}")?;
+    let report = "0 Preamble\n6 UnknownResult\n197 ResultDiffers\n";
+    for piece in 1..=100 {
+        let counts = counts(&rt, text.as_str(), piece, ONE_DRAW, report)?;
+        assert!(rt; counts, "{piece}");
+    }
+    Ok(())
+}
+
+/// Whether the counts of the text at three read sizes are so.
+fn counts_at_each_size(
+    rt: &HostRuntime,
+    text: &str,
+    answer: &str,
+    report: &str,
+) -> Result<bool, AllocError> {
+    let by_bytes = counts(rt, text, 1, answer, report)?;
+    let by_sevens = counts(rt, text, 7, answer, report)?;
+    let at_once = counts(rt, text, 4096, answer, report)?;
+    Ok(by_bytes && by_sevens && at_once)
+}
+
+#[test]
+fn counts_games_and_reports_the_rest(rt: HostRuntime) -> Result<(), Fail> {
+    let alloc = rt.alloc();
+    let win = game(alloc, "1-0", "1-0")?;
+    let draw = game(alloc, "1/2-1/2", "1/2-1/2")?;
+    let unknown = game(alloc, "*", "*")?;
+    let illegal = game(alloc, "1-0", "1. e4 e5 2. Ke3 1-0")?;
+    let table = [
+        (format!(in alloc; "")?, NO_GAME, ""),
+        (format!(in alloc; "{draw}\n\n")?, ONE_DRAW, ""),
+        (
+            format!(in alloc; "{unknown}\n{win}")?,
+            ONE_WHITE,
+            "0 UnknownResult\n",
+        ),
+        (
+            format!(in alloc; "{illegal}{win}")?,
+            ONE_WHITE,
+            "0 Illegal 3 202\n",
+        ),
+        (
+            format!(in alloc; "hello\n{win}")?,
+            ONE_WHITE,
+            "0 Preamble\n",
+        ),
+        (format!(in alloc; "\u{feff}{win}")?, ONE_WHITE, ""),
+        (
+            format!(in alloc; "\u{feff}{unknown}")?,
+            NO_GAME,
+            "3 UnknownResult\n",
+        ),
+        (format!(in alloc; "{win}{win}")?, ONE_WHITE, "194 Twice 0\n"),
+        (
+            format!(in alloc; "\u{feff} hello\n{win}\n{win}")?,
+            ONE_WHITE,
+            "4 Preamble\n205 Twice 10\n",
+        ),
+    ];
+    for (text, answer, report) in &table {
+        assert!(rt;
+            counts_at_each_size(&rt, text.as_str(), answer, report)?,
+            "{text}"
+        );
+    }
+    Ok(())
+}
+
+#[test]
+fn reports_movetext_off_the_rules(rt: HostRuntime) -> Result<(), Fail> {
+    let alloc = rt.alloc();
+    let with_e4 = one_move(alloc, "", "1500", "e4", "e2e4")?;
+    let table = [
+        ("1-0", ONE_WHITE, ""),
+        (
+            "1. e2e4 e5 2. Ng1f3 Nc6+ 3. Bc4 Bc5# 4. 0-0 1-0",
+            with_e4.as_str(),
+            "",
+        ),
+        ("1. e4 Zz 1-0", NO_GAME, "0 NotSan 2 196\n"),
+        ("1. e4 {x 1-0", NO_GAME, "0 Lex 196\n"),
+        (
+            "1. d4 d5 2. Nf3 Nf6 3. Nd2 1-0",
+            NO_GAME,
+            "0 Ambiguous 5 213\n",
+        ),
+        ("1. e4", NO_GAME, "0 NoTermination\n"),
+        ("1. e4 0-1", NO_GAME, "0 ResultDiffers\n"),
+    ];
+    for (movetext, answer, report) in table {
+        let text = game(alloc, "1-0", movetext)?;
+        assert!(rt;
+            counts_at_each_size(&rt, text.as_str(), answer, report)?,
+            "{movetext}"
+        );
+    }
+    Ok(())
+}
+
+#[test]
+fn reports_tags_off_the_rules(rt: HostRuntime) -> Result<(), Fail> {
+    let alloc = rt.alloc();
+    for (id, white_rating, time, report) in [
+        ("aaaaaaa1", "1500", "1/40", "0 Bad TimeControl\n"),
+        ("aaaaaaa1", "4001", "300+0", "0 Bad WhiteElo\n"),
+        ("aaaaaaa", "4001", "1/40", "0 Bad Site\n"),
+    ] {
+        let tags = Tags {
+            id,
+            outcome: "1-0",
+            white_rating,
+            black_rating: "1400",
+            time,
+        };
+        let text = tagged(alloc, &tags, "1-0")?;
+        assert!(rt;
+            counts_at_each_size(&rt, text.as_str(), NO_GAME, report)?,
+            "{report}"
+        );
+    }
+    Ok(())
+}
+
+#[test]
+fn reads_texts_of_65536_bytes(rt: HostRuntime) -> Result<(), Fail> {
+    let alloc = rt.alloc();
+    let with_e4 = one_move(alloc, "", "1500", "e4", "e2e4")?;
+    let mut text = game(alloc, "1-0", "1. e4 1-0")?;
+    for _ in text.len()..65536 {
+        text.push('\n')?;
+    }
+    assert!(rt; counts(&rt, text.as_str(), 7, with_e4.as_str(), "")?);
+    text.push('\n')?;
+    assert!(rt; counts(&rt, text.as_str(), 4096, NO_GAME, "0 TooLong 65537\n")?);
+    Ok(())
+}
+
+/// The answer over so many moveless games that White won.
+fn won(alloc: Global, games: u32) -> Result<String, AllocError> {
+    format!(in alloc;
+        "{{\"black\":0,\"draws\":0,\"moves\":[],\"opening\":null,\"recentGames\":[],\
+         \"topGames\":[],\"white\":{games}}}\n"
+    )
+}
+
+/// A group has 512 texts, and ids are compared within a group alone.
+#[test]
+fn counts_the_games_of_two_groups(rt: HostRuntime) -> Result<(), Fail> {
+    let alloc = rt.alloc();
+    let mut text = String::new(alloc);
+    for number in 10_000_000..10_000_513 {
+        let id = format!(in alloc; "{number}")?;
+        let game = named(alloc, id.as_str(), "1-0", "1-0")?;
+        text.push_str(game.as_str())?;
+    }
+    let answer = won(alloc, 513)?;
+    assert!(rt; counts(&rt, text.as_str(), 4096, answer.as_str(), "")?);
+    let first = named(alloc, "10000000", "1-0", "1-0")?;
+    text.push_str(first.as_str())?;
+    let last = named(alloc, "10000512", "1-0", "1-0")?;
+    text.push_str(last.as_str())?;
+    let answer = won(alloc, 514)?;
+    assert!(rt;
+        counts(
+            &rt,
+            text.as_str(),
+            4096,
+            answer.as_str(),
+            "99716 Twice 99328\n"
+        )?
+    );
+    Ok(())
+}
