@@ -2,9 +2,7 @@
 use Rattle.std.proofs.Common.{◌≡◌, ℕ, zero, suc, ◌+◌, ◌<◌, ◌==◌, Bool, true, false, ◌&&◌, if◌then◌else◌, List, [], ◌∷◌, ◌++◌, length, nat_le, map, filter, filter_map, Option, Some, None, Result, Ok, Err, IfOk, IfSome, refl, sym, subst, inl, inr, arith}
 use Rattle.std.specs.Prelude.{ok_or}
 use Rattle.std.specs.List.{All, AllByRecursion, AllZip, enumerate_from, list_all, list_any, after_last, cons_option}
-use Rattle.std.specs.Result.{result_map_both}
 use Rattle.std.proofs.lemmas.Bool.Decides.{nat_tests}
-use Rattle.std.specs.Char.{is_ascii_alphanumeric}
 use Rattle.std.specs.Str.{byte, IsAscii}
 use Rattle.std.proofs.lemmas.List.Elements.{All-from_recursion}
 use Rattle.std.proofs.lemmas.Str.{IsAscii-append}
@@ -16,33 +14,24 @@ use Rattle.explorer_model.specs.declared.answer.MoveLine.{MoveLine}
 use Rattle.explorer_model.specs.declared.archive.Batch.{Batch}
 use Rattle.explorer_model.specs.declared.archive.Classes.{Classes}
 use Rattle.explorer_model.specs.declared.archive.Game.{Game}
-use Rattle.explorer_model.specs.declared.archive.GameId.{GameId}
-use Rattle.explorer_model.specs.declared.archive.Tag.{Tag}
 use Rattle.explorer_model.specs.declared.chess.Move.{Move}
 use Rattle.explorer_model.specs.declared.chess.Position.{Position}
 use Rattle.explorer_model.specs.declared.chess.Role.{Role}
 use Rattle.explorer_model.specs.declared.chess.Role.TheVariants.{Pawn, Knight, Bishop, Rook, Queen, King}
 use Rattle.explorer_model.specs.declared.chess.Side.{Side}
 use Rattle.explorer_model.specs.declared.chess.Side.TheVariants.{Short, Long}
-use Rattle.explorer_model.specs.declared.fault.GameFault.{GameFault}
-use Rattle.explorer_model.specs.declared.fault.GameFault.TheVariants as faults
-use Rattle.explorer_model.specs.declared.fault.TagFault.TheVariants.{NotStandard, SetUp, Bad}
-use Rattle.explorer_model.specs.declared.fault.TagName.TheVariants as names
 use Rattle.explorer_model.specs.declared.notation.CheckMark.{CheckMark}
 use Rattle.explorer_model.specs.declared.notation.CheckMark.TheVariants.{Quiet, Check, Mate}
 use Rattle.explorer_model.specs.declared.notation.Start.{Start}
 use Rattle.explorer_model.specs.declared.notation.Start.TheVariants as starts
-use Rattle.explorer_model.specs.declared.query.Filter.{Filter}
 use Rattle.explorer_model.specs.declared.query.Query.{Query}
-use Rattle.explorer_model.specs.Classes.{classes, demand, is_standard, is_from_start, required, asked, id_of, name_of, outcome_of, rating_of, control_of, date_name, month_of}
-use Rattle.explorer_model.specs.Counting.{Sighting, sighting, sighting_by, sightings, listed, the_only, is_same_move, passes}
+use Rattle.explorer_model.specs.Counting.{NumberedGame, game_with_move, game_with_move_by, games_with_move, listed, the_only, is_same_move, passes}
 use Rattle.explorer_model.specs.Finds.{IsLineOf, IsRecount, IsFound}
-use Rattle.explorer_model.specs.Games.{Score, score, GameOfScore, ends_with, ply_limit}
 use Rattle.explorer_model.specs.Letters.{letter_of, file_letter, rank_digit, square_text}
-use Rattle.explorer_model.specs.Parts.{parts}
 use Rattle.explorer_model.specs.San.{role_text, start_text, capture_text, promotion_text, castling_text, mark_text, named_text, captures, MoveText, SanText}
-use Rattle.explorer_model.specs.Visits.{Seen, IsTextOf, IsSeenFrom, texts_of}
-use Rattle.explorer_model.proofs.Readings.{Err-not-Ok, map-ok, bind-if, bind-if-given, if-map}
+use Rattle.explorer_model.specs.Visits.{GameAt, IsTextOf, IsGameAt, texts_of}
+use Rattle.explorer_model.proofs.Lists.{filter-have}
+use Rattle.explorer_model.proofs.SoundClasses.{game-sound}
 use Rattle.answer_json.specs.Plain.{HasPlainId, IsPlainGame, IsPlainLine, IsPlainFound}
 
 -- ---- SAN
@@ -128,122 +117,48 @@ san-ascii p m text san =
 
 -- ---- the ids of games
 
-abbrev HasAsciiId : GameId → Type 0
-HasAsciiId id = IsAscii id.bytes
-
-letter-or-digit : (b : ℕ) → is_ascii_alphanumeric b ≡ true → b < 128
-letter-or-digit b is = grind (arith, nat_tests, is)
-
-alphanumeric-low : (bytes : List ℕ) → list_all is_ascii_alphanumeric bytes ≡ true → AreLow bytes
-alphanumeric-low [] all = tt
-alphanumeric-low (b ∷ bytes) all =
-    let both = and-parts (is_ascii_alphanumeric b) (list_all is_ascii_alphanumeric bytes) all in (letter-or-digit b both.0, alphanumeric-low bytes both.1)
-  where
-    and-parts : (x y : Bool) → x && y ≡ true → (x ≡ true) × (y ≡ true)
-    and-parts true y is = (refl, is)
-    and-parts false y is = cc
-
-if-id : (holds : Bool) (id : GameId) → (holds ≡ true → HasAsciiId id) → IfSome (if holds then Some id else None) HasAsciiId
-if-id true id ascii = ascii refl
-if-id false id ascii = tt
-
-id-ascii : (site : List ℕ) → IfSome (id_of site) HasAsciiId
-unfolding id_of
-id-ascii site =
-    let id : List ℕ = after_last (λ b. b == byte "/") site in
-    if-id _ (record { bytes = id }) (λ is. low-ascii id (alphanumeric-low id
-    (and-last (list_any (λ b. b == byte "/") site) (length id == 8) (list_all is_ascii_alphanumeric id) is)))
-  where
-    and-last : (x y z : Bool) → (x && y) && z ≡ true → z ≡ true
-    and-last true true z is = is
-    and-last true false z is = cc
-    and-last false y z is = cc
-
 abbrev HasPlain : Classes → Type 0
 HasPlain found = IsAscii found.id.bytes
 
-asked-id : (tags : List Tag) → IfOk (asked names.Site id_of tags) HasAsciiId
-asked-id tags = bind-if HasAsciiId (required names.Site tags) _ (λ value. or-id (id_of value) (id-ascii value))
-  where
-    or-id : (id : Option GameId) → IfSome id HasAsciiId → IfOk (ok_or id (Bad names.Site)) HasAsciiId
-    or-id (Some id) holds = holds
-    or-id None holds = tt
-
-classes-plain : (tags : List Tag) → IfOk (classes tags) HasPlain
-unfolding classes
-classes-plain tags =
-    bind-if HasPlain (demand (is_standard tags) NotStandard) _ (λ _.
-    bind-if HasPlain (demand (is_from_start tags) SetUp) _ (λ _.
-    bind-if HasPlain (required names.Event tags) _ (λ event.
-    bind-if-given HasAsciiId HasPlain (asked names.Site id_of tags) _ (asked-id tags) (λ id plain.
-    bind-if HasPlain (asked names.White name_of tags) _ (λ white.
-    bind-if HasPlain (asked names.Black name_of tags) _ (λ black.
-    bind-if HasPlain (required names.Result tags) _ (λ result.
-    bind-if HasPlain (outcome_of result) _ (λ outcome.
-    bind-if HasPlain (asked names.WhiteElo rating_of tags) _ (λ white_rating.
-    bind-if HasPlain (asked names.BlackElo rating_of tags) _ (λ black_rating.
-    bind-if HasPlain (asked names.TimeControl control_of tags) _ (λ speed.
-    bind-if HasPlain (asked (date_name tags) month_of tags) _ (λ month. plain))))))))))))
-
-abbrev HasPlainScore : Score → Type 0
-HasPlainScore found = HasPlain found.classes
-
-score-plain : (text : List ℕ) → IfOk (score text) HasPlainScore
-unfolding score
-score-plain text =
-    bind-if HasPlainScore (result_map_both (λ parts. parts) (λ fault. faults.Lex fault.place) (parts text)) _ (λ parts.
-    bind-if-given HasPlain HasPlainScore (result_map_both (λ classes. classes) faults.Tag (classes parts.tags)) _
-    (if-map HasPlain HasPlain (λ c. c) faults.Tag (classes parts.tags) (λ c has. has) (classes-plain parts.tags)) (λ found has.
-    bind-if HasPlainScore (ok_or parts.termination faults.NoTermination) _ (λ ending.
-    bind-if HasPlainScore (demand (ends_with found.outcome ending) faults.ResultDiffers) _ (λ _.
-    bind-if HasPlainScore (demand (nat_le (length parts.tokens) ply_limit) faults.TooManyPlies) _ (λ _. has)))))
-
-game-by : (reading : Result Score GameFault) (game : Game) → IfOk reading HasPlainScore → GameOfScore reading (Ok game) → HasPlain game.classes
-game-by (Err fault) game holds of = absurd (Err-not-Ok fault game (sym of))
-game-by (Ok found) game holds of =
-    let played = map-ok (λ moves. record { classes = found.classes; moves = moves }) (λ fault. fault) of.0 game (sym of.2) in
-    let P : Game → Type 0 = λ g. HasPlain g.classes in
-    subst P played.2 holds
-
 game-plain : (text : List ℕ) (game : Game) → IsTextOf text game → HasPlain game.classes
-game-plain text game of = game-by (score text) game (score-plain text) of
+game-plain text game of = (game-sound text game of).id
 
 -- ---- what is seen and listed
 
-abbrev IsPlainSeen : Seen → Type 0
-IsPlainSeen seen = HasPlain seen.classes
+abbrev IsPlainGameAt : GameAt → Type 0
+IsPlainGameAt games_at = HasPlain games_at.classes
 
-abbrev IsPlainSighting : Sighting → Type 0
-IsPlainSighting s = HasPlain s.classes
+abbrev IsPlainNumberedGame : NumberedGame → Type 0
+IsPlainNumberedGame s = HasPlain s.classes
 
-seen-plain : (at : Position) (texts : List (List ℕ)) (games : List Game) (seen : List Seen) → AllZip IsTextOf texts games → AllZip (IsSeenFrom at) games seen
-    → AllByRecursion IsPlainSeen seen
-seen-plain at [] [] [] of is = tt
-seen-plain at [] [] (s ∷ seen) of is = absurd is
-seen-plain at [] (g ∷ games) seen of is = absurd of
-seen-plain at (t ∷ texts) [] seen of is = absurd of
-seen-plain at (t ∷ texts) (g ∷ games) [] of is = absurd is
-seen-plain at (t ∷ texts) (g ∷ games) (s ∷ seen) of is =
+games_at-plain : (at : Position) (texts : List (List ℕ)) (games : List Game) (games_at : List GameAt) → AllZip IsTextOf texts games → AllZip (IsGameAt at) games games_at
+    → AllByRecursion IsPlainGameAt games_at
+games_at-plain at [] [] [] of is = tt
+games_at-plain at [] [] (s ∷ games_at) of is = absurd is
+games_at-plain at [] (g ∷ games) games_at of is = absurd of
+games_at-plain at (t ∷ texts) [] games_at of is = absurd of
+games_at-plain at (t ∷ texts) (g ∷ games) [] of is = absurd is
+games_at-plain at (t ∷ texts) (g ∷ games) (s ∷ games_at) of is =
     let P : Classes → Type 0 = λ c. HasPlain c in
-    (subst P (sym is.0.0) (game-plain t g of.0), seen-plain at texts games seen of.1 is.1)
+    (subst P (sym is.0.0) (game-plain t g of.0), games_at-plain at texts games games_at of.1 is.1)
 
-sighting-plain : (passed : Bool) (number : ℕ) (classes : Classes) (visit : Option (Option Move)) → HasPlain classes → IfSome (sighting_by passed number classes visit) IsPlainSighting
-sighting-plain true number classes (Some (Some next)) plain = plain
-sighting-plain true number classes (Some None) plain = tt
-sighting-plain true number classes None plain = tt
-sighting-plain false number classes visit plain = tt
+game_with_move-plain : (passed : Bool) (number : ℕ) (classes : Classes) (visit : Option (Option Move)) → HasPlain classes → IfSome (game_with_move_by passed number classes visit) IsPlainNumberedGame
+game_with_move-plain true number classes (Some (Some next)) plain = plain
+game_with_move-plain true number classes (Some None) plain = tt
+game_with_move-plain true number classes None plain = tt
+game_with_move-plain false number classes visit plain = tt
 
-cons-some : (o : Option Sighting) (rest : List Sighting) → IfSome o IsPlainSighting → AllByRecursion IsPlainSighting rest
-    → AllByRecursion IsPlainSighting (cons_option o rest)
+cons-some : (o : Option NumberedGame) (rest : List NumberedGame) → IfSome o IsPlainNumberedGame → AllByRecursion IsPlainNumberedGame rest
+    → AllByRecursion IsPlainNumberedGame (cons_option o rest)
 cons-some None rest plain each = each
 cons-some (Some s) rest plain each = (plain, each)
 
-sightings-plain : (filter_ : Filter) (first : ℕ) (seen : List Seen) → AllByRecursion IsPlainSeen seen
-    → AllByRecursion IsPlainSighting (filter_map (sighting filter_) (enumerate_from first seen))
-sightings-plain filter_ first [] each = tt
-sightings-plain filter_ first (s ∷ seen) each =
-    cons-some (sighting filter_ (first, s)) (filter_map (sighting filter_) (enumerate_from (first + 1) seen))
-    (sighting-plain (passes filter_ s.classes) first s.classes s.visit each.0) (sightings-plain filter_ (first + 1) seen each.1)
+games_with_move-plain : (wanted : Classes → Bool) (first : ℕ) (games_at : List GameAt) → AllByRecursion IsPlainGameAt games_at
+    → AllByRecursion IsPlainNumberedGame (filter_map (game_with_move wanted) (enumerate_from first games_at))
+games_with_move-plain wanted first [] each = tt
+games_with_move-plain wanted first (s ∷ games_at) each =
+    cons-some (game_with_move wanted (first, s)) (filter_map (game_with_move wanted) (enumerate_from (first + 1) games_at))
+    (game_with_move-plain (wanted s.classes) first s.classes s.visit each.0) (games_with_move-plain wanted (first + 1) games_at each.1)
 
 -- ---- the best of plain sightings
 
@@ -278,55 +193,47 @@ module _ {X : Type 0} (P : X → Type 0) (before : X → X → Bool) where
   best-have (suc n) [] each = tt
   best-have (suc n) (x ∷ xs) each = (one-has x xs each.0 each.1, best-have n (others before x xs) (others-have x xs each.0 each.1))
 
-  filter-have : (test : X → Bool) (xs : List X) → AllByRecursion P xs → AllByRecursion P (filter test xs)
-  filter-have test [] each = tt
-  filter-have test (x ∷ xs) each = by (filter-have test xs each.1) (test x)
-    where
-      by : AllByRecursion P (filter test xs) → (b : Bool) → AllByRecursion P (if b then x ∷ filter test xs else filter test xs)
-      by rest true = (each.0, rest)
-      by rest false = rest
-
-listed-plain : (sights : List Sighting) → AllByRecursion IsPlainSighting sights → AllByRecursion HasPlainId (map listed sights)
+listed-plain : (games_with_move_of : List NumberedGame) → AllByRecursion IsPlainNumberedGame games_with_move_of → AllByRecursion HasPlainId (map listed games_with_move_of)
 listed-plain [] each = tt
-listed-plain (s ∷ sights) each = (each.0, listed-plain sights each.1)
+listed-plain (s ∷ games_with_move_of) each = (each.0, listed-plain games_with_move_of each.1)
 
-only-plain : (sights : List Sighting) → AllByRecursion IsPlainSighting sights → IsPlainGame (the_only sights)
+only-plain : (games_with_move_of : List NumberedGame) → AllByRecursion IsPlainNumberedGame games_with_move_of → IsPlainGame (the_only games_with_move_of)
 only-plain [] each = tt
 only-plain (s ∷ []) each = each.0
-only-plain (s ∷ t ∷ sights) each = tt
+only-plain (s ∷ t ∷ games_with_move_of) each = tt
 
-line-plain : (query : Query) (seen : List Seen) (m : Move) (line : MoveLine) → AllByRecursion IsPlainSighting (sightings query.filter seen)
-    → IsLineOf query seen m line → IsPlainLine line
-line-plain query seen m line plain is =
+line-plain : (query : Query) (games_at : List GameAt) (m : Move) (line : MoveLine) → AllByRecursion IsPlainNumberedGame (games_with_move (passes query.filter) games_at)
+    → IsLineOf query games_at m line → IsPlainLine line
+line-plain query games_at m line plain is =
     let G : Option Listed → Type 0 = λ game. IsPlainGame game in
     record {
       san = san-ascii query.at m line.san is.san;
-      game = subst G (sym is.game) (only-plain _ (filter-have IsPlainSighting (λ a b. true) (λ s. is_same_move m s.next) (sightings query.filter seen) plain));
+      game = subst G (sym is.game) (only-plain _ (filter-have IsPlainNumberedGame (λ s. is_same_move m s.next) (games_with_move (passes query.filter) games_at) plain));
     }
 
-lines-plain : (query : Query) (seen : List Seen) (moves : List Move) (lines : List MoveLine) → AllByRecursion IsPlainSighting (sightings query.filter seen)
-    → AllZip (IsLineOf query seen) moves lines → AllByRecursion IsPlainLine lines
-lines-plain query seen [] [] plain each = tt
-lines-plain query seen [] (line ∷ lines) plain each = absurd each
-lines-plain query seen (m ∷ moves) [] plain each = absurd each
-lines-plain query seen (m ∷ moves) (line ∷ lines) plain each = (line-plain query seen m line plain each.0, lines-plain query seen moves lines plain each.1)
+lines-plain : (query : Query) (games_at : List GameAt) (moves : List Move) (lines : List MoveLine) → AllByRecursion IsPlainNumberedGame (games_with_move (passes query.filter) games_at)
+    → AllZip (IsLineOf query games_at) moves lines → AllByRecursion IsPlainLine lines
+lines-plain query games_at [] [] plain each = tt
+lines-plain query games_at [] (line ∷ lines) plain each = absurd each
+lines-plain query games_at (m ∷ moves) [] plain each = absurd each
+lines-plain query games_at (m ∷ moves) (line ∷ lines) plain each = (line-plain query games_at m line plain each.0, lines-plain query games_at moves lines plain each.1)
 
-games-plain : (before : Sighting → Sighting → Bool) (n : ℕ) (sights : List Sighting) (games : List Listed) → AllByRecursion IsPlainSighting sights
-    → games ≡ map listed (best before n sights) → All HasPlainId games
-games-plain before n sights games plain is =
+games-plain : (before : NumberedGame → NumberedGame → Bool) (n : ℕ) (games_with_move_of : List NumberedGame) (games : List Listed) → AllByRecursion IsPlainNumberedGame games_with_move_of
+    → games ≡ map listed (best before n games_with_move_of) → All HasPlainId games
+games-plain before n games_with_move_of games plain is =
     let A : List Listed → Type 0 = λ games. All HasPlainId games in
-    subst A (sym is) (All-from_recursion _ _ (listed-plain (best before n sights) (best-have IsPlainSighting before n sights plain)))
+    subst A (sym is) (All-from_recursion _ _ (listed-plain (best before n games_with_move_of) (best-have IsPlainNumberedGame before n games_with_move_of plain)))
 
-recount-plain : (query : Query) (seen : List Seen) (found : Found) → AllByRecursion IsPlainSeen seen → IsRecount query seen found → IsPlainFound found
-unfolding sightings
-recount-plain query seen found plain is =
-    let sights : AllByRecursion IsPlainSighting (sightings query.filter seen) = sightings-plain query.filter 0 seen plain in
+recount-plain : (query : Query) (games_at : List GameAt) (found : Found) → AllByRecursion IsPlainGameAt games_at → IsRecount query games_at found → IsPlainFound found
+unfolding games_with_move
+recount-plain query games_at found plain is =
+    let games_with_move_of : AllByRecursion IsPlainNumberedGame (games_with_move (passes query.filter) games_at) = games_with_move-plain (passes query.filter) 0 games_at plain in
     record {
-      moves = All-from_recursion _ _ (lines-plain query seen _ found.moves sights is.moves);
-      top = games-plain _ query.top (sightings query.filter seen) found.top sights is.top;
-      recent = games-plain _ query.recent (sightings query.filter seen) found.recent sights is.recent;
+      moves = All-from_recursion _ _ (lines-plain query games_at _ found.moves games_with_move_of is.moves);
+      top = games-plain _ query.top (games_with_move (passes query.filter) games_at) found.top games_with_move_of is.top;
+      recent = games-plain _ query.recent (games_with_move (passes query.filter) games_at) found.recent games_with_move_of is.recent;
     }
 
 pub plain-found : (journal : List Batch) (query : Query) (found : Found) → IsFound journal query found → IsPlainFound found
 plain-found journal query found is =
-    recount-plain query is.answer.seen found (seen-plain query.at (texts_of journal) is.games is.answer.seen is.are_games is.answer.is_seen) is.answer.recount
+    recount-plain query is.answer.games_at found (games_at-plain query.at (texts_of journal) is.games is.answer.games_at is.are_games is.answer.are_games_at) is.answer.recount

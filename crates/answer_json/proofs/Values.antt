@@ -14,7 +14,7 @@ use Rattle.explorer_model.specs.declared.answer.MonthLine.{MonthLine}
 use Rattle.explorer_model.specs.declared.answer.MoveLine.{MoveLine}
 use Rattle.explorer_model.specs.declared.archive.Outcome.{Outcome}
 use Rattle.explorer_model.specs.declared.archive.Outcome.TheVariants as outcomes
-use Rattle.explorer_model.specs.Answer.{items_by, array_by, winner_value, listed_value, game_value, move_value, month_value, answer_value}
+use Rattle.explorer_model.specs.Answer.{items_by, array_by, winner_value, listed_value, game_value, move_value, move_items, month_value, answer_value, unnamed}
 
 items_of-map : {A : Type 0} (value : A → Data) (xs : List A) → items_of (map value xs) ≡ items_by value xs
 items_of-map value [] = refl
@@ -55,17 +55,30 @@ no_float-game : (game : Option Listed) → has_float (game_value game) ≡ false
 no_float-game None = refl
 no_float-game (Some game) = no_float-listed game
 
-no_float-move : (line : MoveLine) → has_float (move_value line) ≡ false
+-- a move without an opening
+abbrev pub plain_move : MoveLine → Data
+plain_move line = move_value line None
+
+no_float-move : (line : MoveLine) → has_float (plain_move line) ≡ false
 no_float-move line = rw (no_float-game line.game) refl
+
+-- where no opening is known, no move has one
+pub moves-unnamed : (lines : List MoveLine) → items_by plain_move lines ≡ move_items lines (unnamed lines).moves
+moves-unnamed [] = refl
+moves-unnamed (line ∷ lines) = ap (λ (items : Items). item (plain_move line) items) (moves-unnamed lines)
 
 no_float-month : (line : MonthLine) → has_float (month_value line) ≡ false
 no_float-month line = refl
 
-with_months : (found : Found) (history : Option (List MonthLine)) → has_float (answer_value (record found { history = history })) ≡ false
-with_months found None =
-    rw (no_float_in move_value no_float-move found.moves, no_float_in listed_value no_float-listed found.recent, no_float_in listed_value no_float-listed found.top) refl
-with_months found (Some months) =
-    rw (no_float_in month_value no_float-month months, no_float_in move_value no_float-move found.moves, no_float_in listed_value no_float-listed found.recent, no_float_in listed_value no_float-listed found.top) refl
+no_float-moves : (lines : List MoveLine) → items_have_float (move_items lines (unnamed lines).moves) ≡ false
+no_float-moves lines = ap items_have_float (sym (moves-unnamed lines)) ∙ no_float_in plain_move no_float-move lines
 
-pub no_float-answer : (found : Found) → has_float (answer_value found) ≡ false
+with_months : (found : Found) (history : Option (List MonthLine))
+    → has_float (answer_value (record found { history = history }) (unnamed found.moves)) ≡ false
+with_months found None =
+    rw (no_float-moves found.moves, no_float_in listed_value no_float-listed found.recent, no_float_in listed_value no_float-listed found.top) refl
+with_months found (Some months) =
+    rw (no_float_in month_value no_float-month months, no_float-moves found.moves, no_float_in listed_value no_float-listed found.recent, no_float_in listed_value no_float-listed found.top) refl
+
+pub no_float-answer : (found : Found) → has_float (answer_value found (unnamed found.moves)) ≡ false
 no_float-answer found = with_months found found.history

@@ -1,6 +1,6 @@
 ghost use Rattle.std.specs.Prelude.{◌≡◌, IfOk};
 ghost use Rattle.serde_json.specs.View.{view};
-ghost use Rattle.explorer_model.specs.Answer.{answer_value, answer_body};
+ghost use Rattle.explorer_model.specs.Answer.{answer_value, answer_body, unnamed};
 ghost use Rattle.answer_json.specs.Plain.{IsPlainFound};
 
 use crate::game::games_value;
@@ -19,7 +19,7 @@ pub fn body(alloc: Global, found: &Found) -> Result<Vec<u8>, AllocError>
 
 fn answer_value(alloc: Global, found: &Found) -> Result<Value, AllocError>
     requires { IsPlainFound found.now }
-    ensures { IfOk result (λ value. view value ≡ answer_value found.now) }
+    ensures { IfOk result (λ value. view value ≡ answer_value found.now (unnamed found.now.moves)) }
 {
     let totals = &found.totals;
     let moves = moves_value(alloc, found.moves.as_slice())?;

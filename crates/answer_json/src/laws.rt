@@ -8,5 +8,6 @@ ghost use Rattle.answer_json.specs.Plain.{IsPlainFound};
 
 /// What is found in a journal has a body: its SAN texts and the ids of its games are ASCII.
 pub fn what_is_found_is_plain()
-    ensures { (journal : List Batch) (query : Query) (found : Found) → IsFound journal query found → IsPlainFound found }
+    ensures { (journal : List Batch) (query : Query) (found : Found) → IsFound journal query found
+        → IsPlainFound found }
 {}

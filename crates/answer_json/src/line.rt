@@ -1,8 +1,9 @@
 //! The lines of an answer: one for a move, and one for a month.
-ghost use Rattle.std.specs.Prelude.{◌≡◌, IfOk};
+ghost use Rattle.std.specs.Prelude.{◌≡◌, IfOk, None};
 ghost use Rattle.std.specs.List.{All};
+ghost use Rattle.serde_json.specs.Data.{array};
 ghost use Rattle.serde_json.specs.View.{view};
-ghost use Rattle.explorer_model.specs.Answer.{array_by, move_value, month_value};
+ghost use Rattle.explorer_model.specs.Answer.{array_by, move_items, move_value, month_value, unnamed};
 ghost use Rattle.answer_json.specs.Plain.{IsPlainLine};
 
 use crate::game::game_value;
@@ -14,7 +15,7 @@ use std::alloc::{AllocError, Global};
 
 fn move_value(alloc: Global, line: &MoveLine) -> Result<Value, AllocError>
     requires { IsPlainLine line.now }
-    ensures { IfOk result (λ value. view value ≡ move_value line.now) }
+    ensures { IfOk result (λ value. view value ≡ move_value line.now None) }
 {
     let uci = write_uci(line.next);
     json!(in alloc; {
@@ -31,7 +32,8 @@ fn move_value(alloc: Global, line: &MoveLine) -> Result<Value, AllocError>
 
 pub fn moves_value(alloc: Global, lines: &[MoveLine]) -> Result<Value, AllocError>
     requires { All IsPlainLine lines.now }
-    ensures { IfOk result (λ value. view value ≡ array_by move_value lines.now) }
+    ensures { IfOk result (λ value. view value
+        ≡ array (move_items lines.now (unnamed lines.now).moves)) }
 {
     let mut values = Vec::with_capacity(alloc, lines.len())?;
     for line in lines {

@@ -9,18 +9,18 @@ use Rattle.std.proofs.lemmas.Slice.Eq.{bytes_eq-Decides}
 use Rattle.explorer_model.specs.declared.archive.Game.{Game}
 use Rattle.explorer_model.specs.declared.fault.GameFault.{GameFault}
 use Rattle.explorer_model.specs.declared.fault.Refusal.{Refusal}
-use Rattle.explorer_model.specs.Imports.{Candidate, Fate, Accepted, Refused, fate_of, fate_of_game, fate_by, fates_from, and_candidate, candidates, has_id_of}
+use Rattle.explorer_model.specs.Imports.{Candidate, Verdict, Accepted, Refused, verdict_of, verdict_of_game, verdict_by, verdicts_from, and_candidate, candidates, has_id_of}
 use Rattle.batch_tally.specs.declared.reading.Reading.{Reading}
-use Rattle.batch_tally.specs.Reading.{piece_as}
+use Rattle.batch_tally.specs.Reading.{examination_as}
 
-abbrev IsAccepted : Fate → Type 0
+abbrev IsAccepted : Verdict → Type 0
 IsAccepted (Accepted c) = Unit {0}
 IsAccepted (Refused r) = ⊥
 
 refused-not-accepted : (r : Refusal) (c : Candidate) → Refused r ≡ Accepted c → ⊥
-refused-not-accepted r c is = let P : Fate → Type 0 = λ f. IsAccepted f in subst P (sym is) tt
+refused-not-accepted r c is = let P : Verdict → Type 0 = λ f. IsAccepted f in subst P (sym is) tt
 
-abbrev accepted_or : Fate → Candidate → Candidate
+abbrev accepted_or : Verdict → Candidate → Candidate
 accepted_or (Accepted c) d = c
 accepted_or (Refused r) d = d
 
@@ -31,7 +31,7 @@ pub record IsOf (earlier : List Candidate) (text : List ℕ) (game : Result Game
   pub new : find (has_id_of c.game) earlier ≡ None
 
 by-found : (earlier : List Candidate) (place : ℕ) (text : List ℕ) (game : Game) (found : Option Candidate) (c : Candidate)
-    → find (has_id_of game) earlier ≡ found → fate_by found place text game ≡ Accepted c → IsOf earlier text (Ok game) c
+    → find (has_id_of game) earlier ≡ found → verdict_by found place text game ≡ Accepted c → IsOf earlier text (Ok game) c
 by-found earlier place text game None c none is =
     let same : record { place = place; text = text; game = game } ≡ c = ap (λ f. accepted_or f c) is in
     record {
@@ -42,46 +42,46 @@ by-found earlier place text game None c none is =
 by-found earlier place text game (Some first) c some is = absurd (refused-not-accepted _ c is)
 
 by-game : (earlier : List Candidate) (place : ℕ) (text : List ℕ) (game : Result Game GameFault) (c : Candidate)
-    → fate_of_game earlier place text game ≡ Accepted c → IsOf earlier text game c
+    → verdict_of_game earlier place text game ≡ Accepted c → IsOf earlier text game c
 by-game earlier place text (Err fault) c is = absurd (refused-not-accepted _ c is)
 by-game earlier place text (Ok game) c is = by-found earlier place text game (find (has_id_of game) earlier) c refl is
 
-pub accepted-is : (earlier : List Candidate) (reading : Reading) (c : Candidate) → fate_of earlier (piece_as reading) ≡ Accepted c
+pub accepted-is : (earlier : List Candidate) (reading : Reading) (c : Candidate) → verdict_of earlier (examination_as reading) ≡ Accepted c
     → IsOf earlier reading.text reading.game c
 accepted-is earlier reading c is = by-game earlier reading.place reading.text reading.game c is
 
 -- ---- what holds of each candidate
 
-cons-fate : (P : Candidate → Type 0) (fate : Fate) (rest : List Fate) → ((c : Candidate) → fate ≡ Accepted c → P c)
-    → AllByRecursion P (candidates rest) → AllByRecursion P (candidates (fate ∷ rest))
-cons-fate P (Accepted c) rest each later = (each c refl, later)
-cons-fate P (Refused r) rest each later = later
+cons-verdict : (P : Candidate → Type 0) (verdict : Verdict) (rest : List Verdict) → ((c : Candidate) → verdict ≡ Accepted c → P c)
+    → AllByRecursion P (candidates rest) → AllByRecursion P (candidates (verdict ∷ rest))
+cons-verdict P (Accepted c) rest each later = (each c refl, later)
+cons-verdict P (Refused r) rest each later = later
 
 -- of a reading with a game
 abbrev pub OfGame : (List ℕ → Game → Type 0) → Reading → Type 0
 OfGame P reading = (game : Game) → reading.game ≡ Ok game → P reading.text game
 
 pub each-candidate : (P : List ℕ → Game → Type 0) (earlier : List Candidate) (readings : List Reading) → AllByRecursion (OfGame P) readings
-    → AllByRecursion (λ c. P c.text c.game) (candidates (fates_from earlier (map piece_as readings)))
-unfolding fates_from
+    → AllByRecursion (λ c. P c.text c.game) (candidates (verdicts_from earlier (map examination_as readings)))
+unfolding verdicts_from
 each-candidate P earlier [] each = tt
 each-candidate P earlier (reading ∷ readings) each =
-    cons-fate (λ c. P c.text c.game) (fate_of earlier (piece_as reading)) (fates_from (and_candidate earlier (fate_of earlier (piece_as reading))) (map piece_as readings))
+    cons-verdict (λ c. P c.text c.game) (verdict_of earlier (examination_as reading)) (verdicts_from (and_candidate earlier (verdict_of earlier (examination_as reading))) (map examination_as readings))
     (λ c is. (let of = accepted-is earlier reading c is in let Q : List ℕ → Type 0 = λ t. P t c.game in subst Q (sym of.text_is) (each.0 c.game of.game_is)))
-    (each-candidate P (and_candidate earlier (fate_of earlier (piece_as reading))) readings each.1)
+    (each-candidate P (and_candidate earlier (verdict_of earlier (examination_as reading))) readings each.1)
 
 -- ---- how many there are
 
-cons-fewer : (fate : Fate) (rest : List Fate) (n : ℕ) → length (candidates rest) ≤ n → length (candidates (fate ∷ rest)) ≤ suc n
+cons-fewer : (verdict : Verdict) (rest : List Verdict) (n : ℕ) → length (candidates rest) ≤ n → length (candidates (verdict ∷ rest)) ≤ suc n
 cons-fewer (Accepted c) rest n few = omega (arith, few)
 cons-fewer (Refused r) rest n few = omega (arith, few)
 
-pub no-more-candidates : (earlier : List Candidate) (readings : List Reading) → length (candidates (fates_from earlier (map piece_as readings))) ≤ length readings
-unfolding fates_from
+pub no-more-candidates : (earlier : List Candidate) (readings : List Reading) → length (candidates (verdicts_from earlier (map examination_as readings))) ≤ length readings
+unfolding verdicts_from
 no-more-candidates earlier [] = omega arith
 no-more-candidates earlier (reading ∷ readings) =
-    cons-fewer (fate_of earlier (piece_as reading)) (fates_from (and_candidate earlier (fate_of earlier (piece_as reading))) (map piece_as readings)) (length readings)
-    (no-more-candidates (and_candidate earlier (fate_of earlier (piece_as reading))) readings)
+    cons-fewer (verdict_of earlier (examination_as reading)) (verdicts_from (and_candidate earlier (verdict_of earlier (examination_as reading))) (map examination_as readings)) (length readings)
+    (no-more-candidates (and_candidate earlier (verdict_of earlier (examination_as reading))) readings)
 
 -- ---- their ids
 
@@ -105,27 +105,27 @@ new-id c earlier none different =
     let others = All-from_recursion (λ e. HaveOtherIds e c) earlier (none-found c earlier none) in
     all_pairs_push HaveOtherIds earlier c different (λ k d below. others k d below)
 
-ids-by : (earlier : List Candidate) (fate : Fate) (rest : List Fate) → ((c : Candidate) → fate ≡ Accepted c → AllPairs HaveOtherIds (earlier ++ c ∷ []))
+ids-by : (earlier : List Candidate) (verdict : Verdict) (rest : List Verdict) → ((c : Candidate) → verdict ≡ Accepted c → AllPairs HaveOtherIds (earlier ++ c ∷ []))
     → AllPairs HaveOtherIds earlier
-    → (AllPairs HaveOtherIds (and_candidate earlier fate) → AllPairs HaveOtherIds (and_candidate earlier fate ++ candidates rest))
-    → AllPairs HaveOtherIds (earlier ++ candidates (fate ∷ rest))
+    → (AllPairs HaveOtherIds (and_candidate earlier verdict) → AllPairs HaveOtherIds (and_candidate earlier verdict ++ candidates rest))
+    → AllPairs HaveOtherIds (earlier ++ candidates (verdict ∷ rest))
 ids-by earlier (Accepted c) rest pushed different later =
     let P : List Candidate → Type 0 = λ cs. AllPairs HaveOtherIds cs in
     subst P (append_assoc earlier (c ∷ []) (candidates rest)) (later (pushed c refl))
 ids-by earlier (Refused r) rest pushed different later = later different
 
 ids-differ : (earlier : List Candidate) (readings : List Reading) → AllPairs HaveOtherIds earlier
-    → AllPairs HaveOtherIds (earlier ++ candidates (fates_from earlier (map piece_as readings)))
-unfolding fates_from
+    → AllPairs HaveOtherIds (earlier ++ candidates (verdicts_from earlier (map examination_as readings)))
+unfolding verdicts_from
 ids-differ earlier [] different = let P : List Candidate → Type 0 = λ cs. AllPairs HaveOtherIds cs in subst P (sym (append-nil earlier)) different
 ids-differ earlier (reading ∷ readings) different =
-    ids-by earlier (fate_of earlier (piece_as reading)) (fates_from (and_candidate earlier (fate_of earlier (piece_as reading))) (map piece_as readings))
+    ids-by earlier (verdict_of earlier (examination_as reading)) (verdicts_from (and_candidate earlier (verdict_of earlier (examination_as reading))) (map examination_as readings))
     (λ c is. new-id c earlier (accepted-is earlier reading c is).new different)
     different
-    (λ more. ids-differ (and_candidate earlier (fate_of earlier (piece_as reading))) readings more)
+    (λ more. ids-differ (and_candidate earlier (verdict_of earlier (examination_as reading))) readings more)
 
 none-differ : AllPairs HaveOtherIds []
 none-differ = λ i j d before below. absurd (omega (arith, below))
 
-pub different-ids : (readings : List Reading) → AllPairs HaveOtherIds (candidates (fates_from [] (map piece_as readings)))
+pub different-ids : (readings : List Reading) → AllPairs HaveOtherIds (candidates (verdicts_from [] (map examination_as readings)))
 different-ids readings = ids-differ [] readings none-differ

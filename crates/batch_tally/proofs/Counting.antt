@@ -15,6 +15,7 @@ use Rattle.batch_tally.specs.declared.accepting.Accepted.{Accepted}
 use Rattle.batch_tally.specs.declared.steps.Step.{Step}
 use Rattle.batch_tally.specs.Singles.{IsCountOf}
 use Rattle.batch_tally.specs.Steps.{step_as, IsStepAt, stages_within}
+use Rattle.batch_tally.proofs.Stages.{next-place}
 
 abbrev pub games_of : List Accepted → List Game
 games_of accepted = map (λ a. a.game) accepted
@@ -78,9 +79,6 @@ zip-push R [] [] x y each is = (is, tt)
 zip-push R [] (b ∷ ys) x y each is = absurd each
 zip-push R (a ∷ xs) [] x y each is = absurd each
 zip-push R (a ∷ xs) (b ∷ ys) x y each is = (each.0, zip-push R xs ys x y each.1 is)
-
-next-place : (i : ℕ) → suc i ≡ i + 1
-next-place i = omega arith
 
 pub starts-counting : (games : List Accepted) (singles : List Single) → singles ≡ [] → Counting games singles 0 0
 starts-counting games singles none =

@@ -8,16 +8,17 @@ use Rattle.explorer_model.specs.declared.chess.Position.{Position}
 use Rattle.explorer_model.specs.declared.fault.GameFault.{GameFault}
 use Rattle.explorer_model.specs.Chess.{Same}
 use Rattle.explorer_model.specs.Games.{GameOf}
-use Rattle.explorer_model.specs.Imports.{Piece, Read, Candidate, candidates, refusals, fates}
+use Rattle.explorer_model.specs.Imports.{Examination, Read, Candidate, candidates, refusals, verdicts}
 use Rattle.explorer_model.specs.Keys.{key}
 use Rattle.explorer_model.specs.Tidy.{IsTidied, IsTidyKey}
 use Rattle.explorer_model.specs.Visits.{Stage, counted_stages}
+use Rattle.explorer_model.proofs.Lists.{one-zip}
 use Rattle.tally_rows.specs.declared.row.Row.{Row}
 use Rattle.tally_rows.specs.Tallied.{Tallied}
 use Rattle.tally_rows.specs.Tally.{Counted, IsStepOf, IsTrackOf}
 use Rattle.tally_rows.specs.Track.{Step, Track}
 use Rattle.batch_tally.specs.declared.tallying.Tallying.{Tallying}
-use Rattle.batch_tally.specs.Tallying.{IsPieceOfText, IsTallying, IsTallyMade, Counts}
+use Rattle.batch_tally.specs.Tallying.{IsExaminationOfText, IsTallying, IsTallyMade, Counts}
 
 -- what the lower crates say
 pub record Single : Type 0 where
@@ -26,28 +27,15 @@ pub record Single : Type 0 where
   pub tidied : (p q p_tidied q_tidied : Position) → IsTidied p p_tidied → IsTidied q q_tidied → Same p q ↔ (p_tidied ≡ q_tidied)
   pub rows : (tracks : List Track) (rows others : List Row) → Tallied tracks rows → Tallied tracks others → rows ≡ others
 
--- two lists that stand each in one relation to a third are equal, where each item has one partner
-one-zip : {A B : Type 0} (R : A → B → Type 0) → ((x : A) (y z : B) → R x y → R x z → y ≡ z)
-    → (xs : List A) (ys zs : List B) → AllZip R xs ys → AllZip R xs zs → ys ≡ zs
-one-zip R one [] [] [] first second = refl
-one-zip R one [] [] (z ∷ zs) first second = absurd second
-one-zip R one [] (y ∷ ys) zs first second = absurd first
-one-zip R one (x ∷ xs) [] zs first second = absurd first
-one-zip R one (x ∷ xs) (y ∷ ys) [] first second = absurd second
-one-zip R one (x ∷ xs) (y ∷ ys) (z ∷ zs) first second =
-    let head = one x y z first.0 second.0 in
-    let tail = one-zip R one xs ys zs first.1 second.1 in
-    λ i. head i ∷ tail i
+-- ---- examinations
 
--- ---- pieces
-
-one-piece : Single → (text : Placed) (piece other : Piece) → IsPieceOfText text piece → IsPieceOfText text other → piece ≡ other
-one-piece single text piece other first second =
+one-examination : Single → (text : Placed) (examination other : Examination) → IsExaminationOfText text examination → IsExaminationOfText text other → examination ≡ other
+one-examination single text examination other first second =
     let game = single.game text.bytes first.0 second.0 first.1 second.1 in
     first.2 ∙ ap (λ game. Read (record { place = text.place; text = text.bytes; game = game })) game ∙ sym second.2
 
-one-pieces : Single → (texts : List Placed) (pieces others : List Piece) → AllZip IsPieceOfText texts pieces → AllZip IsPieceOfText texts others → pieces ≡ others
-one-pieces single texts pieces others first second = one-zip IsPieceOfText (one-piece single) texts pieces others first second
+one-examinations : Single → (texts : List Placed) (examinations others : List Examination) → AllZip IsExaminationOfText texts examinations → AllZip IsExaminationOfText texts others → examinations ≡ others
+one-examinations single texts examinations others first second = one-zip IsExaminationOfText (one-examination single) texts examinations others first second
 
 -- ---- tracks
 
@@ -95,19 +83,19 @@ one-tally single accepted (Some counted) (Some other) first second = ap Some (on
 
 -- ---- tallyings
 
-pub same-pieces : Single → (texts : List Placed) (tallying other : Tallying) (first : IsTallying texts tallying) (second : IsTallying texts other) → first.pieces ≡ second.pieces
-same-pieces single texts tallying other first second = one-pieces single texts first.pieces second.pieces first.are_pieces second.are_pieces
+pub same-examinations : Single → (texts : List Placed) (tallying other : Tallying) (first : IsTallying texts tallying) (second : IsTallying texts other) → first.examinations ≡ second.examinations
+same-examinations single texts tallying other first second = one-examinations single texts first.examinations second.examinations first.are_examinations second.are_examinations
 
 pub same-places : Single → (texts : List Placed) (tallying other : Tallying) → IsTallying texts tallying → IsTallying texts other → tallying.places.items ≡ other.places.items
 same-places single texts tallying other first second =
-    first.places ∙ ap (λ pieces. map (λ candidate. candidate.place) (candidates (fates pieces))) (same-pieces single texts tallying other first second) ∙ sym second.places
+    first.places ∙ ap (λ examinations. map (λ candidate. candidate.place) (candidates (verdicts examinations))) (same-examinations single texts tallying other first second) ∙ sym second.places
 
 pub same-refused : Single → (texts : List Placed) (tallying other : Tallying) → IsTallying texts tallying → IsTallying texts other → tallying.refused.items ≡ other.refused.items
 same-refused single texts tallying other first second =
-    first.refused ∙ ap (λ pieces. refusals (fates pieces)) (same-pieces single texts tallying other first second) ∙ sym second.refused
+    first.refused ∙ ap (λ examinations. refusals (verdicts examinations)) (same-examinations single texts tallying other first second) ∙ sym second.refused
 
 pub same-tally : Single → (texts : List Placed) (tallying other : Tallying) → IsTallying texts tallying → IsTallying texts other → tallying.tally ≡ other.tally
 same-tally single texts tallying other first second =
-    let R : List Piece → Type 0 = λ pieces. IsTallyMade (candidates (fates pieces)) tallying.tally in
-    one-tally single (candidates (fates second.pieces)) tallying.tally other.tally
-    (subst R (same-pieces single texts tallying other first second) first.tally) second.tally
+    let R : List Examination → Type 0 = λ examinations. IsTallyMade (candidates (verdicts examinations)) tallying.tally in
+    one-tally single (candidates (verdicts second.examinations)) tallying.tally other.tally
+    (subst R (same-examinations single texts tallying other first second) first.tally) second.tally

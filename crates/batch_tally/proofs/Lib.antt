@@ -1,5 +1,5 @@
 pub mod Completing
-pub mod Fates
+pub mod Verdicts
 pub mod Stages
 pub mod Pushing
 pub mod Counting
@@ -7,3 +7,4 @@ pub mod Candidates
 pub mod Made
 pub mod Whole
 pub mod Determined
+mod Accounting

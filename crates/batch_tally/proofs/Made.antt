@@ -5,18 +5,10 @@ use Rattle.std.proofs.lemmas.List.{length-map}
 use Rattle.std.proofs.lemmas.List.Elements.{All-from_recursion, recursion_from_All}
 use Rattle.explorer_model.specs.declared.archive.Classes.{Classes}
 use Rattle.explorer_model.specs.declared.archive.Game.{Game}
-use Rattle.explorer_model.specs.declared.archive.Token.{Token}
-use Rattle.explorer_model.specs.declared.chess.Move.{Move}
-use Rattle.explorer_model.specs.declared.chess.Position.{Position}
-use Rattle.explorer_model.specs.declared.fault.GameFault.{GameFault}
-use Rattle.explorer_model.specs.declared.notation.SanForm.{SanForm}
-use Rattle.explorer_model.specs.Chess.{start, after, Legal}
 use Rattle.explorer_model.specs.Cuts.{text_limit}
-use Rattle.explorer_model.specs.Games.{Score, score, Plays, GameOfScore}
 use Rattle.explorer_model.specs.Imports.{batch_of}
-use Rattle.explorer_model.specs.San.{AnswersAs, san_form}
-use Rattle.explorer_model.specs.Visits.{IsTextOf}
-use Rattle.explorer_model.proofs.Readings.{Err-not-Ok, Ok-injective, map-ok}
+use Rattle.explorer_model.specs.Visits.{IsTextOf, AreLegal}
+use Rattle.explorer_model.proofs.LegalGames.{game-legal}
 use Rattle.tally_rows.specs.declared.row.Row.{Row}
 use Rattle.tally_rows.specs.declared.single.Single.{Single}
 use Rattle.tally_rows.specs.Games.{singles_from}
@@ -26,40 +18,17 @@ use Rattle.tally_rows.specs.Tally.{IsTrackOf, IsCounted}
 use Rattle.tally_rows.specs.Track.{Track}
 use Rattle.batch_tally.specs.declared.accepting.Accepted.{Accepted}
 use Rattle.batch_tally.specs.Accepting.{candidate_as, AreCandidates}
-use Rattle.batch_tally.specs.Singles.{AreLegal, IsCountOf}
-use Rattle.batch_tally.specs.Steps.{AreLegalFrom}
+use Rattle.batch_tally.specs.Singles.{IsCountOf}
 use Rattle.batch_tally.specs.Tallying.{Counts}
 
--- ---- the moves of a game are legal
-
-named-legal : (p : Position) (form : Option SanForm) (m : Move) → AnswersAs p form (Ok m) → Legal p m
-named-legal p None m is = absurd (Err-not-Ok _ m (sym is))
-named-legal p (Some form) m answer = answer.0
-
-plays-legal : (p : Position) (ply : ℕ) (tokens : List Token) (moves : List Move) → Plays p ply tokens (Ok moves) → AreLegalFrom p moves
-plays-legal p ply [] moves is = let P : List Move → Type 0 = λ ms. AreLegalFrom p ms in subst P (sym (Ok-injective moves [] is)) tt
-plays-legal p ply (token ∷ tokens) moves (inl played) =
-    let m : Move = played.0 in
-    let rest = map-ok (λ ms. m ∷ ms) (λ fault. fault) played.1 moves (sym played.4) in
-    let R : Result (List Move) GameFault → Type 0 = λ r. Plays (after p m) (ply + 1) tokens r in
-    let P : List Move → Type 0 = λ ms. AreLegalFrom p ms in
-    subst P rest.2 (named-legal p (san_form token.text) m played.2, plays-legal (after p m) (ply + 1) tokens rest.0 (subst R rest.1 played.3))
-plays-legal p ply (token ∷ tokens) moves (inr failed) = absurd (Err-not-Ok _ moves (sym failed.2))
-
-score-legal : (reading : Result Score GameFault) (game : Game) → GameOfScore reading (Ok game) → AreLegal game
-score-legal (Err fault) game is = absurd (Err-not-Ok fault game (sym is))
-score-legal (Ok found) game of =
-    let moves = map-ok (λ ms. record { classes = found.classes; moves = ms }) (λ fault. fault) of.0 game (sym of.2) in
-    let R : Result (List Move) GameFault → Type 0 = λ r. Plays start 1 found.tokens r in
-    let G : Game → Type 0 = λ g. AreLegal g in
-    subst G moves.2 (plays-legal start 1 found.tokens moves.0 (subst R moves.1 of.1))
+-- ---- the moves of games are legal
 
 pub games-legal : (accepted : List Accepted) → All (λ a. IsTextOf a.text a.game) accepted → All (λ a. AreLegal a.game) accepted
 games-legal accepted each = All-from_recursion (λ a. AreLegal a.game) accepted (legal-each accepted (recursion_from_All (λ a. IsTextOf a.text a.game) accepted each))
   where
     legal-each : (accepted : List Accepted) → AllByRecursion (λ a. IsTextOf a.text a.game) accepted → AllByRecursion (λ a. AreLegal a.game) accepted
     legal-each [] each = tt
-    legal-each (a ∷ accepted) each = (score-legal (score a.text) a.game each.0, legal-each accepted each.1)
+    legal-each (a ∷ accepted) each = (game-legal a.text a.game each.0, legal-each accepted each.1)
 
 -- ---- lists of parts of them
 
@@ -123,10 +92,14 @@ made-counted accepted singles texts classes rows made =
     let first = some-length accepted made.some in
     let few = made.known.few in
     subst Texts (sym made.texts_are) (subst Tags (sym made.classes_are) (record {
-      some = omega (arith, many, first);
-      few = omega (arith, many, few);
-      short = All-from_recursion (λ text. length text ≤ text_limit) (map (λ a. a.text) accepted)
-          (short-texts accepted (recursion_from_All (λ a. length a.text ≤ text_limit) accepted made.known.short));
+      batch = record {
+        some = omega (arith, many, first);
+        few = omega (arith, many, few);
+        short = All-from_recursion (λ text. length text ≤ text_limit) (map (λ a. a.text) accepted)
+            (short-texts accepted (recursion_from_All (λ a. length a.text ≤ text_limit) accepted made.known.short));
+        games = map (λ a. a.game) accepted;
+        are_games = zip-games accepted (recursion_from_All (λ a. IsTextOf a.text a.game) accepted made.known.games);
+      };
       different = made.known.different;
       tally = record {
         games = map (λ a. a.game) accepted;

@@ -10,6 +10,7 @@ use Rattle.tally_rows.specs.Games.{has_key, first_steps, single_at}
 use Rattle.tally_rows.specs.Track as tracks
 use Rattle.batch_tally.specs.declared.steps.Step.{Step}
 use Rattle.batch_tally.specs.Steps.{step_as}
+use Rattle.batch_tally.proofs.Stages.{next-place}
 
 -- what the steps from a place on give behind those before it
 abbrev pub left_from : Classes → ℕ → List Step → ℕ → List Single
@@ -19,9 +20,6 @@ left_from classes number steps place =
 -- the singles so far, with what the rest gives, are those before and all of the game
 pub record Pushing (classes : Classes) (number : ℕ) (steps : List Step) (before now : List Single) (place : ℕ) : Type 0 where
   pub whole : before ++ left_from classes number steps 0 ≡ now ++ left_from classes number steps place
-
-next-place : (i : ℕ) → suc i ≡ i + 1
-next-place i = omega arith
 
 place-of : (steps : List Step) (place : ℕ) (step : Step) → place < length steps → get_or steps place step ≡ step
     → drop place steps ≡ step ∷ drop (place + 1) steps

@@ -12,11 +12,11 @@ use Rattle.explorer_model.specs.declared.chess.Position.{Position}
 use Rattle.explorer_model.specs.Chess.{start, after, Legal}
 use Rattle.explorer_model.specs.Keys.{key}
 use Rattle.explorer_model.specs.Tidy.{IsTidied}
-use Rattle.explorer_model.specs.Visits.{Stage, stages, stage_limit}
+use Rattle.explorer_model.specs.Visits.{AreLegalFrom, Stage, stages, stage_limit}
 use Rattle.batch_tally.specs.declared.steps.Step.{Step}
-use Rattle.batch_tally.specs.Steps.{AreLegalFrom, IsStepAt, stages_within, Stepping}
+use Rattle.batch_tally.specs.Steps.{IsStepAt, stages_within, Stepping}
 
-next-place : (i : ℕ) → suc i ≡ i + 1
+pub next-place : (i : ℕ) → suc i ≡ i + 1
 next-place i = omega arith
 
 pub get-some : {X : Type 0} (xs : List X) (i : ℕ) (x : X) → slice_get xs i ≡ Some x → drop i xs ≡ x ∷ drop (i + 1) xs

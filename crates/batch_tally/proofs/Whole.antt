@@ -10,15 +10,15 @@ use Rattle.explorer_model.specs.declared.archive.Placed.{Placed}
 use Rattle.explorer_model.specs.declared.fault.GameFault.{GameFault}
 use Rattle.explorer_model.specs.Cuts.{text_limit}
 use Rattle.explorer_model.specs.Games.{GameOf}
-use Rattle.explorer_model.specs.Imports.{Candidate, Read, fates, candidates, refusals}
+use Rattle.explorer_model.specs.Imports.{Candidate, Read, verdicts, candidates, refusals}
 use Rattle.explorer_model.specs.Visits.{IsTextOf}
-use Rattle.tally_rows.specs.Tally.{HaveDifferentIds}
+use Rattle.explorer_model.specs.Journal.{HaveDifferentIds}
 use Rattle.batch_tally.specs.declared.accepting.Accepted.{Accepted}
 use Rattle.batch_tally.specs.declared.reading.Reading.{Reading}
 use Rattle.batch_tally.specs.declared.tallying.Tallying.{Tallying}
 use Rattle.batch_tally.specs.Accepting.{candidate_as, AreCandidates}
-use Rattle.batch_tally.specs.Reading.{piece_as, IsReadingOf}
-use Rattle.batch_tally.specs.Tallying.{IsPieceOfText, IsTallying, IsTallyMade}
+use Rattle.batch_tally.specs.Reading.{examination_as, IsReadingOf}
+use Rattle.batch_tally.specs.Tallying.{IsExaminationOfText, IsTallying, IsTallyMade}
 use Rattle.batch_tally.proofs.Candidates.{OfGame, HaveOtherIds, each-candidate, no-more-candidates, different-ids}
 use Rattle.batch_tally.proofs.Made.{classes-are}
 
@@ -67,7 +67,7 @@ zip-length R (x ∷ xs) (y ∷ ys) each = ap suc (zip-length R xs ys each.1)
 
 pub are-candidates : (texts : List Placed) (readings : List Reading) (accepted : List Accepted)
     → length texts ≤ 512 → All (λ text. length text.bytes ≤ 65536) texts → AllZip IsReadingOf texts readings
-    → map candidate_as accepted ≡ candidates (fates (map piece_as readings)) → AreCandidates accepted
+    → map candidate_as accepted ≡ candidates (verdicts (map examination_as readings)) → AreCandidates accepted
 are-candidates texts readings accepted few short each are =
     let P : Candidate → Type 0 = λ c. IsShortGame c.text c.game in
     let C : List Candidate → Type 0 = λ cs. AllByRecursion P cs in
@@ -89,28 +89,28 @@ are-candidates texts readings accepted few short each are =
 
 -- ---- the answer
 
-pieces-are : (texts : List Placed) (readings : List Reading) → AllZip IsReadingOf texts readings → AllZip IsPieceOfText texts (map piece_as readings)
-pieces-are [] [] each = tt
-pieces-are [] (r ∷ readings) each = absurd each
-pieces-are (t ∷ texts) [] each = absurd each
-pieces-are (t ∷ texts) (r ∷ readings) each = (
+examinations-are : (texts : List Placed) (readings : List Reading) → AllZip IsReadingOf texts readings → AllZip IsExaminationOfText texts (map examination_as readings)
+examinations-are [] [] each = tt
+examinations-are [] (r ∷ readings) each = absurd each
+examinations-are (t ∷ texts) [] each = absurd each
+examinations-are (t ∷ texts) (r ∷ readings) each = (
   (r.game, each.0.game, λ i. Read (record { place = each.0.place i; text = each.0.bytes i; game = r.game })),
-  pieces-are texts readings each.1,
+  examinations-are texts readings each.1,
 )
 
 pub is-tallying : (texts : List Placed) (readings : List Reading) (accepted lent : List Accepted) (tallying : Tallying)
     → AllZip IsReadingOf texts readings
-    → map candidate_as accepted ≡ candidates (fates (map piece_as readings))
+    → map candidate_as accepted ≡ candidates (verdicts (map examination_as readings))
     → lent ≡ accepted
     → tallying.places.items ≡ map (λ c. c.place) (map candidate_as lent)
-    → tallying.refused.items ≡ refusals (fates (map piece_as readings))
+    → tallying.refused.items ≡ refusals (verdicts (map examination_as readings))
     → IsTallyMade (map candidate_as accepted) tallying.tally
     → IsTallying texts tallying
 is-tallying texts readings accepted lent tallying each are borrowed places refused made =
     let T : List Candidate → Type 0 = λ cs. IsTallyMade cs tallying.tally in
     record {
-      pieces = map piece_as readings;
-      are_pieces = pieces-are texts readings each;
+      examinations = map examination_as readings;
+      are_examinations = examinations-are texts readings each;
       places = places ∙ ap (λ l. map (λ c. c.place) (map candidate_as l)) borrowed ∙ ap (λ l. map (λ c. c.place) l) are;
       refused = refused;
       tally = subst T are made;

@@ -2,20 +2,21 @@
 use Rattle.std.specs.Prelude.{◌≤◌, List, length, map}
 use Rattle.std.specs.List.{All}
 use Rattle.explorer_model.specs.Cuts.{text_limit}
-use Rattle.explorer_model.specs.Imports.{Candidate, Fate, group_limit}
+use Rattle.explorer_model.specs.Imports.{Candidate, group_limit}
+use Rattle.explorer_model.specs.Journal.{HaveDifferentIds}
 use Rattle.explorer_model.specs.Visits.{IsTextOf}
-use Rattle.tally_rows.specs.Tally.{HaveDifferentIds}
 use Rattle.explorer_model.specs.Imports as imports
 use Rattle.batch_tally.specs.declared.accepting.Accepted.{Accepted}
 use Rattle.batch_tally.specs.declared.accepting.Verdict.{Verdict}
 use Rattle.batch_tally.specs.declared.accepting.Verdict.TheVariants as verdicts
 
 abbrev pub candidate_as : Accepted → Candidate
-candidate_as accepted = record { place = accepted.place; text = accepted.text; game = accepted.game }
+candidate_as accepted =
+    record { place = accepted.place; text = accepted.text; game = accepted.game }
 
-abbrev pub fate_as : Verdict → Fate
-fate_as (verdicts.Accepted accepted) = imports.Accepted (candidate_as accepted)
-fate_as (verdicts.Refused refusal) = imports.Refused refusal
+abbrev pub verdict_as : Verdict → imports.Verdict
+verdict_as (verdicts.Accepted accepted) = imports.Accepted (candidate_as accepted)
+verdict_as (verdicts.Refused refusal) = imports.Refused refusal
 
 -- what is known of accepted texts
 pub record AreCandidates (accepted : List Accepted) : Type 0 where

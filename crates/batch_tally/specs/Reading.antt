@@ -2,14 +2,14 @@
 use Rattle.std.specs.Prelude.{◌≡◌}
 use Rattle.explorer_model.specs.declared.archive.Placed.{Placed}
 use Rattle.explorer_model.specs.Games.{GameOf}
-use Rattle.explorer_model.specs.Imports.{Replayed, Piece, Read}
+use Rattle.explorer_model.specs.Imports.{Replayed, Examination, Read}
 use Rattle.batch_tally.specs.declared.reading.Reading.{Reading}
 
 abbrev pub replayed_as : Reading → Replayed
 replayed_as reading = record { place = reading.place; text = reading.text; game = reading.game }
 
-abbrev pub piece_as : Reading → Piece
-piece_as reading = Read (replayed_as reading)
+abbrev pub examination_as : Reading → Examination
+examination_as reading = Read (replayed_as reading)
 
 -- the reading is that of the text
 pub record IsReadingOf (text : Placed) (reading : Reading) : Type 0 where

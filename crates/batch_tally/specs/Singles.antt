@@ -1,18 +1,11 @@
 -- The singles of the games of a batch.
 use Rattle.std.specs.Prelude.{◌≡◌, List, map}
 use Rattle.std.specs.List.{AllZip}
-use Rattle.explorer_model.specs.declared.archive.Game.{Game}
-use Rattle.explorer_model.specs.Chess.{start}
 use Rattle.tally_rows.specs.declared.single.Single.{Single}
 use Rattle.tally_rows.specs.Games.{singles_from}
 use Rattle.tally_rows.specs.Tally.{IsTrackOf}
 use Rattle.tally_rows.specs.Track.{Track}
 use Rattle.batch_tally.specs.declared.accepting.Accepted.{Accepted}
-use Rattle.batch_tally.specs.Steps.{AreLegalFrom}
-
--- the moves of a game are legal, each in its turn
-abbrev pub AreLegal : Game → Type 0
-AreLegal game = AreLegalFrom start game.moves
 
 -- the singles are those of the games' tracks
 pub record IsCountOf (games : List Accepted) (singles : List Single) : Type 0 where

@@ -3,14 +3,14 @@ use Rattle.std.specs.Prelude.{◌≡◌, List, [], map, Option, Some, None}
 use Rattle.std.specs.List.{AllZip}
 use Rattle.explorer_model.specs.declared.archive.Placed.{Placed}
 use Rattle.explorer_model.specs.Cuts.{Text}
-use Rattle.explorer_model.specs.Imports.{Piece, IsPieceOf, Candidate, fates, candidates, refusals, batch_of}
+use Rattle.explorer_model.specs.Imports.{Examination, IsExaminationOf, Candidate, verdicts, candidates, refusals, batch_of}
 use Rattle.tally_rows.specs.Tally.{Counted, IsTrackOf}
 use Rattle.tally_rows.specs.Tallied.{Tallied}
 use Rattle.tally_rows.specs.Track.{Track}
 use Rattle.batch_tally.specs.declared.tallying.Tallying.{Tallying}
 
-abbrev pub IsPieceOfText : Placed → Piece → Type 0
-IsPieceOfText text piece = IsPieceOf (Text text) piece
+abbrev pub IsExaminationOfText : Placed → Examination → Type 0
+IsExaminationOfText text examination = IsExaminationOf (Text text) examination
 
 -- the tally counts the candidates
 pub record Counts (candidates : List Candidate) (counted : Counted) : Type 0 where
@@ -28,8 +28,9 @@ IsTallyMade candidates (Some counted) = Counts candidates counted
 -- The texts that have a game are accepted, but for those whose id an accepted text before them has; they are one batch, which is
 -- counted. The others are refused, each with its cause. Of how many workers there are, nothing depends.
 pub record IsTallying (texts : List Placed) (tallying : Tallying) : Type 0 where
-  pub pieces : List Piece
-  pub are_pieces : AllZip IsPieceOfText texts pieces
-  pub places : tallying.places.items ≡ map (λ candidate. candidate.place) (candidates (fates pieces))
-  pub refused : tallying.refused.items ≡ refusals (fates pieces)
-  pub tally : IsTallyMade (candidates (fates pieces)) tallying.tally
+  pub examinations : List Examination
+  pub are_examinations : AllZip IsExaminationOfText texts examinations
+  pub places : tallying.places.items
+      ≡ map (λ candidate. candidate.place) (candidates (verdicts examinations))
+  pub refused : tallying.refused.items ≡ refusals (verdicts examinations)
+  pub tally : IsTallyMade (candidates (verdicts examinations)) tallying.tally

@@ -1,8 +1,8 @@
 //! Which texts of a group are accepted, and why the others are refused.
 ghost use Rattle.std.specs.Prelude.{◌≡◌, [], map, find, option_map, IfOk};
-ghost use Rattle.explorer_model.specs.Imports.{has_id_of, fates, fate_of, candidates, refusals};
-ghost use Rattle.batch_tally.specs.Accepting.{candidate_as, fate_as};
-ghost use Rattle.batch_tally.specs.Reading.{piece_as};
+ghost use Rattle.explorer_model.specs.Imports.{has_id_of, verdicts, verdict_of, candidates, refusals};
+ghost use Rattle.batch_tally.specs.Accepting.{candidate_as, verdict_as};
+ghost use Rattle.batch_tally.specs.Reading.{examination_as};
 
 use crate::reading::Reading;
 use explorer_model::archive::{Bytes, Game, GameId};
@@ -34,8 +34,10 @@ pub struct Accepting {
 
 /// Accepts each text that has a game, but for those whose id an accepted text before it has.
 pub fn accept(alloc: Global, readings: Vec<Reading>) -> Result<Accepting, AllocError>
-    ensures accepted { IfOk result (λ group. map candidate_as group.accepted.items ≡ candidates (fates (map piece_as readings.items))) }
-    ensures refused { IfOk result (λ group. group.refused.items ≡ refusals (fates (map piece_as readings.items))) }
+    ensures accepted { IfOk result (λ group. map candidate_as group.accepted.items
+        ≡ candidates (verdicts (map examination_as readings.items))) }
+    ensures refused { IfOk result (λ group. group.refused.items
+        ≡ refusals (verdicts (map examination_as readings.items))) }
 {
     let mut accepted = Vec::with_capacity(alloc, readings.len())?;
     let mut refused = Vec::new(alloc);
@@ -50,7 +52,8 @@ pub fn accept(alloc: Global, readings: Vec<Reading>) -> Result<Accepting, AllocE
 
 /// What becomes of a text behind those that are accepted.
 fn judge(accepted: &[Accepted], reading: Reading) -> Verdict
-    ensures { fate_as result ≡ fate_of (map candidate_as accepted.now) (piece_as reading) }
+    ensures { verdict_as result
+        ≡ verdict_of (map candidate_as accepted.now) (examination_as reading) }
 {
     let Reading { place, text, game } = reading;
     let game = match game {
@@ -73,7 +76,9 @@ fn judge(accepted: &[Accepted], reading: Reading) -> Verdict
 
 /// The place of the first accepted text that has the id of the game.
 fn place_of_id(accepted: &[Accepted], game: &Game) -> Option<u64>
-    ensures { result ≡ option_map (λ candidate. candidate.place) (find (has_id_of game.now) (map candidate_as accepted.now)) }
+    ensures { result
+        ≡ option_map (λ candidate. candidate.place)
+        (find (has_id_of game.now) (map candidate_as accepted.now)) }
 {
     for text in accepted {
         if text.game.classes.id == game.classes.id {

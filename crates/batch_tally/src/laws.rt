@@ -1,6 +1,11 @@
-//! The law of tallying. It is the contract of a function that only cites the laws below it.
+//! Laws of tallying and of accounting. Each is the contract of a function that only cites the laws below it.
 ghost use Rattle.std.specs.Prelude.{◌≡◌, List};
+ghost use Rattle.explorer_model.specs.declared.archive.Batch.{Batch};
+ghost use Rattle.explorer_model.specs.declared.archive.Game.{Game};
 ghost use Rattle.explorer_model.specs.declared.archive.Placed.{Placed};
+ghost use Rattle.explorer_model.specs.declared.fault.Refusal.{Refusal};
+ghost use Rattle.explorer_model.specs.Cuts.{Cut};
+ghost use Rattle.explorer_model.specs.Imports.{Accounted, AccountedApart};
 ghost use Rattle.batch_tally.specs.declared.tallying.Tallying.{Tallying};
 ghost use Rattle.batch_tally.specs.Tallying.{IsTallying};
 
@@ -10,15 +15,44 @@ use tally_rows::laws::tallied_rows_are_determined;
 
 /// Texts have one tallying, however many workers there are: any two answers for the same texts are equal.
 pub fn tallying_is_determined()
-    ensures places { (texts : List Placed) (tallying other : Tallying) → IsTallying texts tallying → IsTallying texts other
+    ensures places { (texts : List Placed) (tallying other : Tallying) → IsTallying texts tallying
+        → IsTallying texts other
         → tallying.places.items ≡ other.places.items }
-    ensures refused { (texts : List Placed) (tallying other : Tallying) → IsTallying texts tallying → IsTallying texts other
+    ensures refused { (texts : List Placed) (tallying other : Tallying) → IsTallying texts tallying
+        → IsTallying texts other
         → tallying.refused.items ≡ other.refused.items }
-    ensures tally { (texts : List Placed) (tallying other : Tallying) → IsTallying texts tallying → IsTallying texts other
+    ensures tally { (texts : List Placed) (tallying other : Tallying) → IsTallying texts tallying
+        → IsTallying texts other
         → tallying.tally ≡ other.tally }
 {
     game_is_determined();
     tidy_forms_decide_same();
     explorer_model::laws::same_is_an_equivalence();
     tallied_rows_are_determined();
+}
+
+/// Groups behind stored games have one accounting: what is stored of them, and what is refused.
+pub fn accounting_is_determined()
+    ensures batches { (stored : List Game) (groups : List (List Cut)) (batches others : List Batch)
+        (refused other : List Refusal) → Accounted stored groups batches refused
+        → Accounted stored groups others other → batches ≡ others }
+    ensures refused { (stored : List Game) (groups : List (List Cut)) (batches others : List Batch)
+        (refused other : List Refusal) → Accounted stored groups batches refused
+        → Accounted stored groups others other → refused ≡ other }
+{
+    game_is_determined();
+}
+
+/// So have groups that are accounted each by itself.
+pub fn accounting_apart_is_determined()
+    ensures batches { (groups : List (List Cut)) (batches others : List Batch)
+        (refused other : List Refusal)
+        → AccountedApart groups batches refused → AccountedApart groups others other → batches
+        ≡ others }
+    ensures refused { (groups : List (List Cut)) (batches others : List Batch)
+        (refused other : List Refusal)
+        → AccountedApart groups batches refused → AccountedApart groups others other → refused
+        ≡ other }
+{
+    game_is_determined();
 }

@@ -1,6 +1,8 @@
 //! Texts and the games that they hold.
 ghost use Rattle.std.specs.Prelude.{◌≤◌, ◌≡◌, length, IfOk};
 ghost use Rattle.std.specs.List.{All, AllZip};
+ghost use Rattle.explorer_model.specs.Cuts.{text_limit};
+ghost use Rattle.explorer_model.specs.Imports.{group_limit};
 ghost use Rattle.batch_tally.specs.Reading.{IsReadingOf};
 
 use explorer_model::archive::{Bytes, Game, Placed};
@@ -27,8 +29,8 @@ pub fn read_all<G: Gate>(
     gate: &G,
 ) -> Result<Vec<Reading>, AllocError>
     requires some_workers { 1 ≤ workers }
-    requires few { length texts.items ≤ 512 }
-    requires short { All (λ text. length text.bytes ≤ 65536) texts.items }
+    requires few { length texts.items ≤ group_limit }
+    requires short { All (λ text. length text.bytes ≤ text_limit) texts.items }
     ensures { IfOk result (λ readings. AllZip IsReadingOf texts.items readings.items) }
 {
     let share = texts.len().div_ceil(workers).max(1);
@@ -46,7 +48,7 @@ pub fn read_all<G: Gate>(
 }
 
 fn read(alloc: Global, text: Placed) -> Result<Reading, AllocError>
-    requires { length text.bytes ≤ 65536 }
+    requires { length text.bytes ≤ text_limit }
     ensures { IfOk result (λ reading. IsReadingOf text reading) }
 {
     let game = match replay(alloc, text.bytes.as_slice()) {

@@ -5,19 +5,21 @@ ghost use Rattle.explorer_model.specs.Chess.{start};
 ghost use Rattle.std.specs.Prelude.{[]};
 ghost use Rattle.tally_rows.specs.Tallied.{mover_rating};
 ghost use Rattle.tally_rows.specs.Games.{has_key, first_steps, single_at};
-ghost use Rattle.batch_tally.specs.Singles.{AreLegal, IsCountOf};
+ghost use Rattle.explorer_model.specs.Imports.{group_limit};
+ghost use Rattle.explorer_model.specs.Visits.{AreLegal};
+ghost use Rattle.batch_tally.specs.Singles.{IsCountOf};
 ghost use Rattle.batch_tally.specs.Steps.{step_as};
 
 use crate::accepting::Accepted;
 use crate::steps::{Step, steps_of};
 use explorer_model::archive::Classes;
 use std::alloc::{AllocError, Global};
-use tally_rows::{Parts, Single};
+use tally_rows::{RowKey, Single};
 
 /// The singles of games in the order of their numbers, which count from 0.
 pub fn singles_of(alloc: Global, games: &[Accepted]) -> Result<Vec<Single>, AllocError>
     requires legal { All (λ accepted. AreLegal accepted.game) games.now }
-    requires few { length games.now ≤ 512 }
+    requires few { length games.now ≤ group_limit }
     ensures count { IfOk result (λ singles. IsCountOf games.now singles.items) }
     ensures few { IfOk result (λ singles. vec_len singles < 2 ^ 32) }
 {
@@ -43,7 +45,8 @@ fn push_singles(
     steps: &[Step],
     number: u32,
 ) -> Result<(), AllocError>
-    ensures { OnOk result (singles.new.items ≡ singles.old.items ++ map (single_at classes.now number) (first_steps [] (map step_as steps.now))) }
+    ensures { OnOk result (singles.new.items ≡ singles.old.items
+        ++ map (single_at classes.now number) (first_steps [] (map step_as steps.now))) }
 {
     for place in 0..steps.len() {
         let step = &steps[place];
@@ -71,7 +74,7 @@ fn single_of(classes: &Classes, step: &Step, number: u32) -> Single
     ensures { result ≡ single_at classes.now number (step_as step.now) }
 {
     Single {
-        parts: Parts {
+        row_key: RowKey {
             key: step.key,
             next: step.next,
             month: classes.month,

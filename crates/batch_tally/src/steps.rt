@@ -2,8 +2,8 @@
 ghost use Rattle.std.specs.Prelude.{◌≡◌, List, slice_get, IfOk};
 ghost use Rattle.std.specs.List.{AllZip};
 ghost use Rattle.explorer_model.specs.Chess.{start};
-ghost use Rattle.explorer_model.specs.Visits.{stage_limit};
-ghost use Rattle.batch_tally.specs.Steps.{AreLegalFrom, IsStepAt, stages_within};
+ghost use Rattle.explorer_model.specs.Visits.{AreLegalFrom, stage_limit};
+ghost use Rattle.batch_tally.specs.Steps.{IsStepAt, stages_within};
 
 use explorer_model::chess::Move;
 use legal_moves::board::Board;
@@ -23,7 +23,8 @@ pub struct Step {
 /// The first 51 positions of the moves, from the starting position.
 pub fn steps_of(alloc: Global, moves: &[Move]) -> Result<Vec<Step>, AllocError>
     requires { AreLegalFrom start moves.now }
-    ensures { IfOk result (λ steps. AllZip IsStepAt (stages_within stage_limit start moves.now) steps.items) }
+    ensures { IfOk result
+        (λ steps. AllZip IsStepAt (stages_within stage_limit start moves.now) steps.items) }
 {
     let mut board = Board::start();
     let mut steps = Vec::with_capacity(alloc, STAGE_LIMIT)?;

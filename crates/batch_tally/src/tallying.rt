@@ -1,6 +1,8 @@
 //! Texts tallied: what is accepted and counted, and what is refused.
 ghost use Rattle.std.specs.Prelude.{◌≡◌, ◌≤◌, length, map, IfOk};
 ghost use Rattle.std.specs.List.{All};
+ghost use Rattle.explorer_model.specs.Cuts.{text_limit};
+ghost use Rattle.explorer_model.specs.Imports.{group_limit};
 ghost use Rattle.batch_tally.specs.Accepting.{candidate_as, AreCandidates};
 ghost use Rattle.batch_tally.specs.Tallying.{IsTallying, IsTallyMade};
 
@@ -35,8 +37,8 @@ pub fn tally<G: Gate>(
 ) -> Result<Tallying, AllocError>
     requires some_workers { 1 ≤ workers }
     requires few_workers { workers ≤ 16 }
-    requires few { length texts.items ≤ 512 }
-    requires short { All (λ text. length text.bytes ≤ 65536) texts.items }
+    requires few { length texts.items ≤ group_limit }
+    requires short { All (λ text. length text.bytes ≤ text_limit) texts.items }
     ensures { IfOk result (λ tallying. IsTallying texts.items tallying) }
 {
     let readings = read_all(alloc, texts, workers, gate)?;
@@ -52,7 +54,8 @@ pub fn tally<G: Gate>(
 
 /// The places of accepted texts.
 fn places_of(alloc: Global, accepted: &[Accepted]) -> Result<Vec<u64>, AllocError>
-    ensures { IfOk result (λ places. places.items ≡ map (λ candidate. candidate.place) (map candidate_as accepted.now)) }
+    ensures { IfOk result (λ places. places.items
+        ≡ map (λ candidate. candidate.place) (map candidate_as accepted.now)) }
 {
     let mut places = Vec::with_capacity(alloc, accepted.len())?;
     for text in accepted {
@@ -88,7 +91,8 @@ fn texts_and_classes(
     accepted: Vec<Accepted>,
 ) -> Result<(Vec<Bytes>, Vec<Classes>), AllocError>
     ensures texts { IfOk result (λ parts. parts.0.items ≡ map (λ a. a.text) accepted.items) }
-    ensures classes { IfOk result (λ parts. parts.1.items ≡ map (λ a. a.game.classes) accepted.items) }
+    ensures classes { IfOk result (λ parts. parts.1.items
+        ≡ map (λ a. a.game.classes) accepted.items) }
 {
     let mut texts = Vec::with_capacity(alloc, accepted.len())?;
     let mut classes = Vec::with_capacity(alloc, accepted.len())?;

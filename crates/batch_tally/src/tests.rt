@@ -4,8 +4,9 @@ ghost use Rattle.std.specs.List.{All};
 use crate::tallying::{Tallying, tally};
 use explorer_model::archive::{Bytes, Placed};
 use explorer_model::fault::{GameFault, Refusal, Why};
-use outside::FreeGate;
+use outside::{FreeGate, Gate};
 use std::alloc::{AllocError, Global};
+use std::sync::atomic::{AtomicU64, Ordering};
 use std::test::Fail;
 
 /// A worked game with this id, and this movetext, which ends with `1-0`.
@@ -22,15 +23,16 @@ fn text(alloc: Global, place: u64, id: &str, movetext: &str) -> Result<Placed, A
 }
 
 /// The tally of the texts, where they are few and short enough to be tallied.
-fn tallied(
+fn tallied<G: Gate>(
     alloc: Global,
     texts: Vec<Placed>,
     workers: usize,
+    gate: &G,
 ) -> Result<Option<Tallying>, AllocError> {
     if workers == 0 || 16 < workers || 512 < texts.len() || !are_short(texts.as_slice()) {
         return Ok(None);
     }
-    Ok(Some(tally(alloc, texts, workers, &FreeGate)?))
+    Ok(Some(tally(alloc, texts, workers, gate)?))
 }
 
 fn are_short(texts: &[Placed]) -> bool
@@ -68,7 +70,7 @@ fn counts_a_game_once_in_each_position(rt: HostRuntime) -> Result<(), Fail> {
     for (movetext, rows) in table {
         let mut texts = Vec::new(rt.alloc());
         texts.push(text(rt.alloc(), 0, "aaaaaaa1", movetext)?)?;
-        let tallying = tallied(rt.alloc(), texts, 1)?;
+        let tallying = tallied(rt.alloc(), texts, 1, &FreeGate)?;
         assert_eq!(rt; row_count(&tallying), rows);
     }
     Ok(())
@@ -88,7 +90,7 @@ fn mixed(alloc: Global) -> Result<Vec<Placed>, AllocError> {
 fn refuses_the_second_text_with_an_id(rt: HostRuntime) -> Result<(), Fail> {
     for workers in [1, 2, 8, 16] {
         let texts = mixed(rt.alloc())?;
-        let Some(tallying) = tallied(rt.alloc(), texts, workers)? else {
+        let Some(tallying) = tallied(rt.alloc(), texts, workers, &FreeGate)? else {
             assert!(rt; false);
             return Ok(());
         };
@@ -120,7 +122,7 @@ fn tallies_as_many_texts_as_a_batch_has(rt: HostRuntime) -> Result<(), Fail> {
         let id = format!(in rt.alloc(); "{number:08}")?;
         texts.push(text(rt.alloc(), number, id.as_str(), "1. e4 e5 1-0")?)?;
     }
-    let tallying = tallied(rt.alloc(), texts, 8)?;
+    let tallying = tallied(rt.alloc(), texts, 8, &FreeGate)?;
     assert_eq!(rt; row_count(&tallying), 3);
     assert!(rt; matches!(&tallying, Some(t) if t.places.len() == 512));
     Ok(())
@@ -135,7 +137,7 @@ fn tallies_the_longest_game(rt: HostRuntime) -> Result<(), Fail> {
     moves.push_str("1-0")?;
     let mut texts = Vec::new(rt.alloc());
     texts.push(text(rt.alloc(), 0, "aaaaaaa1", moves.as_str())?)?;
-    let tallying = tallied(rt.alloc(), texts, 4)?;
+    let tallying = tallied(rt.alloc(), texts, 4, &FreeGate)?;
     // Four positions, each with the move that is played there first.
     assert_eq!(rt; row_count(&tallying), 4);
     Ok(())
@@ -145,7 +147,45 @@ fn tallies_the_longest_game(rt: HostRuntime) -> Result<(), Fail> {
 fn makes_no_batch_of_refused_texts(rt: HostRuntime) -> Result<(), Fail> {
     let mut texts = Vec::new(rt.alloc());
     texts.push(text(rt.alloc(), 7, "aaaaaaa1", "1. e5 1-0")?)?;
-    let tallying = tallied(rt.alloc(), texts, 2)?;
+    let tallying = tallied(rt.alloc(), texts, 2, &FreeGate)?;
     assert!(rt; matches!(&tallying, Some(t) if t.tally.is_none() && t.refused.len() == 1));
+    Ok(())
+}
+
+/// A gate that counts how often it is passed, and adds up a decimal place for each leaf.
+#[derive(Drop)]
+struct CountingGate {
+    passes: AtomicU64,
+    leaves: AtomicU64,
+}
+
+impl Gate for CountingGate {
+    fn pass(&self, leaf: usize) {
+        self.passes.fetch_add(1, Ordering::SeqCst);
+        self.leaves.fetch_or(1u64 << (leaf % 64), Ordering::SeqCst);
+    }
+}
+
+#[test]
+fn each_leaf_passes_the_gate_once(rt: HostRuntime) -> Result<(), Fail> {
+    for count in [0, 1, 3, 512u64] {
+        // The leaves are numbered from 1: those of 1, 2, 8 and 16 workers as bits.
+        for (workers, leaves) in [(1, 0x2), (2, 0x6), (8, 0x1fe), (16, 0x1fffe)] {
+            let mut texts = Vec::new(rt.alloc());
+            for place in 0..count {
+                texts.push(Placed {
+                    place,
+                    bytes: Bytes::from_vec(Vec::new(rt.alloc())),
+                })?;
+            }
+            let gate = CountingGate {
+                passes: AtomicU64::new(0),
+                leaves: AtomicU64::new(0),
+            };
+            let _ = tallied(rt.alloc(), texts, workers, &gate)?;
+            assert_eq!(rt; gate.passes.load(Ordering::SeqCst), workers as u64);
+            assert_eq!(rt; gate.leaves.load(Ordering::SeqCst), leaves);
+        }
+    }
     Ok(())
 }

@@ -9,11 +9,13 @@ use crate::Ranking;
 /// The best four of two lists together are what `join` answers of the best four of each.
 pub fn best_of_both<O: Ranking>()
     ensures { (left right : List Entry)
-        → best O.before 4 (left ++ right) ≡ best O.before 4 (best O.before 4 left ++ best O.before 4 right) }
+        → best O.before 4 (left ++ right)
+        ≡ best O.before 4 (best O.before 4 left ++ best O.before 4 right) }
 {}
 
 /// Entries whose numbers are moved alike have the same best four, moved. So `shifted` may come before a join or after it.
 pub fn best_of_shifted<O: Ranking>()
     ensures { (by : ℕ) (entries : List Entry)
-        → best O.before 4 (map (moved_by by) entries) ≡ map (moved_by by) (best O.before 4 entries) }
+        → best O.before 4 (map (moved_by by) entries)
+        ≡ map (moved_by by) (best O.before 4 entries) }
 {}

@@ -1,14 +1,18 @@
-pub mod Answering
-pub mod Asking
-pub mod Commands
-pub mod Ending
-pub mod Feeding
-pub mod Groups
-pub mod Holding
-pub mod Matching
-pub mod Merging
-pub mod Places
-pub mod Settling
-pub mod Shortness
-pub mod Stops
-pub mod Taking
+mod AccountLemmas
+mod CountLemmas
+mod CutLemmas
+mod EarlyLemmas
+mod EndLemmas
+mod GroupLemmas
+mod HoldLemmas
+mod ImportLemmas
+mod LawLemmas
+mod MergeLemmas
+mod OneEndingLemmas
+mod PlaceLemmas
+mod PrefixLemmas
+mod RunLawLemmas
+mod RunLemmas
+mod ShortLemmas
+mod TakenLemmas
+mod WordLemmas

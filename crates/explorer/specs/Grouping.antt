@@ -1,15 +1,14 @@
--- How cuts are held until their group is whole, and what becomes of the group.
-use Rattle.std.specs.Prelude.{◌≡◌, ℕ, ◌+◌, ◌≤◌, List, [], ◌∷◌, ◌++◌, length, filter_map, count_by, nat_lt, if◌then◌else◌, Option, Some, None}
-use Rattle.std.specs.List.{AllZip, flat_map}
-use Rattle.explorer_model.specs.declared.archive.Batch.{Batch}
+-- Bridge: how the code holds cuts until their group is whole, and what becomes of the group.
+use Rattle.std.specs.Prelude.{◌≡◌, ℕ, ◌+◌, ◌≤◌, List, [], ◌∷◌, length, filter_map, nat_lt, if◌then◌else◌, Option, Some, None}
+use Rattle.std.specs.List.{AllZip}
 use Rattle.explorer_model.specs.declared.archive.Placed.{Placed}
 use Rattle.explorer_model.specs.declared.fault.Refusal.{Refusal}
 use Rattle.explorer_model.specs.declared.fault.Why.TheVariants as causes
 use Rattle.explorer_model.specs.Cuts.{Cut, Text, TooLong, Preamble, text_limit}
-use Rattle.explorer_model.specs.Imports.{Piece, IsPieceOf, is_text, fates, candidates, refusals, batch_of}
+use Rattle.explorer_model.specs.Imports.{Examination, IsExaminationOf, verdicts, candidates, refusals}
 use Rattle.batch_tally.specs.Tallying.{IsTallyMade}
-use Rattle.explorer.specs.declared.grouping.Group.{Group}
-use Rattle.explorer.specs.declared.grouping.Settled.{Settled}
+use Rattle.explorer.specs.declared.text_group.TextGroup.{TextGroup}
+use Rattle.explorer.specs.declared.text_group.TalliedGroup.{TalliedGroup}
 
 -- ---- cuts
 
@@ -46,7 +45,7 @@ Ascend cuts = AscendFrom 0 cuts
 -- ---- a group
 
 -- the group holds the cuts: the texts among them, and the refusals of the others
-pub record IsGroupOf (cuts : List Cut) (group : Group) : Type 0 where
+pub record IsGroupOf (cuts : List Cut) (group : TextGroup) : Type 0 where
   pub texts : group.texts.items ≡ filter_map text_of cuts
   pub unread : group.unread.items ≡ filter_map unread_of cuts
 
@@ -54,38 +53,18 @@ pub record IsGroupOf (cuts : List Cut) (group : Group) : Type 0 where
 abbrev pub put_by_place : Refusal → (List Refusal → List Refusal) → List Refusal → List Refusal
 put_by_place refusal rest [] = refusal ∷ rest []
 put_by_place refusal rest (other ∷ others) =
-    if nat_lt refusal.place other.place then refusal ∷ rest (other ∷ others) else other ∷ put_by_place refusal rest others
+    if nat_lt refusal.place other.place then refusal ∷ rest (other ∷ others)
+    else other ∷ put_by_place refusal rest others
 
 -- two lists of refusals in one, by their places
 abbrev pub merged : List Refusal → List Refusal → List Refusal
 merged [] others = others
 merged (refusal ∷ refused) others = put_by_place refusal (merged refused) others
 
--- the cuts of a group were replayed: its candidates are tallied, and each other cut is refused, in the order of the cuts
-pub record IsSettled (cuts : List Cut) (settled : Settled) : Type 0 where
-  pub pieces : List Piece
-  pub are_pieces : AllZip IsPieceOf cuts pieces
-  pub refused : settled.refused.items ≡ refusals (fates pieces)
-  pub tally : IsTallyMade (candidates (fates pieces)) settled.tally
-
--- ---- groups
-
--- a group with as many texts as a group has at most, which ends with the last of them
-pub record IsFull (cuts : List Cut) : Type 0 where
-  pub front : List Cut
-  pub text : Placed
-  pub ends : cuts ≡ front ++ Text text ∷ []
-  pub texts : count_by is_text front ≡ 511
-
-abbrev pub batches_in : List (List Piece) → List Batch
-batches_in groups = filter_map (λ group. batch_of (candidates (fates group))) groups
-
-abbrev pub refused_in : List (List Piece) → List Refusal
-refused_in groups = flat_map (λ group. refusals (fates group)) groups
-
--- groups were replayed one after another: the batches of their candidates, and all that is refused
-pub record AreSettled (groups : List (List Cut)) (batches : List Batch) (refused : List Refusal) : Type 0 where
-  pub pieces : List (List Piece)
-  pub are_pieces : AllZip (AllZip IsPieceOf) groups pieces
-  pub batches_are : batches ≡ batches_in pieces
-  pub refused_are : refused ≡ refused_in pieces
+-- the cuts of a group were examined: its candidates are tallied, and each other cut is refused, in
+-- the order of the cuts
+pub record IsTallied (cuts : List Cut) (tallied : TalliedGroup) : Type 0 where
+  pub examinations : List Examination
+  pub are_examinations : AllZip IsExaminationOf cuts examinations
+  pub refused : tallied.refused.items ≡ refusals (verdicts examinations)
+  pub tally : IsTallyMade (candidates (verdicts examinations)) tallied.tally

@@ -1,6 +1,12 @@
-pub mod Asked
+pub mod World
+pub mod Lines
+pub mod Report
+pub mod Task
+pub mod Early
+pub mod Count
+pub mod Run
+pub mod Laws
+pub mod Words
 pub mod Faults
 pub mod Grouping
 pub mod Importing
-pub mod Report
-pub mod Run

@@ -1,4 +1,4 @@
--- What is reported of the cuts that are refused.
+-- Statement: what is reported of the cuts that are refused.
 use Rattle.std.specs.Prelude.{ℕ, List, ◌++◌, codes}
 use Rattle.std.specs.List.{flat_map}
 use Rattle.std.specs.Fmt.{decimal}

@@ -1,49 +1,43 @@
--- What a run does that succeeds.
-use Rattle.std.specs.Prelude.{◌≡◌, ◌≤◌, ℕ, List, [], ◌∷◌, ◌++◌, Option, Some, Ok, length, sum_by, string_bytes}
-use Rattle.outside.specs.Stream.{Appends}
-use Rattle.explorer_model.specs.Answer.{answer_body}
-use Rattle.explorer_model.specs.Cuts.{cuts}
-use Rattle.explorer_model.specs.Finds.{IsFound}
-use Rattle.explorer_model.specs.Imports.{Accounted, groups}
-use Rattle.explorer_model.specs.Query.{QueryReads}
-use Rattle.explorer_model.specs.Visits.{texts_of}
-use Rattle.explorer_model.specs.declared.answer.Found.{Found}
-use Rattle.explorer_model.specs.declared.archive.Batch.{Batch}
-use Rattle.explorer_model.specs.declared.fault.Refusal.{Refusal}
-use Rattle.explorer_model.specs.declared.query.Query.{Query}
-use Rattle.explorer.specs.declared.command.Command.{Command}
-use Rattle.explorer.specs.declared.command.Command.TheVariants.{Count}
-use Rattle.explorer.specs.Importing.{AreWithin}
-use Rattle.explorer.specs.Report.{report}
+-- Statement: what a run comes to, from the words of its command line to its exit status.
+use Rattle.std.specs.Prelude.{◌≡◌, ◌⊎◌, ◌≤◌, ℕ, List, length, Option, None, Some}
+use Rattle.clap.specs.Walk.{Text}
+use Rattle.outside.specs.Stream.{Reads}
+use Rattle.explorer_model.specs.Journal.{input_limit}
+use Rattle.explorer.specs.declared.fault.Fault.TheVariants.{Usage, OutOfMemory}
+use Rattle.explorer.specs.Count.{Counts}
+use Rattle.explorer.specs.Lines.{Ending, Stopped, Tells, status_of}
+use Rattle.explorer.specs.Task.{Task, Count, task_of}
+use Rattle.explorer.specs.World.{World}
 
--- the input was read to its end, the games of its groups pass no limit, the output got the answer to the query over them, and the
--- errors got a line for each cut that is refused
-pub record IsCounted (text stream : List ℕ) (left output output' errors errors' : Option (List ℕ)) : Type 0 where
-  pub whole : left ≡ Some []
-  pub batches : List Batch
-  pub refused : List Refusal
-  pub accounted : Accounted (groups (cuts stream)) batches refused
-  pub within : AreWithin (length (texts_of batches)) (sum_by (λ text. length text) (texts_of batches))
-  pub query : Query
-  pub asks : QueryReads text (Ok query)
-  pub found : Found
-  pub is_found : IsFound batches query found
-  pub answered : Appends output output' (answer_body found ++ 10 ∷ [])
-  pub reported : Appends errors errors' (report refused)
+-- a run of a task, by its ending
+abbrev pub Ends : Task → World → World → Ending → Type 0
+Ends (Count query workers) before after ending = Counts query before after ending
 
--- the query string of a command, empty where none is given
-abbrev pub query_string : Command → List ℕ
-query_string (Count query workers) = string_bytes query
+-- words that are refused touch nothing
+abbrev pub Meets : Option Task → World → World → Ending → Type 0
+Meets None before after ending = (ending ≡ Stopped Usage) × (after ≡ before)
+Meets (Some task) before after ending = Ends task before after ending
 
--- how many workers a command has
-abbrev pub workers_of : Command → ℕ
-workers_of (Count query workers) = workers
+-- Memory was refused, which may come at any moment: some of the input may be read, and nothing is
+-- written.
+pub record Starves (before after : World) (ending : Ending) : Type 0 where
+  pub ending_is : ending ≡ Stopped OutOfMemory
+  pub stream : List ℕ
+  pub reads : Reads stream before.input after.input
+  pub within : length stream ≤ input_limit
+  pub rest : after ≡ record before { input = after.input }
 
--- no fewer workers than one, and no more than sixteen
-abbrev pub HasWorkers : Command → Type 0
-HasWorkers command = (1 ≤ workers_of command) × (workers_of command ≤ 16)
+-- A run does what its words ask for, or is stopped. How it ended is told last, behind all that it
+-- did by then.
+pub record Runs (words : List Text) (before after : World) (status : ℕ) : Type 0 where
+  pub ending : Ending
+  pub status_is : status ≡ status_of ending
+  pub ended : World
+  pub meets : Starves before ended ending ⊎ Meets (task_of words) before ended ending
+  pub tells : Tells ending ended after
 
--- a command was done on an input, whose rest is then left, with what the output and the errors held
--- before and hold after it
-abbrev pub Succeeds : Command → List ℕ → Option (List ℕ) → Option (List ℕ) → Option (List ℕ) → Option (List ℕ) → Option (List ℕ) → Type 0
-Succeeds (Count query workers) stream left output output' errors errors' = IsCounted (string_bytes query) stream left output output' errors errors'
+-- A process ends with the status of a run of its words; where those cannot be had, with 2 or 9.
+abbrev pub Exits : ℕ → Type 0
+Exits status =
+    ((words : List Text) × (before : World) × (after : World) × Runs words before after status)
+    ⊎ (status ≡ status_of (Stopped Usage)) ⊎ (status ≡ status_of (Stopped OutOfMemory))

@@ -1,9 +1,11 @@
 //! The answer to a query, made from tallies.
-ghost use Rattle.std.specs.Prelude.{◌≡◌, ◌≤◌, ◌++◌, [], ◌∷◌, length, map, sum_by, IfOk};
+ghost use Rattle.std.specs.Prelude.{◌≡◌, ◌≤◌, ◌++◌, codes, IfOk};
 ghost use Rattle.explorer_model.specs.Answer.{answer_body};
 ghost use Rattle.explorer_model.specs.Chess.{IsValid};
 ghost use Rattle.explorer_model.specs.Finds.{IsFound};
+ghost use Rattle.explorer_model.specs.Journal.{game_limit};
 ghost use Rattle.explorer_model.specs.declared.answer.Found.{Found as AFound};
+ghost use Rattle.explorer.specs.Importing.{batches_of, classes_in};
 
 use answer_json::answer::body;
 use answer_json::laws::what_is_found_is_plain;
@@ -17,9 +19,12 @@ pub fn line_for(alloc: Global, tallies: &[Tally], query: &Query) -> Result<Vec<u
     requires valid { IsValid query.now.at }
     requires top { query.now.top ≤ 4 }
     requires recent { query.now.recent ≤ 4 }
-    requires games { sum_by (λ tally. length tally.classes) tallies.now ≤ 131072 }
-    ensures { IfOk result (λ line. (found : AFound) × IsFound (map (λ tally. tally.batch) tallies.now) query.now found × (line.items ≡ answer_body found ++ 10 ∷ [])) }
+    requires few { classes_in tallies.now ≤ game_limit }
+    ensures { IfOk result (λ line. (found : AFound)
+        × IsFound (batches_of tallies.now) query.now found
+        × (line.items ≡ answer_body found ++ codes "\n")) }
 {
+    // law: what is found is written as plain JSON
     what_is_found_is_plain();
     let found = look_rows(alloc, tallies, query)?;
     let mut line = body(alloc, &found)?;

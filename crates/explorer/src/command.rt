@@ -1,15 +1,16 @@
 //! What the words of a command line ask for.
-ghost use Rattle.std.specs.Prelude.{◌≡◌, ◌≢◌, ◌⊎◌, List, ℕ, [], map, string_bytes, codes, Some, false, IfOk, IfErr};
+ghost use Rattle.std.specs.Prelude.{◌≡◌, List, ℕ, map, string_bytes, codes, Some, None, false, IfOk, IfErr};
 ghost use Rattle.std.specs.List.{AllByRecursion};
 ghost use Rattle.clap.specs.Words.{app_of, found_of, kind_of, rows_of, rule_of, shape_of, subcommand_rows_of, with_rule, with_subcommand};
 ghost use Rattle.clap.specs.declared.builder.command.Command.TheViews.{out-Command as fields_of};
-ghost use Rattle.explorer.specs.Faults.{fault_of, text_of};
-ghost use Rattle.explorer.specs.Asked.{Asks, EndsLine, IsSameCommand, IsTaken, IsTold, IsWithin, Refuses, Says, bare_app, count_shape, explorer_app, query_rule, workers_rule};
-ghost use Rattle.explorer.specs.Run.{query_string, workers_of};
+ghost use Rattle.explorer_model.specs.declared.fault.Stop.{Stop as AStop};
+ghost use Rattle.explorer.specs.Lines.{EndsLine};
+ghost use Rattle.explorer.specs.Task.{bare_app, count_shape, explorer_app, query_rule, task_named, task_of, task_said, workers_rule};
+ghost use Rattle.explorer.specs.Words.{HasWorkers, IsTaken, IsTold, IsWithin, Refuses, task_in};
 
-use crate::fault::Fault;
 use clap::error::ErrorKind;
 use clap::{Arg, ArgMatches, value_parser};
+use explorer_model::fault::Stop;
 use std::alloc::{AllocError, Global};
 
 /// What a run is asked to do.
@@ -20,77 +21,23 @@ pub enum Command {
     Count { query: String, workers: u8 },
 }
 
-impl Command {
-    /// What is asked, empty where nothing is.
-    pub fn query(&self) -> &[u8]
-        ensures { result.now ≡ query_string self.now }
-    {
-        match self {
-            Command::Count { query, .. } => query.as_bytes(),
-        }
-    }
-
-    /// How many workers replay games, 1 to 16.
-    pub fn workers(&self) -> usize
-        ensures { result ≡ workers_of self.now }
-    {
-        match self {
-            Command::Count { workers, .. } => usize::from(*workers),
-        }
-    }
-}
-
-/// Why words give no command.
+/// The words ask for no command.
 #[derive(Debug, Drop)]
-pub enum Unasked {
-    /// The words ask for none. The text is for the user: help, or what is wrong with the words.
-    Usage(String),
-    OutOfMemory,
-}
-
-impl Unasked {
-    /// The fault of a run whose words give no command.
-    pub fn fault(&self) -> Fault
-        ensures { result ≡ fault_of self.now }
-    {
-        match self {
-            Unasked::Usage(_) => Fault::Usage,
-            Unasked::OutOfMemory => Fault::OutOfMemory,
-        }
-    }
-
-    /// What is told of it.
-    pub fn text(&self) -> &[u8]
-        ensures { result.now ≡ text_of self.now }
-    {
-        match self {
-            Unasked::Usage(text) => text.as_bytes(),
-            Unasked::OutOfMemory => b"out of memory\n",
-        }
-    }
-}
-
-impl From<AllocError> for Unasked {
-    ghost use Rattle.std.specs.Prelude.{◌≡◌};
-    ghost use Rattle.explorer.specs.declared.command.Unasked.{Unasked};
-
-    ghost from_gives = { λ _ unasked. unasked ≡ Unasked.OutOfMemory };
-
-    fn from(_error: AllocError) -> Self {
-        Unasked::OutOfMemory
-    }
+pub struct UsageError {
+    /// What the user is told: help, or what is wrong with the words.
+    pub text: String,
 }
 
 /// The command that the words ask for, of which the first is the program's name.
-pub fn asked(alloc: Global, words: &[String]) -> Result<Command, Unasked>
-    ensures asked { IfOk result (Asks (map string_bytes words.now)) }
+pub fn parse_words(alloc: Global, words: &[String]) -> Result<Command, Stop<UsageError>>
+    ensures task { IfOk result (λ command.
+        task_of (map string_bytes words.now) ≡ Some (task_in command)) }
+    ensures workers { IfOk result HasWorkers }
     ensures refused { IfErr result (Refuses (map string_bytes words.now)) }
-    ensures told { IfErr result IsTold }
-    ensures one { (command another : Command) → Asks (map string_bytes words.now) command → Asks (map string_bytes words.now) another → IsSameCommand command another }
 {
     match explorer_command(alloc)?.try_get_matches_from(words) {
-        Ok(matches) => command_of(alloc, &matches),
-        Err(error) => Err(refused_by(alloc, error)),
+        Ok(matches) => Ok(command_of(alloc, &matches)?),
+        Err(error) => Err(usage_error(alloc, error)),
     }
 }
 
@@ -145,8 +92,10 @@ fn workers_arg<'a>(alloc: Global) -> Arg<'a>
 
 fn with_arg<'a>(command: clap::Command<'a>, arg: Arg<'a>) -> Result<clap::Command<'a>, AllocError>
     requires { arg.global ≡ false }
-    ensures app { IfOk result (λ new. app_of new ≡ with_rule (app_of command.entry) (rule_of arg.entry)) }
-    ensures globals { IfOk result (λ new. (fields_of new).has_globals ≡ (fields_of command.entry).has_globals) }
+    ensures app { IfOk result (λ new.
+        app_of new ≡ with_rule (app_of command.entry) (rule_of arg.entry)) }
+    ensures globals { IfOk result (λ new.
+        (fields_of new).has_globals ≡ (fields_of command.entry).has_globals) }
 {
     command.arg(arg)
 }
@@ -156,42 +105,46 @@ fn with_command<'a>(
     below: clap::Command<'a>,
 ) -> Result<clap::Command<'a>, AllocError>
     requires { (fields_of below).has_globals ≡ false }
-    ensures { IfOk result (λ new. app_of new ≡ with_subcommand (app_of command.entry) (shape_of below.entry)) }
+    ensures { IfOk result (λ new.
+        app_of new ≡ with_subcommand (app_of command.entry) (shape_of below.entry)) }
 {
     command.subcommand(below)
 }
 
 /// The command that the matches of the command line say.
-fn command_of(alloc: Global, matches: &ArgMatches<'_>) -> Result<Command, Unasked>
+fn command_of(alloc: Global, matches: &ArgMatches<'_>) -> Result<Command, AllocError>
     requires { IsTaken (subcommand_rows_of matches.now) }
-    ensures said { IfOk result (Says (subcommand_rows_of matches.now)) }
-    ensures memory { IfErr result (λ unasked. unasked ≡ Unasked.OutOfMemory) }
+    ensures task { IfOk result (λ command.
+        task_said (subcommand_rows_of matches.now) ≡ Some (task_in command)) }
+    ensures workers { IfOk result HasWorkers }
 {
     let Some(given) = matches.subcommand_matches("count") else {
         unreachable!();
     };
-    Ok(count_of(alloc, given)?)
+    count_of(alloc, given)
 }
 
 fn count_of(alloc: Global, given: &ArgMatches<'_>) -> Result<Command, AllocError>
     requires { AllByRecursion IsWithin (rows_of (found_of given.now)) }
-    ensures { IfOk result (Says (Some (codes "count", rows_of (found_of given.now)))) }
+    ensures task { IfOk result (λ command.
+        task_named (codes "count") (rows_of (found_of given.now)) ≡ Some (task_in command)) }
+    ensures workers { IfOk result HasWorkers }
 {
     let query = String::from_str(alloc, given.get_str("query").unwrap_or(""))?;
     let workers = given.get_one::<u8>("workers").unwrap_or(4);
     Ok(Command::Count { query, workers })
 }
 
-fn refused_by(alloc: Global, error: clap::Error) -> Unasked
-    ensures memory { kind_of error ≡ ErrorKind.OutOfMemory → result ≡ Unasked.OutOfMemory }
+fn usage_error(alloc: Global, error: clap::Error) -> Stop<UsageError>
+    ensures memory { kind_of error ≡ ErrorKind.OutOfMemory → result ≡ AStop.OutOfMemory }
     ensures told { IsTold result }
 {
     if error.kind() == ErrorKind::OutOfMemory {
-        return Unasked::OutOfMemory;
+        return Stop::OutOfMemory;
     }
     match text_of(alloc, &error) {
-        Ok(text) => Unasked::Usage(text),
-        Err(_) => Unasked::OutOfMemory,
+        Ok(text) => Stop::Fault(UsageError { text }),
+        Err(_) => Stop::OutOfMemory,
     }
 }
 

@@ -1,9 +1,14 @@
-ghost use Rattle.std.specs.Prelude.{◌≡◌, IfOk, IfNone, IfSome};
-ghost use Rattle.explorer.specs.Faults.{IsMade, status_of, line_of};
+ghost use Rattle.std.specs.Prelude.{◌≡◌, ◌++◌, ◌≤◌, length, codes};
+ghost use Rattle.explorer_model.specs.Query.{parameter_text};
+ghost use Rattle.explorer.specs.Lines.{IsFaultLine, Stopped, full_line, status_of};
 
 use crate::status::Status;
+use arrayvec::ArrayString;
+use explorer_model::fault::Stop;
 use explorer_model::query::{BadParameter, Parameter};
-use std::alloc::{AllocError, Global};
+use itoa::Buffer;
+use outside::Failed;
+use std::alloc::AllocError;
 
 /// Why a run ends without what its command asks for.
 #[derive(Clone, Copy, Debug, PartialEq, Eq)]
@@ -21,17 +26,47 @@ pub enum Fault {
     TooMuchInput,
 }
 
-impl Fault {
-    /// The fault of a query that is malformed.
-    pub fn of_query(bad: BadParameter) -> Fault
-        ensures { result ≡ Fault.BadParameter bad.name }
-    {
-        Fault::BadParameter(bad.name)
-    }
+impl From<AllocError> for Fault {
+    ghost use Rattle.std.specs.Prelude.{◌≡◌};
+    ghost use Rattle.explorer.specs.declared.fault.Fault.{Fault};
 
+    ghost from_gives = { λ _ fault. fault ≡ Fault.OutOfMemory };
+
+    fn from(_error: AllocError) -> Self {
+        Fault::OutOfMemory
+    }
+}
+
+impl From<Failed> for Fault {
+    ghost use Rattle.std.specs.Prelude.{◌≡◌};
+    ghost use Rattle.explorer.specs.declared.fault.Fault.{Fault};
+
+    ghost from_gives = { λ _ fault. fault ≡ Fault.WriteFault };
+
+    /// A read that failed ends an import, and is no error of a call.
+    fn from(_error: Failed) -> Self {
+        Fault::WriteFault
+    }
+}
+
+impl From<Stop<BadParameter>> for Fault {
+    ghost use Rattle.std.specs.Prelude.{◌≡◌};
+    ghost use Rattle.explorer.specs.Faults.{fault_of_query};
+
+    ghost from_gives = { λ stop fault. fault ≡ fault_of_query stop };
+
+    fn from(stop: Stop<BadParameter>) -> Self {
+        match stop {
+            Stop::Fault(bad) => Fault::BadParameter(bad.name),
+            Stop::OutOfMemory => Fault::OutOfMemory,
+        }
+    }
+}
+
+impl Fault {
     /// The status of a run that ends so.
     pub fn status(self) -> Status
-        ensures { result.number ≡ status_of self }
+        ensures { result.number ≡ status_of (Stopped self) }
     {
         let number = match self {
             Fault::Usage => 2,
@@ -45,50 +80,48 @@ impl Fault {
         Status { number }
     }
 
-    /// The line that tells of it, where that needs no memory.
-    pub fn fixed_line(self) -> Option<&'static [u8]>
-        ensures line { IfSome result (λ line. line.now ≡ line_of self) }
-        ensures made { IfNone result (IsMade self) }
+    /// The line that tells of it, for which no memory is asked. That of Usage tells of a word that
+    /// is not text.
+    pub fn line(self) -> ArrayString<64>
+        ensures { IsFaultLine self result.bytes }
     {
         match self {
-            Fault::Usage => Some(b"error: a word of the command line is not text\n"),
-            Fault::ReadFault => Some(b"read fault\n"),
-            Fault::WriteFault => Some(b"write fault\n"),
-            Fault::OutOfMemory => Some(b"out of memory\n"),
-            Fault::TooMuchInput => Some(b"too much input\n"),
-            Fault::BadParameter(_) | Fault::Full { .. } => None,
-        }
-    }
-
-    /// The line that tells of it, where that needs memory.
-    pub fn made_line(self, alloc: Global) -> Result<Vec<u8>, AllocError>
-        requires { IsMade self }
-        ensures { IfOk result (λ line. line.items ≡ line_of self) }
-    {
-        match self {
-            Fault::BadParameter(parameter) => parameter_line(alloc, parameter),
-            Fault::Full { games, bytes } => full_line(alloc, games, bytes),
-            _ => Ok(Vec::new(alloc)),
+            Fault::Usage => fixed_line("error: a word of the command line is not text\n"),
+            Fault::BadParameter(parameter) => parameter_line(parameter),
+            Fault::ReadFault => fixed_line("read fault\n"),
+            Fault::WriteFault => fixed_line("write fault\n"),
+            Fault::Full { games, bytes } => full_line(games, bytes),
+            Fault::OutOfMemory => fixed_line("out of memory\n"),
+            Fault::TooMuchInput => fixed_line("too much input\n"),
         }
     }
 }
 
-fn parameter_line(alloc: Global, parameter: Parameter) -> Result<Vec<u8>, AllocError>
-    ensures { IfOk result (λ line. line.items ≡ line_of (Fault.BadParameter parameter)) }
+fn fixed_line(text: &str) -> ArrayString<64>
+    requires { length text.now ≤ 64 }
+    ensures { result.bytes ≡ text.now }
 {
-    let mut line = Vec::from_slice(alloc, b"bad parameter ".as_slice())?;
-    line.extend_from_slice(parameter.as_str().as_bytes())?;
-    line.push(b'\n')?;
-    Ok(line)
+    let mut line = ArrayString::new();
+    line.push_str(text);
+    line
 }
 
-fn full_line(alloc: Global, games: u64, bytes: u64) -> Result<Vec<u8>, AllocError>
-    ensures { IfOk result (λ line. line.items ≡ line_of (Fault.Full games bytes)) }
+fn parameter_line(parameter: Parameter) -> ArrayString<64>
+    ensures { result.bytes ≡ codes "bad parameter " ++ parameter_text parameter ++ codes "\n" }
 {
-    let mut line = Vec::from_slice(alloc, b"full ".as_slice())?;
-    line.extend_from_slice(games.to_string(alloc)?.as_bytes())?;
-    line.extend_from_slice(b" games ".as_slice())?;
-    line.extend_from_slice(bytes.to_string(alloc)?.as_bytes())?;
-    line.extend_from_slice(b" bytes\n".as_slice())?;
-    Ok(line)
+    let mut line = fixed_line("bad parameter ");
+    line.push_str(parameter.as_str());
+    line.push('\n');
+    line
+}
+
+fn full_line(games: u64, bytes: u64) -> ArrayString<64>
+    ensures { result.bytes ≡ full_line games bytes }
+{
+    let mut line = fixed_line("full ");
+    line.push_str(Buffer::new().format(games));
+    line.push_str(" games ");
+    line.push_str(Buffer::new().format(bytes));
+    line.push_str(" bytes\n");
+    line
 }

@@ -1,191 +1,352 @@
 //! A stream on its way into tallies.
-ghost use Rattle.std.specs.Prelude.{◌≡◌, ◌⊎◌, ◌+◌, ◌<◌, ◌≤◌, ◌^◌, ℕ, List, [], ◌∷◌, ◌++◌, Option, length, true, sum_by, IfOk, IfErr, IfSome, OnOk, OnErr};
+ghost use Rattle.std.specs.Prelude.{◌≡◌, ◌+◌, ◌*◌, ◌<◌, ◌≤◌, ◌^◌, ℕ, List, [], ◌∷◌, ◌++◌, length, sum_by, true, IfOk, IfErr, IfSome, OnOk, OnErr};
 ghost use Rattle.std.specs.List.{All};
-ghost use Rattle.outside.specs.Stream.{NeverFalls};
 ghost use Rattle.explorer_model.specs.Cuts.{Cut as ACut, cuts, text_limit};
+ghost use Rattle.explorer_model.specs.Imports.{group_limit};
+ghost use Rattle.explorer_model.specs.Journal.{input_limit};
 ghost use Rattle.pgn_cut.specs.Cut.{meaning, cuts_in};
-ghost use Rattle.explorer.specs.Grouping.{Ascend, IsFull, IsGroupOf, IsShort};
-ghost use Rattle.explorer.specs.Importing.{Closes, Ends, Fills, Grew, Imports, IsReady, IsStored, Pass, Passes, Reports, WhereFull};
-ghost use Rattle.explorer.specs.Report.{report, report_line};
+ghost use Rattle.pgn_cut.specs.Cutter.{came, cuts_of_rest};
+ghost use Rattle.explorer.specs.Faults.{fault_of_end};
+ghost use Rattle.explorer.specs.Grouping.{Ascend, IsGroupOf, IsShort};
+ghost use Rattle.explorer.specs.Importing.{CutSoFar, FullAtEnd, FullSoFar, FullWithin, GroupClosed, GroupRefused, ImportDone, ImportedSoFar, Imports, IsReady, IsStored, ReadsWithin, HasEnded, HasFewGames, StoresWhole, TallyRefused, WhereFull, batches_of};
 
-use crate::grouping::{GROUP_LIMIT, Group, Settled};
-use answer_json::refusal::why_text;
+use crate::fault::Fault;
+use crate::text_group::{GROUP_LIMIT, TalliedGroup, TextGroup};
 use explorer_model::archive::Bytes;
-use explorer_model::fault::{Refusal, Stop, Why};
-use outside::Sink;
+use explorer_model::fault::{Refusal, Stop};
+use outside::Source;
 use pgn_cut::cut::Cut;
+use pgn_cut::cutter::Cutter;
 use std::alloc::{AllocError, Global};
 use std::mem;
 use tally_rows::Tally;
 
+/// How many bytes one import takes.
+pub const INPUT_LIMIT: u64 = 1 << 40;
+
 /// How many games are stored at most.
-pub const GAME_LIMIT: u64 = 131_072;
+pub const STORED_GAMES_LIMIT: u64 = 131_072;
 
 /// How many bytes of texts are stored at most.
-pub const BYTE_LIMIT: u64 = 268_435_456;
+pub const STORED_BYTES_LIMIT: u64 = 268_435_456;
 
-/// A group finds no room: how many games and bytes of texts are stored without it.
+/// How many bytes one read asks for.
+const BUFFER: usize = 4096;
+
+/// Why an import ends.
 #[derive(Clone, Copy, Debug, PartialEq, Eq)]
+pub enum End {
+    /// The stream ended.
+    Whole,
+    ReadFault,
+    /// The stream has 2^40 bytes or more.
+    TooMuchInput,
+    /// A group finds no room: how many games and bytes of texts are stored without it.
+    Full { games: u64, bytes: u64 },
+}
+
+impl End {
+    /// The fault of a run whose import ends early.
+    pub fn fault(self) -> Option<Fault>
+        ensures { result ≡ fault_of_end self }
+    {
+        match self {
+            End::Whole => None,
+            End::ReadFault => Some(Fault::ReadFault),
+            End::TooMuchInput => Some(Fault::TooMuchInput),
+            End::Full { games, bytes } => Some(Fault::Full { games, bytes }),
+        }
+    }
+}
+
+/// What an import comes to.
+#[derive(Debug, Drop)]
+pub struct Imported {
+    /// One tally for each batch, in the order of the stream.
+    pub tallies: Vec<Tally>,
+    /// Why each other cut of the groups is refused, in the order of the stream.
+    pub refused: Vec<Refusal>,
+    pub end: End,
+}
+
+/// Reads the stream, and stores or refuses each cut of its groups.
+pub fn import<I: Source>(
+    alloc: Global,
+    workers: usize,
+    input: &mut I,
+) -> Result<Imported, AllocError>
+    requires some_workers { 1 ≤ workers }
+    requires few_workers { workers ≤ 16 }
+    ensures imports { IfOk result (Imports (I.source input.old) (I.source input.new)) }
+    ensures starves { OnErr result (ReadsWithin (I.source input.old) (I.source input.new)) }
+{
+    let mut cutter = Cutter::new();
+    let mut import = OpenImport::new(alloc);
+    let mut buffer = [0; BUFFER];
+    let mut taken = 0;
+    'reading: while taken < INPUT_LIMIT {
+        let room = (INPUT_LIMIT - taken).min(BUFFER as u64) as usize;
+        let chunk = &mut buffer[..room];
+        let Ok(count) = input.read(chunk) else {
+            return Ok(import.cut_off(cutter, End::ReadFault));
+        };
+        if count == 0 {
+            return import.end(alloc, workers, cutter);
+        }
+        taken += count as u64;
+        match feed(alloc, &chunk[..count], workers, &mut cutter, &mut import) {
+            Ok(()) => {}
+            Err(Stop::Fault(full)) => {
+                // The bytes were taken before the group found no room.
+                if taken == INPUT_LIMIT {
+                    return Ok(import.imported(End::TooMuchInput));
+                }
+                return import.imported_but(full);
+            }
+            Err(Stop::OutOfMemory) => return Err(AllocError),
+        }
+    }
+    Ok(import.cut_off(cutter, End::TooMuchInput))
+}
+
+/// Cuts the next bytes of the stream, and takes the cuts that end in them.
+fn feed(
+    alloc: Global,
+    bytes: &[u8],
+    workers: usize,
+    cutter: &mut Cutter,
+    import: &mut OpenImport,
+) -> Result<(), Stop<Full>>
+    requires some_workers { 1 ≤ workers }
+    requires few_workers { workers ≤ 16 }
+    requires room { came cutter.old + length bytes.now < 2 ^ 62 }
+    requires ready { IsReady import.old }
+    ensures came { OnOk result (came cutter.new ≡ came cutter.old + length bytes.now) }
+    ensures ready { OnOk result (IsReady import.new) }
+    ensures cut { OnOk result ((past : List ℕ) → CutSoFar past (cuts_of_rest cutter.old) import.old
+        → CutSoFar (past ++ bytes.now) (cuts_of_rest cutter.new) import.new) }
+    ensures full { IfErr result (λ stop. WhereFull stop (λ full. (past : List ℕ)
+        → CutSoFar past (cuts_of_rest cutter.old) import.old
+        → FullWithin (past ++ bytes.now) import.new full)) }
+{
+    let mut at = 0;
+    'feeding: while at < bytes.len() {
+        let fed = cutter.feed(alloc, &bytes[at..])?;
+        match import.take(alloc, fed.cut, workers) {
+            Ok(()) => at += fed.taken,
+            Err(stop) => return Err(stop),
+        }
+    }
+    Ok(())
+}
+
+/// A group finds no room.
+#[derive(Debug, Drop)]
 pub struct Full {
+    /// How many games are stored without it.
     pub games: u64,
+    /// How many bytes of texts are stored without it.
     pub bytes: u64,
+    /// Why cuts of the group are refused.
+    pub refused: Vec<Refusal>,
 }
 
 /// What is stored of a stream, and the group in hand.
 #[derive(Debug, Drop)]
-pub struct Import {
-    pub group: Group,
+pub struct OpenImport {
+    pub group: TextGroup,
     /// One tally for each batch, in the order of the stream.
     pub tallies: Vec<Tally>,
+    /// Why each other cut of the groups is refused.
+    pub refused: Vec<Refusal>,
     /// How many games the batches have.
     pub games: u64,
     /// How many bytes their texts have.
     pub bytes: u64,
-    /// Whether each report line was written.
-    pub all_reported: bool,
 }
 
-impl Import {
-    ghost use Rattle.std.specs.Prelude.{◌≡◌, ◌⊎◌, ◌+◌, ◌<◌, ◌≤◌, ◌^◌, [], ◌∷◌, ◌++◌, length, sum_by, IfErr, OnOk, OnErr};
-    ghost use Rattle.explorer.specs.Importing.{IsReady, Closes, Ends};
+impl OpenImport {
+    ghost use Rattle.std.specs.Prelude.{◌≡◌, ◌+◌, ◌*◌, ◌<◌, ◌≤◌, [], ◌∷◌, ◌++◌, length, sum_by, IfErr, IfOk, OnOk};
+    ghost use Rattle.explorer.specs.Importing.{IsReady, ImportDone};
 
     /// Nothing is stored, and nothing in hand.
     pub fn new(alloc: Global) -> Self
         ensures ready { IsReady result }
-        ensures imports { (w : Option (List ℕ)) (f : ℕ) → Imports [] result w w f f }
+        ensures imported { ImportedSoFar [] result }
     {
-        Import {
-            group: Group::new(alloc),
+        OpenImport {
+            group: TextGroup::new(alloc),
             tallies: Vec::new(alloc),
+            refused: Vec::new(alloc),
             games: 0,
             bytes: 0,
-            all_reported: true,
         }
     }
 
-    /// Takes the next cut of the stream, if there is one. The 512th text of a group closes it.
-    pub fn take<E: Sink>(
+    /// Takes the next cut of the stream, if there is one. The last text that a group may have
+    /// closes it.
+    pub fn take(
         &mut self,
         alloc: Global,
         cut: Option<Cut>,
         workers: usize,
-        errors: &mut E,
     ) -> Result<(), Stop<Full>>
         requires some_workers { 1 ≤ workers }
         requires few_workers { workers ≤ 16 }
         requires short { IfSome cut (λ cut. IsShort (meaning cut)) }
         requires ready { IsReady self.old }
         ensures ready { OnOk result (IsReady self.new) }
-        ensures imports { OnOk result ((done : List ACut) (w : Option (List ℕ)) (f : ℕ) → Ascend (done ++ cuts_in cut) → Imports done self.old w (E.written errors.old) f (E.write_fault_count errors.old)
-            → Imports (done ++ cuts_in cut) self.new w (E.written errors.new) f (E.write_fault_count errors.new)) }
-        ensures full { IfErr result (λ stop. WhereFull stop (λ games bytes. (done rest : List ACut) (stream : List ℕ) (w : Option (List ℕ)) (f : ℕ) → (done ++ cuts_in cut) ++ rest ≡ cuts stream
-            → Imports done self.old w (E.written errors.old) f (E.write_fault_count errors.old) → Fills games bytes stream)) }
-        ensures grew { Grew (E.written errors.old) (E.written errors.new) (E.write_fault_count errors.old) (E.write_fault_count errors.new) }
-        ensures never_falls { NeverFalls (E.write_fault_count errors.old) (E.write_fault_count errors.new) }
+        ensures imported { OnOk result ((taken : List ACut) → Ascend (taken ++ cuts_in cut)
+            → ImportedSoFar taken self.old → ImportedSoFar (taken ++ cuts_in cut) self.new) }
+        ensures full { IfErr result (λ stop. WhereFull stop (λ full. (taken : List ACut)
+            → Ascend (taken ++ cuts_in cut)
+            → ImportedSoFar taken self.old → FullSoFar (taken ++ cuts_in cut) self.new full)) }
     {
         match cut {
-            Some(cut) => self.push(alloc, cut, workers, errors),
+            Some(cut) => self.push(alloc, cut, workers),
             None => Ok(()),
         }
     }
 
-    fn push<E: Sink>(
-        &mut self,
-        alloc: Global,
-        cut: Cut,
-        workers: usize,
-        errors: &mut E,
-    ) -> Result<(), Stop<Full>>
+    fn push(&mut self, alloc: Global, cut: Cut, workers: usize) -> Result<(), Stop<Full>>
         requires some_workers { 1 ≤ workers }
         requires few_workers { workers ≤ 16 }
         requires short { IsShort (meaning cut) }
         requires ready { IsReady self.old }
         ensures ready { OnOk result (IsReady self.new) }
-        ensures imports { OnOk result ((done : List ACut) (w : Option (List ℕ)) (f : ℕ) → Ascend (done ++ meaning cut ∷ []) → Imports done self.old w (E.written errors.old) f (E.write_fault_count errors.old)
-            → Imports (done ++ meaning cut ∷ []) self.new w (E.written errors.new) f (E.write_fault_count errors.new)) }
-        ensures full { IfErr result (λ stop. WhereFull stop (λ games bytes. (done rest : List ACut) (stream : List ℕ) (w : Option (List ℕ)) (f : ℕ) → (done ++ meaning cut ∷ []) ++ rest ≡ cuts stream
-            → Imports done self.old w (E.written errors.old) f (E.write_fault_count errors.old) → Fills games bytes stream)) }
-        ensures grew { Grew (E.written errors.old) (E.written errors.new) (E.write_fault_count errors.old) (E.write_fault_count errors.new) }
-        ensures never_falls { NeverFalls (E.write_fault_count errors.old) (E.write_fault_count errors.new) }
+        ensures imported { OnOk result ((taken : List ACut) → Ascend (taken ++ meaning cut ∷ [])
+            → ImportedSoFar taken self.old → ImportedSoFar (taken ++ meaning cut ∷ []) self.new) }
+        ensures full { IfErr result (λ stop. WhereFull stop (λ full. (taken : List ACut)
+            → Ascend (taken ++ meaning cut ∷ [])
+            → ImportedSoFar taken self.old → FullSoFar (taken ++ meaning cut ∷ []) self.new full)) }
     {
         self.group.push(cut)?;
         if self.group.texts.len() < GROUP_LIMIT {
             return Ok(());
         }
-        self.close(alloc, workers, errors)
+        self.close(alloc, workers)
+    }
+
+    /// The import of a stream that ended: takes its last cut, if there is one more, and closes the
+    /// group in hand.
+    pub fn end(self, alloc: Global, workers: usize, cutter: Cutter) -> Result<Imported, AllocError>
+        requires some_workers { 1 ≤ workers }
+        requires few_workers { workers ≤ 16 }
+        requires ready { IsReady self }
+        ensures { IfOk result (λ imported. (stream : List ℕ)
+            → CutSoFar stream (cuts_of_rest cutter) self → HasEnded stream imported) }
+    {
+        let mut import = self;
+        match import.finish(alloc, cutter.end(), workers) {
+            Ok(()) => Ok(import.imported(End::Whole)),
+            Err(Stop::Fault(full)) => import.imported_but(full),
+            Err(Stop::OutOfMemory) => Err(AllocError),
+        }
+    }
+
+    /// The import of a stream that is cut off, of which whole groups alone are stored or refused.
+    pub fn cut_off(self, cutter: Cutter, end: End) -> Imported
+        requires { IsReady self }
+        ensures stores { (stream : List ℕ) → CutSoFar stream (cuts_of_rest cutter) self
+            → StoresWhole stream (batches_of result.tallies.items) result.refused.items }
+        ensures end { result.end ≡ end }
+        ensures few { HasFewGames result }
+    {
+        // No more than one cut has begun and not ended.
+        let _begun = cutter.end();
+        self.imported(end)
+    }
+
+    /// What is stored and refused.
+    pub fn imported(self, end: End) -> Imported
+        ensures tallies { result.tallies.items ≡ self.tallies.items }
+        ensures refused { result.refused.items ≡ self.refused.items }
+        ensures end { result.end ≡ end }
+    {
+        Imported {
+            tallies: self.tallies,
+            refused: self.refused,
+            end,
+        }
+    }
+
+    /// What is stored and refused, where a group finds no room.
+    pub fn imported_but(self, full: Full) -> Result<Imported, AllocError>
+        ensures tallies { IfOk result (λ imported. imported.tallies.items ≡ self.tallies.items) }
+        ensures refused { IfOk result (λ imported.
+            imported.refused.items ≡ self.refused.items ++ full.refused.items) }
+        ensures end { IfOk result (λ imported. imported.end ≡ End.Full full.games full.bytes) }
+    {
+        let mut imported = self.imported(End::Full {
+            games: full.games,
+            bytes: full.bytes,
+        });
+        imported.refused.extend_from_slice(full.refused.as_slice())?;
+        Ok(imported)
     }
 
     /// Takes the last cut of the stream, if there is one more, and closes the group in hand.
-    pub fn finish<E: Sink>(
-        &mut self,
-        alloc: Global,
-        cut: Option<Cut>,
-        workers: usize,
-        errors: &mut E,
-    ) -> Result<(), Stop<Full>>
+    fn finish(&mut self, alloc: Global, cut: Option<Cut>, workers: usize) -> Result<(), Stop<Full>>
         requires some_workers { 1 ≤ workers }
         requires few_workers { workers ≤ 16 }
         requires short { IfSome cut (λ cut. IsShort (meaning cut)) }
         requires ready { IsReady self.old }
         ensures ready { OnOk result (IsReady self.new) }
-        ensures ends { OnOk result ((done : List ACut) (w : Option (List ℕ)) (f : ℕ) → Ascend (done ++ cuts_in cut) → Imports done self.old w (E.written errors.old) f (E.write_fault_count errors.old)
-            → Ends (done ++ cuts_in cut) self.new w (E.written errors.new) f (E.write_fault_count errors.new)) }
-        ensures full { IfErr result (λ stop. WhereFull stop (λ games bytes. (done : List ACut) (stream : List ℕ) (w : Option (List ℕ)) (f : ℕ) → done ++ cuts_in cut ≡ cuts stream
-            → Imports done self.old w (E.written errors.old) f (E.write_fault_count errors.old) → Fills games bytes stream)) }
-        ensures grew { Grew (E.written errors.old) (E.written errors.new) (E.write_fault_count errors.old) (E.write_fault_count errors.new) }
-        ensures never_falls { NeverFalls (E.write_fault_count errors.old) (E.write_fault_count errors.new) }
+        ensures done { OnOk result ((taken : List ACut) → Ascend (taken ++ cuts_in cut)
+            → ImportedSoFar taken self.old → ImportDone (taken ++ cuts_in cut) self.new) }
+        ensures full { IfErr result (λ stop. WhereFull stop (λ full. (taken : List ACut)
+            → Ascend (taken ++ cuts_in cut)
+            → ImportedSoFar taken self.old → FullAtEnd (taken ++ cuts_in cut) self.new full)) }
     {
-        match self.take(alloc, cut, workers, errors) {
-            Ok(()) => self.close(alloc, workers, errors),
+        match self.take(alloc, cut, workers) {
+            Ok(()) => self.close(alloc, workers),
             Err(stop) => Err(stop),
         }
     }
 
-    /// Settles the group in hand, reports what it refuses and stores its tally. Another group is in hand then.
-    fn close<E: Sink>(
-        &mut self,
-        alloc: Global,
-        workers: usize,
-        errors: &mut E,
-    ) -> Result<(), Stop<Full>>
+    /// Replays the group in hand, and stores or refuses each of its cuts.
+    fn close(&mut self, alloc: Global, workers: usize) -> Result<(), Stop<Full>>
         requires some_workers { 1 ≤ workers }
         requires few_workers { workers ≤ 16 }
-        requires few { length self.old.group.texts.items ≤ 512 }
+        requires few { length self.old.group.texts.items ≤ group_limit }
         requires short { All (λ text. length text.bytes ≤ text_limit) self.old.group.texts.items }
         requires stored { IsStored self.old }
         ensures ready { OnOk result (IsReady self.new) }
         ensures group { OnOk result (IsGroupOf [] self.new.group) }
-        ensures closes { OnOk result ((hand : List ACut) → Ascend hand → IsGroupOf hand self.old.group
-            → Closes self.old self.new hand (E.written errors.old) (E.written errors.new) (E.write_fault_count errors.old) (E.write_fault_count errors.new)) }
-        ensures full { IfErr result (λ stop. WhereFull stop (λ games bytes. (games ≡ self.old.games) × (bytes ≡ self.old.bytes) × ((hand : List ACut) → Ascend hand → IsGroupOf hand self.old.group → Passes games bytes hand))) }
-        ensures grew { Grew (E.written errors.old) (E.written errors.new) (E.write_fault_count errors.old) (E.write_fault_count errors.new) }
-        ensures never_falls { NeverFalls (E.write_fault_count errors.old) (E.write_fault_count errors.new) }
+        ensures closes { OnOk result ((hand : List ACut) → Ascend hand
+            → IsGroupOf hand self.old.group → GroupClosed self.old self.new hand) }
+        ensures full { IfErr result (λ stop. WhereFull stop (λ full. (hand : List ACut)
+            → Ascend hand → IsGroupOf hand self.old.group
+            → GroupRefused self.old self.new hand full)) }
     {
-        let group = mem::replace(&mut self.group, Group::new(alloc));
-        let settled = group.settle(alloc, workers)?;
-        let Settled { tally, refused } = settled;
-        self.all_reported = report(alloc, self.all_reported, refused.as_slice(), errors)?;
+        let group = mem::replace(&mut self.group, TextGroup::new(alloc));
+        let TalliedGroup { tally, refused } = group.tally(alloc, workers)?;
         match tally {
-            Some(tally) => self.store(tally),
-            None => Ok(()),
+            Some(tally) => self.store(tally, refused),
+            None => self.refuse(refused.as_slice()),
         }
     }
 
-    /// Stores a tally, where the limits leave room for it.
-    fn store(&mut self, tally: Tally) -> Result<(), Stop<Full>>
+    /// Stores the tally of a group, where the limits leave room for it, and with it what else of
+    /// the group is refused.
+    fn store(&mut self, tally: Tally, refused: Vec<Refusal>) -> Result<(), Stop<Full>>
         requires { IsStored self.old }
         ensures stored { OnOk result (IsStored self.new) }
-        ensures tallies { OnOk result (self.new.tallies.items ≡ self.old.tallies.items ++ tally ∷ []) }
-        ensures group { self.new.group ≡ self.old.group }
-        ensures all_reported { self.new.all_reported ≡ self.old.all_reported }
-        ensures full { IfErr result (λ stop. WhereFull stop (λ games bytes. (games ≡ self.old.games) × (bytes ≡ self.old.bytes) × Pass (games + length tally.batch.texts) (bytes + sum_by (λ text. length text) tally.batch.texts))) }
+        ensures tallies { OnOk result
+            (self.new.tallies.items ≡ self.old.tallies.items ++ tally ∷ []) }
+        ensures refused { OnOk result
+            (self.new.refused.items ≡ self.old.refused.items ++ refused.items) }
+        ensures group { OnOk result (self.new.group ≡ self.old.group) }
+        ensures full { IfErr result (λ stop.
+            WhereFull stop (TallyRefused self.old self.new tally refused.items)) }
     {
         let games = self.games + tally.classes().len() as u64;
         let bytes = self.bytes + bytes_of(tally.batch().texts.as_slice());
-        if games > GAME_LIMIT || bytes > BYTE_LIMIT {
+        if games > STORED_GAMES_LIMIT || bytes > STORED_BYTES_LIMIT {
             return Err(Stop::Fault(Full {
                 games: self.games,
                 bytes: self.bytes,
+                refused,
             }));
         }
         let Ok(()) = self.tallies.push(tally) else {
@@ -193,62 +354,31 @@ impl Import {
         };
         self.games = games;
         self.bytes = bytes;
+        self.refuse(refused.as_slice())
+    }
+
+    /// Keeps why cuts of a group are refused.
+    fn refuse(&mut self, refused: &[Refusal]) -> Result<(), Stop<Full>>
+        ensures refused { OnOk result
+            (self.new.refused.items ≡ self.old.refused.items ++ refused.now) }
+        ensures rest { OnOk result (self.new ≡ record self.old { refused = self.new.refused }) }
+        ensures memory { IfErr result (λ stop. WhereFull stop (λ _. ⊥)) }
+    {
+        self.refused.extend_from_slice(refused)?;
         Ok(())
     }
 }
 
 /// How many bytes the texts have together.
 fn bytes_of(texts: &[Bytes]) -> u64
-    requires few { length texts.now ≤ 512 }
+    requires few { length texts.now ≤ group_limit }
     requires short { All (λ text. length text ≤ text_limit) texts.now }
     ensures sum { result ≡ sum_by (λ text. length text) texts.now }
-    ensures small { result ≤ 33554432 }
+    ensures small { result ≤ group_limit * text_limit }
 {
     let mut bytes = 0;
     for text in texts {
         bytes += text.len() as u64;
     }
     bytes
-}
-
-/// Puts the report lines of refusals on the errors sink, as one piece. A fault of the sink ends nothing: it answers whether all
-/// lines so far were written.
-fn report<E: Sink>(
-    alloc: Global,
-    all_reported: bool,
-    refused: &[Refusal],
-    errors: &mut E,
-) -> Result<bool, AllocError>
-    ensures reports { IfOk result (λ now. Reports all_reported now refused.now (E.written errors.old) (E.written errors.new) (E.write_fault_count errors.old) (E.write_fault_count errors.new)) }
-    ensures grew { Grew (E.written errors.old) (E.written errors.new) (E.write_fault_count errors.old) (E.write_fault_count errors.new) }
-    ensures never_falls { NeverFalls (E.write_fault_count errors.old) (E.write_fault_count errors.new) }
-{
-    let lines = lines_of(alloc, refused)?;
-    if lines.is_empty() {
-        return Ok(all_reported);
-    }
-    if errors.write(lines.as_slice()).is_err() {
-        return Ok(false);
-    }
-    Ok(all_reported)
-}
-
-fn lines_of(alloc: Global, refused: &[Refusal]) -> Result<Vec<u8>, AllocError>
-    ensures { IfOk result (λ lines. lines.items ≡ report refused.now) }
-{
-    let mut lines = Vec::new(alloc);
-    for refusal in refused {
-        push_line(alloc, &mut lines, refusal.place, &refusal.why)?;
-    }
-    Ok(lines)
-}
-
-fn push_line(alloc: Global, lines: &mut Vec<u8>, place: u64, why: &Why) -> Result<(), AllocError>
-    ensures { OnOk result (lines.new.items ≡ lines.old.items ++ report_line place why.now) }
-{
-    lines.extend_from_slice(place.to_string(alloc)?.as_bytes())?;
-    lines.push(b' ')?;
-    lines.extend_from_slice(why_text(alloc, why)?.as_slice())?;
-    lines.push(b'\n')?;
-    Ok(())
 }

@@ -87,13 +87,14 @@ fn one_move(
     )
 }
 
-/// The calls that fail in a run, counted from 0.
-#[derive(Drop)]
-struct Failing {
-    reads: Vec<u64>,
-    output: Vec<u64>,
-    errors: Vec<u64>,
-}
+/// A call that no run comes to.
+const NEVER: u64 = u64::MAX;
+
+/// The read of the input, the write to the output and the write to the errors that fail, each
+/// counted from 0.
+type Failing = [u64; 3];
+
+const FAULTLESS: Failing = [NEVER, NEVER, NEVER];
 
 /// What a run came to.
 #[derive(Drop)]
@@ -101,6 +102,14 @@ struct Seen {
     status: u8,
     output: MemSink,
     errors: MemSink,
+}
+
+impl Seen {
+    fn is(&self, status: u8, output: &str, errors: &str) -> bool {
+        self.status == status
+            && self.output.bytes() == output.as_bytes()
+            && self.errors.bytes() == errors.as_bytes()
+    }
 }
 
 /// The words behind the program's name.
@@ -112,44 +121,35 @@ fn with_name(alloc: Global, words: &[&str]) -> Result<Vec<String>, AllocError> {
     Ok(all)
 }
 
-/// Runs with the words behind the program's name, over an input that gives at most `piece` bytes in
+/// Runs with the words behind the program's name, over an input that gives at most `most` bytes in
 /// a read.
 fn run_on(
     rt: &HostRuntime,
     words: &[&str],
     text: &str,
-    piece: usize,
+    most: usize,
     failing: Failing,
 ) -> Result<Seen, AllocError>
-    requires { 0 < piece }
+    requires { 0 < most }
 {
     let alloc = rt.alloc();
     let all = with_name(alloc, words)?;
+    let [read, write, report] = failing;
     let bytes = Vec::from_slice(alloc, text.as_bytes())?;
-    let mut input = MemSource::new(bytes, piece, failing.reads);
-    let mut output = MemSink::new(alloc, 4096, failing.output)?;
-    let mut errors = MemSink::new(alloc, 4096, failing.errors)?;
-    let host = &mut RealHost;
+    let mut input = MemSource::new(bytes, most, vec![in alloc; read]?);
+    let mut output = MemSink::new(alloc, 4096, vec![in alloc; write]?)?;
+    let mut errors = MemSink::new(alloc, 4096, vec![in alloc; report]?)?;
     let status = run(
         rt,
         all.as_slice(),
         &mut input,
         &mut output,
         &mut errors,
-        host,
+        &mut RealHost,
     );
     Ok(Seen {
         status: status.number,
         output,
         errors,
     })
-}
-
-/// No call fails.
-fn faultless(alloc: Global) -> Failing {
-    Failing {
-        reads: Vec::new(alloc),
-        output: Vec::new(alloc),
-        errors: Vec::new(alloc),
-    }
 }

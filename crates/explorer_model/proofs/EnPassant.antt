@@ -9,24 +9,24 @@ use Rattle.explorer_model.specs.declared.chess.Piece.{Piece}
 use Rattle.explorer_model.specs.declared.chess.Position.{Position}
 use Rattle.explorer_model.specs.declared.chess.Move.{Move}
 use Rattle.explorer_model.specs.declared.square.Square.{Square}
-use Rattle.explorer_model.specs.Board.{rank_of, man_at, IsMan}
-use Rattle.explorer_model.specs.Chess.{last_rank, HasCrossed, IsSquare, Goes, GoesAs, Legal, IsValid, quiet, CanTakeEnPassant}
+use Rattle.explorer_model.specs.Board.{rank_of, piece_at, IsPiece}
+use Rattle.explorer_model.specs.Chess.{last_rank, HasCrossed, IsSquare, RoleMoves, PieceMoves, Legal, IsValid, quiet, CanCaptureEnPassant}
 use Rattle.explorer_model.proofs.Squares.{square_eq}
 
 pub HasCrossed-not_last : (squares : List (Option Piece)) (turn : Color) (s : ℕ) → HasCrossed squares turn s → rank_of s ≢ last_rank turn
 HasCrossed-not_last squares White s crossed = λ last. omega (arith, crossed.0, last)
 HasCrossed-not_last squares Black s crossed = λ last. omega (arith, crossed.0, last)
 
-pub GoesAs-quiet : (p : Position) (m : Move) (man : Option Piece)
-    → IsMan p.turn Pawn man → GoesAs p man m → rank_of m.to.index ≢ last_rank p.turn → m.promotion ≡ None
-GoesAs-quiet p m None pawn goes not_last = absurd pawn
-GoesAs-quiet p m (Some piece) pawn goes not_last =
-    let P : Role → Type 0 = λ role. Goes p role m in
+pub PieceMoves-quiet : (p : Position) (m : Move) (occupant : Option Piece)
+    → IsPiece p.turn Pawn occupant → PieceMoves p occupant m → rank_of m.to.index ≢ last_rank p.turn → m.promotion ≡ None
+PieceMoves-quiet p m None pawn goes not_last = absurd pawn
+PieceMoves-quiet p m (Some piece) pawn goes not_last =
+    let P : Role → Type 0 = λ role. RoleMoves p role m in
     elim (subst P pawn.1 goes).1 [ inl promoted ↦ absurd (not_last promoted.0) | inr none ↦ none.1 ]
 
 pub Legal-en_passant : (p : Position) (m : Move) (to : Square)
     → HasCrossed p.squares p.turn to.index
-    → IsMan p.turn Pawn (man_at p.squares m.from.index)
+    → IsPiece p.turn Pawn (piece_at p.squares m.from.index)
     → m.to.index ≡ to.index
     → Legal p m
     → Legal p (quiet m.from to)
@@ -34,7 +34,7 @@ Legal-en_passant p m to crossed pawn ends legal =
     let same_to : m.to ≡ to = square_eq m.to to ends in
     let N : ℕ → Type 0 = λ s. rank_of s ≢ last_rank p.turn in
     let not_last : rank_of m.to.index ≢ last_rank p.turn = subst N (sym ends) (HasCrossed-not_last p.squares p.turn to.index crossed) in
-    let promotes_none : m.promotion ≡ None = GoesAs-quiet p m (man_at p.squares m.from.index) pawn legal.0.2 not_last in
+    let promotes_none : m.promotion ≡ None = PieceMoves-quiet p m (piece_at p.squares m.from.index) pawn legal.0.2 not_last in
     let path : m ≡ quiet m.from to = λ i. record { from = m.from; to = same_to i; promotion = promotes_none i } in
     let P : Move → Type 0 = λ n. Legal p n in subst P path legal
 
@@ -42,28 +42,28 @@ IsSquare-some : (square : Option Square) (to : Square) (s : ℕ) → square ≡ 
 IsSquare-some square to s is at_s = let P : Option Square → Type 0 = λ o. IsSquare o s in subst P is at_s
 
 -- what a search for a capture on the en passant square says of every square
-pub taken-some : (p : Position) (to : Square) → p.en_passant ≡ Some to → CanTakeEnPassant p to.index
-    → (s : ℕ) → to.index ≡ s ↔ CanTakeEnPassant p s
+pub taken-some : (p : Position) (to : Square) → p.en_passant ≡ Some to → CanCaptureEnPassant p to.index
+    → (s : ℕ) → to.index ≡ s ↔ CanCaptureEnPassant p s
 taken-some p to is can s = (
-  λ at_s. (let P : ℕ → Type 0 = λ n. CanTakeEnPassant p n in subst P at_s can),
+  λ at_s. (let P : ℕ → Type 0 = λ n. CanCaptureEnPassant p n in subst P at_s can),
   λ taken. IsSquare-some p.en_passant to s is taken.0,
 )
 
-pub taken-none : (p : Position) (to : Square) → p.en_passant ≡ Some to → ¬ CanTakeEnPassant p to.index
-    → (s : ℕ) → ⊥ ↔ CanTakeEnPassant p s
+pub taken-none : (p : Position) (to : Square) → p.en_passant ≡ Some to → ¬ CanCaptureEnPassant p to.index
+    → (s : ℕ) → ⊥ ↔ CanCaptureEnPassant p s
 taken-none p to is cannot s = (
   λ no. absurd no,
-  λ taken. cannot (let P : ℕ → Type 0 = λ n. CanTakeEnPassant p n in subst P (sym (IsSquare-some p.en_passant to s is taken.0)) taken),
+  λ taken. cannot (let P : ℕ → Type 0 = λ n. CanCaptureEnPassant p n in subst P (sym (IsSquare-some p.en_passant to s is taken.0)) taken),
 )
 
 pub taken-found : (p : Position) (from to : Square) → p.en_passant ≡ Some to
-    → IsMan p.turn Pawn (man_at p.squares from.index) × Legal p (quiet from to) → CanTakeEnPassant p to.index
+    → IsPiece p.turn Pawn (piece_at p.squares from.index) × Legal p (quiet from to) → CanCaptureEnPassant p to.index
 taken-found p from to is found =
     let P : Option Square → Type 0 = λ o. IsSquare o to.index in
     (subst P (sym is) refl, (quiet from to, found.0, refl, found.1))
 
-pub taken-from : (p : Position) (to : Square) → IsValid p → p.en_passant ≡ Some to → CanTakeEnPassant p to.index
-    → (from : Square) × (IsMan p.turn Pawn (man_at p.squares from.index) × Legal p (quiet from to))
+pub taken-from : (p : Position) (to : Square) → IsValid p → p.en_passant ≡ Some to → CanCaptureEnPassant p to.index
+    → (from : Square) × (IsPiece p.turn Pawn (piece_at p.squares from.index) × Legal p (quiet from to))
 taken-from p to valid is taken =
     let m : Move = taken.1.0 in
     (m.from, (taken.1.1, Legal-en_passant p m to (valid.en_passant to.index taken.0) taken.1.1 taken.1.2 taken.1.3))

@@ -10,10 +10,10 @@ use Rattle.explorer_model.specs.declared.answer.MoveLine.{MoveLine}
 use Rattle.explorer_model.specs.declared.answer.Totals.{Totals}
 use Rattle.explorer_model.specs.declared.archive.Outcome.{Outcome}
 use Rattle.explorer_model.specs.declared.chess.Move.{Move}
-use Rattle.explorer_model.specs.declared.query.Filter.{Filter}
+use Rattle.explorer_model.specs.declared.archive.Classes.{Classes}
 use Rattle.explorer_model.specs.declared.query.Query.{Query}
-use Rattle.explorer_model.specs.Visits.{Seen}
-use Rattle.explorer_model.specs.Counting.{passes, is_same_move, is_move, visits, counts, any_next, is_outcome, count_of, totals_of, move_totals, distinct, moves_played, first_moves, before_by_total, sightings}
+use Rattle.explorer_model.specs.Visits.{GameAt}
+use Rattle.explorer_model.specs.Counting.{passes, is_same_move, is_move, visits, counts, any_next, is_outcome, count_of, totals_of, move_totals, distinct, moves_played, first_moves, before_by_total, games_with_move}
 use Rattle.explorer_model.specs.Finds.{IsLineOf, IsRecount}
 
 -- ---- sums
@@ -161,51 +161,51 @@ one-by true true (Some (Some next)) moves d =
 one-by true false (Some (Some next)) moves d =
     zero-sum (λ m. cond {A = ℕ} (is_same_move m next && false) 1 0) moves (λ m. never (is_same_move m next))
 
-pub moves-within : (outcome : Outcome) (filter_ : Filter) (moves : List Move) (seen : List Seen) → AreDistinct moves
-    → sum_by (λ m. count_of outcome (counts (is_move m) filter_) seen) moves ≤ count_of outcome (counts any_next filter_) seen
-moves-within outcome filter_ moves [] d = zero-sum (λ m. 0) moves (λ m. omega arith)
-moves-within outcome filter_ moves (s ∷ seen) d =
-    let rest = moves-within outcome filter_ moves seen d in
-    let one = one-by (passes filter_ s.classes) (is_outcome outcome s.classes.outcome) s.visit moves d in
+pub moves-within : (outcome : Outcome) (wanted : Classes → Bool) (moves : List Move) (games_at : List GameAt) → AreDistinct moves
+    → sum_by (λ m. count_of outcome (counts (is_move m) wanted) games_at) moves ≤ count_of outcome (counts any_next wanted) games_at
+moves-within outcome wanted moves [] d = zero-sum (λ m. 0) moves (λ m. omega arith)
+moves-within outcome wanted moves (s ∷ games_at) d =
+    let rest = moves-within outcome wanted moves games_at d in
+    let one = one-by (wanted s.classes) (is_outcome outcome s.classes.outcome) s.visit moves d in
     let split = split-sum
-    (λ m. count_of outcome (counts (is_move m) filter_) (s ∷ seen))
-    (λ m. cond {A = ℕ} (counts (is_move m) filter_ s && is_outcome outcome s.classes.outcome) 1 0)
-    (λ m. count_of outcome (counts (is_move m) filter_) seen)
+    (λ m. count_of outcome (counts (is_move m) wanted) (s ∷ games_at))
+    (λ m. cond {A = ℕ} (counts (is_move m) wanted s && is_outcome outcome s.classes.outcome) 1 0)
+    (λ m. count_of outcome (counts (is_move m) wanted) games_at)
     moves
-    (λ m. sum_by-cons (λ game. cond {A = ℕ} (counts (is_move m) filter_ game && is_outcome outcome game.classes.outcome) 1 0) s seen) in
-    let whole = sum_by-cons (λ game. cond {A = ℕ} (counts any_next filter_ game && is_outcome outcome game.classes.outcome) 1 0) s seen in
+    (λ m. sum_by-cons (λ game. cond {A = ℕ} (counts (is_move m) wanted game && is_outcome outcome game.classes.outcome) 1 0) s games_at) in
+    let whole = sum_by-cons (λ game. cond {A = ℕ} (counts any_next wanted game && is_outcome outcome game.classes.outcome) 1 0) s games_at in
     omega (arith, rest, one, split, whole)
 
 -- ---- the lines of an answer
 
-pub lines-sum : (part : Totals → ℕ) (query : Query) (seen : List Seen) (moves : List Move) (lines : List MoveLine)
-    → AllZip (IsLineOf query seen) moves lines
-    → sum_by (λ line. part line.totals) lines ≡ sum_by (λ m. part (move_totals query.filter seen m)) moves
-lines-sum part query seen [] [] are = refl
-lines-sum part query seen [] (line ∷ lines) are = absurd are
-lines-sum part query seen (m ∷ moves) [] are = absurd are
-lines-sum part query seen (m ∷ moves) (line ∷ lines) are =
-    let rest = lines-sum part query seen moves lines are.1 in
+pub lines-sum : (part : Totals → ℕ) (query : Query) (games_at : List GameAt) (moves : List Move) (lines : List MoveLine)
+    → AllZip (IsLineOf query games_at) moves lines
+    → sum_by (λ line. part line.totals) lines ≡ sum_by (λ m. part (move_totals (passes query.filter) games_at m)) moves
+lines-sum part query games_at [] [] are = refl
+lines-sum part query games_at [] (line ∷ lines) are = absurd are
+lines-sum part query games_at (m ∷ moves) [] are = absurd are
+lines-sum part query games_at (m ∷ moves) (line ∷ lines) are =
+    let rest = lines-sum part query games_at moves lines are.1 in
     let one = ap part are.0.totals in
     let left = sum_by-cons (λ line. part line.totals) line lines in
-    let right = sum_by-cons (λ m. part (move_totals query.filter seen m)) m moves in
+    let right = sum_by-cons (λ m. part (move_totals (passes query.filter) games_at m)) m moves in
     omega (arith, rest, one, left, right)
 
 -- a part of the totals that counts the games of an outcome
 pub part-within : (part : Totals → ℕ) (outcome : Outcome)
-    → ((counted : Seen → Bool) (seen : List Seen) → part (totals_of counted seen) ≡ count_of outcome counted seen)
-    → (query : Query) (seen : List Seen) (found : Found) → IsRecount query seen found
+    → ((counted : GameAt → Bool) (games_at : List GameAt) → part (totals_of counted games_at) ≡ count_of outcome counted games_at)
+    → (query : Query) (games_at : List GameAt) (found : Found) → IsRecount query games_at found
     → sum_by (λ line. part line.totals) found.moves ≤ part found.totals
 unfolding moves_played
-part-within part outcome counts_outcome query seen found recount =
-    let played : List Move = moves_played query.filter seen in
-    let shown : List Move = first_moves query.moves query.filter seen in
-    let f : Move → ℕ = λ m. part (move_totals query.filter seen m) in
-    let lines : sum_by (λ line. part line.totals) found.moves ≡ sum_by f shown = lines-sum part query seen shown found.moves recount.moves in
-    let fewer : sum_by f shown ≤ sum_by f played = best-sum (before_by_total query.filter seen) f query.moves played in
-    let same : sum_by f played ≤ sum_by (λ m. count_of outcome (counts (is_move m) query.filter) seen) played =
-    sum_by-le-sum_by f (λ m. count_of outcome (counts (is_move m) query.filter) seen) played
-    (λ m. let e = counts_outcome (counts (is_move m) query.filter) seen in omega (arith, e)) in
-    let inside = moves-within outcome query.filter played seen (distinct-AreDistinct (map (λ s. s.next) (sightings query.filter seen))) in
-    let all : part found.totals ≡ count_of outcome (counts any_next query.filter) seen = ap part recount.totals ∙ counts_outcome (counts any_next query.filter) seen in
+part-within part outcome counts_outcome query games_at found recount =
+    let played : List Move = moves_played (passes query.filter) games_at in
+    let shown : List Move = first_moves query.moves (passes query.filter) games_at in
+    let f : Move → ℕ = λ m. part (move_totals (passes query.filter) games_at m) in
+    let lines : sum_by (λ line. part line.totals) found.moves ≡ sum_by f shown = lines-sum part query games_at shown found.moves recount.moves in
+    let fewer : sum_by f shown ≤ sum_by f played = best-sum (before_by_total (passes query.filter) games_at) f query.moves played in
+    let same : sum_by f played ≤ sum_by (λ m. count_of outcome (counts (is_move m) (passes query.filter)) games_at) played =
+    sum_by-le-sum_by f (λ m. count_of outcome (counts (is_move m) (passes query.filter)) games_at) played
+    (λ m. let e = counts_outcome (counts (is_move m) (passes query.filter)) games_at in omega (arith, e)) in
+    let inside = moves-within outcome (passes query.filter) played games_at (distinct-AreDistinct (map (λ s. s.next) (games_with_move (passes query.filter) games_at))) in
+    let all : part found.totals ≡ count_of outcome (counts any_next (passes query.filter)) games_at = ap part recount.totals ∙ counts_outcome (counts any_next (passes query.filter)) games_at in
     omega (arith, lines, fewer, same, inside, all)

@@ -1,5 +1,5 @@
 -- The body of an answer: a JSON value with its members in the order of their bytes, written without spaces.
-use Rattle.std.specs.Prelude.{ℕ, ◌+◌, ◌/◌, ◌%◌, List, [], ◌∷◌, codes, Option, Some, None}
+use Rattle.std.specs.Prelude.{ℕ, ◌+◌, ◌/◌, ◌%◌, List, [], ◌∷◌, map, codes, Option, Some, None}
 use Rattle.serde_json.specs.Data.{Data, null, number, unsigned, string, array, Items, no_items, item, object, Members, member, no_members}
 use Rattle.serde_json.specs.Written.{compact_text}
 use Rattle.explorer_model.specs.declared.answer.Found.{Found}
@@ -47,7 +47,8 @@ digit n = 48 + n % 10
 -- YYYY-MM
 abbrev pub month_text : Month → List ℕ
 month_text month =
-    digit (month.year / 1000) ∷ digit (month.year / 100) ∷ digit (month.year / 10) ∷ digit month.year
+    digit (month.year / 1000) ∷ digit (month.year / 100) ∷ digit (month.year / 10)
+    ∷ digit month.year
     ∷ 45 ∷ digit (month.month / 10) ∷ digit month.month ∷ []
 
 abbrev pub winner_value : Outcome → Data
@@ -78,15 +79,38 @@ abbrev pub game_value : Option Listed → Data
 game_value None = null
 game_value (Some game) = listed_value game
 
+-- ---- openings
+
+-- the name of an opening, with its code
+pub record Opening : Type 0 where
+  pub eco : List ℕ
+  pub name : List ℕ
+
+-- what openings an answer shows: that of the position asked for, and that of each move of its list
+pub record Naming : Type 0 where
+  pub whole : Option Opening
+  pub moves : List (Option Opening)
+
+-- no opening is known
+abbrev pub unnamed : List MoveLine → Naming
+unnamed lines = record { whole = None; moves = map (λ line. None) lines }
+
+abbrev pub opening_value : Option Opening → Data
+opening_value None = null
+opening_value (Some opening) = object
+    (member (codes "eco") (string opening.eco)
+    (member (codes "name") (string opening.name)
+    no_members))
+
 -- ---- a move and a month
 
-abbrev pub move_value : MoveLine → Data
-move_value line = object
+abbrev pub move_value : MoveLine → Option Opening → Data
+move_value line opening = object
     (member (codes "averageRating") (count_value line.average)
     (member (codes "black") (count_value line.totals.black)
     (member (codes "draws") (count_value line.totals.draws)
     (member (codes "game") (game_value line.game)
-    (member (codes "opening") null
+    (member (codes "opening") (opening_value opening)
     (member (codes "san") (string line.san)
     (member (codes "uci") (string (uci_text line.next))
     (member (codes "white") (count_value line.totals.white)
@@ -107,18 +131,29 @@ abbrev pub with_history : Option (List MonthLine) → Members → Members
 with_history None members = members
 with_history (Some months) members = member (codes "history") (array_by month_value months) members
 
-abbrev pub answer_value : Found → Data
-answer_value found = object
+-- each move with its opening; a move that the naming does not reach has none
+abbrev pub move_items : List MoveLine → List (Option Opening) → Items
+move_items [] openings = no_items
+move_items (line ∷ lines) [] = item (move_value line None) (move_items lines [])
+move_items (line ∷ lines) (opening ∷ openings) =
+    item (move_value line opening) (move_items lines openings)
+
+abbrev pub answer_value : Found → Naming → Data
+answer_value found naming = object
     (member (codes "black") (count_value found.totals.black)
     (member (codes "draws") (count_value found.totals.draws)
     (with_history found.history
-    (member (codes "moves") (array_by move_value found.moves)
-    (member (codes "opening") null
+    (member (codes "moves") (array (move_items found.moves naming.moves))
+    (member (codes "opening") (opening_value naming.whole)
     (member (codes "recentGames") (array_by listed_value found.recent)
     (member (codes "topGames") (array_by listed_value found.top)
     (member (codes "white") (count_value found.totals.white)
     no_members))))))))
 
--- the bytes of the answer
-unfoldable pub answer_body : Found → List ℕ
-answer_body found = compact_text (answer_value found)
+-- the bytes of the answer, with the openings that are known
+unfoldable pub named_body : Found → Naming → List ℕ
+named_body found naming = compact_text (answer_value found naming)
+
+-- the bytes of the answer where no opening is known
+abbrev pub answer_body : Found → List ℕ
+answer_body found = named_body found (unnamed found.moves)

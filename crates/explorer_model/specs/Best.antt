@@ -38,7 +38,9 @@ module _ {X : Type 0} (before : X → X → Bool) where
   IsBestFirst xs = AllPairs (λ x y. before y x ≡ false) xs
 
 -- Two lists that are best first, taken apart: the best of both, and what is left of each.
-pub record SplitsBest {X : Type 0} (before : X → X → Bool) (left right : List X) (first : X) (left_rest right_rest : List X) : Type 0 where
-  pub best_of_both : (n : ℕ) → best before (suc n) (left ++ right) ≡ first ∷ best before n (left_rest ++ right_rest)
+pub record SplitsBest {X : Type 0} (before : X → X → Bool) (left right : List X) (first : X)
+    (left_rest right_rest : List X) : Type 0 where
+  pub best_of_both : (n : ℕ) → best before (suc n) (left ++ right) ≡ first
+      ∷ best before n (left_rest ++ right_rest)
   pub left_in_order : IsBestFirst before left_rest
   pub right_in_order : IsBestFirst before right_rest

@@ -1,5 +1,6 @@
--- The geometry of the board, and what stands on its squares (FIDE Laws of Chess in force from 1 January 2023, Articles 2 and 3).
--- A square is a number below 64, `8 * rank + file`: a1 is 0, h1 is 7, h8 is 63. Files and ranks count from 0: file e is 4, rank 1 is 0.
+-- The geometry of the board, and what stands on its squares (FIDE Laws of Chess in force from 1
+-- January 2023, Articles 2 and 3). A square is a number below 64, `8 * rank + file`: a1 is 0, h1 is
+-- 7, h8 is 63. Files and ranks count from 0: file e is 4, rank 1 is 0.
 use Rattle.std.specs.Prelude.{◌≡◌, ◌≢◌, ℕ, ◌+◌, ◌-◌, ◌/◌, ◌%◌, ◌<◌, ◌≤◌, ◌⊎◌, List, slice_index_or, Option, Some, None}
 use Rattle.std.proofs.Common.{lit<}
 use Rattle.std.proofs.lemmas.Nat.{div_below}
@@ -39,9 +40,11 @@ BishopLine a b = (files_apart a b ≡ ranks_apart a b) × (a ≢ b)
 -- three squares, each two of which are on one file or rank, or each two on one diagonal
 abbrev pub AreAligned : ℕ → ℕ → ℕ → Type 0
 AreAligned a s b =
-    (RookLine a b × RookLine a s × RookLine s b) ⊎ (BishopLine a b × BishopLine a s × BishopLine s b)
+    (RookLine a b × RookLine a s × RookLine s b)
+    ⊎ (BishopLine a b × BishopLine a s × BishopLine s b)
 
--- s is strictly between a and b: they are aligned, and the ways from a to s and from s to b make up the way from a to b
+-- s is strictly between a and b: they are aligned, and the ways from a to s and from s to b make up
+-- the way from a to b
 abbrev pub IsBetween : ℕ → ℕ → ℕ → Type 0
 IsBetween a s b =
     AreAligned a s b
@@ -53,7 +56,8 @@ abbrev pub halfway : ℕ → ℕ → ℕ
 halfway a b = (a + b) / 2
 
 pub halfway_on_board : (a b : ℕ) → a < 64 → b < 64 → halfway a b < 64
-halfway_on_board a b on_a on_b = div_below (a + b) 2 64 (lit< tt) (add-lt-add_of_le_of_lt (le_of_lt on_a) on_b)
+halfway_on_board a b on_a on_b =
+    div_below (a + b) 2 64 (lit< tt) (add-lt-add_of_le_of_lt (le_of_lt on_a) on_b)
 
 -- What stands on a square.
 
@@ -61,26 +65,27 @@ abbrev pub opponent : Color → Color
 opponent White = Black
 opponent Black = White
 
--- a man as it stands on a square
-abbrev pub man_of : Color → Role → Option Piece
-man_of color role = Some (record { color = color; role = role })
+-- a piece as it stands on a square
+abbrev pub piece_of : Color → Role → Option Piece
+piece_of color role = Some (record { color = color; role = role })
 
 -- what stands on a square; nothing where there is no such square
-abbrev pub man_at : List (Option Piece) → ℕ → Option Piece
-man_at squares s = slice_index_or squares s None
+abbrev pub piece_at : List (Option Piece) → ℕ → Option Piece
+piece_at squares s = slice_index_or squares s None
 
 abbrev pub IsEmpty : Option Piece → Type 0
 IsEmpty o = o ≡ None
 
-abbrev pub IsPieceOf : Color → Option Piece → Type 0
-IsPieceOf color None = ⊥
-IsPieceOf color (Some piece) = piece.color ≡ color
+abbrev pub IsOfColor : Color → Option Piece → Type 0
+IsOfColor color None = ⊥
+IsOfColor color (Some piece) = piece.color ≡ color
 
-abbrev pub IsMan : Color → Role → Option Piece → Type 0
-IsMan color role None = ⊥
-IsMan color role (Some piece) = (piece.color ≡ color) × (piece.role ≡ role)
+abbrev pub IsPiece : Color → Role → Option Piece → Type 0
+IsPiece color role None = ⊥
+IsPiece color role (Some piece) = (piece.color ≡ color) × (piece.role ≡ role)
 
--- The men step. A colour's pawns go forward: White's to the next higher rank, Black's to the next lower one.
+-- How the pieces step. A colour's pawns go forward: White's to the next higher rank, Black's to the
+-- next lower one.
 
 abbrev pub IsRankAhead : Color → ℕ → ℕ → Type 0
 IsRankAhead White a b = rank_of b ≡ rank_of a + 1
@@ -92,17 +97,19 @@ PawnDiagonal color a b = IsRankAhead color a b × (files_apart a b ≡ 1)
 
 -- the nearest squares that are on no common rank, file or diagonal (3.6)
 abbrev pub KnightStep : ℕ → ℕ → Type 0
-KnightStep a b = ((files_apart a b ≡ 1) × (ranks_apart a b ≡ 2)) ⊎ ((files_apart a b ≡ 2) × (ranks_apart a b ≡ 1))
+KnightStep a b =
+    ((files_apart a b ≡ 1) × (ranks_apart a b ≡ 2))
+    ⊎ ((files_apart a b ≡ 2) × (ranks_apart a b ≡ 1))
 
 -- an adjoining square (3.8.1)
 abbrev pub KingStep : ℕ → ℕ → Type 0
 KingStep a b = (files_apart a b ≤ 1) × (ranks_apart a b ≤ 1) × (a ≢ b)
 
--- no man stands between a and b (3.5)
+-- no piece stands between a and b (3.5)
 abbrev pub IsOpen : List (Option Piece) → ℕ → ℕ → Type 0
-IsOpen squares a b = (s : ℕ) → s < 64 → IsBetween a s b → IsEmpty (man_at squares s)
+IsOpen squares a b = (s : ℕ) → s < 64 → IsBetween a s b → IsEmpty (piece_at squares s)
 
--- a man of this colour and role on a may step to b, if a pawn then as it captures (3.2 to 3.8.1)
+-- a piece of this colour and role on a may step to b, if a pawn then as it captures (3.2 to 3.8.1)
 abbrev pub RoleAttacks : List (Option Piece) → Color → Role → ℕ → ℕ → Type 0
 RoleAttacks squares color Pawn a b = PawnDiagonal color a b
 RoleAttacks squares color Knight a b = KnightStep a b
@@ -112,18 +119,22 @@ RoleAttacks squares color Queen a b = (RookLine a b ⊎ BishopLine a b) × IsOpe
 RoleAttacks squares color King a b = KingStep a b
 
 -- what stands on a, seen from a, may step to b
-abbrev pub ManAttacks : List (Option Piece) → Option Piece → ℕ → ℕ → Type 0
-ManAttacks squares None a b = ⊥
-ManAttacks squares (Some piece) a b = RoleAttacks squares piece.color piece.role a b
+abbrev pub PieceAttacks : List (Option Piece) → Option Piece → ℕ → ℕ → Type 0
+PieceAttacks squares None a b = ⊥
+PieceAttacks squares (Some piece) a b = RoleAttacks squares piece.color piece.role a b
 
--- the piece on a attacks b. What stands on b is not asked, nor whether the step would expose the piece's own king (3.1.3)
+-- the piece on a attacks b. What stands on b is not asked, nor whether the step would expose the
+-- piece's own king (3.1.3)
 abbrev pub Attacks : List (Option Piece) → ℕ → ℕ → Type 0
-Attacks squares a b = ManAttacks squares (man_at squares a) a b
+Attacks squares a b = PieceAttacks squares (piece_at squares a) a b
 
 -- a piece of this colour attacks s
 abbrev pub IsAttacked : List (Option Piece) → Color → ℕ → Type 0
-IsAttacked squares color s = (a : ℕ) × (a < 64) × IsPieceOf color (man_at squares a) × Attacks squares a s
+IsAttacked squares color s =
+    (a : ℕ) × (a < 64) × IsOfColor color (piece_at squares a) × Attacks squares a s
 
 -- the king of this colour is attacked (3.9.1)
 abbrev pub InCheck : List (Option Piece) → Color → Type 0
-InCheck squares color = (k : ℕ) × (k < 64) × IsMan color King (man_at squares k) × IsAttacked squares (opponent color) k
+InCheck squares color =
+    (k : ℕ) × (k < 64) × IsPiece color King (piece_at squares k)
+    × IsAttacked squares (opponent color) k

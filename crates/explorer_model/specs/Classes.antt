@@ -35,7 +35,9 @@ required name tags = ok_or (value_of (tag_text name) tags) (Missing name)
 
 -- one to most decimal digits
 abbrev pub number_of : ℕ → List ℕ → Option ℕ
-number_of most text = if nat_le 1 (length text) && nat_le (length text) most && all_ascii_digits text then Some (digits_value 10 text) else None
+number_of most text =
+    if nat_le 1 (length text) && nat_le (length text) most && all_ascii_digits text
+    then Some (digits_value 10 text) else None
 
 -- ---- steps 1 and 2: standard chess, from the starting position
 
@@ -48,7 +50,9 @@ unfoldable pub is_standard : List Tag → Bool
 is_standard tags = is_absent_or (codes "Standard") (value_of (codes "Variant") tags)
 
 unfoldable pub is_from_start : List Tag → Bool
-is_from_start tags = is_none (value_of (codes "FEN") tags) && is_absent_or (codes "0") (value_of (codes "SetUp") tags)
+is_from_start tags =
+    is_none (value_of (codes "FEN") tags)
+    && is_absent_or (codes "0") (value_of (codes "SetUp") tags)
 
 -- nothing, or the fault where the condition does not hold
 abbrev pub demand : {F : Type 0} → Bool → F → Result ⊤ F
@@ -58,13 +62,16 @@ demand holds fault = if holds then Ok tt else Err fault
 
 -- Rated where the first word is "rated" in any case of letters; a word ends at a space
 unfoldable pub mode_of : List ℕ → Mode
-mode_of event = if str_eq_ignore_ascii_case (before_first (λ b. b == byte " ") event) (codes "rated") then Rated else Casual
+mode_of event =
+    if str_eq_ignore_ascii_case (before_first (λ b. b == byte " ") event) (codes "rated")
+    then Rated else Casual
 
 -- the eight letters or digits after the last slash
 unfoldable pub id_of : List ℕ → Option GameId
 id_of site =
     let id = after_last (λ b. b == byte "/") site in
-    if list_any (λ b. b == byte "/") site && length id == 8 && list_all is_ascii_alphanumeric id then Some (record { bytes = id }) else None
+    if list_any (λ b. b == byte "/") site && length id == 8 && list_all is_ascii_alphanumeric id
+    then Some (record { bytes = id }) else None
 
 -- valid UTF-8; it may be empty
 unfoldable pub name_of : List ℕ → Option (List ℕ)
@@ -80,7 +87,8 @@ outcome_of text =
 
 -- one to four digits, at most 4000
 unfoldable pub rating_of : List ℕ → Option ℕ
-rating_of text = option_and_then (λ rating. if nat_le rating 4000 then Some rating else None) (number_of 4 text)
+rating_of text =
+    option_and_then (λ rating. if nat_le rating 4000 then Some rating else None) (number_of 4 text)
 
 -- the time that a game gives each player, in seconds
 pub record Clock : Type 0 where
@@ -92,7 +100,8 @@ unfoldable pub clock_of : List ℕ → Option Clock
 clock_of text =
     if list_any (λ b. b == byte "+") text
     then option_and_then
-    (λ base. option_map (λ increment. record { base = base; increment = increment }) (number_of 6 (after_first (λ b. b == byte "+") text)))
+    (λ base. option_map (λ increment. record { base = base; increment = increment })
+    (number_of 6 (after_first (λ b. b == byte "+") text)))
     (number_of 6 (before_first (λ b. b == byte "+") text))
     else option_map (λ base. record { base = base; increment = 0 }) (number_of 6 text)
 
@@ -108,7 +117,8 @@ speed_of clock =
 
 -- "-" is correspondence
 unfoldable pub control_of : List ℕ → Option Speed
-control_of text = if bytes_eq text (codes "-") then Some Correspondence else option_map speed_of (clock_of text)
+control_of text =
+    if bytes_eq text (codes "-") then Some Correspondence else option_map speed_of (clock_of text)
 
 -- the groups' least ratings, from the greatest down
 abbrev pub floors : List ℕ
@@ -130,14 +140,17 @@ month_of text =
     let month = slice_range text 5 7 in
     let day = drop 8 text in
     if length text == 10 && slice_index text 4 == byte "." && slice_index text 7 == byte "."
-    && all_ascii_digits year && all_ascii_digits month && (all_ascii_digits day || bytes_eq day (codes "??"))
+    && all_ascii_digits year && all_ascii_digits month
+    && (all_ascii_digits day || bytes_eq day (codes "??"))
     && nat_le 1 (digits_value 10 month) && nat_le (digits_value 10 month) 12
     then Some (record { year = digits_value 10 year; month = digits_value 10 month })
     else None
 
 -- the date by UTC, or where it is absent the local one
 abbrev pub date_name : List Tag → TagName
-date_name tags = if is_none (value_of (codes "UTCDate") tags) && is_some (value_of (codes "Date") tags) then names.Date else names.UtcDate
+date_name tags =
+    if is_none (value_of (codes "UTCDate") tags) && is_some (value_of (codes "Date") tags)
+    then names.Date else names.UtcDate
 
 -- ---- the steps in their order
 

@@ -31,7 +31,8 @@ onto false b parts = record { before = b ∷ parts.before; texts = parts.texts }
 -- the bytes, parted at each line that begins with an Event tag; fresh: a line begins at their first
 unfoldable pub parted : Bool → List ℕ → Parted
 parted fresh [] = record { before = []; texts = [] }
-parted fresh (b ∷ bytes) = onto (fresh && starts_with nat_eq (b ∷ bytes) event) b (parted (b == 10) bytes)
+parted fresh (b ∷ bytes) =
+    onto (fresh && starts_with nat_eq (b ∷ bytes) event) b (parted (b == 10) bytes)
 
 -- ---- cuts
 
@@ -42,14 +43,17 @@ is_white_space b = (nat_le 9 b && nat_le b 13) || b == 32
 -- a refusal of the first byte that is not white space, where there is one
 unfoldable pub preamble : ℕ → List ℕ → List Cut
 preamble place [] = []
-preamble place (b ∷ bytes) = if is_white_space b then preamble (place + 1) bytes else Preamble place ∷ []
+preamble place (b ∷ bytes) =
+    if is_white_space b then preamble (place + 1) bytes else Preamble place ∷ []
 
 -- the most bytes of a text that is read
 abbrev pub text_limit : ℕ
 text_limit = 65536
 
 unfoldable pub cut_at : ℕ → List ℕ → Cut
-cut_at place text = if nat_le (length text) text_limit then Text (record { place = place; bytes = text }) else TooLong place (length text)
+cut_at place text =
+    if nat_le (length text) text_limit then Text (record { place = place; bytes = text })
+    else TooLong place (length text)
 
 -- one text after another, the first at the place
 unfoldable pub cuts_of : ℕ → List (List ℕ) → List Cut
@@ -68,4 +72,5 @@ mark = 239 ∷ 187 ∷ 191 ∷ []
 
 -- the cuts of a whole stream, in its order; a mark at the very start is skipped, and a line begins after it
 unfoldable pub cuts : List ℕ → List Cut
-cuts stream = if starts_with nat_eq stream mark then cuts_from 3 (drop 3 stream) else cuts_from 0 stream
+cuts stream =
+    if starts_with nat_eq stream mark then cuts_from 3 (drop 3 stream) else cuts_from 0 stream

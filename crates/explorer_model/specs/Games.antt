@@ -64,8 +64,10 @@ onto_moves m rest = result_map_both (λ moves. m ∷ moves) (λ fault. fault) re
 abbrev pub Plays : Position → ℕ → List Token → Result (List Move) GameFault → Type 0
 Plays p ply [] played = played ≡ Ok []
 Plays p ply (token ∷ tokens) played =
-    ((m : Move) × (rest : Result (List Move) GameFault) × SanReads p token.text (Ok m) × Plays (after p m) (ply + 1) tokens rest × (played ≡ onto_moves m rest))
-    ⊎ ((fault : SanFault) × SanReads p token.text (Err fault) × (played ≡ Err (move_fault fault ply token.place)))
+    ((m : Move) × (rest : Result (List Move) GameFault) × SanReads p token.text (Ok m)
+    × Plays (after p m) (ply + 1) tokens rest × (played ≡ onto_moves m rest))
+    ⊎ ((fault : SanFault) × SanReads p token.text (Err fault)
+    × (played ≡ Err (move_fault fault ply token.place)))
 
 -- ---- the game
 
@@ -73,7 +75,8 @@ abbrev pub GameOfScore : Result Score GameFault → Result Game GameFault → Ty
 GameOfScore (Err fault) game = game ≡ Err fault
 GameOfScore (Ok score) game =
     (played : Result (List Move) GameFault) × Plays start 1 score.tokens played
-    × (game ≡ result_map_both (λ moves. record { classes = score.classes; moves = moves }) (λ fault. fault) played)
+    × (game ≡ result_map_both (λ moves. record { classes = score.classes; moves = moves })
+    (λ fault. fault) played)
 
 -- the text's game, or its first fault
 abbrev pub GameOf : List ℕ → Result Game GameFault → Type 0

@@ -1,5 +1,5 @@
 -- What becomes of the texts of a stream: in groups of 512 they are stored together or refused, each with its cause.
-use Rattle.std.specs.Prelude.{◌≡◌, ℕ, ◌+◌, ◌-◌, ◌/◌, Bool, true, false, ◌==◌, min, List, [], ◌∷◌, ◌++◌, map, filter, filter_map, find, count_by, bytes_eq, if◌then◌else◌, Option, Some, None, Result, Ok, Err}
+use Rattle.std.specs.Prelude.{◌≡◌, ℕ, ◌+◌, ◌-◌, ◌/◌, Bool, true, false, ◌==◌, min, List, [], ◌∷◌, ◌++◌, map, filter, filter_map, find, length, count_by, bytes_eq, if◌then◌else◌, Option, Some, None, Result, Ok, Err}
 use Rattle.std.specs.List.{AllZip, flat_map, range_with_len}
 use Rattle.explorer_model.specs.declared.archive.Batch.{Batch}
 use Rattle.explorer_model.specs.declared.archive.Game.{Game}
@@ -23,7 +23,8 @@ is_text _ = false
 -- each cut after the number of the texts before it
 abbrev pub numbered : ℕ → List Cut → List (ℕ × Cut)
 numbered before [] = []
-numbered before (cut ∷ cuts) = (before, cut) ∷ numbered (if is_text cut then before + 1 else before) cuts
+numbered before (cut ∷ cuts) =
+    (before, cut) ∷ numbered (if is_text cut then before + 1 else before) cuts
 
 -- The group of a cut that has so many of all texts before it. A cut that is no text belongs to the group of the next text, or to the
 -- last group where none follows.
@@ -31,7 +32,9 @@ abbrev pub group_number : ℕ → ℕ → ℕ
 group_number texts before = min before (texts - 1) / group_limit
 
 abbrev pub group_at : List Cut → ℕ → List Cut
-group_at cuts number = map (λ n. n.1) (filter (λ n. group_number (count_by is_text cuts) n.0 == number) (numbered 0 cuts))
+group_at cuts number =
+    let texts = count_by is_text cuts in
+    map (λ n. n.1) (filter (λ n. group_number texts n.0 == number) (numbered 0 cuts))
 
 abbrev pub group_count : List Cut → ℕ
 group_count [] = 0
@@ -50,16 +53,18 @@ pub record Replayed : Type 0 where
   pub game : Result Game GameFault
 
 -- a cut, replayed if it is a text, and else refused as it stands
-pub data Piece : Type 0 where
-  Read : Replayed → Piece
-  Unread : Refusal → Piece
+pub data Examination : Type 0 where
+  Read : Replayed → Examination
+  Unread : Refusal → Examination
 
-abbrev pub IsPieceOf : Cut → Piece → Type 0
-IsPieceOf (Text text) piece =
+abbrev pub IsExaminationOf : Cut → Examination → Type 0
+IsExaminationOf (Text text) examination =
     (game : Result Game GameFault) × GameOf text.bytes game
-    × (piece ≡ Read (record { place = text.place; text = text.bytes; game = game }))
-IsPieceOf (TooLong place length) piece = piece ≡ Unread (record { place = place; why = causes.TooLong length })
-IsPieceOf (Preamble place) piece = piece ≡ Unread (record { place = place; why = causes.Preamble })
+    × (examination ≡ Read (record { place = text.place; text = text.bytes; game = game }))
+IsExaminationOf (TooLong place length) examination =
+    examination ≡ Unread (record { place = place; why = causes.TooLong length })
+IsExaminationOf (Preamble place) examination =
+    examination ≡ Unread (record { place = place; why = causes.Preamble })
 
 -- ---- what becomes of a group
 
@@ -69,78 +74,139 @@ pub record Candidate : Type 0 where
   pub text : List ℕ
   pub game : Game
 
-pub data Fate : Type 0 where
-  Accepted : Candidate → Fate
-  Refused : Refusal → Fate
+pub data Verdict : Type 0 where
+  Accepted : Candidate → Verdict
+  Refused : Refusal → Verdict
 
-abbrev pub refused : ℕ → Why → Fate
+abbrev pub refused : ℕ → Why → Verdict
 refused place cause = Refused (record { place = place; why = cause })
 
 abbrev pub has_id_of : Game → Candidate → Bool
 has_id_of game candidate = bytes_eq candidate.game.classes.id.bytes game.classes.id.bytes
 
--- the fate of a text with a game, by the first candidate that has its id
-abbrev pub fate_by : Option Candidate → ℕ → List ℕ → Game → Fate
-fate_by None place text game = Accepted (record { place = place; text = text; game = game })
-fate_by (Some first) place text game = refused place (causes.Twice first.place)
+-- the verdict on a text with a game, by the first candidate that has its id
+abbrev pub verdict_by : Option Candidate → ℕ → List ℕ → Game → Verdict
+verdict_by None place text game = Accepted (record { place = place; text = text; game = game })
+verdict_by (Some first) place text game = refused place (causes.Twice first.place)
 
-abbrev pub fate_of_game : List Candidate → ℕ → List ℕ → Result Game GameFault → Fate
-fate_of_game earlier place text (Err fault) = refused place (causes.Game fault)
-fate_of_game earlier place text (Ok game) = fate_by (find (has_id_of game) earlier) place text game
+abbrev pub verdict_of_game : List Candidate → ℕ → List ℕ → Result Game GameFault → Verdict
+verdict_of_game earlier place text (Err fault) = refused place (causes.Game fault)
+verdict_of_game earlier place text (Ok game) =
+    verdict_by (find (has_id_of game) earlier) place text game
 
-abbrev pub fate_of : List Candidate → Piece → Fate
-fate_of earlier (Unread refusal) = Refused refusal
-fate_of earlier (Read replayed) = fate_of_game earlier replayed.place replayed.text replayed.game
+abbrev pub verdict_of : List Candidate → Examination → Verdict
+verdict_of earlier (Unread refusal) = Refused refusal
+verdict_of earlier (Read replayed) =
+    verdict_of_game earlier replayed.place replayed.text replayed.game
 
-abbrev pub candidate_of : Fate → Option Candidate
+abbrev pub candidate_of : Verdict → Option Candidate
 candidate_of (Accepted candidate) = Some candidate
 candidate_of (Refused refusal) = None
 
-abbrev pub refusal_of : Fate → Option Refusal
+abbrev pub refusal_of : Verdict → Option Refusal
 refusal_of (Accepted candidate) = None
 refusal_of (Refused refusal) = Some refusal
 
-abbrev pub and_candidate : List Candidate → Fate → List Candidate
+abbrev pub and_candidate : List Candidate → Verdict → List Candidate
 and_candidate earlier (Accepted candidate) = earlier ++ (candidate ∷ [])
 and_candidate earlier (Refused refusal) = earlier
 
--- the fates of a group's pieces, behind the earlier candidates
-unfoldable pub fates_from : List Candidate → List Piece → List Fate
-fates_from earlier [] = []
-fates_from earlier (piece ∷ pieces) =
-    let fate = fate_of earlier piece in fate ∷ fates_from (and_candidate earlier fate) pieces
+-- the verdicts on a group, behind its earlier candidates
+unfoldable pub verdicts_from : List Candidate → List Examination → List Verdict
+verdicts_from earlier [] = []
+verdicts_from earlier (examination ∷ examinations) =
+    let verdict = verdict_of earlier examination in
+    verdict ∷ verdicts_from (and_candidate earlier verdict) examinations
 
-abbrev pub fates : List Piece → List Fate
-fates pieces = fates_from [] pieces
+abbrev pub verdicts : List Examination → List Verdict
+verdicts examinations = verdicts_from [] examinations
 
-abbrev pub candidates : List Fate → List Candidate
-candidates fates = filter_map candidate_of fates
+abbrev pub candidates : List Verdict → List Candidate
+candidates verdicts = filter_map candidate_of verdicts
 
-abbrev pub refusals : List Fate → List Refusal
-refusals fates = filter_map refusal_of fates
+abbrev pub refusals : List Verdict → List Refusal
+refusals verdicts = filter_map refusal_of verdicts
+
+-- ---- what becomes of a group behind stored games
+
+-- the number of the first game that has the id, where the first game of all has the number `first`
+abbrev pub number_from : ℕ → List ℕ → List Game → Option ℕ
+number_from first id [] = None
+number_from first id (game ∷ games) =
+    if bytes_eq game.classes.id.bytes id then Some first else number_from (first + 1) id games
+
+-- what tells of an id the number of the stored game that has it
+abbrev pub Numbering : Type 0
+Numbering = List ℕ → Option ℕ
+
+-- the numbers of these games; a game's number is its place among them
+abbrev pub numbers_of : List Game → Numbering
+numbers_of games id = number_from 0 id games
+
+abbrev pub verdict_if_stored : Option ℕ → Candidate → Verdict
+verdict_if_stored None candidate = Accepted candidate
+verdict_if_stored (Some number) candidate = refused candidate.place (causes.Repeated number)
+
+-- a candidate is refused where a stored game has its id
+abbrev pub verdict_behind : Numbering → Verdict → Verdict
+verdict_behind number (Accepted candidate) =
+    verdict_if_stored (number candidate.game.classes.id.bytes) candidate
+verdict_behind number (Refused refusal) = Refused refusal
+
+abbrev pub verdicts_behind : Numbering → List Examination → List Verdict
+verdicts_behind number group = map (verdict_behind number) (verdicts group)
 
 -- ---- what becomes of a stream
-
--- a candidate is refused where a stored game, of this number, has its id
-abbrev pub settled_by : Option ℕ → Candidate → Fate
-settled_by None candidate = Accepted candidate
-settled_by (Some number) candidate = refused candidate.place (causes.Repeated number)
-
--- stored: the number of the stored game that has the id of the candidate at a place
-abbrev pub settled : (ℕ → Option ℕ) → Fate → Fate
-settled stored (Accepted candidate) = settled_by (stored candidate.place) candidate
-settled stored (Refused refusal) = Refused refusal
 
 -- the batch of the candidates; no batch where there is none
 abbrev pub batch_of : List Candidate → Option Batch
 batch_of [] = None
 batch_of (first ∷ rest) = Some (record { texts = map (λ candidate. candidate.text) (first ∷ rest) })
 
--- Each group's candidates that are not stored before are one batch, the batches stand in the order of the groups, and all else is
--- refused, in the order of the stream.
-pub record Accounted (groups : List (List Cut)) (batches : List Batch) (refused : List Refusal) : Type 0 where
-  pub pieces : List (List Piece)
-  pub are_pieces : AllZip (AllZip IsPieceOf) groups pieces
-  pub stored : ℕ → Option ℕ
-  pub batches_are : batches ≡ filter_map (λ group. batch_of (candidates (map (settled stored) (fates group)))) pieces
-  pub refused_are : refused ≡ flat_map (λ group. refusals (map (settled stored) (fates group))) pieces
+-- The accepted texts of each group are one batch, and the batches stand in the order of the groups; all else is refused, in the
+-- order of the stream.
+pub record Yields (groups : List (List Verdict)) (batches : List Batch)
+    (refused : List Refusal) : Type 0 where
+  pub batches_are : batches ≡ filter_map (λ group. batch_of (candidates group)) groups
+  pub refused_are : refused ≡ flat_map refusals groups
+
+abbrev pub AreExaminations : List (List Cut) → List (List Examination) → Type 0
+AreExaminations groups examinations = AllZip (AllZip IsExaminationOf) groups examinations
+
+-- the verdicts on groups, each behind the games that are stored when its turn comes
+unfoldable pub verdicts_in_turn : List Game → List (List Examination) → List (List Verdict)
+verdicts_in_turn stored [] = []
+verdicts_in_turn stored (group ∷ groups) =
+    let done = verdicts_behind (numbers_of stored) group in
+    done ∷ verdicts_in_turn (stored ++ map (λ candidate. candidate.game) (candidates done)) groups
+
+-- An import of groups of cuts behind stored games, by which nobody else stores: these batches are stored, and these texts refused. A
+-- candidate is refused as Repeated exactly where a game that is stored when its group's turn comes has its id.
+pub record Accounted (stored : List Game) (groups : List (List Cut)) (batches : List Batch)
+    (refused : List Refusal)
+    : Type 0 where
+  pub examinations : List (List Examination)
+  pub are_examinations : AreExaminations groups examinations
+  pub yields : Yields (verdicts_in_turn stored examinations) batches refused
+
+-- the verdicts on groups, each behind what is stored when its turn comes, where others may store beside
+abbrev pub verdicts_by : List Numbering → List (List Examination) → List (List Verdict)
+verdicts_by (number ∷ numbers) (group ∷ groups) =
+    verdicts_behind number group ∷ verdicts_by numbers groups
+verdicts_by _ _ = []
+
+-- An import beside others: what is stored when a group's turn comes is not said, but one numbering of ids decides for the whole group.
+pub record AccountedBeside (groups : List (List Cut)) (batches : List Batch)
+    (refused : List Refusal) : Type 0 where
+  pub examinations : List (List Examination)
+  pub are_examinations : AreExaminations groups examinations
+  pub numbers : List Numbering
+  pub one_each : length numbers ≡ length groups
+  pub yields : Yields (verdicts_by numbers examinations) batches refused
+
+-- Groups that are accounted each by itself: ids are compared within a group alone, so that none is Repeated.
+pub record AccountedApart (groups : List (List Cut)) (batches : List Batch)
+    (refused : List Refusal) : Type 0 where
+  pub examinations : List (List Examination)
+  pub are_examinations : AreExaminations groups examinations
+  pub yields : Yields (map verdicts examinations) batches refused

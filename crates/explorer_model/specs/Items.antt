@@ -42,7 +42,9 @@ begins_symbol b = is_ascii_alphanumeric b || b == byte "-"
 
 -- a sign that a symbol may have after its first byte
 abbrev pub is_symbol_sign : ℕ → Bool
-is_symbol_sign b = b == byte "+" || b == byte "#" || b == byte "=" || b == byte "-" || b == byte "/" || b == byte ":" || b == byte "_"
+is_symbol_sign b =
+    b == byte "+" || b == byte "#" || b == byte "=" || b == byte "-" || b == byte "/"
+    || b == byte ":" || b == byte "_"
 
 abbrev pub continues_symbol : ℕ → Bool
 continues_symbol b = is_ascii_alphanumeric b || is_symbol_sign b
@@ -103,7 +105,8 @@ string_len escaped (b ∷ bytes) =
 -- a string without the backslashes that escape
 unfoldable pub unescaped : Bool → List ℕ → List ℕ
 unescaped escaped [] = []
-unescaped escaped (b ∷ bytes) = keep_unless (escapes escaped b bytes) b (unescaped (escapes escaped b bytes) bytes)
+unescaped escaped (b ∷ bytes) =
+    keep_unless (escapes escaped b bytes) b (unescaped (escapes escaped b bytes) bytes)
 
 -- a tag pair behind its bracket, and what follows it
 unfoldable pub pair_of : List ℕ → Option (Tag × List ℕ)
@@ -129,7 +132,8 @@ kind_by_ending (Some ending) = Terminates ending
 
 -- digits alone are a move number
 abbrev pub kind_of_symbol : List ℕ → Kind
-kind_of_symbol symbol = if list_all is_ascii_digit symbol then Dropped else kind_by_ending (ending_of symbol)
+kind_of_symbol symbol =
+    if list_all is_ascii_digit symbol then Dropped else kind_by_ending (ending_of symbol)
 
 -- ---- what a byte begins
 
@@ -152,14 +156,20 @@ abbrev pub lead_of_sign : ℕ → Lead
 lead_of_sign b = if b == byte "*" then Star else (if b == byte "$" then Dollar else Other)
 
 abbrev pub lead_of_bracket : ℕ → Lead
-lead_of_bracket b = if b == byte "[" then Bracket else (if b == byte "(" then Opening else (if b == byte ")" then Closing else lead_of_sign b))
+lead_of_bracket b =
+    if b == byte "[" then Bracket
+    else (if b == byte "(" then Opening else (if b == byte ")" then Closing else lead_of_sign b))
 
 abbrev pub lead_of_comment : Bool → ℕ → Lead
-lead_of_comment fresh b = if b == byte "{" then Comment else (if b == byte ";" || fresh && b == byte "%" then Remark else lead_of_bracket b)
+lead_of_comment fresh b =
+    if b == byte "{" then Comment
+    else (if b == byte ";" || fresh && b == byte "%" then Remark else lead_of_bracket b)
 
 -- fresh: a line begins at the byte
 unfoldable pub lead_of : Bool → ℕ → Lead
-lead_of fresh b = if is_white b then White else (if begins_symbol b then Symbol else (if is_mark b then Mark else lead_of_comment fresh b))
+lead_of fresh b =
+    if is_white b then White
+    else (if begins_symbol b then Symbol else (if is_mark b then Mark else lead_of_comment fresh b))
 
 -- ---- items
 
@@ -186,13 +196,16 @@ nag_of bytes =
 
 abbrev pub pair_within : List ℕ → Option (Tag × List ℕ) → Shape
 pair_within bytes None = one_byte Wrong
-pair_within bytes (Some found) = record { kind = Pair found.0; more = length bytes - length found.1 }
+pair_within bytes (Some found) =
+    record { kind = Pair found.0; more = length bytes - length found.1 }
 
 unfoldable pub pair_item_of : List ℕ → Shape
 pair_item_of bytes = pair_within bytes (pair_of bytes)
 
 unfoldable pub symbol_of : ℕ → List ℕ → Shape
-symbol_of b bytes = let more = prefix_len continues_symbol bytes in record { kind = kind_of_symbol (b ∷ take more bytes); more = more }
+symbol_of b bytes =
+    let more = prefix_len continues_symbol bytes in
+    record { kind = kind_of_symbol (b ∷ take more bytes); more = more }
 
 -- the item that begins with b, where the bytes follow
 abbrev pub shape_by : Lead → ℕ → List ℕ → Shape
@@ -224,7 +237,8 @@ items_from skipped fresh place [] = []
 items_from (suc skipped) fresh place (b ∷ bytes) = items_from skipped (b == 10) (place + 1) bytes
 items_from zero fresh place (b ∷ bytes) =
     let shape = shape_of fresh b bytes in
-    record { kind = shape.kind; place = place; text = b ∷ take shape.more bytes } ∷ items_from shape.more (b == 10) (place + 1) bytes
+    record { kind = shape.kind; place = place; text = b ∷ take shape.more bytes }
+    ∷ items_from shape.more (b == 10) (place + 1) bytes
 
 unfoldable pub items : List ℕ → List Item
 items text = items_from 0 true 0 text

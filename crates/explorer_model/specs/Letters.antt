@@ -1,16 +1,24 @@
 -- The letters and digits that SAN, FEN and UCI share (PGN 8.2.3.1, 8.2.3.2).
-use Rattle.std.specs.Prelude.{ℕ, ◌+◌, ◌-◌, ◌*◌, ◌/◌, ◌%◌, ◌==◌, ◌&&◌, nat_le, Option, Some, None, option_map, option_and_then, List, [], ◌∷◌, find, if◌then◌else◌}
+use Prim.Native.String.{String}
+use Rattle.std.specs.Prelude.{ℕ, ◌+◌, ◌-◌, ◌*◌, ◌/◌, ◌%◌, ◌==◌, ◌&&◌, nat_le, Option, Some, None, option_map, option_and_then, List, [], ◌∷◌, find, slice_index_or, codes, if◌then◌else◌}
 use Rattle.explorer_model.specs.declared.chess.Role.{Role}
 use Rattle.explorer_model.specs.declared.chess.Role.TheVariants.{Pawn, Knight, Bishop, Rook, Queen, King}
 
--- P N B R Q K
+-- the byte of a character
+abbrev pub byte : String → ℕ
+byte character = slice_index_or (codes character) 0 0
+
 abbrev pub letter_of : Role → ℕ
-letter_of Pawn = 80
-letter_of Knight = 78
-letter_of Bishop = 66
-letter_of Rook = 82
-letter_of Queen = 81
-letter_of King = 75
+letter_of Pawn = byte "P"
+letter_of Knight = byte "N"
+letter_of Bishop = byte "B"
+letter_of Rook = byte "R"
+letter_of Queen = byte "Q"
+letter_of King = byte "K"
+
+-- a small letter is 32 above its capital
+abbrev pub capital : ℕ → ℕ
+capital b = b - 32
 
 abbrev pub small_letter : Role → ℕ
 small_letter role = letter_of role + 32
@@ -29,17 +37,17 @@ lettered = King ∷ promotions
 
 -- a to h, as 0 to 7
 abbrev pub file_named : ℕ → Option ℕ
-file_named b = if nat_le 97 b && nat_le b 104 then Some (b - 97) else None
+file_named b = if nat_le (byte "a") b && nat_le b (byte "h") then Some (b - byte "a") else None
 
 -- 1 to 8, as 0 to 7
 abbrev pub rank_named : ℕ → Option ℕ
-rank_named b = if nat_le 49 b && nat_le b 56 then Some (b - 49) else None
+rank_named b = if nat_le (byte "1") b && nat_le b (byte "8") then Some (b - byte "1") else None
 
 abbrev pub file_letter : ℕ → ℕ
-file_letter square = 97 + square % 8
+file_letter square = byte "a" + square % 8
 
 abbrev pub rank_digit : ℕ → ℕ
-rank_digit square = 49 + square / 8
+rank_digit square = byte "1" + square / 8
 
 -- a square's file and rank
 abbrev pub square_text : ℕ → List ℕ
@@ -47,4 +55,5 @@ square_text square = file_letter square ∷ rank_digit square ∷ []
 
 -- the square that a file's letter and a rank's digit name
 abbrev pub square_named : ℕ → ℕ → Option ℕ
-square_named file rank = option_and_then (λ f. option_map (λ r. 8 * r + f) (rank_named rank)) (file_named file)
+square_named file rank =
+    option_and_then (λ f. option_map (λ r. 8 * r + f) (rank_named rank)) (file_named file)

@@ -29,7 +29,8 @@ after_in_variation inner outer (Terminates ending) = Some (Variation inner outer
 after_in_variation inner outer Word = Some (Variation inner outer)
 after_in_variation inner outer Dropped = Some (Variation inner outer)
 after_in_variation inner outer Opens = Some (Variation (inner + 1) outer)
-after_in_variation inner outer Closes = Some (if inner == 0 then Moves else Variation (inner - 1) outer)
+after_in_variation inner outer Closes =
+    Some (if inner == 0 then Moves else Variation (inner - 1) outer)
 after_in_variation inner outer _ = None
 
 abbrev pub after_in_heading : Kind → ℕ → Option Section
@@ -50,12 +51,14 @@ is_in_variation _ = false
 
 abbrev pub with_kind : Kind → Item → Parts → Parts
 with_kind (Pair tag) item parts = record parts { tags = tag ∷ parts.tags }
-with_kind Word item parts = record parts { tokens = record { place = item.place; text = item.text } ∷ parts.tokens }
+with_kind Word item parts =
+    record parts { tokens = record { place = item.place; text = item.text } ∷ parts.tokens }
 with_kind _ item parts = parts
 
 -- an item before the parts of the text after it; within a variation it adds nothing
 abbrev pub with_item : Section → Item → Parts → Parts
-with_item section item parts = if is_in_variation section then parts else with_kind item.kind item parts
+with_item section item parts =
+    if is_in_variation section then parts else with_kind item.kind item parts
 
 abbrev pub nothing_but : Option Ending → Parts
 nothing_but termination = record { tags = []; tokens = []; termination = termination }

@@ -53,7 +53,8 @@ at_most_one _ = None
 
 -- the value of a parameter; None where it is given twice
 unfoldable pub value_in : Parameter → List (List ℕ × List ℕ) → Option (List ℕ)
-value_in name pairs = at_most_one (map (λ p. p.1) (filter (λ p. bytes_eq p.0 (parameter_text name)) pairs))
+value_in name pairs =
+    at_most_one (map (λ p. p.1) (filter (λ p. bytes_eq p.0 (parameter_text name)) pairs))
 
 abbrev pub bad : Parameter → BadParameter
 bad name = record { name = name }
@@ -64,8 +65,10 @@ or_default rule default [] = Some default
 or_default rule default (b ∷ bytes) = rule (b ∷ bytes)
 
 -- the parameter by the rule of its values
-abbrev pub asked : {A : Type 0} → (List ℕ → Option A) → A → Parameter → List (List ℕ × List ℕ) → Result A BadParameter
-asked rule default name pairs = ok_or (option_and_then (or_default rule default) (value_in name pairs)) (bad name)
+abbrev pub asked : {A : Type 0} → (List ℕ → Option A) → A → Parameter → List (List ℕ × List ℕ)
+    → Result A BadParameter
+asked rule default name pairs =
+    ok_or (option_and_then (or_default rule default) (value_in name pairs)) (bad name)
 
 -- the pieces between commas
 abbrev pub pieces_of : List ℕ → List (List ℕ)
@@ -77,13 +80,18 @@ is_among texts text = list_any (λ other. bytes_eq other text) texts
 -- some of the names, with commas: which of them are given
 unfoldable pub names_given : List (List ℕ) → List ℕ → Option (List Bool)
 names_given names text =
-    if list_all (is_among names) (pieces_of text) then Some (map (is_among (pieces_of text)) names) else None
+    if list_all (is_among names) (pieces_of text) then Some (map (is_among (pieces_of text)) names)
+    else None
 
 abbrev pub speed_names : List (List ℕ)
-speed_names = codes "ultraBullet" ∷ codes "bullet" ∷ codes "blitz" ∷ codes "rapid" ∷ codes "classical" ∷ codes "correspondence" ∷ []
+speed_names =
+    codes "ultraBullet" ∷ codes "bullet" ∷ codes "blitz" ∷ codes "rapid" ∷ codes "classical"
+    ∷ codes "correspondence" ∷ []
 
 abbrev pub group_names : List (List ℕ)
-group_names = codes "0" ∷ codes "1000" ∷ codes "1200" ∷ codes "1400" ∷ codes "1600" ∷ codes "1800" ∷ codes "2000" ∷ codes "2200" ∷ codes "2500" ∷ []
+group_names =
+    codes "0" ∷ codes "1000" ∷ codes "1200" ∷ codes "1400" ∷ codes "1600" ∷ codes "1800"
+    ∷ codes "2000" ∷ codes "2200" ∷ codes "2500" ∷ []
 
 abbrev pub all_given : List (List ℕ) → List Bool
 all_given names = map (λ name. true) names
@@ -96,7 +104,8 @@ unfoldable pub month_named : List ℕ → Option Month
 month_named text =
     let year = take 4 text in
     let month = drop 5 text in
-    if length text == 7 && all_ascii_digits year && slice_index text 4 == byte "-" && all_ascii_digits month
+    if length text == 7 && all_ascii_digits year && slice_index text 4 == byte "-"
+    && all_ascii_digits month
     && nat_le 1 (digits_value 10 month) && nat_le (digits_value 10 month) 12
     then Some (record { year = digits_value 10 year; month = digits_value 10 month })
     else None
@@ -113,7 +122,9 @@ abbrev pub most_games : List ℕ → Option ℕ
 most_games text = option_map (λ n. min n 4) (number_of 6 text)
 
 unfoldable pub switch_named : List ℕ → Option Bool
-switch_named text = if bytes_eq text (codes "true") then Some true else (if bytes_eq text (codes "false") then Some false else None)
+switch_named text =
+    if bytes_eq text (codes "true") then Some true
+    else (if bytes_eq text (codes "false") then Some false else None)
 
 -- ---- the position
 
@@ -131,13 +142,15 @@ pub record Line : Type 0 where
   pub at : Position
 
 abbrev pub onto_line : Move → Result Line BadParameter → Result Line BadParameter
-onto_line m rest = result_map_both (λ line. record { moves = m ∷ line.moves; at = line.at }) (λ fault. fault) rest
+onto_line m rest =
+    result_map_both (λ line. record { moves = m ∷ line.moves; at = line.at }) (λ fault. fault) rest
 
 -- the texts are moves, each legal in its turn
 abbrev pub MovesRead : Position → List (List ℕ) → Result Line BadParameter → Type 0
 MovesRead p [] line = line ≡ Ok (record { moves = []; at = p })
 MovesRead p (text ∷ texts) line =
-    ((m : Move) × (rest : Result Line BadParameter) × UciReads p text (Ok m) × MovesRead (after p m) texts rest × (line ≡ onto_line m rest))
+    ((m : Move) × (rest : Result Line BadParameter) × UciReads p text (Ok m)
+    × MovesRead (after p m) texts rest × (line ≡ onto_line m rest))
     ⊎ ((fault : UciFault) × UciReads p text (Err fault) × (line ≡ Err (bad Play)))
 
 -- the line of the value of `play`
@@ -147,7 +160,8 @@ PlayReads root (Some []) line = line ≡ Ok (record { moves = []; at = root })
 PlayReads root (Some (b ∷ bytes)) line = MovesRead root (pieces_of (b ∷ bytes)) line
 
 -- where there is no root, there is no line to be read
-abbrev pub LineReads : Result Position BadParameter → Option (List ℕ) → Result Line BadParameter → Type 0
+abbrev pub LineReads : Result Position BadParameter → Option (List ℕ) → Result Line BadParameter
+    → Type 0
 LineReads (Err fault) value line = line ≡ Err fault
 LineReads (Ok root) value line = PlayReads root value line
 
@@ -181,7 +195,8 @@ QueryIn pairs query =
     (root : Result Position BadParameter) × (line : Result Line BadParameter)
     × RootReads (value_in Fen pairs) root
     × LineReads root (value_in Play pairs) line
-    × (query ≡ (asked standard_only true Variant pairs >>= λ standard. root >>= λ p. line >>= λ l. query_from pairs p l))
+    × (query ≡
+    (asked standard_only true Variant pairs >>= λ standard. root >>= λ p. line >>= λ l. query_from pairs p l))
 
 -- the query that the query string asks, or the first parameter that is malformed
 abbrev pub QueryReads : List ℕ → Result Query BadParameter → Type 0

@@ -1,12 +1,12 @@
 -- Where the games of a journal stand: the positions of their plies, and the first of these that is the same as a given one.
-use Rattle.std.specs.Prelude.{◌≡◌, ℕ, ◌⊎◌, List, [], ◌∷◌, take, Option, Some, None, Ok}
+use Rattle.std.specs.Prelude.{◌≡◌, ⊤, ℕ, ◌⊎◌, List, [], ◌∷◌, take, Option, Some, None, Ok}
 use Rattle.std.specs.List.{AllZip, flat_map}
 use Rattle.explorer_model.specs.declared.archive.Batch.{Batch}
 use Rattle.explorer_model.specs.declared.archive.Classes.{Classes}
 use Rattle.explorer_model.specs.declared.archive.Game.{Game}
 use Rattle.explorer_model.specs.declared.chess.Move.{Move}
 use Rattle.explorer_model.specs.declared.chess.Position.{Position}
-use Rattle.explorer_model.specs.Chess.{start, after, Same}
+use Rattle.explorer_model.specs.Chess.{start, after, Legal, Same}
 use Rattle.explorer_model.specs.Games.{GameOf}
 
 -- ---- the games of a journal
@@ -38,8 +38,21 @@ stages p (m ∷ moves) = record { position = p; next = Some m } ∷ stages (afte
 abbrev pub stage_limit : ℕ
 stage_limit = 51
 
+-- the position that a game begins in
+abbrev pub root_of : Game → Position
+root_of game = start
+
 abbrev pub counted_stages : Game → List Stage
-counted_stages game = take stage_limit (stages start game.moves)
+counted_stages game = take stage_limit (stages (root_of game) game.moves)
+
+-- each move is legal in its turn
+abbrev pub AreLegalFrom : Position → List Move → Type 0
+AreLegalFrom p [] = ⊤
+AreLegalFrom p (m ∷ moves) = Legal p m × AreLegalFrom (after p m) moves
+
+-- the moves of a game are
+abbrev pub AreLegal : Game → Type 0
+AreLegal game = AreLegalFrom (root_of game) game.moves
 
 -- ---- visits
 
@@ -47,12 +60,14 @@ counted_stages game = take stage_limit (stages start game.moves)
 abbrev pub FirstVisit : Position → List Stage → Option (Option Move) → Type 0
 FirstVisit at [] visit = visit ≡ None
 FirstVisit at (stage ∷ stages) visit =
-    (Same stage.position at × (visit ≡ Some stage.next)) ⊎ ((¬ Same stage.position at) × FirstVisit at stages visit)
+    (Same stage.position at × (visit ≡ Some stage.next))
+    ⊎ ((¬ Same stage.position at) × FirstVisit at stages visit)
 
--- a game as one sees it from a position
-pub record Seen : Type 0 where
+-- a game as it stands to a position
+pub record GameAt : Type 0 where
   pub classes : Classes
   pub visit : Option (Option Move)
 
-abbrev pub IsSeenFrom : Position → Game → Seen → Type 0
-IsSeenFrom at game seen = (seen.classes ≡ game.classes) × FirstVisit at (counted_stages game) seen.visit
+abbrev pub IsGameAt : Position → Game → GameAt → Type 0
+IsGameAt at game seen =
+    (seen.classes ≡ game.classes) × FirstVisit at (counted_stages game) seen.visit

@@ -12,7 +12,7 @@ use Rattle.explorer_model.specs.declared.chess.Position.{Position}
 use Rattle.explorer_model.specs.declared.square.Square.{Square}
 use Rattle.explorer_model.specs.declared.notation.FenFault.{FenFault}
 use Rattle.explorer_model.specs.Chess.{has_right, HasCrossed, IsSquare}
-use Rattle.explorer_model.specs.Fen.{field, crossing_named, KeepsRights, IsNamed, GivesPosition, FenReads}
+use Rattle.explorer_model.specs.Fen.{field, en_passant_named, KeepsRights, IsNamed, GivesPosition, FenReads}
 use Rattle.explorer_model.proofs.Squares.{square_eq}
 use Rattle.fen_uci.proofs.Positions.{never_faulty}
 
@@ -43,29 +43,29 @@ square_same None (Some b) to from = absurd (from b.index refl)
 square_same (Some a) None to from = absurd (to a.index refl)
 square_same (Some a) (Some b) to from = ap (λ (square : Square). Some square) (square_eq a b (sym (to a.index refl)))
 
--- the en passant square of a text, once its men and the side to move are known
-abbrev KeepsCrossing : List (Option Piece) → Color → Option ℕ → Option Square → Type 0
-KeepsCrossing squares turn named crossing = (s : ℕ) → IsSquare crossing s ↔ (IsNamed named s × HasCrossed squares turn s)
+-- the en passant square of a text, once its pieces and the side to move are known
+abbrev KeepsEnPassant : List (Option Piece) → Color → Option ℕ → Option Square → Type 0
+KeepsEnPassant squares turn named en_passant = (s : ℕ) → IsSquare en_passant s ↔ (IsNamed named s × HasCrossed squares turn s)
 
-crossing_same : (squares : List (Option Piece)) (turn : Color) (named : Option ℕ) (a b : Option Square)
-    → KeepsCrossing squares turn named a → KeepsCrossing squares turn named b → a ≡ b
-crossing_same squares turn named a b keeps also =
+en_passant_same : (squares : List (Option Piece)) (turn : Color) (named : Option ℕ) (a b : Option Square)
+    → KeepsEnPassant squares turn named a → KeepsEnPassant squares turn named b → a ≡ b
+en_passant_same squares turn named a b keeps also =
     square_same a b (λ s there. (also s).1 ((keeps s).0 there)) (λ s there. (keeps s).1 ((also s).0 there))
 
 position_same : (text : List ℕ) (p q : Position) → GivesPosition text p → GivesPosition text q → p ≡ q
-position_same text p q (men, moves, (named, is, keeps), (crossing, names, crosses), clock, number) (men', moves', (named', is', keeps'), (crossing', names', crosses'), clock', number') =
-    let squares : p.squares ≡ q.squares = same_Some p.squares q.squares (sym men.0 ∙ men'.0) in
+position_same text p q (pieces, moves, (named, is, keeps), (en_passant, names, crosses), clock, number) (pieces', moves', (named', is', keeps'), (en_passant', names', crosses'), clock', number') =
+    let squares : p.squares ≡ q.squares = same_Some p.squares q.squares (sym pieces.0 ∙ pieces'.0) in
     let turn : p.turn ≡ q.turn = same_Some p.turn q.turn (sym moves.0 ∙ moves'.0) in
     let named_same : named' ≡ named = same_Some named' named (sym is' ∙ is) in
     let keeps_here = subst (λ (xs : List (Option Piece)). KeepsRights xs named q.rights) (sym squares) (subst (λ (r : Rights). KeepsRights q.squares r q.rights) named_same keeps') in
     let rights : p.rights ≡ q.rights = rights_same p.squares named p.rights q.rights keeps keeps_here in
-    let names_here = subst (λ (c : Color). crossing_named c (field 4 text) ≡ Some crossing') (sym turn) names' in
-    let crossing_is : crossing' ≡ crossing = same_Some crossing' crossing (sym names_here ∙ names) in
+    let names_here = subst (λ (c : Color). en_passant_named c (field 4 text) ≡ Some en_passant') (sym turn) names' in
+    let en_passant_is : en_passant' ≡ en_passant = same_Some en_passant' en_passant (sym names_here ∙ names) in
     let crosses_here =
-    subst (λ (c : Color). KeepsCrossing p.squares c crossing q.en_passant) (sym turn)
-    (subst (λ (xs : List (Option Piece)). KeepsCrossing xs q.turn crossing q.en_passant) (sym squares)
-    (subst (λ (o : Option ℕ). KeepsCrossing q.squares q.turn o q.en_passant) crossing_is crosses')) in
-    let en_passant : p.en_passant ≡ q.en_passant = crossing_same p.squares p.turn crossing p.en_passant q.en_passant crosses crosses_here in
+    subst (λ (c : Color). KeepsEnPassant p.squares c en_passant q.en_passant) (sym turn)
+    (subst (λ (xs : List (Option Piece)). KeepsEnPassant xs q.turn en_passant q.en_passant) (sym squares)
+    (subst (λ (o : Option ℕ). KeepsEnPassant q.squares q.turn o q.en_passant) en_passant_is crosses')) in
+    let en_passant : p.en_passant ≡ q.en_passant = en_passant_same p.squares p.turn en_passant p.en_passant q.en_passant crosses crosses_here in
     λ i. record { squares = squares i; turn = turn i; rights = rights i; en_passant = en_passant i }
 
 fault_same : (f g : FenFault) → f.field ≡ g.field → f ≡ g

@@ -66,12 +66,12 @@ next_same a b = grind (arith, nat_tests)
 abbrev pub SaysSoFar : Option (List (Option Piece)) → ℕ → List (Option Piece) → List (List ℕ) → Type 0
 SaysSoFar whole n above ranks = whole ≡ option_map (λ below. below ++ above) (ranks_left n ranks)
 
-moved_below : (men above : List (Option Piece)) (fits : Bool) (o : Option (List (Option Piece)))
-    → option_map (λ below. below ++ above) (if fits then option_map (λ below. below ++ men) o else None)
-    ≡ option_map (λ below. below ++ (men ++ above)) (if fits then o else None)
-moved_below men above true (Some below) = ap (λ (squares : List (Option Piece)). Some squares) (append_assoc below men above)
-moved_below men above true None = refl
-moved_below men above false o = refl
+moved_below : (pieces above : List (Option Piece)) (fits : Bool) (o : Option (List (Option Piece)))
+    → option_map (λ below. below ++ above) (if fits then option_map (λ below. below ++ pieces) o else None)
+    ≡ option_map (λ below. below ++ (pieces ++ above)) (if fits then o else None)
+moved_below pieces above true (Some below) = ap (λ (squares : List (Option Piece)). Some squares) (append_assoc below pieces above)
+moved_below pieces above true None = refl
+moved_below pieces above false o = refl
 
 rank_parts : (first : List ℕ) (below : List (List ℕ)) (n : ℕ) (o : Option (List (Option Piece))) → rank_squares first ≡ o
     → ranks_left (suc n) (first ∷ below) ≡ (if length below == n then option_and_then (λ here. option_map (λ under. under ++ here) (ranks_squares below)) o else None)
@@ -80,13 +80,13 @@ rank_parts first below n o e =
     ∙ ap (λ (p : Option (List (Option Piece))). if length below == n then option_and_then (λ here. option_map (λ under. under ++ here) (ranks_squares below)) p else None) e
 
 -- one rank more is read
-pub rank_read : (whole : Option (List (Option Piece))) (n : ℕ) (above men : List (Option Piece)) (ranks : List (List ℕ)) (first : List ℕ) (below : List (List ℕ))
-    → SaysSoFar whole (suc n) above ranks → ranks ≡ first ∷ below → rank_squares first ≡ Some men → SaysSoFar whole n (men ++ above) below
-rank_read whole n above men ranks first below so_far cut e =
+pub rank_read : (whole : Option (List (Option Piece))) (n : ℕ) (above pieces : List (Option Piece)) (ranks : List (List ℕ)) (first : List ℕ) (below : List (List ℕ))
+    → SaysSoFar whole (suc n) above ranks → ranks ≡ first ∷ below → rank_squares first ≡ Some pieces → SaysSoFar whole n (pieces ++ above) below
+rank_read whole n above pieces ranks first below so_far cut e =
     so_far
     ∙ ap (λ (rest : List (List ℕ)). option_map (λ under. under ++ above) (ranks_left (suc n) rest)) cut
-    ∙ ap (λ (o : Option (List (Option Piece))). option_map (λ under. under ++ above) o) (rank_parts first below n (Some men) e)
-    ∙ moved_below men above (length below == n) (ranks_squares below)
+    ∙ ap (λ (o : Option (List (Option Piece))). option_map (λ under. under ++ above) o) (rank_parts first below n (Some pieces) e)
+    ∙ moved_below pieces above (length below == n) (ranks_squares below)
 
 nothing_either : (fits : Bool) → ◌≡◌ {A = Option (List (Option Piece))} (if fits then None else None) None
 nothing_either true = refl
@@ -145,30 +145,30 @@ reading_ends whole n squares rest done so_far none =
     at_end ∙ ap (λ (o : Option (List ℕ)). option_map (λ under. under ++ squares) (ranks_left 0 (ranks_of o))) none
 
 -- the squares of a rank are written
-pub rank_written : (squares men new : List (Option Piece)) (k m : ℕ) → k ≤ length squares → m ≡ 8 → new ≡ men → length men ≡ 8
-    → drop k (put_mid k m squares new) ≡ men ++ drop (k + 8) squares
-rank_written squares men new k m within eight e size =
-    ap (drop k) (put_mid-paste k m squares new men 8 e (sym eight) (sym size) ∙ paste_all squares k men 8 (sym size))
-    ∙ ap (λ (n : ℕ). drop n (take k squares ++ (men ++ drop (k + 8) squares))) (sym (length-take-le k squares within))
-    ∙ drop-append_seam (take k squares) (men ++ drop (k + 8) squares)
+pub rank_written : (squares pieces new : List (Option Piece)) (k m : ℕ) → k ≤ length squares → m ≡ 8 → new ≡ pieces → length pieces ≡ 8
+    → drop k (put_mid k m squares new) ≡ pieces ++ drop (k + 8) squares
+rank_written squares pieces new k m within eight e size =
+    ap (drop k) (put_mid-paste k m squares new pieces 8 e (sym eight) (sym size) ∙ paste_all squares k pieces 8 (sym size))
+    ∙ ap (λ (n : ℕ). drop n (take k squares ++ (pieces ++ drop (k + 8) squares))) (sym (length-take-le k squares within))
+    ∙ drop-append_seam (take k squares) (pieces ++ drop (k + 8) squares)
 
-pub rank_written_size : (squares men new : List (Option Piece)) (k m : ℕ) → k + 8 ≤ 64 → length squares ≡ 64 → m ≡ 8 → new ≡ men → length men ≡ 8
+pub rank_written_size : (squares pieces new : List (Option Piece)) (k m : ℕ) → k + 8 ≤ 64 → length squares ≡ 64 → m ≡ 8 → new ≡ pieces → length pieces ≡ 8
     → length (put_mid k m squares new) ≡ 64
-rank_written_size squares men new k m within size eight e long =
-    ap (λ (all : List (Option Piece)). length all) (put_mid-paste k m squares new men 8 e (sym eight) (sym long))
-    ∙ length-paste squares k men 8 (omega (arith, within, size)) (omega (arith, long)) ∙ size
+rank_written_size squares pieces new k m within size eight e long =
+    ap (λ (all : List (Option Piece)). length all) (put_mid-paste k m squares new pieces 8 e (sym eight) (sym long))
+    ∙ length-paste squares k pieces 8 (omega (arith, within, size)) (omega (arith, long)) ∙ size
 
-pub rank_read_at : (whole : Option (List (Option Piece))) (n : ℕ) (squares men new : List (Option Piece)) (m : ℕ) (ranks : List (List ℕ)) (first : List ℕ) (below : List (List ℕ))
-    → 0 < n → n ≤ 8 → length squares ≡ 64 → m ≡ 8 → new ≡ men → length men ≡ 8
-    → SaysSoFar whole n (drop (8 * n) squares) ranks → ranks ≡ first ∷ below → rank_squares first ≡ Some men
+pub rank_read_at : (whole : Option (List (Option Piece))) (n : ℕ) (squares pieces new : List (Option Piece)) (m : ℕ) (ranks : List (List ℕ)) (first : List ℕ) (below : List (List ℕ))
+    → 0 < n → n ≤ 8 → length squares ≡ 64 → m ≡ 8 → new ≡ pieces → length pieces ≡ 8
+    → SaysSoFar whole n (drop (8 * n) squares) ranks → ranks ≡ first ∷ below → rank_squares first ≡ Some pieces
     → SaysSoFar whole (n - 1) (drop (8 * (n - 1)) (put_mid (8 * (n - 1)) m squares new)) below
-rank_read_at whole n squares men new m ranks first below some few size eight e long so_far cut is =
+rank_read_at whole n squares pieces new m ranks first below some few size eight e long so_far cut is =
     let k : ℕ = n - 1 in
     let next : n ≡ suc k = omega (arith, some) in
     let P = λ (j : ℕ). SaysSoFar whole j (drop (8 * j) squares) ranks in
-    let read = rank_read whole k (drop (8 * suc k) squares) men ranks first below (subst P next so_far) cut is in
+    let read = rank_read whole k (drop (8 * suc k) squares) pieces ranks first below (subst P next so_far) cut is in
     let place : 8 * suc k ≡ 8 * k + 8 = omega arith in
-    let squares_same = ap (λ (j : ℕ). men ++ drop j squares) place ∙ sym (rank_written squares men new (8 * k) m (omega (arith, few, size, next)) eight e long) in
+    let squares_same = ap (λ (j : ℕ). pieces ++ drop j squares) place ∙ sym (rank_written squares pieces new (8 * k) m (omega (arith, few, size, next)) eight e long) in
     subst (λ (above : List (Option Piece)). SaysSoFar whole k above below) squares_same read
 
 -- How many squares a text places.

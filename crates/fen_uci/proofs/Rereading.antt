@@ -15,14 +15,14 @@ use Rattle.explorer_model.specs.declared.chess.Piece.{Piece}
 use Rattle.explorer_model.specs.declared.chess.Rights.{Rights}
 use Rattle.explorer_model.specs.declared.chess.Position.{Position}
 use Rattle.explorer_model.specs.declared.square.Square.{Square}
-use Rattle.explorer_model.specs.Board.{man_of}
+use Rattle.explorer_model.specs.Board.{piece_of}
 use Rattle.explorer_model.specs.Chess.{HasCrossed, IsSquare, IsValid}
 use Rattle.explorer_model.specs.Letters.{file_letter, rank_digit, square_named, square_text}
-use Rattle.explorer_model.specs.Fen.{is_filled, fields, squares_named, run_named, rank_squares, ranks_squares, placement, turn_named, rights_named, crossed_digit, crossing_named, IsNamed, is_count, FenReads, man_letter, empty_text, run_text, rank_text, ranks_text, turn_text, rights_text, crossing_text, fen_text}
+use Rattle.explorer_model.specs.Fen.{is_filled, fields, squares_named, run_named, rank_squares, ranks_squares, placement, turn_named, rights_named, en_passant_digit, en_passant_named, IsNamed, is_count, FenReads, piece_letter, empty_text, run_text, rank_text, ranks_text, turn_text, rights_text, en_passant_text, fen_text}
 use Rattle.fen_uci.specs.Splits.{IsFreeOf}
 use Rattle.fen_uci.specs.Ranks.{is_slash}
 use Rattle.fen_uci.proofs.Splitting.{differs, fields_word}
-use Rattle.fen_uci.proofs.Respelling.{square_read}
+use Rattle.explorer_model.proofs.LetterLemmas.{square_read}
 
 -- Ranks.
 
@@ -32,7 +32,7 @@ digit_read run below =
     let size : (49 + run) - 48 ≡ suc run = omega arith in
     rw digit (ap (λ (n : ℕ). Some (replicate n None)) size)
 
-letter_read : (color : Color) (role : Role) → squares_named (man_letter color role) ≡ Some (man_of color role ∷ [])
+letter_read : (color : Color) (role : Role) → squares_named (piece_letter color role) ≡ Some (piece_of color role ∷ [])
 letter_read White Pawn = refl
 letter_read White Knight = refl
 letter_read White Bishop = refl
@@ -65,8 +65,8 @@ run_read run [] few =
 run_read run (None ∷ squares) few =
     run_read (suc run) squares (omega (arith, few)) ∙ ap (λ (xs : List (Option Piece)). Some xs) (one_empty_more run squares)
 run_read run (Some piece ∷ squares) few =
-    empty_read run (man_letter piece.color piece.role ∷ run_text 0 squares) (Some piece ∷ squares) (omega (arith, few))
-    (byte_read (man_letter piece.color piece.role) (run_text 0 squares) (Some piece ∷ []) squares (letter_read piece.color piece.role) (run_read 0 squares (omega (arith, few))))
+    empty_read run (piece_letter piece.color piece.role ∷ run_text 0 squares) (Some piece ∷ squares) (omega (arith, few))
+    (byte_read (piece_letter piece.color piece.role) (run_text 0 squares) (Some piece ∷ []) squares (letter_read piece.color piece.role) (run_read 0 squares (omega (arith, few))))
 
 of_eight : (o : Option (List (Option Piece))) (squares : List (Option Piece)) → o ≡ Some squares → length squares ≡ 8
     → option_and_then (λ xs. if length xs == 8 then Some xs else None) o ≡ Some squares
@@ -82,7 +82,7 @@ rank_read squares rank within =
 
 -- Neither a space nor a slash is written of a rank.
 
-letter_large : (color : Color) (role : Role) → 48 < man_letter color role
+letter_large : (color : Color) (role : Role) → 48 < piece_letter color role
 letter_large White Pawn = lit< tt
 letter_large White Knight = lit< tt
 letter_large White Bishop = lit< tt
@@ -107,8 +107,8 @@ run_large : (run : ℕ) (squares : List (Option Piece)) → AreLarge (run_text r
 run_large run [] = empty_large run
 run_large run (None ∷ squares) = run_large (suc run) squares
 run_large run (Some piece ∷ squares) =
-    All-append (λ b. 48 < b) (empty_text run) (man_letter piece.color piece.role ∷ run_text 0 squares) (empty_large run)
-    (All-cons (λ b. 48 < b) (man_letter piece.color piece.role) (run_text 0 squares) (letter_large piece.color piece.role) (run_large 0 squares))
+    All-append (λ b. 48 < b) (empty_text run) (piece_letter piece.color piece.role ∷ run_text 0 squares) (empty_large run)
+    (All-cons (λ b. 48 < b) (piece_letter piece.color piece.role) (run_text 0 squares) (letter_large piece.color piece.role) (run_large 0 squares))
 
 large_free : (byte : ℕ) (text : List ℕ) → byte ≤ 48 → AreLarge text → IsFreeOf byte text
 large_free byte text small large =
@@ -228,35 +228,35 @@ square_word s = record {
   filled = refl;
 }
 
-crossing_word : (crossing : Option Square) → IsWord (crossing_text crossing)
-crossing_word None = a_word _ refl refl
-crossing_word (Some square) = square_word square.index
+en_passant_word : (en_passant : Option Square) → IsWord (en_passant_text en_passant)
+en_passant_word None = a_word _ refl refl
+en_passant_word (Some square) = square_word square.index
 
 -- the number of the en passant square
 abbrev index_of : Option Square → Option ℕ
 index_of None = None
 index_of (Some square) = Some square.index
 
-crossed_rank : (squares : List (Option Piece)) (turn : Color) (s : ℕ) → HasCrossed squares turn s → rank_digit s ≡ crossed_digit turn
+crossed_rank : (squares : List (Option Piece)) (turn : Color) (s : ℕ) → HasCrossed squares turn s → rank_digit s ≡ en_passant_digit turn
 crossed_rank squares White s crossed = omega (arith, crossed.0)
 crossed_rank squares Black s crossed = omega (arith, crossed.0)
 
 equal_test : (a b : ℕ) → a ≡ b → (a == b) ≡ true
 equal_test a b e = grind (arith, nat_tests)
 
-crossing_read : (squares : List (Option Piece)) (turn : Color) (crossing : Option Square) → ((s : ℕ) → IsSquare crossing s → HasCrossed squares turn s)
-    → crossing_named turn (crossing_text crossing) ≡ Some (index_of crossing)
-crossing_read squares turn None stands = refl
-crossing_read squares turn (Some square) stands =
-    let same : (rank_digit square.index == crossed_digit turn) ≡ true = equal_test _ _ (crossed_rank squares turn square.index (stands square.index refl)) in
+en_passant_read : (squares : List (Option Piece)) (turn : Color) (en_passant : Option Square) → ((s : ℕ) → IsSquare en_passant s → HasCrossed squares turn s)
+    → en_passant_named turn (en_passant_text en_passant) ≡ Some (index_of en_passant)
+en_passant_read squares turn None stands = refl
+en_passant_read squares turn (Some square) stands =
+    let same : (rank_digit square.index == en_passant_digit turn) ≡ true = equal_test _ _ (crossed_rank squares turn square.index (stands square.index refl)) in
     ap (λ (fits : Bool). if fits then option_map (λ s. Some s) (square_named (file_letter square.index) (rank_digit square.index)) else None) same
     ∙ ap (λ (o : Option ℕ). option_map (λ s. Some s) o) (square_read square.index square.on_board)
 
-named_is : (crossing : Option Square) (s : ℕ) → IsSquare crossing s → IsNamed (index_of crossing) s
+named_is : (en_passant : Option Square) (s : ℕ) → IsSquare en_passant s → IsNamed (index_of en_passant) s
 named_is None s ill = ill
 named_is (Some square) s e = sym e
 
-is_named : (crossing : Option Square) (s : ℕ) → IsNamed (index_of crossing) s → IsSquare crossing s
+is_named : (en_passant : Option Square) (s : ℕ) → IsNamed (index_of en_passant) s → IsSquare en_passant s
 is_named None s ill = ill
 is_named (Some square) s e = sym e
 
@@ -270,22 +270,22 @@ to_the_right : (a b c d e : List ℕ) → (((a ++ 32 ∷ b) ++ 32 ∷ c) ++ 32 �
 to_the_right a b c d e = simp append_assoc
 
 six_fields : (p : Position) → IsWord (ranks_text p.squares 7)
-    → fields (fen_text p) ≡ ranks_text p.squares 7 ∷ turn_text p.turn ∷ rights_text p.rights ∷ crossing_text p.en_passant ∷ (48 ∷ []) ∷ (49 ∷ []) ∷ []
-six_fields p men =
+    → fields (fen_text p) ≡ ranks_text p.squares 7 ∷ turn_text p.turn ∷ rights_text p.rights ∷ en_passant_text p.en_passant ∷ (48 ∷ []) ∷ (49 ∷ []) ∷ []
+six_fields p pieces =
     let turn = turn_text p.turn in
     let rights = rights_text p.rights in
-    let crossing = crossing_text p.en_passant in
+    let en_passant = en_passant_text p.en_passant in
     let end : List ℕ = 48 ∷ 32 ∷ 49 ∷ [] in
-    ap fields (to_the_right (ranks_text p.squares 7) turn rights crossing (32 ∷ end))
-    ∙ word_off (ranks_text p.squares 7) (turn ++ 32 ∷ (rights ++ 32 ∷ (crossing ++ 32 ∷ end))) men
-    ∙ ap (λ (rest : List (List ℕ)). ranks_text p.squares 7 ∷ rest) (word_off turn (rights ++ 32 ∷ (crossing ++ 32 ∷ end)) (turn_word p.turn)
-    ∙ ap (λ (rest : List (List ℕ)). turn ∷ rest) (word_off rights (crossing ++ 32 ∷ end) (rights_read p.rights).word
-    ∙ ap (λ (rest : List (List ℕ)). rights ∷ rest) (word_off crossing end (crossing_word p.en_passant))))
+    ap fields (to_the_right (ranks_text p.squares 7) turn rights en_passant (32 ∷ end))
+    ∙ word_off (ranks_text p.squares 7) (turn ++ 32 ∷ (rights ++ 32 ∷ (en_passant ++ 32 ∷ end))) pieces
+    ∙ ap (λ (rest : List (List ℕ)). ranks_text p.squares 7 ∷ rest) (word_off turn (rights ++ 32 ∷ (en_passant ++ 32 ∷ end)) (turn_word p.turn)
+    ∙ ap (λ (rest : List (List ℕ)). turn ∷ rest) (word_off rights (en_passant ++ 32 ∷ end) (rights_read p.rights).word
+    ∙ ap (λ (rest : List (List ℕ)). rights ∷ rest) (word_off en_passant end (en_passant_word p.en_passant))))
 
 pub written_reads : (p : Position) → IsValid p → FenReads (fen_text p) (Ok p)
 written_reads p valid =
-    let men : IsWord (ranks_text p.squares 7) = record { free = ranks_free p.squares 7; filled = filled_around (rank_text p.squares 7) (ranks_text p.squares 6) } in
-    let six = six_fields p men in
+    let pieces : IsWord (ranks_text p.squares 7) = record { free = ranks_free p.squares 7; filled = filled_around (rank_text p.squares 7) (ranks_text p.squares 6) } in
+    let six = six_fields p pieces in
     let at = λ (n : ℕ). ap (λ (parts : List (List ℕ)). slice_index_or parts n []) six in (
       (ap placement (at 0) ∙ placement_read p.squares valid.board, valid.white, valid.black, valid.pawns),
       (ap turn_named (at 1) ∙ turn_read p.turn, valid.not_in_check),
@@ -296,7 +296,7 @@ written_reads p valid =
       ),
       (
         index_of p.en_passant,
-        ap (crossing_named p.turn) (at 3) ∙ crossing_read p.squares p.turn p.en_passant valid.en_passant,
+        ap (en_passant_named p.turn) (at 3) ∙ en_passant_read p.squares p.turn p.en_passant valid.en_passant,
         λ s. (λ there. (named_is p.en_passant s there, valid.en_passant s there), λ named. is_named p.en_passant s named.0),
       ),
       ap (λ (parts : List (List ℕ)). (length parts == 4) || is_count (slice_index_or parts 4 [])) six,

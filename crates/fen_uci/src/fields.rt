@@ -5,28 +5,6 @@ ghost use Rattle.fen_uci.specs.Splits.{IsTrimmed};
 
 use crate::splits::split_before;
 
-/// The text without the spaces that it begins with.
-fn trimmed(text: &[u8]) -> &[u8]
-    ensures same { fields result.now ≡ fields text.now }
-    ensures trimmed { IsTrimmed result.now }
-    ensures shorter { length result.now ≤ length text.now }
-{
-    let mut rest = text;
-    while let Some((b' ', after)) = rest.split_first() {
-        rest = after;
-    }
-    rest
-}
-
-/// The first field, which is empty where there is none, and what stands behind it.
-fn split_field(text: &[u8]) -> (&[u8], &[u8])
-    ensures first { result.0.now ≡ field 1 text.now }
-    ensures rest { fields result.1.now ≡ drop 1 (fields text.now) }
-    ensures shorter { length result.0.now + length result.1.now ≤ length text.now }
-{
-    split_before(trimmed(text), b' ')
-}
-
 /// The field of this number, counted from 1; it is empty where it is missing.
 pub fn field(text: &[u8], number: usize) -> &[u8]
     requires { 1 ≤ number }
@@ -54,4 +32,26 @@ pub fn count_fields(text: &[u8]) -> usize
         count += 1;
         rest = after;
     }
+}
+
+/// The first field, which is empty where there is none, and what stands behind it.
+fn split_field(text: &[u8]) -> (&[u8], &[u8])
+    ensures first { result.0.now ≡ field 1 text.now }
+    ensures rest { fields result.1.now ≡ drop 1 (fields text.now) }
+    ensures shorter { length result.0.now + length result.1.now ≤ length text.now }
+{
+    split_before(trimmed(text), b' ')
+}
+
+/// The text without the spaces that it begins with.
+fn trimmed(text: &[u8]) -> &[u8]
+    ensures same { fields result.now ≡ fields text.now }
+    ensures trimmed { IsTrimmed result.now }
+    ensures shorter { length result.now ≤ length text.now }
+{
+    let mut rest = text;
+    while let Some((b' ', after)) = rest.split_first() {
+        rest = after;
+    }
+    rest
 }

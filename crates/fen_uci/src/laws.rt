@@ -15,7 +15,8 @@ pub fn written_fen_is_read()
 
 /// A text has one reading.
 pub fn fen_is_determined()
-    ensures { (text : List ℕ) (r s : Result APosition AFenFault) → FenReads text r → FenReads text s → r ≡ s }
+    ensures { (text : List ℕ) (r s : Result APosition AFenFault)
+        → FenReads text r → FenReads text s → r ≡ s }
 {}
 
 /// What is written of a legal move is read as that move.
@@ -25,5 +26,6 @@ pub fn written_uci_is_read()
 
 /// A text has one reading in a position.
 pub fn uci_is_determined()
-    ensures { (p : APosition) (text : List ℕ) (r s : Result AMove AUciFault) → UciReads p text r → UciReads p text s → r ≡ s }
+    ensures { (p : APosition) (text : List ℕ) (r s : Result AMove AUciFault)
+        → UciReads p text r → UciReads p text s → r ≡ s }
 {}

@@ -1,4 +1,4 @@
-//! The letters and digits of men and squares, read and written.
+//! The letters and digits of pieces and squares, read and written.
 ghost use Rattle.std.specs.Prelude.{◌≡◌, ◌+◌, ◌<◌, ◌≤◌, ◌++◌};
 ghost use Rattle.arrayvec.specs.ArrayVec.{array_vec_len};
 ghost use Rattle.explorer_model.specs.Letters.{letter_of, small_letter, role_of, file_named, rank_named, square_named, square_text};
@@ -6,7 +6,7 @@ ghost use Rattle.explorer_model.specs.Fen.{all_roles};
 
 use arrayvec::ArrayVec;
 use explorer_model::chess::Role;
-use plain_chess::geometry::{file_of, rank_of};
+use explorer_model::square::{file_of, rank_of};
 
 pub fn letter_of(role: Role) -> u8
     ensures { result ≡ letter_of role }
@@ -49,24 +49,6 @@ pub fn role_named(letter: u8) -> Option<Role>
     }
 }
 
-fn file_named(byte: u8) -> Option<u8>
-    ensures { result ≡ file_named byte }
-{
-    match byte {
-        b'a'..=b'h' => Some(byte - b'a'),
-        _ => None,
-    }
-}
-
-fn rank_named(byte: u8) -> Option<u8>
-    ensures { result ≡ rank_named byte }
-{
-    match byte {
-        b'1'..=b'8' => Some(byte - b'1'),
-        _ => None,
-    }
-}
-
 /// The index of the square that a file's letter and a rank's digit name.
 pub fn square_named(file: u8, rank: u8) -> Option<u8>
     ensures { result ≡ square_named file rank }
@@ -83,4 +65,22 @@ pub fn push_square<const N: usize>(text: &mut ArrayVec<u8, N>, square: u8)
 {
     text.push(b'a' + file_of(square));
     text.push(b'1' + rank_of(square));
+}
+
+fn rank_named(byte: u8) -> Option<u8>
+    ensures { result ≡ rank_named byte }
+{
+    match byte {
+        b'1'..=b'8' => Some(byte - b'1'),
+        _ => None,
+    }
+}
+
+fn file_named(byte: u8) -> Option<u8>
+    ensures { result ≡ file_named byte }
+{
+    match byte {
+        b'a'..=b'h' => Some(byte - b'a'),
+        _ => None,
+    }
 }

@@ -3,16 +3,49 @@ ghost use Rattle.std.specs.Prelude.{◌≡◌, ◌↔◌, ℕ, nat_le, IsTrue, I
 ghost use Rattle.std.specs.List.{list_all};
 ghost use Rattle.explorer_model.specs.declared.chess.Color.{Color as AColor};
 ghost use Rattle.explorer_model.specs.declared.chess.Role.TheVariants.{King, Rook};
-ghost use Rattle.explorer_model.specs.Board.{man_at, IsMan};
+ghost use Rattle.explorer_model.specs.Board.{piece_at, IsPiece};
 ghost use Rattle.explorer_model.specs.Chess.{king_home, rook_home, has_right, HasCrossed, IsSquare};
-ghost use Rattle.explorer_model.specs.Fen.{field, is_filled, turn_named, GivesTurn, count_of, is_right, are_rights, is_dash, rights_named, KeepsRights, GivesRights, crossed_digit, crossing_named, IsNamed, GivesCrossing};
+ghost use Rattle.explorer_model.specs.Fen.{field, is_filled, turn_named, GivesTurn, count_of, is_right, are_rights, is_dash, rights_named, KeepsRights, GivesRights, en_passant_digit, en_passant_named, IsNamed, GivesEnPassant};
 
 use crate::fields::field;
 use crate::letters::square_named;
-use explorer_model::chess::{Color, Piece, Rights, Role, Side};
+use explorer_model::chess::{Color, Piece, Rights, Role, Side, is_piece, piece_at};
 use explorer_model::square::Square;
-use plain_chess::board::{in_check, is_man, man_at, opponent};
-use plain_chess::valid::{has_crossed, has_right, king_home, rook_home};
+use legal_moves::valid::{has_crossed, in_check};
+
+/// The side to move, where field 2 names it and the other side is not in check.
+pub fn turn(text: &[u8], squares: &[Option<Piece>; 64]) -> Option<Color>
+    ensures some { IfSome result (λ turn. GivesTurn text.now squares.now turn) }
+    ensures none { IfNone result ((turn : AColor) → ¬ GivesTurn text.now squares.now turn) }
+{
+    let turn = turn_named(field(text, 2))?;
+    if in_check(squares, turn.opponent()) {
+        return None;
+    }
+    Some(turn)
+}
+
+/// The rights that field 3 names and that can stand.
+pub fn rights(text: &[u8], squares: &[Option<Piece>; 64]) -> Option<Rights>
+    ensures some { IfSome result (λ rights. GivesRights text.now squares.now rights) }
+    ensures none { IfNone result (rights_named (field 3 text.now) ≡ None) }
+{
+    Some(kept_rights(squares, rights_named(field(text, 3))?))
+}
+
+/// The en passant square that field 4 names and that can stand.
+pub fn en_passant_field(
+    text: &[u8],
+    squares: &[Option<Piece>; 64],
+    turn: Color,
+) -> Option<Option<Square>>
+    ensures some { IfSome result
+        (λ en_passant. GivesEnPassant text.now squares.now turn en_passant) }
+    ensures none { IfNone result (en_passant_named turn (field 4 text.now) ≡ None) }
+{
+    let named = en_passant_named(turn, field(text, 4))?;
+    Some(kept_en_passant(squares, turn, named))
+}
 
 fn turn_named(text: &[u8]) -> Option<Color>
     ensures { result ≡ turn_named text.now }
@@ -24,67 +57,27 @@ fn turn_named(text: &[u8]) -> Option<Color>
     }
 }
 
-/// The side to move, where field 2 names it and the other side is not in check.
-pub fn turn(text: &[u8], squares: &[Option<Piece>; 64]) -> Option<Color>
-    ensures some { IfSome result (λ turn. GivesTurn text.now squares.now turn) }
-    ensures none { IfNone result ((turn : AColor) → ¬ GivesTurn text.now squares.now turn) }
+fn kept_rights(squares: &[Option<Piece>; 64], named: Rights) -> Rights
+    ensures { KeepsRights squares.now named result }
 {
-    let turn = turn_named(field(text, 2))?;
-    if in_check(squares, opponent(turn)) {
-        return None;
-    }
-    Some(turn)
-}
-
-fn count_of(text: &[u8], byte: u8) -> usize
-    ensures { result ≡ count_of byte text.now }
-{
-    text.iter().filter(|other| **other == byte).count()
-}
-
-fn is_right(byte: u8) -> bool
-    ensures { result ≡ is_right byte }
-{
-    matches!(byte, b'K' | b'Q' | b'k' | b'q')
-}
-
-fn are_letters(text: &[u8]) -> bool
-    ensures { result ≡ list_all is_right text.now }
-{
-    text.iter().all(|byte| is_right(*byte))
-}
-
-fn is_filled(text: &[u8]) -> bool
-    ensures { result ≡ is_filled text.now }
-{
-    match text {
-        [] => false,
-        [_, ..] => true,
+    Rights {
+        white_short: keeps(squares, named, Color::White, Side::Short),
+        white_long: keeps(squares, named, Color::White, Side::Long),
+        black_short: keeps(squares, named, Color::Black, Side::Short),
+        black_long: keeps(squares, named, Color::Black, Side::Long),
     }
 }
 
-fn is_at_most_once(text: &[u8], byte: u8) -> bool
-    ensures { result ≡ nat_le (count_of byte text.now) 1 }
+/// Is this right named, and do its king and its rook stand on their first squares?
+fn keeps(squares: &[Option<Piece>; 64], named: Rights, color: Color, side: Side) -> bool
+    ensures { IsTrue result
+        ↔ (IsTrue (has_right named color side)
+        × IsPiece color King (piece_at squares.now (king_home color))
+        × IsPiece color Rook (piece_at squares.now (rook_home color side))) }
 {
-    count_of(text, byte) <= 1
-}
-
-/// Are these some of K Q k q, each at most once?
-fn are_rights(text: &[u8]) -> bool
-    ensures { result ≡ are_rights text.now }
-{
-    is_filled(text)
-        && are_letters(text)
-        && is_at_most_once(text, b'K')
-        && is_at_most_once(text, b'Q')
-        && is_at_most_once(text, b'k')
-        && is_at_most_once(text, b'q')
-}
-
-fn is_dash(text: &[u8]) -> bool
-    ensures { result ≡ is_dash text.now }
-{
-    matches!(*text, [b'-'])
+    named.has(color, side)
+        && is_piece(color, Role::King, piece_at(squares, color.king_home()))
+        && is_piece(color, Role::Rook, piece_at(squares, color.rook_home(side)))
 }
 
 fn rights_named(text: &[u8]) -> Option<Rights>
@@ -102,40 +95,70 @@ fn rights_named(text: &[u8]) -> Option<Rights>
     }
 }
 
-/// Is this right named, and do its king and its rook stand on their first squares?
-fn keeps(squares: &[Option<Piece>; 64], named: Rights, color: Color, side: Side) -> bool
-    ensures { IsTrue result
-        ↔ (IsTrue (has_right named color side)
-        × IsMan color King (man_at squares.now (king_home color))
-        × IsMan color Rook (man_at squares.now (rook_home color side))) }
+fn is_dash(text: &[u8]) -> bool
+    ensures { result ≡ is_dash text.now }
 {
-    has_right(named, color, side)
-        && is_man(color, Role::King, man_at(squares, king_home(color)))
-        && is_man(color, Role::Rook, man_at(squares, rook_home(color, side)))
+    matches!(*text, [b'-'])
 }
 
-fn kept_rights(squares: &[Option<Piece>; 64], named: Rights) -> Rights
-    ensures { KeepsRights squares.now named result }
+/// Are these some of K Q k q, each at most once?
+fn are_rights(text: &[u8]) -> bool
+    ensures { result ≡ are_rights text.now }
 {
-    Rights {
-        white_short: keeps(squares, named, Color::White, Side::Short),
-        white_long: keeps(squares, named, Color::White, Side::Long),
-        black_short: keeps(squares, named, Color::Black, Side::Short),
-        black_long: keeps(squares, named, Color::Black, Side::Long),
+    is_filled(text)
+        && are_letters(text)
+        && is_at_most_once(text, b'K')
+        && is_at_most_once(text, b'Q')
+        && is_at_most_once(text, b'k')
+        && is_at_most_once(text, b'q')
+}
+
+fn is_filled(text: &[u8]) -> bool
+    ensures { result ≡ is_filled text.now }
+{
+    match text {
+        [] => false,
+        [_, ..] => true,
     }
 }
 
-/// The rights that field 3 names and that can stand.
-pub fn rights(text: &[u8], squares: &[Option<Piece>; 64]) -> Option<Rights>
-    ensures some { IfSome result (λ rights. GivesRights text.now squares.now rights) }
-    ensures none { IfNone result (rights_named (field 3 text.now) ≡ None) }
+fn are_letters(text: &[u8]) -> bool
+    ensures { result ≡ list_all is_right text.now }
 {
-    Some(kept_rights(squares, rights_named(field(text, 3))?))
+    text.iter().all(|byte| is_right(*byte))
+}
+
+fn is_right(byte: u8) -> bool
+    ensures { result ≡ is_right byte }
+{
+    matches!(byte, b'K' | b'Q' | b'k' | b'q')
+}
+
+fn is_at_most_once(text: &[u8], byte: u8) -> bool
+    ensures { result ≡ nat_le (count_of byte text.now) 1 }
+{
+    count_of(text, byte) <= 1
+}
+
+fn count_of(text: &[u8], byte: u8) -> usize
+    ensures { result ≡ count_of byte text.now }
+{
+    text.iter().filter(|other| **other == byte).count()
+}
+
+fn en_passant_named(turn: Color, text: &[u8]) -> Option<Option<u8>>
+    ensures { result ≡ en_passant_named turn text.now }
+{
+    match *text {
+        [b'-'] => Some(None),
+        [file, rank] if rank == en_passant_digit(turn) => Some(Some(square_named(file, rank)?)),
+        _ => None,
+    }
 }
 
 /// The digit of the rank that the other side's pawns cross.
-fn crossed_digit(turn: Color) -> u8
-    ensures { result ≡ crossed_digit turn }
+fn en_passant_digit(turn: Color) -> u8
+    ensures { result ≡ en_passant_digit turn }
 {
     match turn {
         Color::White => b'6',
@@ -143,18 +166,8 @@ fn crossed_digit(turn: Color) -> u8
     }
 }
 
-fn crossing_named(turn: Color, text: &[u8]) -> Option<Option<u8>>
-    ensures { result ≡ crossing_named turn text.now }
-{
-    match *text {
-        [b'-'] => Some(None),
-        [file, rank] if rank == crossed_digit(turn) => Some(Some(square_named(file, rank)?)),
-        _ => None,
-    }
-}
-
 /// The square, where a pawn of the other side has crossed it.
-fn kept_crossing(squares: &[Option<Piece>; 64], turn: Color, named: Option<u8>) -> Option<Square>
+fn kept_en_passant(squares: &[Option<Piece>; 64], turn: Color, named: Option<u8>) -> Option<Square>
     ensures { (s : ℕ) → IsSquare result s ↔ (IsNamed named s × HasCrossed squares.now turn s) }
 {
     let index = named?;
@@ -163,13 +176,4 @@ fn kept_crossing(squares: &[Option<Piece>; 64], turn: Color, named: Option<u8>) 
     } else {
         None
     }
-}
-
-/// The en passant square that field 4 names and that can stand.
-pub fn crossing(text: &[u8], squares: &[Option<Piece>; 64], turn: Color) -> Option<Option<Square>>
-    ensures some { IfSome result (λ crossing. GivesCrossing text.now squares.now turn crossing) }
-    ensures none { IfNone result (crossing_named turn (field 4 text.now) ≡ None) }
-{
-    let named = crossing_named(turn, field(text, 4))?;
-    Some(kept_crossing(squares, turn, named))
 }

@@ -31,7 +31,7 @@ fn count_moves(text: &str) -> Option<usize> {
 fn is_read_as(fen: &str, text: &str, expected: &str) -> bool {
     match read_fen(fen.as_bytes()) {
         Ok(board) => match read_uci(text.as_bytes(), &board) {
-            Ok(step) => write_uci(step).as_slice() == expected.as_bytes(),
+            Ok(m) => write_uci(m).as_slice() == expected.as_bytes(),
             Err(_) => false,
         },
         Err(_) => false,
@@ -128,7 +128,7 @@ fn texts_are_read_as_they_are_written(rt: HostRuntime) {
             "4k3/8/4n3/4p3/8/8/8/4K3 w - e6 0 1",
             "4k3/8/4n3/4p3/8/8/8/4K3 w - - 0 1",
         ),
-        // Nine pawns among at most 16 men.
+        // Nine pawns among at most 16 pieces.
         (
             "4k3/8/8/8/8/P7/PPPPPPPP/4K3 w - -",
             "4k3/8/8/8/8/P7/PPPPPPPP/4K3 w - - 0 1",
@@ -157,7 +157,7 @@ fn first_faulty_field_is_told(rt: HostRuntime) {
         ("8/8/8/8/8/8/8/4K3 w - -", 1),
         ("4k3/8/8/8/8/8/8/P3K3 w - -", 1),
         ("P3k3/8/8/8/8/8/8/4K3 w - -", 1),
-        // 17 men.
+        // 17 pieces.
         ("4k3/8/8/8/8/PPPPPPPP/PPPPPPPP/4K3 w - -", 1),
         // A tab stands between no fields.
         ("4k3/8/8/8/8/8/8/4K3\tw - -", 1),

@@ -30,6 +30,9 @@ onto_front moves rest = result_map_both (λ more. moves ++ more) (λ fault. faul
 
 -- The tokens before index are played: what the tokens from there on give from the board, at this ply, completes what
 -- all of them give from the start.
-pub record Playing (tokens : List Token) (board : Position) (moves : List Move) (ply index : ℕ) : Type 0 where
+pub record Playing (tokens : List Token) (board : Position) (moves : List Move)
+    (ply index : ℕ) : Type 0 where
   pub counted : ply ≡ index + 1
-  pub completes : (rest : Result (List Move) GameFault) → games.Plays board ply (drop index tokens) rest → games.Plays start 1 tokens (onto_front moves rest)
+  pub completes : (rest : Result (List Move) GameFault)
+      → games.Plays board ply (drop index tokens) rest
+      → games.Plays start 1 tokens (onto_front moves rest)

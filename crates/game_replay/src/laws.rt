@@ -6,7 +6,8 @@ ghost use Rattle.explorer_model.specs.Games.{GameOf};
 
 /// A text has one game, or one first fault.
 pub fn game_is_determined()
-    ensures { (text : List ℕ) (game other : Result Game GameFault) → GameOf text game → GameOf text other → game ≡ other }
+    ensures { (text : List ℕ) (game other : Result Game GameFault) → GameOf text game
+        → GameOf text other → game ≡ other }
 {
     san_codec::laws::notation_is_determined();
 }

@@ -50,7 +50,8 @@ pub fn score(alloc: Global, text: &[u8]) -> Result<Scored, Stop<GameFault>>
 
 fn parts_of(alloc: Global, text: &[u8]) -> Result<Parts, Stop<GameFault>>
     requires { length text.now ≤ 65536 }
-    ensures { Gives result (result_map_both (λ parts. parts) (λ fault. Lex fault.place) (parts text.now)) }
+    ensures { Gives result
+        (result_map_both (λ parts. parts) (λ fault. Lex fault.place) (parts text.now)) }
 {
     match parts(alloc, text) {
         Ok(parts) => Ok(parts),

@@ -1,4 +1,4 @@
--- No position has more than 415 legal moves: fifteen men with at most 27 moves each, and a king with at most 10.
+-- No position has more than 415 legal moves: fifteen pieces with at most 27 moves each, and a king with at most 10.
 use Rattle.std.proofs.Common.{◌≡◌, ℕ, zero, suc, ◌+◌, ◌*◌, ◌/◌, ◌%◌, ◌<◌, ◌≤◌, Bool, true, false, ltb, ◌&&◌, cond, List, [], ◌∷◌, length, take, Option, Some, None, refl, ◌∙◌, ap, subst, add-one, arith, lit≤}
 use Rattle.std.specs.List.{sum_by, count_by, Contains, AllPairs}
 use Rattle.std.proofs.lemmas.Bool.Decides.{nat_tests}
@@ -10,19 +10,21 @@ use Rattle.explorer_model.specs.declared.chess.Role.TheVariants.{Pawn, Knight, B
 use Rattle.explorer_model.specs.declared.chess.Piece.{Piece}
 use Rattle.explorer_model.specs.declared.chess.Position.{Position}
 use Rattle.explorer_model.specs.declared.chess.Move.{Move}
-use Rattle.explorer_model.specs.Board.{man_of, man_at}
-use Rattle.explorer_model.specs.Chess.{is_color, is_king, is_piece_of, is_king_of, HasMen, IsValid, Legal}
+use Rattle.explorer_model.specs.Board.{piece_of, piece_at}
+use Rattle.explorer_model.specs.Chess.{is_color, is_king, is_of_color, is_king_of, HasPieces, IsValid, Legal}
 use Rattle.legal_moves.specs.Listing.{promotion_place, place_of}
 use Rattle.legal_moves.proofs.Places.{promotion_place-lt, place_of-lt}
 use Rattle.legal_moves.proofs.Facts.{Mover, mover}
-use Rattle.legal_moves.proofs.OneKing.{has_men}
-use Rattle.legal_moves.proofs.Sums.{sum_below, sum_below-add, sum_below-cong, sum_below-le, sum_below-more, all_below, all_below-at}
-use Rattle.legal_moves.proofs.Reach.{spans, may_become, reaches, goes-reaches}
+use Rattle.legal_moves.proofs.OneKing.{has_pieces}
+use Rattle.step_tables.specs.Test.{all_below}
+use Rattle.step_tables.proofs.Test.{all_below-at}
+use Rattle.legal_moves.proofs.Sums.{sum_below, sum_below-add, sum_below-cong, sum_below-le, sum_below-more}
+use Rattle.legal_moves.proofs.MoveSpans.{spans, may_become, destination, goes-destination}
 
--- Of one man: a way is a square to end on with a promotion, as 8 * to + promotion.
+-- Of one piece: a way is a square to end on with a promotion, as 8 * to + promotion.
 
 way : Role → ℕ → ℕ → ℕ
-way role from k = cond (reaches role from (k / 8) (k % 8)) 1 0
+way role from k = cond (destination role from (k / 8) (k % 8)) 1 0
 
 -- the most ways of a role
 ways : Role → ℕ
@@ -32,27 +34,27 @@ counted : Role → Bool
 counted role = all_below (λ from. ltb (sum_below (way role from) 512) (ways role + 1)) 64
 
 pawn_counted : counted Pawn ≡ true
-unfolding counted all_below sum_below way ways reaches spans may_become
+unfolding counted all_below sum_below way ways destination spans may_become
 pawn_counted = refl
 
 knight_counted : counted Knight ≡ true
-unfolding counted all_below sum_below way ways reaches spans may_become
+unfolding counted all_below sum_below way ways destination spans may_become
 knight_counted = refl
 
 bishop_counted : counted Bishop ≡ true
-unfolding counted all_below sum_below way ways reaches spans may_become
+unfolding counted all_below sum_below way ways destination spans may_become
 bishop_counted = refl
 
 rook_counted : counted Rook ≡ true
-unfolding counted all_below sum_below way ways reaches spans may_become
+unfolding counted all_below sum_below way ways destination spans may_become
 rook_counted = refl
 
 queen_counted : counted Queen ≡ true
-unfolding counted all_below sum_below way ways reaches spans may_become
+unfolding counted all_below sum_below way ways destination spans may_become
 queen_counted = refl
 
 king_counted : counted King ≡ true
-unfolding counted all_below sum_below way ways reaches spans may_become
+unfolding counted all_below sum_below way ways destination spans may_become
 king_counted = refl
 
 all_counted : (role : Role) → counted role ≡ true
@@ -68,7 +70,7 @@ within x y e = grind (arith, nat_tests)
 
 role_ways : (role : Role) (from : ℕ) → from < 64 → sum_below (way role from) 512 ≤ ways role
 unfolding counted
-role_ways role from h = within _ _ (all_below-at _ 64 from (all_counted role) h)
+role_ways role from h = within _ _ (all_below-at _ 64 (all_counted role) from h)
 
 -- Of what stands on a square: nothing and an enemy have no ways.
 
@@ -96,22 +98,22 @@ unfolding own_way own_ways
 own_counted true role from h = role_ways role from h
 own_counted false role from h = let e : sum_below (λ k. 0) 512 ≡ 0 = no_ways 512 in omega arith
 
-man_counted : (color : Color) (man : Option Piece) (from : ℕ) → from < 64 → sum_below (way_of color man from) 512 ≤ ways_of color man
+piece_counted : (color : Color) (occupant : Option Piece) (from : ℕ) → from < 64 → sum_below (way_of color occupant from) 512 ≤ ways_of color occupant
 unfolding way_of ways_of
-man_counted color None from h = let e : sum_below (λ k. 0) 512 ≡ 0 = no_ways 512 in omega arith
-man_counted color (Some piece) from h = own_counted (is_color piece.color color) piece.role from h
+piece_counted color None from h = let e : sum_below (λ k. 0) 512 ≡ 0 = no_ways 512 in omega arith
+piece_counted color (Some piece) from h = own_counted (is_color piece.color color) piece.role from h
 
 -- Of a position: the places of the moves that begin on one square are a block of 512.
 
 way_at : Position → ℕ → ℕ
-way_at p n = way_of p.turn (man_at p.squares (n / 512)) (n / 512) (n % 512)
+way_at p n = way_of p.turn (piece_at p.squares (n / 512)) (n / 512) (n % 512)
 
-block : (p : Position) (s : ℕ) → sum_below (λ k. way_at p (512 * s + k)) 512 ≡ sum_below (way_of p.turn (man_at p.squares s) s) 512
+block : (p : Position) (s : ℕ) → sum_below (λ k. way_at p (512 * s + k)) 512 ≡ sum_below (way_of p.turn (piece_at p.squares s) s) 512
 unfolding way_at
 block p s = sum_below-cong _ _ 512 (λ k h.
     let square : (512 * s + k) / 512 ≡ s = omega arith in
     let rest : (512 * s + k) % 512 ≡ k = omega arith in
-    ap (λ x. way_of p.turn (man_at p.squares x) x ((512 * s + k) % 512)) square ∙ ap (way_of p.turn (man_at p.squares s) s) rest)
+    ap (λ x. way_of p.turn (piece_at p.squares x) x ((512 * s + k) % 512)) square ∙ ap (way_of p.turn (piece_at p.squares s) s) rest)
 
 blocks_more : (p : Position) (s : ℕ) → s < 64 → length p.squares ≡ 64
     → sum_below (way_at p) (512 * s) ≤ sum_by (ways_of p.turn) (take s p.squares)
@@ -121,9 +123,9 @@ blocks_more p s on whole before =
     let split : sum_below (way_at p) (512 * s + 512) ≡ sum_below (way_at p) (512 * s) + sum_below (λ k. way_at p (512 * s + k)) 512 =
     sum_below-add (way_at p) (512 * s) 512 in
     let same : sum_below (way_at p) (512 * (s + 1)) ≡ sum_below (way_at p) (512 * s + 512) = ap (sum_below (way_at p)) e in
-    let here : sum_below (λ k. way_at p (512 * s + k)) 512 ≡ sum_below (way_of p.turn (man_at p.squares s) s) 512 = block p s in
-    let most : sum_below (way_of p.turn (man_at p.squares s) s) 512 ≤ ways_of p.turn (man_at p.squares s) = man_counted p.turn (man_at p.squares s) s on in
-    let more : sum_by (ways_of p.turn) (take (s + 1) p.squares) ≡ sum_by (ways_of p.turn) (take s p.squares) + ways_of p.turn (man_at p.squares s) =
+    let here : sum_below (λ k. way_at p (512 * s + k)) 512 ≡ sum_below (way_of p.turn (piece_at p.squares s) s) 512 = block p s in
+    let most : sum_below (way_of p.turn (piece_at p.squares s) s) 512 ≤ ways_of p.turn (piece_at p.squares s) = piece_counted p.turn (piece_at p.squares s) s on in
+    let more : sum_by (ways_of p.turn) (take (s + 1) p.squares) ≡ sum_by (ways_of p.turn) (take s p.squares) + ways_of p.turn (piece_at p.squares s) =
     sum_by_more (ways_of p.turn) p.squares s None (let h : s < length p.squares = omega arith in h) in
     omega arith
 
@@ -137,13 +139,13 @@ blocks p (suc s) on whole =
     let next : s < 64 = omega arith in
     subst P (add-one s) (blocks_more p s next whole (blocks p s below whole))
 
--- Of a side: 27 for each man, and 17 less for the king.
+-- Of a side: 27 for each piece, and 17 less for the king.
 
-man_share : (color : Color) (man : Option Piece)
-    → ways_of color man + 17 * cond (is_king_of color man) 1 0 ≡ 27 * cond (is_piece_of color man) 1 0
+piece_share : (color : Color) (occupant : Option Piece)
+    → ways_of color occupant + 17 * cond (is_king_of color occupant) 1 0 ≡ 27 * cond (is_of_color color occupant) 1 0
 unfolding ways_of own_ways ways
-man_share color None = refl
-man_share color (Some piece) = by_tests (is_color piece.color color) (is_king piece.role)
+piece_share color None = refl
+piece_share color (Some piece) = by_tests (is_color piece.color color) (is_king piece.role)
   where
     by_tests : (own king : Bool) → cond own (cond king 10 27) 0 + 17 * cond (own && king) 1 0 ≡ 27 * cond own 1 0
     by_tests true true = refl
@@ -151,23 +153,23 @@ man_share color (Some piece) = by_tests (is_color piece.color color) (is_king pi
     by_tests false king = refl
 
 side_share : (color : Color) (squares : List (Option Piece))
-    → sum_by (ways_of color) squares + 17 * count_by (is_king_of color) squares ≡ 27 * count_by (is_piece_of color) squares
+    → sum_by (ways_of color) squares + 17 * count_by (is_king_of color) squares ≡ 27 * count_by (is_of_color color) squares
 side_share color [] = refl
-side_share color (man ∷ squares) =
-    let before : sum_by (ways_of color) squares + 17 * count_by (is_king_of color) squares ≡ 27 * count_by (is_piece_of color) squares =
+side_share color (occupant ∷ squares) =
+    let before : sum_by (ways_of color) squares + 17 * count_by (is_king_of color) squares ≡ 27 * count_by (is_of_color color) squares =
     side_share color squares in
-    let ways_more : sum_by (ways_of color) (man ∷ squares) ≡ ways_of color man + sum_by (ways_of color) squares = sum_by-cons _ man squares in
-    let kings_more : count_by (is_king_of color) (man ∷ squares) ≡ cond (is_king_of color man) 1 0 + count_by (is_king_of color) squares = sum_by-cons _ man squares in
-    let men_more : count_by (is_piece_of color) (man ∷ squares) ≡ cond (is_piece_of color man) 1 0 + count_by (is_piece_of color) squares = sum_by-cons _ man squares in
-    let share : ways_of color man + 17 * cond (is_king_of color man) 1 0 ≡ 27 * cond (is_piece_of color man) 1 0 = man_share color man in
+    let ways_more : sum_by (ways_of color) (occupant ∷ squares) ≡ ways_of color occupant + sum_by (ways_of color) squares = sum_by-cons _ occupant squares in
+    let kings_more : count_by (is_king_of color) (occupant ∷ squares) ≡ cond (is_king_of color occupant) 1 0 + count_by (is_king_of color) squares = sum_by-cons _ occupant squares in
+    let pieces_more : count_by (is_of_color color) (occupant ∷ squares) ≡ cond (is_of_color color occupant) 1 0 + count_by (is_of_color color) squares = sum_by-cons _ occupant squares in
+    let share : ways_of color occupant + 17 * cond (is_king_of color occupant) 1 0 ≡ 27 * cond (is_of_color color occupant) 1 0 = piece_share color occupant in
     omega arith
 
 all_ways : (p : Position) → IsValid p → sum_below (way_at p) 32768 ≤ 415
 all_ways p valid =
     let blocked : sum_below (way_at p) (512 * 64) ≤ sum_by (ways_of p.turn) (take 64 p.squares) = blocks p 64 (omega arith) valid.board in
     let whole : sum_by (ways_of p.turn) (take 64 p.squares) ≤ sum_by (ways_of p.turn) p.squares = sum_by-take-le (ways_of p.turn) p.squares 64 in
-    let share : sum_by (ways_of p.turn) p.squares + 17 * count_by (is_king_of p.turn) p.squares ≡ 27 * count_by (is_piece_of p.turn) p.squares = side_share p.turn p.squares in
-    let men : HasMen p.squares p.turn = has_men p p.turn valid in
+    let share : sum_by (ways_of p.turn) p.squares + 17 * count_by (is_king_of p.turn) p.squares ≡ 27 * count_by (is_of_color p.turn) p.squares = side_share p.turn p.squares in
+    let sets : HasPieces p.squares p.turn = has_pieces p p.turn valid in
     omega arith
 
 -- Each legal move is one of the ways.
@@ -179,18 +181,18 @@ is_color_self : (color : Color) → is_color color color ≡ true
 is_color_self White = refl
 is_color_self Black = refl
 
-way_some : (color : Color) (role : Role) (from k : ℕ) → way_of color (man_of color role) from k ≡ way role from k
+way_some : (color : Color) (role : Role) (from k : ℕ) → way_of color (piece_of color role) from k ≡ way role from k
 unfolding way_of own_way
 way_some color role from k = ap (λ own. cond own (way role from k) 0) (is_color_self color)
 
-at_place : (p : Position) (n s k : ℕ) → n / 512 ≡ s → n % 512 ≡ k → way_at p n ≡ way_of p.turn (man_at p.squares s) s k
+at_place : (p : Position) (n s k : ℕ) → n / 512 ≡ s → n % 512 ≡ k → way_at p n ≡ way_of p.turn (piece_at p.squares s) s k
 unfolding way_at
 at_place p n s k square rest =
-    ap (λ x. way_of p.turn (man_at p.squares x) x (n % 512)) square ∙ ap (way_of p.turn (man_at p.squares s) s) rest
+    ap (λ x. way_of p.turn (piece_at p.squares x) x (n % 512)) square ∙ ap (way_of p.turn (piece_at p.squares s) s) rest
 
-at_way : (role : Role) (from k to promotion : ℕ) → k / 8 ≡ to → k % 8 ≡ promotion → reaches role from to promotion ≡ true → way role from k ≡ 1
+at_way : (role : Role) (from k to promotion : ℕ) → k / 8 ≡ to → k % 8 ≡ promotion → destination role from to promotion ≡ true → way role from k ≡ 1
 unfolding way
-at_way role from k to promotion e f h = cond_true (reaches role from (k / 8) (k % 8)) (ap (λ t. reaches role from t (k % 8)) e ∙ ap (reaches role from to) f ∙ h)
+at_way role from k to promotion e f h = cond_true (destination role from (k / 8) (k % 8)) (ap (λ t. destination role from t (k % 8)) e ∙ ap (destination role from to) f ∙ h)
 
 moves_way : (p : Position) (m : Move) → Mover p m → way_at p (place_of m) ≡ 1
 moves_way p m mover =
@@ -204,7 +206,7 @@ moves_way p m mover =
     ∙ ap (λ o. way_of p.turn o m.from.index (8 * m.to.index + promotion_place m.promotion)) mover.stands
     ∙ way_some p.turn mover.role m.from.index _
     ∙ at_way mover.role m.from.index (8 * m.to.index + promotion_place m.promotion) m.to.index (promotion_place m.promotion) to_is promotion_is
-    (goes-reaches p m mover.role mover.stands mover.goes)
+    (goes-destination p m mover.role mover.stands mover.goes)
 
 -- A list of moves whose places rise has at most as many as there are ways.
 

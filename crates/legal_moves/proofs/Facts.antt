@@ -1,4 +1,4 @@
--- What is known of the man that moves, and of the squares that a move meets.
+-- What is known of the piece that moves, and of the squares that a move meets.
 use Rattle.std.proofs.Common.{◌≡◌, ◌≢◌, ℕ, ◌+◌, ◌-◌, ◌*◌, ◌<◌, ◌⊎◌, true, ◌==◌, if◌then◌else◌, List, Option, Some, None, refl, sym, ap, ◌∙◌, subst, inl, inr, arith, lit<}
 use Rattle.std.proofs.lemmas.Bool.Decides.{nat_tests}
 use Rattle.explorer_model.specs.declared.chess.Color.{Color}
@@ -10,42 +10,42 @@ use Rattle.explorer_model.specs.declared.chess.Side.TheVariants.{Short, Long}
 use Rattle.explorer_model.specs.declared.chess.Piece.{Piece}
 use Rattle.explorer_model.specs.declared.chess.Position.{Position}
 use Rattle.explorer_model.specs.declared.chess.Move.{Move}
-use Rattle.explorer_model.specs.declared.square.Square.{Square}
-use Rattle.explorer_model.specs.Board.{file_of, rank_of, files_apart, ranks_apart, halfway, opponent, man_of, man_at, IsPieceOf, IsMan, IsRankAhead, PawnDiagonal, KingStep, IsBetween, ManAttacks, Attacks}
-use Rattle.explorer_model.specs.Chess.{home_rank, pawn_rank, last_rank, king_home, rook_home, king_target, is_king, is_pawn, is_pawn_at, is_king_at, is_square, IsSquare, HasCrossed, IsValid, PawnSteps, PawnDoubleSteps, PawnCaptures, CastlesTo, Castles, Goes, GoesAs, Candidate, takes_en_passant, passed_pawn, is_castling, castling_side}
+use Rattle.explorer_model.specs.Board.{file_of, rank_of, files_apart, ranks_apart, halfway, opponent, piece_of, piece_at, IsOfColor, IsPiece, IsRankAhead, PawnDiagonal, KingStep, IsBetween, PieceAttacks, Attacks}
+use Rattle.explorer_model.specs.Chess.{home_rank, pawn_rank, last_rank, king_home, rook_home, king_target, is_pawn, is_pawn_at, is_king_at, IsSquare, HasCrossed, IsValid, PawnSteps, PawnDoubleSteps, PawnCaptures, CastlesTo, Castles, RoleMoves, PieceMoves, PseudoLegal, takes_en_passant, captured_en_passant, is_castling, castling_side}
 use Rattle.legal_moves.proofs.Writes.{and-left, and-right}
+use Rattle.explorer_model.proofs.Pieces.{king_role, square_true}
 
--- The man that moves.
+-- The piece that moves.
 
 pub record Mover (p : Position) (m : Move) : Type 0 where
   pub role : Role
-  pub stands : man_at p.squares m.from.index ≡ man_of p.turn role
-  pub goes : Goes p role m
+  pub stands : piece_at p.squares m.from.index ≡ piece_of p.turn role
+  pub goes : RoleMoves p role m
 
-mover_of : (p : Position) (m : Move) (o : Option Piece) → man_at p.squares m.from.index ≡ o → IsPieceOf p.turn o → GoesAs p o m → Mover p m
+mover_of : (p : Position) (m : Move) (o : Option Piece) → piece_at p.squares m.from.index ≡ o → IsOfColor p.turn o → PieceMoves p o m → Mover p m
 mover_of p m None e own goes = absurd own
-mover_of p m (Some piece) e own goes = record { role = piece.role; stands = e ∙ ap (λ c. man_of c piece.role) own; goes = goes }
+mover_of p m (Some piece) e own goes = record { role = piece.role; stands = e ∙ ap (λ c. piece_of c piece.role) own; goes = goes }
 
-pub mover : (p : Position) (m : Move) → Candidate p m → Mover p m
-mover p m c = mover_of p m (man_at p.squares m.from.index) refl c.0 c.2
+pub mover : (p : Position) (m : Move) → PseudoLegal p m → Mover p m
+mover p m c = mover_of p m (piece_at p.squares m.from.index) refl c.0 c.2
 
 -- What stands on a square.
 
-pub man_is : (color : Color) (role : Role) (o : Option Piece) → IsMan color role o → o ≡ man_of color role
-man_is color role None h = absurd h
-man_is color role (Some piece) h = ap (λ c. man_of c piece.role) h.0 ∙ ap (λ r. man_of color r) h.1
+pub piece_is : (color : Color) (role : Role) (o : Option Piece) → IsPiece color role o → o ≡ piece_of color role
+piece_is color role None h = absurd h
+piece_is color role (Some piece) h = ap (λ c. piece_of c piece.role) h.0 ∙ ap (λ r. piece_of color r) h.1
 
-pub is_man : (color : Color) (role : Role) (o : Option Piece) → o ≡ man_of color role → IsMan color role o
-is_man color role o e = let P : Option Piece → Type 0 = λ o. IsMan color role o in subst P (sym e) (refl, refl)
+pub is_piece : (color : Color) (role : Role) (o : Option Piece) → o ≡ piece_of color role → IsPiece color role o
+is_piece color role o e = let P : Option Piece → Type 0 = λ o. IsPiece color role o in subst P (sym e) (refl, refl)
 
-pub no_man : (color : Color) (role : Role) (o : Option Piece) → o ≡ None → IsMan color role o → ⊥
-no_man color role o e h = let P : Option Piece → Type 0 = λ o. IsMan color role o in subst P e h
+pub no_such_piece : (color : Color) (role : Role) (o : Option Piece) → o ≡ None → IsPiece color role o → ⊥
+no_such_piece color role o e h = let P : Option Piece → Type 0 = λ o. IsPiece color role o in subst P e h
 
-pub no_piece : (color : Color) (o : Option Piece) → o ≡ None → IsPieceOf color o → ⊥
-no_piece color o e h = let P : Option Piece → Type 0 = λ o. IsPieceOf color o in subst P e h
+pub no_piece : (color : Color) (o : Option Piece) → o ≡ None → IsOfColor color o → ⊥
+no_piece color o e h = let P : Option Piece → Type 0 = λ o. IsOfColor color o in subst P e h
 
-pub is_own : (color : Color) (role : Role) (o : Option Piece) → o ≡ man_of color role → IsPieceOf color o
-is_own color role o e = let P : Option Piece → Type 0 = λ o. IsPieceOf color o in subst P (sym e) refl
+pub is_own : (color : Color) (role : Role) (o : Option Piece) → o ≡ piece_of color role → IsOfColor color o
+is_own color role o e = let P : Option Piece → Type 0 = λ o. IsOfColor color o in subst P (sym e) refl
 
 pub opponent-opponent : (color : Color) → opponent (opponent color) ≡ color
 opponent-opponent White = refl
@@ -55,9 +55,9 @@ pub opponent-other : (color : Color) → opponent color ≡ color → ⊥
 opponent-other White e = cc
 opponent-other Black e = cc
 
-pub piece_not_own : (c : Color) (role : Role) (o : Option Piece) → o ≡ man_of (opponent c) role → IsPieceOf c o → ⊥
+pub piece_not_own : (c : Color) (role : Role) (o : Option Piece) → o ≡ piece_of (opponent c) role → IsOfColor c o → ⊥
 piece_not_own c role o e h =
-    let P : Option Piece → Type 0 = λ o. IsPieceOf c o in opponent-other c (subst P e h)
+    let P : Option Piece → Type 0 = λ o. IsOfColor c o in opponent-other c (subst P e h)
 
 -- Where castling goes.
 
@@ -113,17 +113,17 @@ castling_apart Black Long from to f t = record { to_from = omega arith; crossed_
 
 pub record Castling (p : Position) (m : Move) : Type 0 where
   pub from_home : m.from.index ≡ king_home p.turn
-  pub king : man_at p.squares m.from.index ≡ man_of p.turn King
-  pub rook : man_at p.squares (rook_home p.turn (castling_side m)) ≡ man_of p.turn Rook
-  pub to_empty : man_at p.squares m.to.index ≡ None
-  pub crossed_empty : man_at p.squares (halfway m.from.index m.to.index) ≡ None
+  pub king : piece_at p.squares m.from.index ≡ piece_of p.turn King
+  pub rook : piece_at p.squares (rook_home p.turn (castling_side m)) ≡ piece_of p.turn Rook
+  pub to_empty : piece_at p.squares m.to.index ≡ None
+  pub crossed_empty : piece_at p.squares (halfway m.from.index m.to.index) ≡ None
   pub apart : AreApart m.from.index m.to.index (halfway m.from.index m.to.index) (rook_home p.turn (castling_side m))
 
-target_empty : (p : Position) (m : Move) (side : Side) → CastlesTo side p m → man_at p.squares m.to.index ≡ None
+target_empty : (p : Position) (m : Move) (side : Side) → CastlesTo side p m → piece_at p.squares m.to.index ≡ None
 target_empty p m side c =
-    ap (man_at p.squares) c.2 ∙ c.4 (king_target p.turn side) (target_on_board p.turn side) (target_between p.turn side)
+    ap (piece_at p.squares) c.2 ∙ c.4 (king_target p.turn side) (target_on_board p.turn side) (target_between p.turn side)
 
-pub castles_to_empty : (p : Position) (m : Move) → Castles p m → man_at p.squares m.to.index ≡ None
+pub castles_to_empty : (p : Position) (m : Move) → Castles p m → piece_at p.squares m.to.index ≡ None
 castles_to_empty p m (inl c) = target_empty p m Short c
 castles_to_empty p m (inr c) = target_empty p m Long c
 
@@ -132,24 +132,16 @@ castling_toward p m side v c =
     let toward : castling_side m ≡ side = ap (λ t. if file_of t == 6 then Short else Long) c.2 ∙ side_of_target p.turn side in
     let crossed : halfway m.from.index m.to.index ≡ halfway (king_home p.turn) (king_target p.turn side) =
     ap (λ f. halfway f m.to.index) c.1 ∙ ap (halfway (king_home p.turn)) c.2 in
-    let rook : man_at p.squares (rook_home p.turn side) ≡ man_of p.turn Rook = man_is p.turn Rook _ (v.rights p.turn side c.0).1 in
+    let rook : piece_at p.squares (rook_home p.turn side) ≡ piece_of p.turn Rook = piece_is p.turn Rook _ (v.rights p.turn side c.0).1 in
     let Apart : Side → Type 0 = λ side. AreApart m.from.index m.to.index (halfway m.from.index m.to.index) (rook_home p.turn side) in
     record {
       from_home = c.1;
-      king = man_is p.turn King _ c.3;
-      rook = ap (λ side. man_at p.squares (rook_home p.turn side)) toward ∙ rook;
+      king = piece_is p.turn King _ c.3;
+      rook = ap (λ side. piece_at p.squares (rook_home p.turn side)) toward ∙ rook;
       to_empty = target_empty p m side c;
-      crossed_empty = ap (man_at p.squares) crossed ∙ c.4 _ (crossed_on_board p.turn side) (crossed_between p.turn side);
+      crossed_empty = ap (piece_at p.squares) crossed ∙ c.4 _ (crossed_on_board p.turn side) (crossed_between p.turn side);
       apart = subst Apart (sym toward) (castling_apart p.turn side _ _ c.1 c.2);
     }
-
-king_role : (role : Role) → is_king role ≡ true → role ≡ King
-king_role King e = refl
-king_role Pawn e = cc
-king_role Knight e = cc
-king_role Bishop e = cc
-king_role Rook e = cc
-king_role Queen e = cc
 
 pub pawn_role : (role : Role) → is_pawn role ≡ true → role ≡ Pawn
 pawn_role Pawn e = refl
@@ -163,10 +155,10 @@ eq_true : (x y : ℕ) → (x == y) ≡ true → x ≡ y
 eq_true x y e = grind (arith, nat_tests)
 
 -- a king's own step is no castling
-castling_goes : (p : Position) (m : Move) → IsValid p → man_at p.squares m.from.index ≡ man_of p.turn King → files_apart m.from.index m.to.index ≡ 2
+castling_goes : (p : Position) (m : Move) → IsValid p → piece_at p.squares m.from.index ≡ piece_of p.turn King → files_apart m.from.index m.to.index ≡ 2
     → Attacks p.squares m.from.index m.to.index ⊎ Castles p m → Castling p m
 castling_goes p m v stands two (inl steps) =
-    let P : Option Piece → Type 0 = λ o. ManAttacks p.squares o m.from.index m.to.index in
+    let P : Option Piece → Type 0 = λ o. PieceAttacks p.squares o m.from.index m.to.index in
     let step : KingStep m.from.index m.to.index = subst P stands steps in
     absurd (omega arith)
 castling_goes p m v stands two (inr (inl c)) = castling_toward p m Short v c
@@ -174,11 +166,11 @@ castling_goes p m v stands two (inr (inr c)) = castling_toward p m Long v c
 
 pub castling : (p : Position) (m : Move) → IsValid p → Mover p m → is_castling p m ≡ true → Castling p m
 castling p m v mover e =
-    let king : man_at p.squares m.from.index ≡ man_of p.turn King =
-    mover.stands ∙ ap (man_of p.turn) (king_role mover.role (ap is_king_at (sym mover.stands) ∙ and-left _ _ e)) in
-    let P : Role → Type 0 = λ role. Goes p role m in
-    let goes : Goes p King m = subst P (king_role mover.role (ap is_king_at (sym mover.stands) ∙ and-left _ _ e)) mover.goes in
-    castling_goes p m v king (eq_true _ _ (and-right (is_king_at (man_at p.squares m.from.index)) _ e)) goes.0
+    let king : piece_at p.squares m.from.index ≡ piece_of p.turn King =
+    mover.stands ∙ ap (piece_of p.turn) (king_role mover.role (ap is_king_at (sym mover.stands) ∙ and-left _ _ e)) in
+    let P : Role → Type 0 = λ role. RoleMoves p role m in
+    let goes : RoleMoves p King m = subst P (king_role mover.role (ap is_king_at (sym mover.stands) ∙ and-left _ _ e)) mover.goes in
+    castling_goes p m v king (eq_true _ _ (and-right (is_king_at (piece_at p.squares m.from.index)) _ e)) goes.0
 
 -- How pawns go.
 
@@ -223,8 +215,8 @@ behind White s = s - 8
 behind Black s = s + 8
 
 pub record HasPassed (squares : List (Option Piece)) (color : Color) (s : ℕ) : Type 0 where
-  empty : man_at squares s ≡ None
-  pawn : IsMan (opponent color) Pawn (man_at squares (behind color s))
+  empty : piece_at squares s ≡ None
+  pawn : IsPiece (opponent color) Pawn (piece_at squares (behind color s))
   rank : rank_of s ≡ crossed_rank (opponent color)
 
 pub has_passed : (squares : List (Option Piece)) (color : Color) (s : ℕ) → HasCrossed squares color s → HasPassed squares color s
@@ -252,47 +244,43 @@ passed_not_to White from to ahead = omega arith
 passed_not_to Black from to ahead = omega arith
 
 pub record Taking (p : Position) (m : Move) : Type 0 where
-  pub pawn : man_at p.squares m.from.index ≡ man_of p.turn Pawn
-  pub to_empty : man_at p.squares m.to.index ≡ None
-  pub passed : man_at p.squares (passed_pawn m) ≡ man_of (opponent p.turn) Pawn
-  pub passed_from : passed_pawn m ≢ m.from.index
-  pub passed_to : passed_pawn m ≢ m.to.index
+  pub pawn : piece_at p.squares m.from.index ≡ piece_of p.turn Pawn
+  pub to_empty : piece_at p.squares m.to.index ≡ None
+  pub passed : piece_at p.squares (captured_en_passant m) ≡ piece_of (opponent p.turn) Pawn
+  pub passed_from : captured_en_passant m ≢ m.from.index
+  pub passed_to : captured_en_passant m ≢ m.to.index
 
-taking_diagonal : (p : Position) (m : Move) → man_at p.squares m.from.index ≡ man_of p.turn Pawn → HasPassed p.squares p.turn m.to.index
+taking_diagonal : (p : Position) (m : Move) → piece_at p.squares m.from.index ≡ piece_of p.turn Pawn → HasPassed p.squares p.turn m.to.index
     → PawnDiagonal p.turn m.from.index m.to.index → Taking p m
 taking_diagonal p m stands h diagonal = record {
   pawn = stands;
   to_empty = h.empty;
-  passed = ap (man_at p.squares) (passed_is_behind p.turn _ _ diagonal.0) ∙ man_is (opponent p.turn) Pawn _ h.pawn;
+  passed = ap (piece_at p.squares) (passed_is_behind p.turn _ _ diagonal.0) ∙ piece_is (opponent p.turn) Pawn _ h.pawn;
   passed_from = let apart : files_apart m.from.index m.to.index ≡ 1 = diagonal.1 in omega arith;
   passed_to = passed_not_to p.turn _ _ diagonal.0;
 }
 
-pub straight_none : (p : Position) (m : Move) → man_at p.squares m.from.index ≡ man_of p.turn Pawn → HasPassed p.squares p.turn m.to.index
+pub straight_none : (p : Position) (m : Move) → piece_at p.squares m.from.index ≡ piece_of p.turn Pawn → HasPassed p.squares p.turn m.to.index
     → PawnSteps p m → ⊥
 straight_none p m stands h s =
-    let there : man_at p.squares m.from.index ≡ man_of (opponent p.turn) Pawn =
-    ap (man_at p.squares) (straight_is_behind p.turn _ _ s.1 s.0) ∙ man_is (opponent p.turn) Pawn _ h.pawn in
+    let there : piece_at p.squares m.from.index ≡ piece_of (opponent p.turn) Pawn =
+    ap (piece_at p.squares) (straight_is_behind p.turn _ _ s.1 s.0) ∙ piece_is (opponent p.turn) Pawn _ h.pawn in
     piece_not_own p.turn Pawn _ there (is_own p.turn Pawn _ stands)
 
 pub double_none : (p : Position) (m : Move) → HasPassed p.squares p.turn m.to.index → PawnDoubleSteps p m → ⊥
 double_none p m h s =
     double_not_crossed p.turn (sym (double_step_rank p.turn _ _ m.from.on_board m.to.on_board s.0 s.2) ∙ h.rank)
 
-taking_goes : (p : Position) (m : Move) → man_at p.squares m.from.index ≡ man_of p.turn Pawn → HasPassed p.squares p.turn m.to.index
+taking_goes : (p : Position) (m : Move) → piece_at p.squares m.from.index ≡ piece_of p.turn Pawn → HasPassed p.squares p.turn m.to.index
     → PawnSteps p m ⊎ PawnDoubleSteps p m ⊎ PawnCaptures p m → Taking p m
 taking_goes p m stands h (inl s) = absurd (straight_none p m stands h s)
 taking_goes p m stands h (inr (inl s)) = absurd (double_none p m h s)
 taking_goes p m stands h (inr (inr s)) = taking_diagonal p m stands h s.0
 
-square_true : (o : Option Square) (s : ℕ) → is_square o s ≡ true → IsSquare o s
-square_true None s e = cc
-square_true (Some square) s e = eq_true square.index s e
-
 pub taking : (p : Position) (m : Move) → IsValid p → Mover p m → takes_en_passant p m ≡ true → Taking p m
 taking p m v mover e =
     let role : mover.role ≡ Pawn = pawn_role mover.role (ap is_pawn_at (sym mover.stands) ∙ and-left _ _ e) in
-    let P : Role → Type 0 = λ role. Goes p role m in
-    let goes : Goes p Pawn m = subst P role mover.goes in
-    let crossed : IsSquare p.en_passant m.to.index = square_true p.en_passant m.to.index (and-right (is_pawn_at (man_at p.squares m.from.index)) _ e) in
-    taking_goes p m (mover.stands ∙ ap (man_of p.turn) role) (has_passed p.squares p.turn m.to.index (v.en_passant m.to.index crossed)) goes.0
+    let P : Role → Type 0 = λ role. RoleMoves p role m in
+    let goes : RoleMoves p Pawn m = subst P role mover.goes in
+    let crossed : IsSquare p.en_passant m.to.index = square_true p.en_passant m.to.index (and-right (is_pawn_at (piece_at p.squares m.from.index)) _ e) in
+    taking_goes p m (mover.stands ∙ ap (piece_of p.turn) role) (has_passed p.squares p.turn m.to.index (v.en_passant m.to.index crossed)) goes.0

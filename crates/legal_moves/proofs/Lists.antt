@@ -3,17 +3,17 @@ use Rattle.std.proofs.Common.{◌≡◌, ◌≢◌, ℕ, ◌+◌, ◌*◌, ◌<�
 use Rattle.std.specs.List.{Contains, AllPairs, All}
 use Rattle.std.proofs.lemmas.List.Elements.{Contains-append_left, Contains-push, Contains-push_cases, Contains-get_or}
 use Rattle.std.proofs.lemmas.List.Quantifiers.{all_pairs_push}
-use Rattle.step_tables.specs.Mask.{HasBit}
-use Rattle.step_tables.proofs.MaskLemmas.{HasBit-zero}
+use Rattle.step_tables.specs.Bitboard.{Holds}
+use Rattle.step_tables.proofs.BitboardLemmas.{Holds-zero}
 use Rattle.explorer_model.specs.declared.chess.Role.{Role}
 use Rattle.explorer_model.specs.declared.chess.Role.TheVariants.{Pawn, Knight, Bishop, Rook, Queen, King}
 use Rattle.explorer_model.specs.declared.chess.Position.{Position}
 use Rattle.explorer_model.specs.declared.chess.Move.{Move}
-use Rattle.explorer_model.specs.Board.{man_at, IsPieceOf}
+use Rattle.explorer_model.specs.Board.{piece_at, IsOfColor}
 use Rattle.explorer_model.specs.Chess.{IsValid, IsPromotion, Legal}
-use Rattle.legal_moves.specs.Listing.{promotion_place, place_of, ListsBelow, Reaches, IsPromoting}
-use Rattle.legal_moves.specs.Masks.{IsMaskOf, IsWithout}
-use Rattle.legal_moves.proofs.TargetLemmas.{candidate-promotion, candidate-reaches}
+use Rattle.legal_moves.specs.Listing.{promotion_place, place_of, ListsBelow, IsDestination, IsPromoting}
+use Rattle.legal_moves.specs.EnemySets.{IsBitboardOf, IsWithout}
+use Rattle.legal_moves.proofs.DestinationLemmas.{pseudo_legal-promotion, pseudo_legal-destination}
 use Rattle.legal_moves.proofs.Places.{promotion_place-lt, from_is, to_from, to_before, promotion_from, place_of-injective, place_of-lt}
 use Rattle.legal_moves.proofs.Caps.{legal_moves_few}
 
@@ -144,7 +144,7 @@ pub quiet-listed : (p : Position) (from to : ℕ) (moves : List Move) → to < 6
     → ListsBelow p (512 * from + 8 * to + 1) moves → ListsBelow p (512 * from + 8 * to + 8) moves
 quiet-listed p from to moves on unpromoting l =
     skip-between p from to 1 8 moves on (omega arith) (omega arith) (omega arith)
-    (λ m legal here there some last. elim (candidate-promotion p m legal.0) [
+    (λ m legal here there some last. elim (pseudo_legal-promotion p m legal.0) [
       | inl none ↦ (let e : promotion_place m.promotion ≡ 0 = ap promotion_place none.0 in let h : 1 ≤ promotion_place m.promotion = some in omega arith)
       | inr promoted ↦ unpromoting (promoting_at p m from to here there promoted.0)
     ])
@@ -158,7 +158,7 @@ promotions-next p from to moves from_on on promoting l =
     let P : ℕ → Type 0 = λ n. ListsBelow p n moves in
     let e : 512 * from + 8 * to ≡ 512 * from + 8 * to + 0 = omega arith in
     skip-between p from to 0 1 moves on (omega arith) (omega arith) (omega arith)
-    (λ m legal here there low high. elim (candidate-promotion p m legal.0) [
+    (λ m legal here there low high. elim (pseudo_legal-promotion p m legal.0) [
       | inl none ↦ none.1 (
           let A : ℕ → Type 0 = λ a. IsPromoting p a m.to.index in
           let B : ℕ → Type 0 = λ b. IsPromoting p from b in
@@ -176,7 +176,7 @@ pub promotions-listed : (p : Position) (from to : ℕ) (moves : List Move) → t
     → ListsBelow p (512 * from + 8 * to + 5) moves → ListsBelow p (512 * from + 8 * to + 8) moves
 promotions-listed p from to moves on l =
     skip-between p from to 5 8 moves on (omega arith) (omega arith) (omega arith)
-    (λ m legal here there low high. let h : 5 ≤ promotion_place m.promotion = low in elim (candidate-promotion p m legal.0) [
+    (λ m legal here there low high. let h : 5 ≤ promotion_place m.promotion = low in elim (pseudo_legal-promotion p m legal.0) [
       | inl none ↦ (let e : promotion_place m.promotion ≡ 0 = ap promotion_place none.0 in omega arith)
       | inr promoted ↦ (let last : promotion_place m.promotion < 5 = (promotion_last m.promotion promoted.1).1 in omega arith)
     ])
@@ -191,38 +191,38 @@ pub record IsWalked (p : Position) (from all rest : ℕ) (moves : List Move) : T
   pub at : ℕ
   pub at_most : at ≤ 64
   pub lists : ListsBelow p (512 * from + 8 * at) moves
-  pub left : (m : Move) → m.from.index ≡ from → Legal p m → at ≤ m.to.index → HasBit rest m.to.index
-  pub above : (b : ℕ) → b < 64 → HasBit rest b → at ≤ b
-  pub within : (b : ℕ) → b < 64 → HasBit rest b → HasBit all b
+  pub left : (m : Move) → m.from.index ≡ from → Legal p m → at ≤ m.to.index → Holds rest m.to.index
+  pub above : (b : ℕ) → b < 64 → Holds rest b → at ≤ b
+  pub within : (b : ℕ) → b < 64 → Holds rest b → Holds all b
 
 pub walked-none : (p : Position) (from all : ℕ) (moves : List Move) → ListsBelow p (512 * from) moves
-    → ((m : Move) → m.from.index ≡ from → HasBit all m.to.index ↔ Reaches p m) → IsWalked p from all all moves
-walked-none p from all moves l reaches = record {
+    → ((m : Move) → m.from.index ≡ from → Holds all m.to.index ↔ IsDestination p m) → IsWalked p from all all moves
+walked-none p from all moves l destination = record {
   at = 0;
   at_most = omega arith;
   lists = (let P : ℕ → Type 0 = λ n. ListsBelow p n moves in let e : 512 * from ≡ 512 * from + 8 * 0 = omega arith in subst P e l);
-  left = λ m here legal _. (reaches m here).1 (candidate-reaches p m legal.0);
+  left = λ m here legal _. (destination m here).1 (pseudo_legal-destination p m legal.0);
   above = λ b on bit. omega arith;
   within = λ b on bit. bit;
 }
 
 -- up to the next square that is left
 pub walked-to : (p : Position) (from all rest to : ℕ) (moves : List Move) (w : IsWalked p from all rest moves) → w.at ≤ to → to ≤ 64
-    → ((b : ℕ) → b < to → ¬ HasBit rest b) → ListsBelow p (512 * from + 8 * to) moves
+    → ((b : ℕ) → b < to → ¬ Holds rest b) → ListsBelow p (512 * from + 8 * to) moves
 walked-to p from all rest to moves w ahead on none =
     lists-skip p (512 * from + 8 * w.at) (512 * from + 8 * to) moves w.lists (let h : w.at ≤ to = ahead in omega arith)
     (λ m legal low high.
     let here : m.from.index ≡ from = from_is m from (let h : 512 * from + 8 * w.at ≤ place_of m = low in omega arith) (let h : place_of m < 512 * from + 8 * to = high in omega arith) in
     none m.to.index (to_before m from to here high) (w.left m here legal (to_from m from w.at here low)))
 
-pub walked-reaches : (p : Position) (from all rest to : ℕ) (moves : List Move) → IsWalked p from all rest moves → to < 64 → HasBit rest to
-    → ((m : Move) → m.from.index ≡ from → HasBit all m.to.index ↔ Reaches p m)
-    → (m : Move) → m.from.index ≡ from → m.to.index ≡ to → Reaches p m
-walked-reaches p from all rest to moves w on bit reaches m here there =
-    (reaches m here).0 (let P : ℕ → Type 0 = λ b. HasBit all b in subst P (sym there) (w.within to on bit))
+pub walked-destination : (p : Position) (from all rest to : ℕ) (moves : List Move) → IsWalked p from all rest moves → to < 64 → Holds rest to
+    → ((m : Move) → m.from.index ≡ from → Holds all m.to.index ↔ IsDestination p m)
+    → (m : Move) → m.from.index ≡ from → m.to.index ≡ to → IsDestination p m
+walked-destination p from all rest to moves w on bit destination m here there =
+    (destination m here).0 (let P : ℕ → Type 0 = λ b. Holds all b in subst P (sym there) (w.within to on bit))
 
 pub walked-next : (p : Position) (from all rest less to : ℕ) (moves more : List Move) → IsWalked p from all rest moves → to < 64
-    → ((b : ℕ) → b < to → ¬ HasBit rest b) → HasBit rest to → IsWithout rest to less
+    → ((b : ℕ) → b < to → ¬ Holds rest b) → Holds rest to → IsWithout rest to less
     → ListsBelow p (512 * from + 8 * to + 8) more → IsWalked p from all less more
 walked-next p from all rest less to moves more w on lowest within without l = record {
   at = to + 1;
@@ -233,7 +233,7 @@ walked-next p from all rest less to moves more w on lowest within without l = re
       let before : w.at ≤ m.to.index = omega arith in
       (without m.to.index m.to.on_board).1 (w.left m here legal before, λ e. omega arith);
   above = λ b b_on bit.
-      let old : HasBit rest b × (b ≡ to → ⊥) = (without b b_on).0 bit in
+      let old : Holds rest b × (b ≡ to → ⊥) = (without b b_on).0 bit in
       beyond_it b to (λ below. lowest b below old.0) old.1;
   within = λ b b_on bit. w.within b b_on ((without b b_on).0 bit).0;
 }
@@ -244,19 +244,19 @@ walked-all p from all rest moves w none =
     let P : ℕ → Type 0 = λ n. ListsBelow p n moves in
     let e : 512 * from + 8 * 64 ≡ 512 * from + 512 = omega arith in
     subst P e (walked-to p from all rest 64 moves w w.at_most (omega arith)
-    (λ b _ bit. HasBit-zero b (let Q : ℕ → Type 0 = λ x. HasBit x b in subst Q none bit)))
+    (λ b _ bit. Holds-zero b (let Q : ℕ → Type 0 = λ x. Holds x b in subst Q none bit)))
 
--- The moves from all squares of the own men, by those that are left.
+-- The moves from all squares of the own pieces, by those that are left.
 
 pub record IsSwept (p : Position) (rest : ℕ) (moves : List Move) : Type 0 where
   pub at : ℕ
   pub at_most : at ≤ 64
   pub lists : ListsBelow p (512 * at) moves
-  pub left : (m : Move) → Legal p m → at ≤ m.from.index → HasBit rest m.from.index
-  pub above : (b : ℕ) → b < 64 → HasBit rest b → at ≤ b
-  pub own : (b : ℕ) → b < 64 → HasBit rest b → IsPieceOf p.turn (man_at p.squares b)
+  pub left : (m : Move) → Legal p m → at ≤ m.from.index → Holds rest m.from.index
+  pub above : (b : ℕ) → b < 64 → Holds rest b → at ≤ b
+  pub own : (b : ℕ) → b < 64 → Holds rest b → IsOfColor p.turn (piece_at p.squares b)
 
-pub swept-none : (p : Position) (own : ℕ) → IsMaskOf (IsPieceOf p.turn) p.squares own → IsSwept p own []
+pub swept-none : (p : Position) (own : ℕ) → IsBitboardOf (IsOfColor p.turn) p.squares own → IsSwept p own []
 swept-none p own is = record {
   at = 0;
   at_most = omega arith;
@@ -276,13 +276,13 @@ from_from m at low =
     omega arith
 
 pub swept-to : (p : Position) (rest from : ℕ) (moves : List Move) (w : IsSwept p rest moves) → w.at ≤ from → from ≤ 64
-    → ((b : ℕ) → b < from → ¬ HasBit rest b) → ListsBelow p (512 * from) moves
+    → ((b : ℕ) → b < from → ¬ Holds rest b) → ListsBelow p (512 * from) moves
 swept-to p rest from moves w ahead on none =
     lists-skip p (512 * w.at) (512 * from) moves w.lists (let h : w.at ≤ from = ahead in omega arith)
     (λ m legal low high. none m.from.index (from_before m from high) (w.left m legal (from_from m w.at low)))
 
 pub swept-next : (p : Position) (rest less from : ℕ) (moves more : List Move) → IsSwept p rest moves → from < 64
-    → ((b : ℕ) → b < from → ¬ HasBit rest b) → HasBit rest from → IsWithout rest from less
+    → ((b : ℕ) → b < from → ¬ Holds rest b) → Holds rest from → IsWithout rest from less
     → ListsBelow p (512 * from + 512) more → IsSwept p less more
 swept-next p rest less from moves more w on lowest within without l = record {
   at = from + 1;
@@ -293,7 +293,7 @@ swept-next p rest less from moves more w on lowest within without l = record {
       let before : w.at ≤ m.from.index = omega arith in
       (without m.from.index m.from.on_board).1 (w.left m legal before, λ e. omega arith);
   above = λ b b_on bit.
-      let old : HasBit rest b × (b ≡ from → ⊥) = (without b b_on).0 bit in
+      let old : Holds rest b × (b ≡ from → ⊥) = (without b b_on).0 bit in
       beyond_it b from (λ below. lowest b below old.0) old.1;
   own = λ b b_on bit. w.own b b_on ((without b b_on).0 bit).0;
 }
@@ -303,7 +303,7 @@ swept-all p rest moves w none =
     let P : ℕ → Type 0 = λ n. ListsBelow p n moves in
     let e : 512 * 64 ≡ 32768 = refl in
     subst P e (swept-to p rest 64 moves w w.at_most (omega arith)
-    (λ b _ bit. HasBit-zero b (let Q : ℕ → Type 0 = λ x. HasBit x b in subst Q none bit)))
+    (λ b _ bit. Holds-zero b (let Q : ℕ → Type 0 = λ x. Holds x b in subst Q none bit)))
 
 -- What a test says.
 
@@ -319,3 +319,11 @@ pub listed_legal : (p : Position) (listed moves : List Move) (k : ℕ) (m : Move
 listed_legal p listed moves k m sound same inside is =
     let AreLegal : List Move → Type 0 = λ moves. All (λ m. Legal p m) moves in
     subst (Legal p) (sym is) (subst AreLegal (sym same) sound k m inside)
+
+-- what lists the legal moves of a board lists them as its position and its slice have them
+pub lists-same : (p q : Position) (items moves : List Move) → q ≡ p → moves ≡ items
+    → ((m : Move) → Contains items m ↔ Legal p m) → (m : Move) → Contains moves m ↔ Legal q m
+lists-same p q items moves same listed each m =
+    let P : Position → Type 0 = λ r. Contains items m ↔ Legal r m in
+    let Q : List Move → Type 0 = λ list. Contains list m ↔ Legal q m in
+    subst Q (sym listed) (subst P (sym same) (each m))

@@ -11,7 +11,7 @@ use Rattle.explorer_model.specs.Board.{opponent, InCheck}
 use Rattle.explorer_model.specs.Chess.{IsValid, Legal, squares_after, after}
 use Rattle.legal_moves.proofs.Facts.{mover, opponent-opponent}
 use Rattle.legal_moves.proofs.Victim.{victim}
-use Rattle.legal_moves.proofs.Kept.{length-after, keeps_men, keeps_pawns_inside, keeps_rights, sets_en_passant}
+use Rattle.legal_moves.proofs.Kept.{length-after, keeps_pieces, keeps_pawns_inside, keeps_rights, sets_en_passant}
 
 -- the mover's king is not attacked, and the mover is then the side that is not to move
 left_in_no_check : (p : Position) (m : Move) → Legal p m → InCheck (squares_after p m) (opponent (opponent p.turn)) → ⊥
@@ -21,8 +21,8 @@ left_in_no_check p m legal check =
 pub legal_keeps_validity : (p : Position) (m : Move) → IsValid p → Legal p m → IsValid (after p m)
 legal_keeps_validity p m v legal = record {
   board = length-after p m;
-  white = keeps_men p m White legal.0 (victim p m v legal.0) v.white;
-  black = keeps_men p m Black legal.0 (victim p m v legal.0) v.black;
+  white = keeps_pieces p m White legal.0 (victim p m v legal.0) v.white;
+  black = keeps_pieces p m Black legal.0 (victim p m v legal.0) v.black;
   pawns = keeps_pawns_inside p m (mover p m legal.0) v.pawns;
   not_in_check = left_in_no_check p m legal;
   rights = keeps_rights p m v legal.0;

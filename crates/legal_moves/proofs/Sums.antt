@@ -1,6 +1,5 @@
 -- Sums over the numbers below a bound.
-use Rattle.std.proofs.Common.{◌≡◌, ℕ, zero, suc, ◌+◌, ◌-◌, ◌<◌, ◌≤◌, ◌⊎◌, Bool, true, ◌&&◌, refl, sym, ◌∙◌, ap, subst, inl, inr, add-zero, arith}
-use Rattle.legal_moves.proofs.Writes.{and-left, and-right}
+use Rattle.std.proofs.Common.{◌≡◌, ℕ, zero, suc, ◌+◌, ◌-◌, ◌<◌, ◌≤◌, refl, sym, ◌∙◌, ap, add-zero, arith}
 
 unfoldable pub sum_below : (ℕ → ℕ) → ℕ → ℕ
 sum_below f zero = 0
@@ -36,19 +35,3 @@ sum_below-le f n k h =
     let s : sum_below f (n + (k - n)) ≡ sum_below f n + sum_below (λ i. f (n + i)) (k - n) = sum_below-add f n (k - n) in
     let t : sum_below f (n + (k - n)) ≡ sum_below f k = ap (sum_below f) e in
     omega arith
-
--- a test of every number below a bound
-unfoldable pub all_below : (ℕ → Bool) → ℕ → Bool
-all_below test zero = true
-all_below test (suc n) = all_below test n && test n
-
-before_or_last : (k n : ℕ) → k < suc n → (k < n) ⊎ (n ≡ k)
-before_or_last k n h = search arith
-
-pub all_below-at : (test : ℕ → Bool) (n k : ℕ) → all_below test n ≡ true → k < n → test k ≡ true
-unfolding all_below
-all_below-at test zero k all h = absurd (omega arith)
-all_below-at test (suc n) k all h = elim (before_or_last k n h) [
-  | inl less ↦ all_below-at test n k (and-left _ _ all) less
-  | inr last ↦ (let P : ℕ → Type 0 = λ i. test i ≡ true in subst P last (and-right (all_below test n) _ all))
-]

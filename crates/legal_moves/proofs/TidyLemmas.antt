@@ -3,12 +3,12 @@ use Rattle.std.proofs.Common.{◌≡◌, ℕ, ◌↔◌, Option, Some, None, ref
 use Rattle.explorer_model.proofs.Squares.{square_eq}
 use Rattle.explorer_model.specs.declared.chess.Position.{Position}
 use Rattle.explorer_model.specs.declared.square.Square.{Square}
-use Rattle.explorer_model.specs.Chess.{IsSquare, IsValid, CanTakeEnPassant, Same}
+use Rattle.explorer_model.specs.Chess.{IsSquare, IsValid, CanCaptureEnPassant, Same}
 use Rattle.legal_moves.specs.Tidy.{IsTidied}
 use Rattle.legal_moves.proofs.PlayLemmas.{position_eq}
 
 -- a square that is dropped leaves the position valid
-pub tidied_valid : (p : Position) (en_passant : Option Square) → IsValid p → ((s : ℕ) → IsSquare en_passant s ↔ CanTakeEnPassant p s)
+pub tidied_valid : (p : Position) (en_passant : Option Square) → IsValid p → ((s : ℕ) → IsSquare en_passant s ↔ CanCaptureEnPassant p s)
     → IsValid (record { squares = p.squares; turn = p.turn; rights = p.rights; en_passant = en_passant })
 tidied_valid p en_passant v open_squares = record {
   board = v.board;

@@ -13,30 +13,30 @@ use Rattle.explorer_model.specs.declared.chess.Side.TheVariants.{Short, Long}
 use Rattle.explorer_model.specs.declared.chess.Piece.{Piece}
 use Rattle.explorer_model.specs.declared.chess.Position.{Position}
 use Rattle.explorer_model.specs.declared.chess.Move.{Move}
-use Rattle.explorer_model.specs.Board.{files_apart, halfway, man_of, man_at}
-use Rattle.explorer_model.specs.Chess.{rook_home, is_pawn_at, is_king_at, is_square, takes_en_passant, is_pawn, is_king, passed_pawn, is_castling, castling_side, arriving, placed, squares_after}
+use Rattle.explorer_model.specs.Board.{files_apart, halfway, piece_of, piece_at}
+use Rattle.explorer_model.specs.Chess.{rook_home, is_pawn_at, is_king_at, is_square, takes_en_passant, is_pawn, is_king, captured_en_passant, is_castling, castling_side, arriving, placed, squares_after}
 
-pub length-set_64 : (xs : List (Option Piece)) (i : ℕ) (man : Option Piece) → length xs ≡ 64 → length (set xs i man) ≡ 64
-length-set_64 xs i man whole = length-set xs i man ∙ whole
+pub length-set_64 : (xs : List (Option Piece)) (i : ℕ) (occupant : Option Piece) → length xs ≡ 64 → length (set xs i occupant) ≡ 64
+length-set_64 xs i occupant whole = length-set xs i occupant ∙ whole
 
-pub man_at-set : (xs : List (Option Piece)) (i k : ℕ) (man : Option Piece) → length xs ≡ 64 → i < 64
-    → man_at (set xs i man) k ≡ (if k == i then man else man_at xs k)
-man_at-set xs i k man whole on_board = grind (arith, nat_tests, get_or-set_at, get_or-set_other)
+pub piece_at-set : (xs : List (Option Piece)) (i k : ℕ) (occupant : Option Piece) → length xs ≡ 64 → i < 64
+    → piece_at (set xs i occupant) k ≡ (if k == i then occupant else piece_at xs k)
+piece_at-set xs i k occupant whole on_board = grind (arith, nat_tests, get_or-set_at, get_or-set_other)
 
--- the man leaves one square and arrives on another
+-- the piece leaves one square and arrives on another
 abbrev pub moved : List (Option Piece) → ℕ → ℕ → Option Piece → List (Option Piece)
-moved xs from to man = set (set xs from None) to man
+moved xs from to occupant = set (set xs from None) to occupant
 
-man_at-moved : (xs : List (Option Piece)) (from to s : ℕ) (man : Option Piece) → length xs ≡ 64 → from < 64 → to < 64
-    → man_at (moved xs from to man) s ≡ (if s == to then man else if s == from then None else man_at xs s)
-man_at-moved xs from to s man whole from_on to_on =
-    man_at-set (set xs from None) to s man (length-set_64 xs from None whole) to_on
-    ∙ ap (λ o. if s == to then man else o) (man_at-set xs from s None whole from_on)
+piece_at-moved : (xs : List (Option Piece)) (from to s : ℕ) (occupant : Option Piece) → length xs ≡ 64 → from < 64 → to < 64
+    → piece_at (moved xs from to occupant) s ≡ (if s == to then occupant else if s == from then None else piece_at xs s)
+piece_at-moved xs from to s occupant whole from_on to_on =
+    piece_at-set (set xs from None) to s occupant (length-set_64 xs from None whole) to_on
+    ∙ ap (λ o. if s == to then occupant else o) (piece_at-set xs from s None whole from_on)
 
-pub length-moved : (xs : List (Option Piece)) (from to : ℕ) (man : Option Piece) → length xs ≡ 64 → length (moved xs from to man) ≡ 64
-length-moved xs from to man whole = length-set_64 _ to man (length-set_64 xs from None whole)
+pub length-moved : (xs : List (Option Piece)) (from to : ℕ) (occupant : Option Piece) → length xs ≡ 64 → length (moved xs from to occupant) ≡ 64
+length-moved xs from to occupant whole = length-set_64 _ to occupant (length-set_64 xs from None whole)
 
--- `placed` with its tests, squares and men as variables
+-- `placed` with its tests, squares and pieces as variables
 abbrev pub placed_by : Bool → Bool → ℕ → ℕ → ℕ → ℕ → ℕ → Option Piece → Option Piece → Option Piece → ℕ → Option Piece
 placed_by takes castles from to passed home crossed arrives rook stands s =
     if s == to then arrives
@@ -48,17 +48,17 @@ placed_by takes castles from to passed home crossed arrives rook stands s =
 
 pub placed-by : (p : Position) (m : Move) (takes castles : Bool) (s : ℕ) → takes_en_passant p m ≡ takes → is_castling p m ≡ castles
     → placed p m s
-    ≡ placed_by takes castles m.from.index m.to.index (passed_pawn m) (rook_home p.turn (castling_side m)) (halfway m.from.index m.to.index)
-    (arriving (man_at p.squares m.from.index) m.promotion) (man_of p.turn Rook) (man_at p.squares s) s
+    ≡ placed_by takes castles m.from.index m.to.index (captured_en_passant m) (rook_home p.turn (castling_side m)) (halfway m.from.index m.to.index)
+    (arriving (piece_at p.squares m.from.index) m.promotion) (piece_of p.turn Rook) (piece_at p.squares s) s
 unfolding placed
 placed-by p m takes castles s taken castled =
     let f : Bool → Bool → Option Piece =
-    λ t c. placed_by t c m.from.index m.to.index (passed_pawn m) (rook_home p.turn (castling_side m)) (halfway m.from.index m.to.index)
-    (arriving (man_at p.squares m.from.index) m.promotion) (man_of p.turn Rook) (man_at p.squares s) s in
+    λ t c. placed_by t c m.from.index m.to.index (captured_en_passant m) (rook_home p.turn (castling_side m)) (halfway m.from.index m.to.index)
+    (arriving (piece_at p.squares m.from.index) m.promotion) (piece_of p.turn Rook) (piece_at p.squares s) s in
     ap (λ t. f t (is_castling p m)) taken ∙ ap (λ c. f takes c) castled
 
 pub squares-written : (p : Position) (m : Move) (xs : List (Option Piece)) → length xs ≡ 64
-    → ((s : ℕ) → s < 64 → man_at xs s ≡ placed p m s) → xs ≡ squares_after p m
+    → ((s : ℕ) → s < 64 → piece_at xs s ≡ placed p m s) → xs ≡ squares_after p m
 unfolding squares_after
 squares-written p m xs whole same = fill_by_all (placed p m) xs 64 None whole same
 
@@ -86,7 +86,7 @@ pawn_no_king (Some piece) e = no_king piece.role e
 pub taking_no_castling : (p : Position) (m : Move) → takes_en_passant p m ≡ true → is_castling p m ≡ false
 taking_no_castling p m e =
     ap (λ king. king && (files_apart m.from.index m.to.index == 2))
-    (pawn_no_king (man_at p.squares m.from.index) (and-left _ (is_square p.en_passant m.to.index) e))
+    (pawn_no_king (piece_at p.squares m.from.index) (and-left _ (is_square p.en_passant m.to.index) e))
 
 pub rook_home_on_board : (color : Color) (side : Side) → rook_home color side < 64
 rook_home_on_board White Short = lit< tt
@@ -94,26 +94,26 @@ rook_home_on_board White Long = lit< tt
 rook_home_on_board Black Short = lit< tt
 rook_home_on_board Black Long = lit< tt
 
-pub passed_pawn_on_board : (m : Move) → passed_pawn m < 64
+pub passed_pawn_on_board : (m : Move) → captured_en_passant m < 64
 passed_pawn_on_board m = let a : m.from.index < 64 = m.from.on_board in let b : m.to.index < 64 = m.to.on_board in omega arith
 
 -- most moves make two writes
 pub plain_writes : (p : Position) (m : Move) → length p.squares ≡ 64 → takes_en_passant p m ≡ false → is_castling p m ≡ false
-    → moved p.squares m.from.index m.to.index (arriving (man_at p.squares m.from.index) m.promotion) ≡ squares_after p m
+    → moved p.squares m.from.index m.to.index (arriving (piece_at p.squares m.from.index) m.promotion) ≡ squares_after p m
 plain_writes p m whole no_taking no_castling =
     squares-written p m _ (length-moved _ _ _ _ whole)
-    (λ s on. man_at-moved p.squares _ _ s _ whole m.from.on_board m.to.on_board ∙ sym (placed-by p m false false s no_taking no_castling))
+    (λ s on. piece_at-moved p.squares _ _ s _ whole m.from.on_board m.to.on_board ∙ sym (placed-by p m false false s no_taking no_castling))
 
 -- an en passant capture takes the passed pawn too
 pub taking_writes : (p : Position) (m : Move) → length p.squares ≡ 64 → takes_en_passant p m ≡ true
-    → moved (set p.squares (passed_pawn m) None) m.from.index m.to.index (arriving (man_at p.squares m.from.index) m.promotion)
+    → moved (set p.squares (captured_en_passant m) None) m.from.index m.to.index (arriving (piece_at p.squares m.from.index) m.promotion)
     ≡ squares_after p m
 taking_writes p m whole taking =
-    squares-written p m _ (length-moved _ _ _ _ (length-set_64 p.squares (passed_pawn m) None whole))
+    squares-written p m _ (length-moved _ _ _ _ (length-set_64 p.squares (captured_en_passant m) None whole))
     (λ s on.
-    man_at-moved (set p.squares (passed_pawn m) None) _ _ s _ (length-set_64 p.squares (passed_pawn m) None whole) m.from.on_board m.to.on_board
-    ∙ ap (λ o. if s == m.to.index then arriving (man_at p.squares m.from.index) m.promotion else if s == m.from.index then None else o)
-    (man_at-set p.squares (passed_pawn m) s None whole (passed_pawn_on_board m))
+    piece_at-moved (set p.squares (captured_en_passant m) None) _ _ s _ (length-set_64 p.squares (captured_en_passant m) None whole) m.from.on_board m.to.on_board
+    ∙ ap (λ o. if s == m.to.index then arriving (piece_at p.squares m.from.index) m.promotion else if s == m.from.index then None else o)
+    (piece_at-set p.squares (captured_en_passant m) s None whole (passed_pawn_on_board m))
     ∙ sym (placed-by p m true false s taking (taking_no_castling p m taking)))
 
 pub halfway_on_board : (a b : ℕ) → a < 64 → b < 64 → halfway a b < 64
@@ -122,20 +122,20 @@ halfway_on_board a b on_a on_b = omega arith
 -- castling moves the rook too
 pub castling_writes : (p : Position) (m : Move) → length p.squares ≡ 64 → takes_en_passant p m ≡ false → is_castling p m ≡ true
     → moved
-    (set (set p.squares (halfway m.from.index m.to.index) (man_of p.turn Rook)) (rook_home p.turn (castling_side m)) None)
-    m.from.index m.to.index (arriving (man_at p.squares m.from.index) m.promotion)
+    (set (set p.squares (halfway m.from.index m.to.index) (piece_of p.turn Rook)) (rook_home p.turn (castling_side m)) None)
+    m.from.index m.to.index (arriving (piece_at p.squares m.from.index) m.promotion)
     ≡ squares_after p m
 castling_writes p m whole no_taking castling =
     let crossed : ℕ = halfway m.from.index m.to.index in
     let home : ℕ = rook_home p.turn (castling_side m) in
-    let rook : Option Piece = man_of p.turn Rook in
+    let rook : Option Piece = piece_of p.turn Rook in
     let one : length (set p.squares crossed rook) ≡ 64 = length-set_64 p.squares crossed rook whole in
     let two : length (set (set p.squares crossed rook) home None) ≡ 64 = length-set_64 _ home None one in
     squares-written p m _ (length-moved _ _ _ _ two)
     (λ s on.
-    man_at-moved (set (set p.squares crossed rook) home None) _ _ s _ two m.from.on_board m.to.on_board
-    ∙ ap (λ o. if s == m.to.index then arriving (man_at p.squares m.from.index) m.promotion else if s == m.from.index then None else o)
-    (man_at-set (set p.squares crossed rook) home s None one (rook_home_on_board p.turn (castling_side m))
+    piece_at-moved (set (set p.squares crossed rook) home None) _ _ s _ two m.from.on_board m.to.on_board
+    ∙ ap (λ o. if s == m.to.index then arriving (piece_at p.squares m.from.index) m.promotion else if s == m.from.index then None else o)
+    (piece_at-set (set p.squares crossed rook) home s None one (rook_home_on_board p.turn (castling_side m))
     ∙ ap (λ o. if s == home then None else o)
-    (man_at-set p.squares crossed s rook whole (halfway_on_board _ _ m.from.on_board m.to.on_board)))
+    (piece_at-set p.squares crossed s rook whole (halfway_on_board _ _ m.from.on_board m.to.on_board)))
     ∙ sym (placed-by p m false true s no_taking castling))

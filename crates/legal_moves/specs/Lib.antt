@@ -1,4 +1,4 @@
 pub mod Tidy
 pub mod Listing
-pub mod Masks
-pub mod Men
+pub mod EnemySets
+pub mod PieceSets

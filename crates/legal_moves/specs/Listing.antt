@@ -6,7 +6,7 @@ use Rattle.explorer_model.specs.declared.chess.Role.TheVariants.{Pawn, Knight, B
 use Rattle.explorer_model.specs.declared.chess.Piece.{Piece}
 use Rattle.explorer_model.specs.declared.chess.Position.{Position}
 use Rattle.explorer_model.specs.declared.chess.Move.{Move}
-use Rattle.explorer_model.specs.Board.{rank_of, man_at, IsPieceOf, IsMan, Attacks}
+use Rattle.explorer_model.specs.Board.{rank_of, piece_at, IsOfColor, IsPiece, Attacks}
 use Rattle.explorer_model.specs.Chess.{last_rank, PawnSteps, PawnDoubleSteps, PawnCaptures, Castles, Legal}
 
 abbrev pub promotion_place : Option Role → ℕ
@@ -18,8 +18,8 @@ promotion_place (Some Queen) = 4
 promotion_place (Some Pawn) = 5
 promotion_place (Some King) = 6
 
--- where a move comes in the order: by the square that it begins on, then by the one that it ends on, then by what is promoted.
--- No two moves have one place.
+-- where a move comes in the order: by the square that it begins on, then by the one that it ends
+-- on, then by what is promoted. No two moves have one place.
 abbrev pub place_of : Move → ℕ
 place_of m = 512 * m.from.index + 8 * m.to.index + promotion_place m.promotion
 
@@ -30,23 +30,24 @@ pub record ListsBelow (p : Position) (n : ℕ) (moves : List Move) : Type 0 wher
   pub complete : (m : Move) → Legal p m → place_of m < n → Contains moves m
   pub rising : AllPairs (λ a b. place_of a < place_of b) moves
 
--- how a man of this role may go, whatever a pawn then becomes
-abbrev pub GoesTo : Position → Role → Move → Type 0
-GoesTo p Pawn m = PawnSteps p m ⊎ PawnDoubleSteps p m ⊎ PawnCaptures p m
-GoesTo p King m = Attacks p.squares m.from.index m.to.index ⊎ Castles p m
-GoesTo p _ m = Attacks p.squares m.from.index m.to.index
+-- where a piece of this role may go, whatever a pawn then becomes
+abbrev pub RoleReaches : Position → Role → Move → Type 0
+RoleReaches p Pawn m = PawnSteps p m ⊎ PawnDoubleSteps p m ⊎ PawnCaptures p m
+RoleReaches p King m = Attacks p.squares m.from.index m.to.index ⊎ Castles p m
+RoleReaches p _ m = Attacks p.squares m.from.index m.to.index
 
-abbrev pub ManGoesTo : Position → Option Piece → Move → Type 0
-ManGoesTo p None m = ⊥
-ManGoesTo p (Some piece) m = GoesTo p piece.role m
+abbrev pub PieceReaches : Position → Option Piece → Move → Type 0
+PieceReaches p None m = ⊥
+PieceReaches p (Some piece) m = RoleReaches p piece.role m
 
--- a move that is a candidate where it promotes as it must
-abbrev pub Reaches : Position → Move → Type 0
-Reaches p m =
-    IsPieceOf p.turn (man_at p.squares m.from.index)
-    × (¬ IsPieceOf p.turn (man_at p.squares m.to.index))
-    × ManGoesTo p (man_at p.squares m.from.index) m
+-- a move that is pseudo-legal where it promotes as it must
+abbrev pub IsDestination : Position → Move → Type 0
+IsDestination p m =
+    IsOfColor p.turn (piece_at p.squares m.from.index)
+    × (¬ IsOfColor p.turn (piece_at p.squares m.to.index))
+    × PieceReaches p (piece_at p.squares m.from.index) m
 
 -- a pawn goes to its last rank
 abbrev pub IsPromoting : Position → ℕ → ℕ → Type 0
-IsPromoting p from to = (rank_of to ≡ last_rank p.turn) × IsMan p.turn Pawn (man_at p.squares from)
+IsPromoting p from to =
+    (rank_of to ≡ last_rank p.turn) × IsPiece p.turn Pawn (piece_at p.squares from)

@@ -6,40 +6,38 @@ ghost use Rattle.explorer_model.specs.Board.{InCheck};
 ghost use Rattle.explorer_model.specs.Chess.{IsValid, Legal, after, start};
 ghost use Rattle.legal_moves.specs.Tidy.{IsTidied};
 
+use crate::check_info::CheckInfo;
 use crate::generate;
-use crate::men::Men;
-use crate::play::{men_played, squares_played};
-use crate::sight::Sight;
-use crate::tidy::open_en_passant;
+use crate::piece_sets::PieceSets;
+use crate::play::{en_passant_after, rights_after, sets_played, squares_played};
+use crate::tidy::legal_en_passant;
+use crate::valid::{is_valid, start};
 use arrayvec::ArrayVec;
 use explorer_model::chess::{Move, Position};
-use plain_chess::board::opponent;
-use plain_chess::play::{en_passant_after, rights_after};
-use plain_chess::valid::{is_valid, start};
 use std::marker::Model;
 
 /// A valid position, ready to be asked for its moves.
 #[derive(Clone, Copy, Debug)]
 pub struct Board {
     position: Position,
-    /// The men of the position.
-    men: Men,
+    /// The pieces of the position.
+    sets: PieceSets,
 }
 
 impl Model for Board {
     ghost use Rattle.explorer_model.specs.declared.chess.Position.{Position};
-    ghost use Rattle.legal_moves.specs.Men.{men_in, IsKept};
+    ghost use Rattle.legal_moves.specs.PieceSets.{sets_in, IsKept};
     ghost use Rattle.std.proofs.Common.{sym};
 
     ghost Value = { Position };
 
     ghost view = { λ b. b.position };
 
-    ghost invariant = { λ b. IsKept b.position b.men };
+    ghost invariant = { λ b. IsKept b.position b.sets };
 
-    ghost inverse = { λ p. record { position = p; men = men_in p.squares } };
+    ghost inverse = { λ p. record { position = p; sets = sets_in p.squares } };
 
-    ghost inverse_ok = { λ b kept i. record { position = b.position; men = sym kept.told i } };
+    ghost inverse_ok = { λ b kept i. record { position = b.position; sets = sym kept.told i } };
 }
 
 impl Board {
@@ -69,7 +67,7 @@ impl Board {
     {
         Board {
             position,
-            men: Men::of(&position.squares),
+            sets: PieceSets::of(&position.squares),
         }
     }
 
@@ -84,10 +82,10 @@ impl Board {
     pub fn checked(&self) -> bool
         ensures { IsTrue result ↔ InCheck self.now.squares self.now.turn }
     {
-        Sight::of(&self.position, &self.men).checked
+        CheckInfo::of(&self.position, &self.sets).in_check
     }
 
-    /// Every legal move, in no stated order. There are never more than 415: fifteen men have at
+    /// Every legal move, in no stated order. There are never more than 415: fifteen pieces have at
     /// most 27 moves each, and a king has at most 10.
     pub fn legal(&self) -> ArrayVec<Move, 416>
         ensures each { (m : Move) → Contains result.items m ↔ Legal self.now m }
@@ -95,14 +93,14 @@ impl Board {
         ensures sound { All (λ m. Legal self.now m) result.items }
         ensures few { length result.items ≤ 415 }
     {
-        generate::legal(&self.position, &self.men)
+        generate::legal(&self.position, &self.sets)
     }
 
     /// Is there a legal move? This stops at the first square from which there is one.
     pub fn has_move(&self) -> bool
         ensures { IsTrue result ↔ ((m : Move) × Legal self.now m) }
     {
-        generate::has_move(&self.position, &self.men)
+        generate::has_move(&self.position, &self.sets)
     }
 
     /// The board after a legal move.
@@ -114,11 +112,11 @@ impl Board {
         Board {
             position: Position {
                 squares: squares_played(position, step),
-                turn: opponent(position.turn),
+                turn: position.turn.opponent(),
                 rights: rights_after(position, step),
                 en_passant: en_passant_after(position, step),
             },
-            men: men_played(position, &self.men, step),
+            sets: sets_played(position, &self.sets, step),
         }
     }
 
@@ -129,10 +127,10 @@ impl Board {
     {
         Board {
             position: Position {
-                en_passant: open_en_passant(&self.position, &self.men),
+                en_passant: legal_en_passant(&self.position, &self.sets),
                 ..self.position
             },
-            men: self.men,
+            sets: self.sets,
         }
     }
 }

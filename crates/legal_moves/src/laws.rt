@@ -12,10 +12,17 @@ pub fn legal_moves_keep_validity()
 
 /// Two positions are the same exactly where their tidy forms are equal.
 pub fn tidy_forms_decide_same()
-    ensures { (p q p_tidied q_tidied : Position) → IsTidied p p_tidied → IsTidied q q_tidied → Same p q ↔ (p_tidied ≡ q_tidied) }
+    ensures { (p q p_tidied q_tidied : Position) → IsTidied p p_tidied → IsTidied q q_tidied
+        → Same p q ↔ (p_tidied ≡ q_tidied) }
+{}
+
+/// A position has one tidy form.
+pub fn tidy_is_determined()
+    ensures { (p q r : Position) → IsTidied p q → IsTidied p r → q ≡ r }
 {}
 
 /// Two positions that are the same have the same legal moves.
 pub fn same_positions_have_the_same_moves()
-    ensures { (p q : Position) (m : Move) → IsValid p → IsValid q → Same p q → Legal p m → Legal q m }
+    ensures { (p q : Position) (m : Move) → IsValid p → IsValid q → Same p q
+        → Legal p m → Legal q m }
 {}

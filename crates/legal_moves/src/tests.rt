@@ -1,13 +1,11 @@
 //! Boards against what the Laws of Chess say of a few moves.
 mod legal;
 mod perft;
-mod plainly;
 
 use crate::board::Board;
+use crate::valid::{is_valid, start};
 use explorer_model::chess::{Color, Move, Piece, Position, Rights, Role};
 use explorer_model::square::Square;
-use plain_chess::legal::is_legal;
-use plain_chess::valid::start;
 
 const NO_RIGHTS: Rights = Rights {
     white_short: false,
@@ -37,8 +35,8 @@ const ALL_RIGHTS: Rights = Rights {
     black_long: true,
 };
 
-/// The man that a letter of FEN names.
-fn man(letter: u8) -> Option<Piece> {
+/// The piece that a letter of FEN names.
+fn piece(letter: u8) -> Option<Piece> {
     let color = if letter.is_ascii_uppercase() {
         Color::White
     } else {
@@ -55,8 +53,8 @@ fn man(letter: u8) -> Option<Piece> {
     Some(Piece { color, role })
 }
 
-/// The men that the first field of a FEN text places.
-fn men(placement: &str) -> [Option<Piece>; 64] {
+/// The pieces that the first field of a FEN text places.
+fn pieces(placement: &str) -> [Option<Piece>; 64] {
     let mut squares = [None; 64];
     // FEN goes from a8 to h8, and ends with h1.
     let mut place = 0u8;
@@ -65,7 +63,7 @@ fn men(placement: &str) -> [Option<Piece>; 64] {
             b'/' => {}
             b'1'..=b'8' => place = place.wrapping_add(letter - b'0'),
             _ => {
-                squares[(place ^ 56) as usize % 64] = man(letter);
+                squares[(place ^ 56) as usize % 64] = piece(letter);
                 place = place.wrapping_add(1);
             }
         }
@@ -84,7 +82,7 @@ fn square(name: &[u8; 2]) -> Square {
 
 fn position(placement: &str, turn: Color, rights: Rights, en_passant: Option<Square>) -> Position {
     Position {
-        squares: men(placement),
+        squares: pieces(placement),
         turn,
         rights,
         en_passant,
@@ -94,16 +92,17 @@ fn position(placement: &str, turn: Color, rights: Rights, en_passant: Option<Squ
 /// The position after a legal move on a valid position.
 fn played(at: &Position, name: &[u8; 4], promotion: Option<Role>) -> Option<Position> {
     let board = Board::of(at)?;
-    let step = Move {
+    let wanted = Move {
         from: square(&[name[0], name[1]]),
         to: square(&[name[2], name[3]]),
         promotion,
     };
-    if is_legal(&board.position(), step) {
-        Some(board.play(step).position())
-    } else {
-        None
+    for m in board.legal().as_slice() {
+        if *m == wanted {
+            return Some(board.play(*m).position());
+        }
     }
+    None
 }
 
 fn is_equal(a: &Position, b: &Position) -> bool {
@@ -220,9 +219,38 @@ fn an_en_passant_square_stays_where_a_pawn_can_be_taken(rt: HostRuntime) {
 }
 
 #[test]
-fn the_waiting_side_is_not_in_check(rt: HostRuntime) {
-    for (turn, valid) in [(Color::Black, true), (Color::White, false)] {
-        let at = position("4k3/8/8/8/8/8/8/K3R3", turn, NO_RIGHTS, None);
+fn positions_that_cannot_be_are_not_valid(rt: HostRuntime) {
+    let (white, black) = (Color::White, Color::Black);
+    let board = "4k3/8/8/2Pp4/8/8/8/4K2R";
+    let blocked = "4k3/3p4/8/2Pp4/8/8/8/4K2R";
+    for (placement, turn, rights, en_passant, valid) in [
+        (board, white, NO_RIGHTS, None, true),
+        (board, white, WHITE_RIGHTS, None, false),
+        ("8/8/8/8/8/8/8/4K3", white, NO_RIGHTS, None, false),
+        ("4k3/8/8/8/8/8/8/3KK3", white, NO_RIGHTS, None, false),
+        (
+            "4k3/8/8/8/8/PPPPPPPP/PPPPPPPP/4K3",
+            white,
+            NO_RIGHTS,
+            None,
+            false,
+        ),
+        ("4k2P/8/8/8/8/8/8/4K3", white, NO_RIGHTS, None, false),
+        ("4k3/8/8/8/8/8/8/p3K3", white, NO_RIGHTS, None, false),
+        // The side that waits is in check.
+        ("4k3/8/8/8/8/8/8/K3R3", white, NO_RIGHTS, None, false),
+        ("4k3/8/8/8/8/8/8/K3R3", black, NO_RIGHTS, None, true),
+        (board, white, NO_RIGHTS, Some(b"d6"), true),
+        (board, black, NO_RIGHTS, Some(b"d6"), false),
+        (board, white, NO_RIGHTS, Some(b"c6"), false),
+        (blocked, white, NO_RIGHTS, Some(b"d6"), false),
+    ] {
+        let crossed = match en_passant {
+            Some(name) => Some(square(name)),
+            None => None,
+        };
+        let at = position(placement, turn, rights, crossed);
+        assert_eq!(rt; is_valid(&at), valid);
         assert_eq!(rt; Board::of(&at).is_some(), valid);
     }
 }

@@ -9,29 +9,31 @@ use Rattle.best_lists.specs.Ranking.{before_by_rating, before_by_month}
 use Rattle.best_lists.specs.declared.entry.Entry.{Entry}
 use Rattle.explorer_model.specs.declared.archive.Classes.{Classes}
 use Rattle.explorer_model.specs.declared.archive.Game.{Game}
+use Rattle.explorer_model.specs.Journal.{game_limit}
+use Rattle.explorer_model.specs.SoundClasses.{AreSoundClasses}
 use Rattle.explorer_model.specs.Visits.{IsTextOf}
-use Rattle.tally_rows.specs.declared.parts.Parts.{Parts}
+use Rattle.explorer_model.proofs.SoundClasses.{game-sound}
+use Rattle.tally_rows.specs.declared.row_key.RowKey.{RowKey}
 use Rattle.tally_rows.specs.declared.row.Row.{Row}
 use Rattle.tally_rows.specs.Adding as adding
 use Rattle.tally_rows.specs.Recount.{all_of, picks, picked_sum, is_counted, GivesPicked}
-use Rattle.tally_rows.specs.Row.{parts_of}
+use Rattle.tally_rows.specs.Row.{row_key_of}
 use Rattle.tally_rows.specs.Tallied.{is_black_to_move, mover_rating, rating_sum, track_month, entries, has_move, IsTally, Tallied}
 use Rattle.tally_rows.specs.Tally.{Counted, IsCounted, IsTrackOf}
 use Rattle.tally_rows.specs.Track.{Track, has}
 use Rattle.tally_rows.proofs.AddsUp.{count-outcomes}
 use Rattle.tally_rows.proofs.Members.{IsIn, All-from_IsIn, All-IsIn}
 use Rattle.tally_rows.proofs.Sums.{sum_by-add}
-use Rattle.lookup.specs.Hits.{NumberedRow, rows_from, games_counted, game_limit, games_of, IsSound, AreSound}
+use Rattle.lookup.specs.Hits.{NumberedRow, rows_from, games_counted, games_of, IsSound, AreSound}
 use Rattle.lookup.specs.Sums.{sum_where}
 use Rattle.lookup.specs.Tallies.{tracks_in}
 use Rattle.lookup.proofs.Bridges.{rows_in, tracks-length, sum-picked}
 use Rattle.lookup.proofs.Numbered.{numbered}
-use Rattle.lookup.proofs.Ratings.{AreRatings, game-ratings}
 
 -- what is known of tallied rows
 pub record Laws : Type 0 where
   pub gives : (cover : List (List Track)) (tallies : List (List Row)) → AllZip Tallied cover tallies
-      → (bytes : List ℕ) (pick : Parts → Bool) → GivesPicked bytes pick cover tallies
+      → (bytes : List ℕ) (pick : RowKey → Bool) → GivesPicked bytes pick cover tallies
   pub sound : (tracks : List Track) (rows : List Row) → Tallied tracks rows → All adding.IsSound rows
 
 -- ---- how many games
@@ -43,7 +45,7 @@ all-games (tally ∷ tallies) each =
     ∙ (λ i. tracks-length tally each.0 i + all-games tallies each.1 i)
     ∙ sym (sum_by-cons (λ (t : Counted). length t.classes) tally tallies)
 
-module _ (key : List ℕ) (pick : Parts → Bool) (tallies : List Counted) where
+module _ (key : List ℕ) (pick : RowKey → Bool) (tallies : List Counted) where
   sum-all : (count : Row → ℕ) → sum_by (λ hit. count hit.row) (rows_from key pick 0 tallies) ≡ sum_by (picked_sum key pick count) (rows_in tallies)
   unfolding sum_where
   sum-all count = sym (sum-picked key pick pick (λ row. true) (λ row. and_true (picks key pick row)) count 0 tallies)
@@ -77,23 +79,23 @@ module _ (key : List ℕ) (pick : Parts → Bool) (tallies : List Counted) where
 
 -- ---- ratings
 
-mover-bound : (key : List ℕ) (classes : Classes) → AreRatings classes → mover_rating key classes ≤ 65535
+mover-bound : (key : List ℕ) (classes : Classes) → AreSoundClasses classes → mover_rating key classes ≤ 65535
 mover-bound key classes are = by (is_black_to_move key)
   where
     by : (b : Bool) → cond b classes.black.rating classes.white.rating ≤ 65535
     by true = omega (arith, are.black)
     by false = omega (arith, are.white)
 
-ratings-bound : (key : List ℕ) (parts : Parts) (tracks : List Track) → AllByRecursion (λ t. AreRatings t.classes) tracks
-    → sum_by (λ t. cond (has_move parts t) (mover_rating key t.classes) 0) tracks ≤ 65535 * count_by (has parts) tracks
-ratings-bound key parts [] are = omega arith
-ratings-bound key parts (t ∷ tracks) are =
+ratings-bound : (key : List ℕ) (row_key : RowKey) (tracks : List Track) → AllByRecursion (λ t. AreSoundClasses t.classes) tracks
+    → sum_by (λ t. cond (has_move row_key t) (mover_rating key t.classes) 0) tracks ≤ 65535 * count_by (has row_key) tracks
+ratings-bound key row_key [] are = omega arith
+ratings-bound key row_key (t ∷ tracks) are =
     omega (
       arith,
-      sum_by-cons (λ s. cond (has_move parts s) (mover_rating key s.classes) 0) t tracks,
-      sum_by-cons (λ s. cond (has parts s) 1 0) t tracks,
-      one (is_some parts.next) (has parts t) (mover-bound key t.classes are.0),
-      ratings-bound key parts tracks are.1,
+      sum_by-cons (λ s. cond (has_move row_key s) (mover_rating key s.classes) 0) t tracks,
+      sum_by-cons (λ s. cond (has row_key s) 1 0) t tracks,
+      one (is_some row_key.next) (has row_key t) (mover-bound key t.classes are.0),
+      ratings-bound key row_key tracks are.1,
     )
   where
     one : (a b : Bool) → mover_rating key t.classes ≤ 65535 → cond (a && b) (mover_rating key t.classes) 0 ≤ 65535 * cond {A = ℕ} b 1 0
@@ -104,14 +106,14 @@ ratings-bound key parts (t ∷ tracks) are =
 
 -- the games of texts have their ratings
 track-ratings : (texts : List (List ℕ)) (games : List Game) (tracks : List Track) → AllZip IsTextOf texts games → AllZip IsTrackOf games tracks
-    → AllByRecursion (λ t. AreRatings t.classes) tracks
+    → AllByRecursion (λ t. AreSoundClasses t.classes) tracks
 track-ratings [] [] [] of tracked = tt
 track-ratings [] [] (t ∷ tracks) of tracked = absurd tracked
 track-ratings [] (g ∷ games) tracks of tracked = absurd of
 track-ratings (x ∷ texts) [] tracks of tracked = absurd of
 track-ratings (x ∷ texts) (g ∷ games) [] of tracked = absurd tracked
 track-ratings (x ∷ texts) (g ∷ games) (t ∷ tracks) of tracked =
-    (subst AreRatings (sym tracked.0.classes) (game-ratings x g of.0), track-ratings texts games tracks of.1 tracked.1)
+    (subst AreSoundClasses (sym tracked.0.classes) (game-sound x g of.0), track-ratings texts games tracks of.1 tracked.1)
 
 -- ---- numbers
 
@@ -149,22 +151,22 @@ row-sound laws tally counted first le = All-from_IsIn (λ row. IsSound (numbered
         let within : first + length tracks ≤ game_limit = omega (arith, tracks-length tally counted) in
         let fits = λ (list : List Entry). All (λ entry. entry.number + first < 2 ^ 32) list in
         record {
-          some = fine.seen;
+          some = fine.some;
           ratings = omega (
             arith,
             counts.white,
             counts.draws,
             counts.black,
             counts.ratings,
-            count-outcomes (has (parts_of row)) tracks,
-            ratings-bound row.key (parts_of row) tracks
+            count-outcomes (has (row_key_of row)) tracks,
+            ratings-bound row.key (row_key_of row) tracks
                 (track-ratings tally.batch.texts counted.tally.games tracks counted.tally.are_games counted.tally.are_tracks),
           );
-          top = subst fits (sym counts.top) (best-fit rating_sum (has_move (parts_of row)) before_by_rating first tracks within);
-          recent = subst fits (sym counts.recent) (best-fit track_month (has_move (parts_of row)) before_by_month first tracks within);
+          top = subst fits (sym counts.top) (best-fit rating_sum (has_move (row_key_of row)) before_by_rating first tracks within);
+          recent = subst fits (sym counts.recent) (best-fit track_month (has_move (row_key_of row)) before_by_month first tracks within);
         }
 
-rows-sound : Laws → (key : List ℕ) (pick : Parts → Bool) (first : ℕ) (tallies : List Counted) → AllByRecursion IsCounted tallies
+rows-sound : Laws → (key : List ℕ) (pick : RowKey → Bool) (first : ℕ) (tallies : List Counted) → AllByRecursion IsCounted tallies
     → first + games_counted tallies ≤ game_limit → All IsSound (rows_from key pick first tallies)
 unfolding rows_from
 rows-sound laws key pick first [] each le = All-nil IsSound
@@ -176,7 +178,7 @@ rows-sound laws key pick first (tally ∷ tallies) each le =
     (rows-sound laws key pick (first + length tally.classes) tallies each.1 (omega (arith, split)))
 
 pub are-sound : Laws → (tallies : List Counted) → AllByRecursion IsCounted tallies → games_counted tallies ≤ game_limit
-    → (key : List ℕ) (pick : Parts → Bool) → AreSound (rows_from key pick 0 tallies)
+    → (key : List ℕ) (pick : RowKey → Bool) → AreSound (rows_from key pick 0 tallies)
 are-sound laws tallies each le key pick = record {
   each = rows-sound laws key pick 0 tallies each (omega arith);
   few = omega (arith, games-few key pick tallies each (laws.gives (tracks_in tallies each) (rows_in tallies) (tallied tallies each) key pick));

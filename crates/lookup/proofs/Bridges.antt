@@ -16,11 +16,11 @@ use Rattle.explorer_model.specs.declared.query.Filter.{Filter}
 use Rattle.explorer_model.specs.Best.{best}
 use Rattle.explorer_model.specs.Counting.{any_next, is_move, is_same_move, is_same_month, before_in_time, distinct, total}
 use Rattle.explorer_model.specs.Uci.{uci_text}
-use Rattle.tally_rows.specs.declared.parts.Parts.{Parts}
+use Rattle.tally_rows.specs.declared.row_key.RowKey.{RowKey}
 use Rattle.tally_rows.specs.declared.row.Row.{Row}
-use Rattle.tally_rows.specs.Cover.{passes_parts, meets, meets_in, rows_totals, rows_ratings, rows_moves, rows_months, rows_month_line, rows_before}
+use Rattle.tally_rows.specs.Cover.{passes_row_key, meets, meets_in, rows_totals, rows_ratings, rows_moves, rows_months, rows_month_line, rows_before}
 use Rattle.tally_rows.specs.Recount.{all_of, picks, picked_sum, picked_lists, cover_lists}
-use Rattle.tally_rows.specs.Row.{parts_of}
+use Rattle.tally_rows.specs.Row.{row_key_of}
 use Rattle.tally_rows.specs.Tally.{Counted, IsCounted, IsTrackOf}
 use Rattle.lookup.specs.Hits.{NumberedRow, in_months, in_cells, rows_from}
 use Rattle.lookup.specs.Sums.{sum_where, totals_where, ratings_where, entries_where, is_of_month, top_where, recent_where, moves_in, months_in, before_by_total, history_in}
@@ -52,7 +52,7 @@ tracks-length tally counted =
 module _ (key : List ℕ) (wanted : Filter) where
   pub picks-test : (test : Option Move → Bool) (row : Row) → picks key (meets wanted test) row ≡ (picks key (meets wanted any_next) row && test row.next)
   unfolding picks
-  picks-test test row = all (bytes_eq row.key key) (passes_parts wanted (parts_of row)) (test row.next)
+  picks-test test row = all (bytes_eq row.key key) (passes_row_key wanted (row_key_of row)) (test row.next)
     where
       all : (a b c : Bool) → (a && (b && c)) ≡ ((a && (b && true)) && c)
       all true true c = refl
@@ -61,18 +61,18 @@ module _ (key : List ℕ) (wanted : Filter) where
 
   pub picks-month : (month : Month) (row : Row) → picks key (meets_in month wanted) row ≡ (picks key (meets wanted any_next) row && is_of_month month row)
   unfolding picks
-  picks-month month row = all (bytes_eq row.key key) (passes_parts wanted (parts_of row)) (is_same_month month row.month)
+  picks-month month row = all (bytes_eq row.key key) (passes_row_key wanted (row_key_of row)) (is_same_month month row.month)
     where
       all : (a b c : Bool) → (a && (b && c)) ≡ ((a && (b && true)) && c)
       all true true c = refl
       all true false c = refl
       all false b c = refl
 
-  pub picks-cells : (row : Row) → picks key (meets wanted any_next) row ≡ (picks key (in_months wanted) row && in_cells wanted (parts_of row))
+  pub picks-cells : (row : Row) → picks key (meets wanted any_next) row ≡ (picks key (in_months wanted) row && in_cells wanted (row_key_of row))
   unfolding picks
   picks-cells row =
-      ap (λ b. bytes_eq row.key key && b) (sym (passes-both wanted (parts_of row)))
-      ∙ all (bytes_eq row.key key) (in_months wanted (parts_of row)) (in_cells wanted (parts_of row))
+      ap (λ b. bytes_eq row.key key && b) (sym (passes-both wanted (row_key_of row)))
+      ∙ all (bytes_eq row.key key) (in_months wanted (row_key_of row)) (in_cells wanted (row_key_of row))
     where
       all : (a b c : Bool) → (a && (b && c)) ≡ ((a && b) && c)
       all true b c = refl
@@ -80,7 +80,7 @@ module _ (key : List ℕ) (wanted : Filter) where
 
 -- ---- sums and lists, of one tally after another
 
-module _ (key : List ℕ) (pick narrow : Parts → Bool) (test : Row → Bool) (agree : (row : Row) → picks key narrow row ≡ (picks key pick row && test row)) where
+module _ (key : List ℕ) (pick narrow : RowKey → Bool) (test : Row → Bool) (agree : (row : Row) → picks key narrow row ≡ (picks key pick row && test row)) where
   sum-rows : (count : Row → ℕ) (first : ℕ) (rows : List Row)
       → sum_by (λ (hit : NumberedRow). cond (test hit.row) (count hit.row) 0) (map (numbered first) (filter (picks key pick) rows)) ≡ picked_sum key narrow count rows
   sum-rows count first [] = refl
@@ -146,7 +146,7 @@ module _ (key : List ℕ) (pick narrow : Parts → Bool) (test : Row → Bool) (
 
 -- ---- moves and months
 
-module _ (key : List ℕ) (pick : Parts → Bool) where
+module _ (key : List ℕ) (pick : RowKey → Bool) where
   moves-rows : (first : ℕ) (rows : List Row)
       → filter_map (λ row. if picks key pick row then row.next else None) rows
       ≡ filter_map (λ (hit : NumberedRow). hit.row.next) (map (numbered first) (filter (picks key pick) rows))
@@ -219,9 +219,9 @@ module _ (key : List ℕ) (wanted : Filter) (tallies : List Counted) where
 
   -- the same totals, of the rows of the months of which the filter takes the cells
   pub cell-totals-are : rows_totals key (rows_in tallies) (meets wanted any_next)
-      ≡ totals_where (rows_from key (in_months wanted) 0 tallies) (λ row. in_cells wanted (parts_of row))
+      ≡ totals_where (rows_from key (in_months wanted) 0 tallies) (λ row. in_cells wanted (row_key_of row))
   cell-totals-are =
-      totals-picked key (in_months wanted) (meets wanted any_next) (λ row. in_cells wanted (parts_of row)) (picks-cells key wanted) 0 tallies
+      totals-picked key (in_months wanted) (meets wanted any_next) (λ row. in_cells wanted (row_key_of row)) (picks-cells key wanted) 0 tallies
 
   pub top-is : (each : AllByRecursion IsCounted tallies) (test : Option Move → Bool)
       → best before_by_rating 4 (cover_lists key (meets wanted test) (λ row. row.top) 0 (tracks_in tallies each) (rows_in tallies))

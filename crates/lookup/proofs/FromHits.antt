@@ -11,7 +11,7 @@ use Rattle.explorer_model.specs.Counting.{any_next, is_move, total}
 use Rattle.explorer_model.specs.San.{SanText}
 use Rattle.tally_rows.specs.Cover.{listing, only_entry}
 use Rattle.tally_rows.specs.Recount.{all_of}
-use Rattle.tally_rows.specs.Row.{parts_of}
+use Rattle.tally_rows.specs.Row.{row_key_of}
 use Rattle.tally_rows.specs.Tally.{Counted, IsCounted}
 use Rattle.lookup.specs.FromRows.{IsRowsLine, rows_history, IsFromRows}
 use Rattle.lookup.specs.Hits.{NumberedRow, in_months, in_cells, rows_from}
@@ -34,7 +34,7 @@ module _ (query : Query) (key : List ℕ) (tallies : List Counted) (each : AllBy
 
   -- the totals are of the rows of all speeds and groups of the months, of which the filter takes the cells
   pub record IsFromHits (found : Found) : Type 0 where
-    pub totals : found.totals ≡ totals_where (rows_from key (in_months query.filter) 0 tallies) (λ row. in_cells query.filter (parts_of row))
+    pub totals : found.totals ≡ totals_where (rows_from key (in_months query.filter) 0 tallies) (λ row. in_cells query.filter (row_key_of row))
     pub moves : AllZip IsHitsLine (best (before_by_total hits) query.moves (moves_in hits)) found.moves
     pub top : map Some found.top ≡ map (listing key (all_of (tracks_in tallies each))) (take query.top (top_where hits any_row))
     pub recent : map Some found.recent ≡ map (listing key (all_of (tracks_in tallies each))) (take query.recent (recent_where hits any_row))

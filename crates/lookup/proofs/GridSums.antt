@@ -13,9 +13,10 @@ use Rattle.explorer_model.specs.Order.{speed_index}
 use Rattle.tally_rows.specs.declared.grid.Cell.{Cell}
 use Rattle.tally_rows.specs.declared.row.Row.{Row}
 use Rattle.tally_rows.specs.Grid.{IsShaped, no_games, zeros, plus, Fit, cell_of, cell_at, added, chosen, total, HasRoom}
-use Rattle.tally_rows.specs.Row.{parts_of}
+use Rattle.tally_rows.specs.Row.{row_key_of}
 use Rattle.tally_rows.proofs.Grids.{plus-none_right}
-use Rattle.lookup.specs.Hits.{NumberedRow, in_cells, games_of, game_limit, IsSound, AreSound}
+use Rattle.explorer_model.specs.Journal.{game_limit}
+use Rattle.lookup.specs.Hits.{NumberedRow, in_cells, games_of, IsSound, AreSound}
 use Rattle.lookup.specs.Sums.{sum_where, totals_where, ratings_where}
 
 -- what is known of grids
@@ -37,8 +38,8 @@ next_grid grid row =
 -- the sums of the rows that the filter takes
 abbrev pub cell_where : List NumberedRow → Filter → Cell
 cell_where hits wanted = record {
-  totals = totals_where hits (λ row. in_cells wanted (parts_of row));
-  ratings = ratings_where hits (λ row. in_cells wanted (parts_of row));
+  totals = totals_where hits (λ row. in_cells wanted (row_key_of row));
+  ratings = ratings_where hits (λ row. in_cells wanted (row_key_of row));
 }
 
 -- no more than all rows together
@@ -91,11 +92,11 @@ module _ (hits : List NumberedRow) (hit : NumberedRow) where
   unfolding sum_where
   sum-more test count = sum_by_push (λ (h : NumberedRow). cond (test h.row) (count h.row) 0) hits hit
 
-  cell-more : (wanted : Filter) → plus (cell_where hits wanted) (cond (in_cells wanted (parts_of hit.row)) (cell_of hit.row) no_games) ≡ cell_where (hits ++ hit ∷ []) wanted
+  cell-more : (wanted : Filter) → plus (cell_where hits wanted) (cond (in_cells wanted (row_key_of hit.row)) (cell_of hit.row) no_games) ≡ cell_where (hits ++ hit ∷ []) wanted
   unfolding plus
   cell-more wanted =
-      let test = λ (row : Row). in_cells wanted (parts_of row) in
-      let b = in_cells wanted (parts_of hit.row) in
+      let test = λ (row : Row). in_cells wanted (row_key_of row) in
+      let b = in_cells wanted (row_key_of hit.row) in
       cell-same _ _
       (ap (λ n. sum_where hits test (λ row. row.white) + n) (part (λ c. c.totals.white) b) ∙ sym (sum-more test (λ row. row.white)))
       (ap (λ n. sum_where hits test (λ row. row.draws) + n) (part (λ c. c.totals.draws) b) ∙ sym (sum-more test (λ row. row.draws)))
@@ -140,7 +141,7 @@ module _ (hits : List NumberedRow) (hit : NumberedRow) where
       ]
 
 -- no filter takes a group that is none of the nine
-not-taken : (wanted : Filter) (row : Row) → length wanted.groups ≡ 9 → 9 ≤ group_place row.group.value → in_cells wanted (parts_of row) ≡ false
+not-taken : (wanted : Filter) (row : Row) → length wanted.groups ≡ 9 → 9 ≤ group_place row.group.value → in_cells wanted (row_key_of row) ≡ false
 not-taken wanted row long past =
     ap (λ b. get_or wanted.speeds (speed_index row.speed) false && b) (get_or_past wanted.groups (group_place row.group.value) false (omega arith))
     ∙ neither (get_or wanted.speeds (speed_index row.speed) false)
@@ -182,7 +183,7 @@ filled-more laws grid hits hit filled = by (nat_lt (group_place hit.row.group.va
           (subst (λ s. IsShaped s (length wanted.groups) grid) (sym speeds) (subst (λ r. IsShaped 6 r grid) (sym groups) filled.shape))
           (subst (λ s. speed_index hit.row.speed < s) (sym speeds) (speed-below hit.row.speed))
           (subst (λ r. group_place hit.row.group.value < r) (sym groups) (ltb-true (group_place hit.row.group.value) 9 is))
-          ∙ ap (λ c. plus c (cond (in_cells wanted (parts_of hit.row)) (cell_of hit.row) no_games)) (filled.sums wanted speeds groups)
+          ∙ ap (λ c. plus c (cond (in_cells wanted (row_key_of hit.row)) (cell_of hit.row) no_games)) (filled.sums wanted speeds groups)
           ∙ cell-more hits hit wanted;
       cells = within-added hits hit grid (speed_index hit.row.speed) (group_place hit.row.group.value) filled.cells;
     }
@@ -243,7 +244,7 @@ module _ (hits : List NumberedRow) (sound : AreSound hits) where
   pub room : (cells : List Cell) (wanted : Filter) → total cells ≡ cell_where hits wanted → HasRoom cells
   unfolding total
   room cells wanted e =
-      let test = λ (row : Row). in_cells wanted (parts_of row) in
+      let test = λ (row : Row). in_cells wanted (row_key_of row) in
       record {
         white = omega (arith, ap (λ c. c.totals.white) e, some-within test (λ row. row.white), white-few);
         draws = omega (arith, ap (λ c. c.totals.draws) e, some-within test (λ row. row.draws), draws-few);

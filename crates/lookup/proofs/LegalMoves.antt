@@ -9,33 +9,33 @@ use Rattle.explorer_model.specs.declared.chess.Move.{Move}
 use Rattle.explorer_model.specs.declared.chess.Position.{Position}
 use Rattle.explorer_model.specs.Chess.{Legal}
 use Rattle.explorer_model.specs.Visits.{IsTextOf}
-use Rattle.tally_rows.specs.declared.parts.Parts.{Parts}
+use Rattle.tally_rows.specs.declared.row_key.RowKey.{RowKey}
 use Rattle.tally_rows.specs.declared.row.Row.{Row}
 use Rattle.tally_rows.specs.Recount.{picks}
-use Rattle.tally_rows.specs.Row.{parts_of}
+use Rattle.tally_rows.specs.Row.{row_key_of}
 use Rattle.tally_rows.specs.Tally.{Counted, IsCounted, IsTrackOf}
-use Rattle.tally_rows.specs.Track.{Track, visit, parts_at, has}
+use Rattle.tally_rows.specs.Track.{Track, visit, row_keys_at, has}
 use Rattle.tally_rows.proofs.Members.{IsIn, Found, All-IsIn, Found-from_Any, recursion-IsIn}
-use Rattle.tally_rows.proofs.Visits.{has-parts_at}
+use Rattle.tally_rows.proofs.Visits.{has-row_keys_at}
 use Rattle.lookup.specs.Hits.{NumberedRow, rows_from}
 use Rattle.lookup.specs.Sums.{moves_in}
 use Rattle.lookup.proofs.RowNexts.{moves-have}
 
 -- ---- a row's games play its move in its position
 
-visit-next : (key : List ℕ) (t : Track) (parts : Parts) → parts_at key t ≡ Some parts → visit key t ≡ Some parts.next
-unfolding parts_at
-visit-next key t parts is = by (visit key t) refl is
+visit-next : (key : List ℕ) (t : Track) (row_key : RowKey) → row_keys_at key t ≡ Some row_key → visit key t ≡ Some row_key.next
+unfolding row_keys_at
+visit-next key t row_key is = by (visit key t) refl is
   where
     by : (v : Option (Option Move)) → visit key t ≡ v
-        → option_map (λ next. record { key = key; next = next; month = t.classes.month; speed = t.classes.speed; group = t.classes.group }) v ≡ Some parts
-        → visit key t ≡ Some parts.next
-    by None here is = absurd (none-some parts is)
-    by (Some next) here is = here ∙ ap (λ (p : Parts). Some p.next) (same_Some _ parts is)
+        → option_map (λ next. record { key = key; next = next; month = t.classes.month; speed = t.classes.speed; group = t.classes.group }) v ≡ Some row_key
+        → visit key t ≡ Some row_key.next
+    by None here is = absurd (none-some row_key is)
+    by (Some next) here is = here ∙ ap (λ (p : RowKey). Some p.next) (same_Some _ row_key is)
 
 -- a game that has the row's parts
-pub row-visit : (row : Row) (t : Track) → has (parts_of row) t ≡ true → visit row.key t ≡ Some row.next
-row-visit row t is = visit-next row.key t (parts_of row) (has-parts_at (parts_of row) t is)
+pub row-visit : (row : Row) (t : Track) → has (row_key_of row) t ≡ true → visit row.key t ≡ Some row.next
+row-visit row t is = visit-next row.key t (row_key_of row) (has-row_keys_at (row_key_of row) t is)
 
 -- ---- and that move is legal
 
@@ -62,7 +62,7 @@ module _ (at : Position) (key : List ℕ) where
   row-legal : TracksTell → (tally : Counted) → IsCounted tally → (row : Row) → IsIn row tally.rows → row.key ≡ key → PlaysLegal row
   row-legal tell tally counted row is_in here m is =
       let tracks = counted.tally.tracks in
-      let some : Found (λ t. has (parts_of row) t ≡ true) tracks = Found-from_Any _ tracks (All-IsIn (λ x. Any (λ t. has (parts_of x) t ≡ true) tracks) tally.rows counted.tally.tallied.some row is_in) in
+      let some : Found (λ t. has (row_key_of row) t ≡ true) tracks = Found-from_Any _ tracks (All-IsIn (λ x. Any (λ t. has (row_key_of x) t ≡ true) tracks) tally.rows counted.tally.tallied.some row is_in) in
       let each = tracks-tell tell tally.batch.texts counted.tally.games tracks counted.tally.are_games counted.tally.are_tracks in
       let K : List ℕ → Type 0 = λ k. visit k some.value ≡ Some (Some m) in
       recursion-IsIn TellsLegal tracks each some.value some.is_in m (subst K here (row-visit row some.value some.holds ∙ ap (λ next. Some next) is))
@@ -90,15 +90,15 @@ module _ (at : Position) (key : List ℕ) where
   append-legal [] more each rest = rest
   append-legal (hit ∷ hits) more each rest = (each.0, append-legal hits more each.1 rest)
 
-  picked-key : (pick : Parts → Bool) (row : Row) → picks key pick row ≡ true → row.key ≡ key
+  picked-key : (pick : RowKey → Bool) (row : Row) → picks key pick row ≡ true → row.key ≡ key
   unfolding picks
-  picked-key pick row is = (bytes_eq-Decides row.key key).0 (first (bytes_eq row.key key) (pick (parts_of row)) is)
+  picked-key pick row is = (bytes_eq-Decides row.key key).0 (first (bytes_eq row.key key) (pick (row_key_of row)) is)
     where
       first : (a b : Bool) → a && b ≡ true → a ≡ true
       first true b is = refl
       first false b is = is
 
-  rows-legal : TracksTell → (pick : Parts → Bool) (first : ℕ) (tallies : List Counted) → AllByRecursion IsCounted tallies
+  rows-legal : TracksTell → (pick : RowKey → Bool) (first : ℕ) (tallies : List Counted) → AllByRecursion IsCounted tallies
       → AllByRecursion HitLegal (rows_from key pick first tallies)
   unfolding rows_from
   rows-legal tell pick first [] each = tt
@@ -108,6 +108,6 @@ module _ (at : Position) (key : List ℕ) where
       (filter-legal (picks key pick) tally.rows (λ row is_in is. row-legal tell tally each.0 row is_in (picked-key pick row is))))
       (rows-legal tell pick (first + length tally.classes) tallies each.1)
 
-  pub moves-legal : TracksTell → (pick : Parts → Bool) (tallies : List Counted) → AllByRecursion IsCounted tallies
+  pub moves-legal : TracksTell → (pick : RowKey → Bool) (tallies : List Counted) → AllByRecursion IsCounted tallies
       → AllByRecursion (λ m. Legal at m) (moves_in (rows_from key pick 0 tallies))
   moves-legal tell pick tallies each = moves-have (λ m. Legal at m) (rows_from key pick 0 tallies) (rows-legal tell pick 0 tallies each)

@@ -1,12 +1,10 @@
 pub mod Bridge
-pub mod Months
 pub mod Made
 pub mod Determined
 pub mod Journal
 pub mod RowsAt
 pub mod Numbered
 pub mod Bridges
-pub mod Ratings
 pub mod Bounds
 pub mod GridSums
 pub mod RowNexts

@@ -23,16 +23,16 @@ use Rattle.lookup.specs.Listing.{lists_number, next_where, all_classes, listed_w
 use Rattle.lookup.specs.Sums.{entries_where}
 use Rattle.lookup.specs.Tallies.{tracks_in}
 use Rattle.lookup.proofs.Places.{get-left, get-right}
-use Rattle.tally_rows.specs.declared.parts.Parts.{Parts}
+use Rattle.tally_rows.specs.declared.row_key.RowKey.{RowKey}
 use Rattle.tally_rows.specs.declared.row.Row.{Row}
 use Rattle.tally_rows.specs.Cover.{meets, listing, listed_by}
 use Rattle.tally_rows.specs.Recount.{all_of, picks}
-use Rattle.tally_rows.specs.Row.{parts_of}
+use Rattle.tally_rows.specs.Row.{row_key_of}
 use Rattle.tally_rows.specs.Tallied.{entries, has_move, rating_sum, track_month, IsTally}
 use Rattle.tally_rows.specs.Tally.{Counted, IsCounted, IsTrackOf}
-use Rattle.tally_rows.specs.Track.{Track, visit, parts_at, has}
+use Rattle.tally_rows.specs.Track.{Track, visit, row_keys_at, has}
 use Rattle.tally_rows.proofs.Members.{IsIn, All-from_IsIn, All-IsIn, IsIn-from_Contains, Contains-IsIn, Found-map}
-use Rattle.tally_rows.proofs.Visits.{has-parts_at}
+use Rattle.tally_rows.proofs.Visits.{has-row_keys_at}
 
 -- ---- the game of an entry of a row
 
@@ -74,13 +74,13 @@ module _ (rank : Track → ℕ) (test : Track → Bool) where
 
 -- the entries of a list of a row are games that have the row's parts, and a move among them
 abbrev pub ListsGames : (Row → List Entry) → Type 0
-ListsGames list = (tracks : List Track) (row : Row) → IsTally tracks row → (entry : Entry) → IsIn entry (list row) → IsAt (has_move (parts_of row)) 0 tracks entry
+ListsGames list = (tracks : List Track) (row : Row) → IsTally tracks row → (entry : Entry) → IsIn entry (list row) → IsAt (has_move (row_key_of row)) 0 tracks entry
 
 pub top-lists : ListsGames (λ row. row.top)
-top-lists tracks row tally entry m = best-at rating_sum (has_move (parts_of row)) before_by_rating tracks row.top entry tally.top m
+top-lists tracks row tally entry m = best-at rating_sum (has_move (row_key_of row)) before_by_rating tracks row.top entry tally.top m
 
 pub recent-lists : ListsGames (λ row. row.recent)
-recent-lists tracks row tally entry m = best-at track_month (has_move (parts_of row)) before_by_month tracks row.recent entry tally.recent m
+recent-lists tracks row tally entry m = best-at track_month (has_move (row_key_of row)) before_by_month tracks row.recent entry tally.recent m
 
 -- the move of a row is what a game plays in the position
 record Plays (key : List ℕ) (track : Track) (row : Row) : Type 0 where
@@ -88,7 +88,7 @@ record Plays (key : List ℕ) (track : Track) (row : Row) : Type 0 where
   of_row : row.next ≡ Some next
   of_track : visit key track ≡ Some (Some next)
 
-visited-by : (key : List ℕ) (t : Track) (o : Option (Option Move)) (c : Parts)
+visited-by : (key : List ℕ) (t : Track) (o : Option (Option Move)) (c : RowKey)
     → option_map (λ next. record { key = key; next = next; month = t.classes.month; speed = t.classes.speed; group = t.classes.group }) o ≡ Some c
     → o ≡ Some c.next
 visited-by key t None c e = cc
@@ -96,18 +96,18 @@ visited-by key t (Some next) c e =
     let same : c ≡ record { key = key; next = next; month = t.classes.month; speed = t.classes.speed; group = t.classes.group } = cc in
     ap Some (sym (ap (λ p. p.next) same))
 
-visited : (key : List ℕ) (t : Track) (c : Parts) → parts_at key t ≡ Some c → visit key t ≡ Some c.next
-unfolding parts_at
+visited : (key : List ℕ) (t : Track) (c : RowKey) → row_keys_at key t ≡ Some c → visit key t ≡ Some c.next
+unfolding row_keys_at
 visited key t c e = visited-by key t (visit key t) c e
 
 plays-by : (key : List ℕ) (track : Track) (row : Row) → row.key ≡ key → (o : Option Move) → row.next ≡ o
-    → (is_some o && has (parts_of row) track) ≡ true → Plays key track row
+    → (is_some o && has (row_key_of row) track) ≡ true → Plays key track row
 plays-by key track row of None is plays = cc
 plays-by key track row of (Some next) is plays =
-    let there = visited row.key track (parts_of row) (has-parts_at (parts_of row) track plays) in
+    let there = visited row.key track (row_key_of row) (has-row_keys_at (row_key_of row) track plays) in
     record { next = next; of_row = is; of_track = ap (λ k. visit k track) (sym of) ∙ there ∙ ap Some is }
 
-plays-there : (key : List ℕ) (track : Track) (row : Row) → row.key ≡ key → has_move (parts_of row) track ≡ true → Plays key track row
+plays-there : (key : List ℕ) (track : Track) (row : Row) → row.key ≡ key → has_move (row_key_of row) track ≡ true → Plays key track row
 plays-there key track row of plays = plays-by key track row of row.next refl plays
 
 -- ---- the games of the entries of rows
@@ -157,10 +157,10 @@ left-true : (a b : Bool) → (a && b) ≡ true → a ≡ true
 left-true true b e = refl
 left-true false b e = e
 
-module _ (list : Row → List Entry) (lists : ListsGames list) (key : List ℕ) (pick : Parts → Bool) where
+module _ (list : Row → List Entry) (lists : ListsGames list) (key : List ℕ) (pick : RowKey → Bool) where
   picks-own_key : (row : Row) → picks key pick row ≡ true → row.key ≡ key
   unfolding picks
-  picks-own_key row e = (bytes_eq-Decides row.key key).0 (left-true (bytes_eq row.key key) (pick (parts_of row)) e)
+  picks-own_key row e = (bytes_eq-Decides row.key key).0 (left-true (bytes_eq row.key key) (pick (row_key_of row)) e)
 
   tells-here : (tally : Counted) (is : IsCounted tally) (first : ℕ) (rest : List Track) (row : Row) → IsIn row (filter (picks key pick) tally.rows)
       → (entry : Entry) → IsIn entry (list row) → Tells list key first (is.tally.tracks ++ rest) (record { row = row; first = first }) entry
@@ -292,7 +292,7 @@ record IsFoundAs (key : List ℕ) (tracks : List Track) (entry : Entry) (found :
   found_is : found ≡ Some game
   listing_is : listing key tracks entry ≡ Some game
 
-module _ (list : Row → List Entry) (lists : ListsGames list) (key : List ℕ) (pick : Parts → Bool)
+module _ (list : Row → List Entry) (lists : ListsGames list) (key : List ℕ) (pick : RowKey → Bool)
     (tallies : List Counted) (each : AllByRecursion IsCounted tallies) (entry : Entry) where
   next-is : (hits : List NumberedRow) (first : IsFirst (lists_number list entry.number) hits) (m : Move) → first.value.row.next ≡ Some m
       → next_where list hits entry.number ≡ Some m

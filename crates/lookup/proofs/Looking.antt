@@ -22,7 +22,7 @@ use Rattle.lookup.proofs.Bridges.{rows_in, hits_of}
 use Rattle.lookup.proofs.FromHits.{IsHitsLine, IsFromHits, from-hits}
 use Rattle.lookup.proofs.Listings.{best-stand}
 use Rattle.tally_rows.specs.declared.row.Row.{Row}
-use Rattle.tally_rows.specs.Row.{parts_of}
+use Rattle.tally_rows.specs.Row.{row_key_of}
 use Rattle.tally_rows.specs.Tally.{Counted, IsCounted}
 
 -- ---- the sums of moves
@@ -68,7 +68,7 @@ module _ (query : Query) (bytes : List ℕ) (tallies : List Counted) (each : All
     stand = All-take (λ entry. Contains (entries_where own_hits any_row list) entry) n (best before 4 (entries_where own_hits any_row list)) (best-stand before 4 (entries_where own_hits any_row list));
   }
 
-  put-own : (found : Found) → found.totals ≡ totals_where (rows_from bytes (in_months query.filter) 0 tallies) (λ row. in_cells query.filter (parts_of row))
+  put-own : (found : Found) → found.totals ≡ totals_where (rows_from bytes (in_months query.filter) 0 tallies) (λ row. in_cells query.filter (row_key_of row))
       → IsPutTogether query tallies own_hits found → IsFromHits query bytes tallies each found
   put-own found totals is = record {
     totals = totals;
@@ -79,7 +79,7 @@ module _ (query : Query) (bytes : List ℕ) (tallies : List Counted) (each : All
   }
 
   pub put-together : (hits : List NumberedRow) (found : Found) → hits ≡ own_hits
-      → found.totals ≡ totals_where (rows_from bytes (in_months query.filter) 0 tallies) (λ row. in_cells query.filter (parts_of row))
+      → found.totals ≡ totals_where (rows_from bytes (in_months query.filter) 0 tallies) (λ row. in_cells query.filter (row_key_of row))
       → IsPutTogether query tallies hits found
       → IsFromRows query bytes (tracks_in tallies each) (rows_in tallies) found
   put-together hits found rows totals is =

@@ -4,11 +4,11 @@ use Rattle.std.specs.List.{AllByRecursion}
 use Rattle.std.proofs.lemmas.List.{append-nil, take_more}
 use Rattle.std.proofs.lemmas.List.Elements.{filter-append, filter_agree}
 use Rattle.std.proofs.lemmas.List.Sums.{sum_by-cons}
-use Rattle.tally_rows.specs.declared.parts.Parts.{Parts}
+use Rattle.tally_rows.specs.declared.row_key.RowKey.{RowKey}
 use Rattle.tally_rows.specs.declared.row.Row.{Row}
-use Rattle.tally_rows.specs.Cover.{passes_parts, meets}
+use Rattle.tally_rows.specs.Cover.{passes_row_key, meets}
 use Rattle.tally_rows.specs.Recount.{picks}
-use Rattle.tally_rows.specs.Row.{parts_of}
+use Rattle.tally_rows.specs.Row.{row_key_of}
 use Rattle.tally_rows.specs.Tally.{Counted}
 use Rattle.explorer_model.specs.declared.query.Filter.{Filter}
 use Rattle.explorer_model.specs.Counting.{any_next, group_place, is_since, is_until}
@@ -41,11 +41,11 @@ module _ {X Y : Type 0} where
 
 -- ---- the rows of tallies
 
-module _ (key : List ℕ) (pick : Parts → Bool) where
+module _ (key : List ℕ) (pick : RowKey → Bool) where
   -- the rows of one position whose parts are picked
-  pub picked-rows : (rows : List Row) → filter (λ row. pick (parts_of row)) (filter (λ row. bytes_eq row.key key) rows) ≡ filter (picks key pick) rows
+  pub picked-rows : (rows : List Row) → filter (λ row. pick (row_key_of row)) (filter (λ row. bytes_eq row.key key) rows) ≡ filter (picks key pick) rows
   unfolding picks
-  picked-rows rows = filter-both (λ row. bytes_eq row.key key) (λ row. pick (parts_of row)) rows
+  picked-rows rows = filter-both (λ row. bytes_eq row.key key) (λ row. pick (row_key_of row)) rows
 
   pub rows_from-nil : (first : ℕ) → rows_from key pick first [] ≡ []
   unfolding rows_from
@@ -83,11 +83,11 @@ AllByRecursion-more P xs i d below each one = subst (AllByRecursion P) (sym (tak
 
 -- ---- rows of months, and of them those of cells
 
-pub passes-both : (wanted : Filter) (parts : Parts) → (in_months wanted parts && in_cells wanted parts) ≡ meets wanted any_next parts
-unfolding passes_parts
-passes-both wanted parts =
-    all (is_since wanted.since parts.month) (is_until wanted.until parts.month)
-    (get_or wanted.speeds (speed_index parts.speed) false) (get_or wanted.groups (group_place parts.group.value) false)
+pub passes-both : (wanted : Filter) (row_key : RowKey) → (in_months wanted row_key && in_cells wanted row_key) ≡ meets wanted any_next row_key
+unfolding passes_row_key
+passes-both wanted row_key =
+    all (is_since wanted.since row_key.month) (is_until wanted.until row_key.month)
+    (get_or wanted.speeds (speed_index row_key.speed) false) (get_or wanted.groups (group_place row_key.group.value) false)
   where
     all : (a b c d : Bool) → ((a && b) && (c && d)) ≡ ((((c && d) && a) && b) && true)
     all true true true true = refl
@@ -100,18 +100,18 @@ passes-both wanted parts =
     all false b true false = refl
     all false b false d = refl
 
-pub filter-rows_from : (key : List ℕ) (pick test : Parts → Bool) (first : ℕ) (tallies : List Counted)
-    → filter (λ hit. test (parts_of hit.row)) (rows_from key pick first tallies) ≡ rows_from key (λ parts. pick parts && test parts) first tallies
+pub filter-rows_from : (key : List ℕ) (pick test : RowKey → Bool) (first : ℕ) (tallies : List Counted)
+    → filter (λ hit. test (row_key_of hit.row)) (rows_from key pick first tallies) ≡ rows_from key (λ row_key. pick row_key && test row_key) first tallies
 unfolding rows_from picks
 filter-rows_from key pick test first [] = refl
 filter-rows_from key pick test first (tally ∷ tallies) =
-    filter-append (λ (hit : NumberedRow). test (parts_of hit.row)) (map (numbered first) (filter (picks key pick) tally.rows)) (rows_from key pick (first + length tally.classes) tallies)
-    ∙ ap (λ l. l ++ filter (λ hit. test (parts_of hit.row)) (rows_from key pick (first + length tally.classes) tallies))
-    (map-filter (λ (hit : NumberedRow). test (parts_of hit.row)) (numbered first) (filter (picks key pick) tally.rows)
-    ∙ ap (map (numbered first)) (filter-both (picks key pick) (λ row. test (parts_of row)) tally.rows
-    ∙ filter_agree (λ row. picks key pick row && test (parts_of row)) (picks key (λ parts. pick parts && test parts))
-    (λ row. three (bytes_eq row.key key) (pick (parts_of row)) (test (parts_of row))) tally.rows))
-    ∙ ap (λ l. map (numbered first) (filter (picks key (λ parts. pick parts && test parts)) tally.rows) ++ l)
+    filter-append (λ (hit : NumberedRow). test (row_key_of hit.row)) (map (numbered first) (filter (picks key pick) tally.rows)) (rows_from key pick (first + length tally.classes) tallies)
+    ∙ ap (λ l. l ++ filter (λ hit. test (row_key_of hit.row)) (rows_from key pick (first + length tally.classes) tallies))
+    (map-filter (λ (hit : NumberedRow). test (row_key_of hit.row)) (numbered first) (filter (picks key pick) tally.rows)
+    ∙ ap (map (numbered first)) (filter-both (picks key pick) (λ row. test (row_key_of row)) tally.rows
+    ∙ filter_agree (λ row. picks key pick row && test (row_key_of row)) (picks key (λ row_key. pick row_key && test row_key))
+    (λ row. three (bytes_eq row.key key) (pick (row_key_of row)) (test (row_key_of row))) tally.rows))
+    ∙ ap (λ l. map (numbered first) (filter (picks key (λ row_key. pick row_key && test row_key)) tally.rows) ++ l)
     (filter-rows_from key pick test (first + length tally.classes) tallies)
   where
     three : (a b c : Bool) → ((a && b) && c) ≡ (a && (b && c))
@@ -120,7 +120,7 @@ filter-rows_from key pick test first (tally ∷ tallies) =
 
 -- the rows of the wanted months, speeds and groups
 pub cells-kept : (key : List ℕ) (wanted : Filter) (tallies : List Counted)
-    → filter (λ hit. in_cells wanted (parts_of hit.row)) (rows_from key (in_months wanted) 0 tallies) ≡ rows_from key (meets wanted any_next) 0 tallies
+    → filter (λ hit. in_cells wanted (row_key_of hit.row)) (rows_from key (in_months wanted) 0 tallies) ≡ rows_from key (meets wanted any_next) 0 tallies
 cells-kept key wanted tallies =
     filter-rows_from key (in_months wanted) (in_cells wanted) 0 tallies
-    ∙ ap (λ pick. rows_from key pick 0 tallies) (λ i parts. passes-both wanted parts i)
+    ∙ ap (λ pick. rows_from key pick 0 tallies) (λ i row_key. passes-both wanted row_key i)

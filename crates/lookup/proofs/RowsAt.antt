@@ -11,10 +11,10 @@ use Rattle.std.specs.FinMap.{nat_cmp-IsAntisymmetric, slice_cmp-IsAntisymmetric}
 use Rattle.std.proofs.lemmas.List.{get_or-map, get_or-take, get_or-drop, length-map, length-take-le, length-drop, append-nil, take-append-drop}
 use Rattle.std.proofs.lemmas.List.Elements.{All-head, All-tail, filter-append}
 use Rattle.std.proofs.lemmas.Map.Keys.{Less-from_sorted}
-use Rattle.tally_rows.specs.declared.parts.Parts.{Parts}
+use Rattle.tally_rows.specs.declared.row_key.RowKey.{RowKey}
 use Rattle.tally_rows.specs.declared.row.Row.{Row}
-use Rattle.tally_rows.specs.Parts.{parts_order}
-use Rattle.tally_rows.specs.Row.{parts_of}
+use Rattle.tally_rows.specs.RowKey.{row_order}
+use Rattle.tally_rows.specs.Row.{row_key_of}
 
 abbrev pub key_order : List ℕ → List ℕ → Ordering
 key_order = slice_cmp nat_cmp
@@ -86,8 +86,8 @@ no_over Less e = refl
 no_over Equal e = refl
 no_over Greater e = absurd (true≢false (sym e))
 
-first-less : (a b : Parts) → parts_order a b ≡ Less → is_gt (key_order a.key b.key) ≡ false
-unfolding parts_order
+first-less : (a b : RowKey) → row_order a b ≡ Less → is_gt (key_order a.key b.key) ≡ false
+unfolding row_order
 first-less a b e = first (key_order a.key b.key) _ e
   where
     first : (p q : Ordering) → ordering_then p q ≡ Less → is_gt p ≡ false
@@ -96,17 +96,17 @@ first-less a b e = first (key_order a.key b.key) _ e
     first Greater q e = cc
 
 -- rows that stand in order by their parts stand in order by their keys
-keys-rise : (rows : List Row) → IsStrictlySortedBy parts_order (map parts_of rows) → (i j : ℕ) (d : Row) → i ≤ j → j < length rows
+keys-rise : (rows : List Row) → IsStrictlySortedBy row_order (map row_key_of rows) → (i j : ℕ) (d : Row) → i ≤ j → j < length rows
     → is_gt (key_order (get_or rows i d).key (get_or rows j d).key) ≡ false
 keys-rise rows ordered i j d le below = by (nat_lt i j) refl
   where
     by : (b : Bool) → nat_lt i j ≡ b → is_gt (key_order (get_or rows i d).key (get_or rows j d).key) ≡ false
     by true is =
         let lt : i < j = ltb-true i j is in
-        let less = Less-from_sorted parts_order (map parts_of rows) i j (parts_of d) ordered lt (omega (arith, length-map rows parts_of)) in
-        let less_rows : parts_order (parts_of (get_or rows i d)) (parts_of (get_or rows j d)) ≡ Less =
-        (λ k. parts_order (sym (get_or-map parts_of rows i d (parts_of d) (omega arith)) k) (sym (get_or-map parts_of rows j d (parts_of d) below) k)) ∙ less in
-        first-less (parts_of (get_or rows i d)) (parts_of (get_or rows j d)) less_rows
+        let less = Less-from_sorted row_order (map row_key_of rows) i j (row_key_of d) ordered lt (omega (arith, length-map rows row_key_of)) in
+        let less_rows : row_order (row_key_of (get_or rows i d)) (row_key_of (get_or rows j d)) ≡ Less =
+        (λ k. row_order (sym (get_or-map row_key_of rows i d (row_key_of d) (omega arith)) k) (sym (get_or-map row_key_of rows j d (row_key_of d) below) k)) ∙ less in
+        first-less (row_key_of (get_or rows i d)) (row_key_of (get_or rows j d)) less_rows
     by false is =
         let not_less : j ≤ i = ltb-false i j is in
         let e : i ≡ j = omega arith in
@@ -123,13 +123,13 @@ before-chain a b key = by (key_order a b) (key_order b key) refl refl
     by p Equal r q h k = absurd (true≢false (sym k))
     by p Greater r q h k = absurd (true≢false (sym k))
 
-pub parted-before : (rows : List Row) (key : List ℕ) → IsStrictlySortedBy parts_order (map parts_of rows)
+pub parted-before : (rows : List Row) (key : List ℕ) → IsStrictlySortedBy row_order (map row_key_of rows)
     → IsPartitionedBy (λ row. is_lt (key_order row.key key)) rows
 parted-before rows key ordered i j d le below e =
     before-chain (get_or rows i d).key (get_or rows j d).key key (keys-rise rows ordered i j d le below) e
 
 -- and so do those that are left from a place on
-pub parted-upto : (rows : List Row) (key : List ℕ) (first : ℕ) → IsStrictlySortedBy parts_order (map parts_of rows)
+pub parted-upto : (rows : List Row) (key : List ℕ) (first : ℕ) → IsStrictlySortedBy row_order (map row_key_of rows)
     → IsPartitionedBy (λ row. is_le (key_order row.key key)) (drop first rows)
 parted-upto rows key first ordered i j d le below e =
     let at_i = get_or-drop first rows i d in

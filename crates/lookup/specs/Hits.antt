@@ -3,9 +3,10 @@ use Rattle.std.specs.Prelude.{ℕ, ◌+◌, ◌*◌, ◌<◌, ◌≤◌, ◌^◌
 use Rattle.std.specs.List.{All, sum_by}
 use Rattle.explorer_model.specs.declared.query.Filter.{Filter}
 use Rattle.explorer_model.specs.Counting.{group_place, is_since, is_until}
+use Rattle.explorer_model.specs.Journal.{game_limit}
 use Rattle.explorer_model.specs.Order.{speed_index}
 use Rattle.lookup.specs.declared.hits.Hit.{Hit}
-use Rattle.tally_rows.specs.declared.parts.Parts.{Parts}
+use Rattle.tally_rows.specs.declared.row_key.RowKey.{RowKey}
 use Rattle.tally_rows.specs.declared.row.Row.{Row}
 use Rattle.tally_rows.specs.Recount.{picks}
 use Rattle.tally_rows.specs.Tally.{Counted}
@@ -21,27 +22,26 @@ hit_as hit = record { row = hit.row.now; first = hit.first }
 -- ---- which rows
 
 -- the month is among those that the filter takes
-abbrev pub in_months : Filter → Parts → Bool
-in_months wanted parts = is_since wanted.since parts.month && is_until wanted.until parts.month
+abbrev pub in_months : Filter → RowKey → Bool
+in_months wanted row_key =
+    is_since wanted.since row_key.month && is_until wanted.until row_key.month
 
 -- the speed and the group are among those that the filter takes
-abbrev pub in_cells : Filter → Parts → Bool
-in_cells wanted parts =
-    slice_index_or wanted.speeds (speed_index parts.speed) false && slice_index_or wanted.groups (group_place parts.group.value) false
+abbrev pub in_cells : Filter → RowKey → Bool
+in_cells wanted row_key =
+    slice_index_or wanted.speeds (speed_index row_key.speed) false
+    && slice_index_or wanted.groups (group_place row_key.group.value) false
 
 -- the rows of a position that are picked by their parts, of tallies whose games are numbered one after another from a first one on
-unfoldable pub rows_from : List ℕ → (Parts → Bool) → ℕ → List Counted → List NumberedRow
+unfoldable pub rows_from : List ℕ → (RowKey → Bool) → ℕ → List Counted → List NumberedRow
 rows_from key pick first [] = []
 rows_from key pick first (tally ∷ tallies) =
-    map (λ row. record { row = row; first = first }) (filter (picks key pick) tally.rows) ++ rows_from key pick (first + length tally.classes) tallies
+    map (λ row. record { row = row; first = first }) (filter (picks key pick) tally.rows)
+    ++ rows_from key pick (first + length tally.classes) tallies
 
 -- how many games the tallies count
 abbrev pub games_counted : List Counted → ℕ
 games_counted tallies = sum_by (λ tally. length tally.classes) tallies
-
--- the most games that are counted
-abbrev pub game_limit : ℕ
-game_limit = 131072
 
 -- ---- what is known of such rows
 

@@ -38,23 +38,28 @@ all_classes tallies = flat_map (λ tally. tally.classes) tallies
 -- the game of a number, with its move
 abbrev pub listed_where : (Row → List Entry) → List Counted → List NumberedRow → ℕ → Option Listed
 listed_where list tallies hits number =
-    option_and_then (λ next. option_map (λ classes. record { next = next; classes = classes }) (slice_get (all_classes tallies) number))
+    option_and_then (λ next. option_map (λ classes. record { next = next; classes = classes })
+    (slice_get (all_classes tallies) number))
     (next_where list hits number)
 
 -- the rows are those of a position, and the entries are theirs
-pub record AreEntriesOf (list : Row → List Entry) (key : List ℕ) (wanted : Filter) (tallies : List Counted) (hits : List NumberedRow) (test : Row → Bool) (entries : List Entry) : Type 0 where
+pub record AreEntriesOf (list : Row → List Entry) (key : List ℕ) (wanted : Filter)
+    (tallies : List Counted) (hits : List NumberedRow) (test : Row → Bool)
+    (entries : List Entry) : Type 0 where
   pub rows : hits ≡ rows_from key (meets wanted any_next) 0 tallies
   pub stand : All (λ entry. Contains (entries_where hits test list) entry) entries
 
 -- what is listed are the games of the entries
-abbrev pub IsListingOf : (Row → List Entry) → List Counted → List NumberedRow → List Entry → List Listed → Type 0
+abbrev pub IsListingOf : (Row → List Entry) → List Counted → List NumberedRow → List Entry
+    → List Listed → Type 0
 IsListingOf list tallies hits entries listed =
     (key : List ℕ) (wanted : Filter) (test : Row → Bool) (each : AllByRecursion IsCounted tallies)
     → AreEntriesOf list key wanted tallies hits test entries
     → map Some listed ≡ map (listing key (all_of (tracks_in tallies each))) entries
 
 -- the game of the one entry is listed, or nothing
-abbrev pub IsOnlyListingOf : (Row → List Entry) → List Counted → List NumberedRow → List Entry → Option Listed → Type 0
+abbrev pub IsOnlyListingOf : (Row → List Entry) → List Counted → List NumberedRow → List Entry
+    → Option Listed → Type 0
 IsOnlyListingOf list tallies hits entries game =
     (key : List ℕ) (wanted : Filter) (test : Row → Bool) (each : AllByRecursion IsCounted tallies)
     → AreEntriesOf list key wanted tallies hits test entries

@@ -12,13 +12,20 @@ use Rattle.lookup.specs.Sums.{plays, totals_where, ratings_where}
 
 -- a move, with the sums of the rows in whose games it is played
 abbrev pub sum_as : List NumberedRow → Move → MoveSum
-sum_as hits next = record { next = next; totals = totals_where hits (plays next); ratings = ratings_where hits (plays next) }
+sum_as hits next =
+    record {
+      next = next;
+      totals = totals_where hits (plays next);
+      ratings = ratings_where hits
+          (plays next);
+    }
 
 -- the greater total first, then the lesser text of UCI
 abbrev pub before_as_sum : MoveSum → MoveSum → Bool
 before_as_sum a b =
     nat_lt (total b.totals) (total a.totals)
-    || ((total a.totals == total b.totals) && is_lt (slice_cmp nat_cmp (uci_text a.next) (uci_text b.next)))
+    || ((total a.totals == total b.totals)
+    && is_lt (slice_cmp nat_cmp (uci_text a.next) (uci_text b.next)))
 
 -- ascending in time
 abbrev pub before_as_line : MonthLine → MonthLine → Bool

@@ -47,7 +47,8 @@ module _ (hits : List NumberedRow) where
 
   -- the lists of these rows one after another, by the numbers of the games among all games
   unfoldable pub entries_where : (Row → Bool) → (Row → List Entry) → List Entry
-  entries_where test list = flat_map (λ hit. cond (test hit.row) (map (moved_by hit.first) (list hit.row)) []) hits
+  entries_where test list =
+      flat_map (λ hit. cond (test hit.row) (map (moved_by hit.first) (list hit.row)) []) hits
 
   abbrev pub top_where : (Row → Bool) → List Entry
   top_where test = best before_by_rating 4 (entries_where test (λ row. row.top))

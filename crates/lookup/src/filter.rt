@@ -2,7 +2,7 @@
 ghost use Rattle.std.specs.Prelude.{◌≡◌, ◌==◌, false, position, slice_index_or};
 ghost use Rattle.explorer_model.specs.Counting.{group_place, group_ratings, month_number, is_since, is_until};
 ghost use Rattle.lookup.specs.Hits.{in_months, in_cells};
-ghost use Rattle.tally_rows.specs.Row.{parts_of};
+ghost use Rattle.tally_rows.specs.Row.{row_key_of};
 
 use explorer_model::archive::{Group, Month};
 use explorer_model::query::Filter;
@@ -13,14 +13,14 @@ const GROUP_RATINGS: [u16; 9] = [0, 1000, 1200, 1400, 1600, 1800, 2000, 2200, 25
 
 /// Whether the filter takes the row's month.
 pub fn is_in_months(filter: &Filter, row: &Row) -> bool
-    ensures { result ≡ in_months filter.now (parts_of row.now) }
+    ensures { result ≡ in_months filter.now (row_key_of row.now) }
 {
     is_since(filter.since, row.month) && is_until(filter.until, row.month)
 }
 
 /// Whether the filter takes the row's speed and group.
 pub fn is_in_cells(filter: &Filter, row: &Row) -> bool
-    ensures { result ≡ in_cells filter.now (parts_of row.now) }
+    ensures { result ≡ in_cells filter.now (row_key_of row.now) }
 {
     filter.speeds[usize::from(row.speed.index())] && is_in_groups(filter, row.group)
 }

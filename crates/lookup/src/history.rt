@@ -37,7 +37,8 @@ pub fn history_of(alloc: Global, hits: &[Hit]) -> Result<Vec<MonthLine>, AllocEr
 /// A line for each month of the rows, as they first come.
 fn lines_of_months(alloc: Global, hits: &[Hit]) -> Result<Vec<MonthLine>, AllocError>
     requires { AreSound (map hit_as hits.now) }
-    ensures { IfOk result (λ lines. lines.items ≡ map (month_line (map hit_as hits.now)) (months_in (map hit_as hits.now))) }
+    ensures { IfOk result (λ lines. lines.items
+        ≡ map (month_line (map hit_as hits.now)) (months_in (map hit_as hits.now))) }
 {
     let months = months_in(alloc, hits)?;
     let mut lines = Vec::with_capacity(alloc, months.len())?;

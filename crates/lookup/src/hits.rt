@@ -1,9 +1,10 @@
 //! The rows that a query counts.
 ghost use Rattle.std.specs.Prelude.{◌≡◌, ℕ, ◌≤◌, Bool, List, ◌++◌, map, filter, bytes_eq, IfOk, OnOk};
 ghost use Rattle.std.specs.List.{AllByRecursion};
-ghost use Rattle.lookup.specs.Hits.{AreSound, hit_as, in_months, in_cells, rows_from, games_counted, game_limit};
-ghost use Rattle.tally_rows.specs.declared.parts.Parts.{Parts};
-ghost use Rattle.tally_rows.specs.Row.{parts_of};
+ghost use Rattle.explorer_model.specs.Journal.{game_limit};
+ghost use Rattle.lookup.specs.Hits.{AreSound, hit_as, in_months, in_cells, rows_from, games_counted};
+ghost use Rattle.tally_rows.specs.declared.row_key.RowKey.{RowKey};
+ghost use Rattle.tally_rows.specs.Row.{row_key_of};
 ghost use Rattle.tally_rows.specs.Tally.{Counted, IsCounted};
 
 use crate::filter::{is_in_cells, is_in_months};
@@ -29,7 +30,8 @@ pub fn hits_in_months<'a>(
     wanted: &Filter,
 ) -> Result<Vec<Hit<'a>>, AllocError>
     requires few { games_counted tallies.now ≤ game_limit }
-    ensures rows { IfOk result (λ hits. map hit_as hits.items ≡ rows_from key.now (in_months wanted.now) 0 tallies.now) }
+    ensures rows { IfOk result (λ hits. map hit_as hits.items
+        ≡ rows_from key.now (in_months wanted.now) 0 tallies.now) }
     ensures counted { IfOk result (λ _. AllByRecursion IsCounted tallies.now) }
 {
     let mut hits = Vec::new(alloc);
@@ -59,7 +61,7 @@ fn add_hits<'a>(
     wanted: &Filter,
 ) -> Result<(), AllocError>
     ensures { OnOk result (map hit_as hits.new.items
-        ≡ map hit_as hits.old.items ++ map (λ row. record { row = row; first = first }) (filter (λ row. in_months wanted.now (parts_of row)) rows.now)) }
+        ≡ map hit_as hits.old.items ++ map (λ row. record { row = row; first = first }) (filter (λ row. in_months wanted.now (row_key_of row)) rows.now)) }
 {
     for row in rows {
         if is_in_months(wanted, row) {
@@ -71,7 +73,8 @@ fn add_hits<'a>(
 
 /// Those of the rows whose speed and group the filter takes.
 pub fn keep_cells<'a>(mut hits: Vec<Hit<'a>>, wanted: &Filter) -> Vec<Hit<'a>>
-    ensures { map hit_as result.items ≡ filter (λ hit. in_cells wanted.now (parts_of hit.row)) (map hit_as hits.entry.items) }
+    ensures { map hit_as result.items ≡ filter (λ hit. in_cells wanted.now (row_key_of hit.row))
+        (map hit_as hits.entry.items) }
 {
     hits.retain(|hit| is_in_cells(wanted, hit.row));
     hits
@@ -79,8 +82,9 @@ pub fn keep_cells<'a>(mut hits: Vec<Hit<'a>>, wanted: &Filter) -> Vec<Hit<'a>>
 
 /// The law that rows which are picked of tallies are sound, however they are picked.
 pub fn picked_rows_are_sound()
-    ensures { (tallies : List Counted) → AllByRecursion IsCounted tallies → games_counted tallies ≤ game_limit
-        → (key : List ℕ) (pick : Parts → Bool) → AreSound (rows_from key pick 0 tallies) }
+    ensures { (tallies : List Counted) → AllByRecursion IsCounted tallies
+        → games_counted tallies ≤ game_limit
+        → (key : List ℕ) (pick : RowKey → Bool) → AreSound (rows_from key pick 0 tallies) }
 {
     cover_gives_what_is_picked();
     tallied_rows_are_sound();

@@ -1,5 +1,5 @@
 //! Laws of looking up. Each is the contract of a function that only cites the laws below it.
-ghost use Rattle.std.specs.Prelude.{◌≡◌, ℕ, List, map, Some};
+ghost use Rattle.std.specs.Prelude.{◌≡◌, ℕ, List, length, map, Some};
 ghost use Rattle.explorer_model.specs.declared.answer.Found.{Found};
 ghost use Rattle.explorer_model.specs.declared.archive.Batch.{Batch};
 ghost use Rattle.explorer_model.specs.declared.archive.Game.{Game};
@@ -7,15 +7,15 @@ ghost use Rattle.explorer_model.specs.declared.chess.Move.{Move};
 ghost use Rattle.explorer_model.specs.declared.chess.Position.{Position};
 ghost use Rattle.explorer_model.specs.declared.query.Query.{Query};
 ghost use Rattle.explorer_model.specs.Chess.{IsValid, Legal};
-ghost use Rattle.explorer_model.specs.Finds.{IsFound, IsFoundOf};
+ghost use Rattle.explorer_model.specs.Finds.{IsFound};
+ghost use Rattle.explorer_model.specs.Spans.{Span, Covers};
 ghost use Rattle.explorer_model.specs.Tidy.{IsTidyKey};
-ghost use Rattle.explorer_model.specs.Visits.{IsTextOf, IsSeenFrom};
+ghost use Rattle.explorer_model.specs.Visits.{IsTextOf, IsGameAt};
 ghost use Rattle.std.specs.List.{AllByRecursion};
 ghost use Rattle.lookup.specs.Tallies.{tracks_in};
-ghost use Rattle.lookup.specs.FromRows.{IsCover, IsAnswerable, IsFromRows};
+ghost use Rattle.lookup.specs.FromRows.{AreTallied, IsAnswerable, IsFromRows};
 ghost use Rattle.tally_rows.specs.declared.row.Row.{Row};
-ghost use Rattle.tally_rows.specs.Cover.{seen_at};
-ghost use Rattle.tally_rows.specs.Recount.{all_of};
+ghost use Rattle.tally_rows.specs.Cover.{game_at};
 ghost use Rattle.tally_rows.specs.Tally.{Counted, IsCounted, IsTrackOf};
 ghost use Rattle.tally_rows.specs.Track.{Track, visit};
 
@@ -28,11 +28,12 @@ use legal_moves::laws::{
 use packed_keys::laws::equal_keys_mean_equal_positions;
 use san_codec::laws::notation_is_determined;
 
-/// What a game's track tells at the key of a position is how the game is seen from that position: the first of its counted
-/// positions that is the same, and the move that follows there.
+/// What a game's track tells at the key of a position is how the game stands to that position: the first of its counted positions
+/// that is the same, and the move that follows there.
 pub fn tracks_see_what_games_see()
     ensures { (at : Position) (bytes : List ℕ) (text : List ℕ) (game : Game) (track : Track)
-        → IsValid at → IsTidyKey at bytes → IsTextOf text game → IsTrackOf game track → IsSeenFrom at game (seen_at bytes track) }
+        → length at.squares ≡ 64 → IsTidyKey at bytes → IsTextOf text game → IsTrackOf game track
+        → IsGameAt at game (game_at bytes track) }
 {
     legal_moves_keep_validity();
     tidy_forms_decide_same();
@@ -42,8 +43,10 @@ pub fn tracks_see_what_games_see()
 
 /// The move that a game's track tells to follow at the key of a position is legal in that position.
 pub fn tracks_tell_legal_moves()
-    ensures { (at : Position) (bytes : List ℕ) (text : List ℕ) (game : Game) (track : Track) (next : Move)
-        → IsValid at → IsTidyKey at bytes → IsTextOf text game → IsTrackOf game track → visit bytes track ≡ Some (Some next) → Legal at next }
+    ensures { (at : Position) (bytes : List ℕ) (text : List ℕ) (game : Game) (track : Track)
+        (next : Move)
+        → IsValid at → IsTidyKey at bytes → IsTextOf text game → IsTrackOf game track
+        → visit bytes track ≡ Some (Some next) → Legal at next }
 {
     legal_moves_keep_validity();
     tidy_forms_decide_same();
@@ -52,12 +55,14 @@ pub fn tracks_tell_legal_moves()
     let _start = Board::start().position();
 }
 
-/// Whatever cover the games have, what is made of the rows that are tallied for its spans, filtered, summed and joined, is what is
-/// found by a recount of all the games.
+/// The law of covers: whatever spans of batches cover a journal, what is made of the rows that are tallied for the spans, filtered,
+/// summed and joined, is what is found by a recount of all games of the journal.
 pub fn cover_recounts()
-    ensures { (texts : List (List (List ℕ))) (games : List (List Game)) (cover : List (List Track)) (tallies : List (List Row)) (query : Query) (bytes : List ℕ) (found : Found)
-        → IsCover texts games cover tallies → IsAnswerable query bytes → IsFromRows query bytes cover tallies found
-        → IsFoundOf (all_of games) query found }
+    ensures { (spans : List Span) (journal : List Batch)
+        (games : List (List Game)) (cover : List (List Track)) (tallies : List (List Row))
+        (query : Query) (bytes : List ℕ) (found : Found)
+        → Covers spans journal → AreTallied spans games cover tallies → IsAnswerable query bytes
+        → IsFromRows query bytes cover tallies found → IsFound journal query found }
 {
     tracks_see_what_games_see();
     tally_rows::laws::cover_recounts();
@@ -66,8 +71,10 @@ pub fn cover_recounts()
 
 /// What is made of the rows of tallies, one for each batch of a journal, is what is found in the journal.
 pub fn tallies_recount()
-    ensures { (tallies : List Counted) (each : AllByRecursion IsCounted tallies) (query : Query) (bytes : List ℕ) (found : Found)
-        → IsAnswerable query bytes → IsFromRows query bytes (tracks_in tallies each) (map (λ tally. tally.rows) tallies) found
+    ensures { (tallies : List Counted) (each : AllByRecursion IsCounted tallies)
+        (query : Query) (bytes : List ℕ) (found : Found)
+        → IsAnswerable query bytes
+        → IsFromRows query bytes (tracks_in tallies each) (map (λ tally. tally.rows) tallies) found
         → IsFound (map (λ tally. tally.batch) tallies) query found }
 {
     cover_recounts();
@@ -75,7 +82,8 @@ pub fn tallies_recount()
 
 /// A journal has one answer to a query.
 pub fn answers_are_determined()
-    ensures { (journal : List Batch) (query : Query) (found other : Found) → IsFound journal query found → IsFound journal query other → found ≡ other }
+    ensures { (journal : List Batch) (query : Query) (found other : Found)
+        → IsFound journal query found → IsFound journal query other → found ≡ other }
 {
     game_is_determined();
     first_visit_is_determined();

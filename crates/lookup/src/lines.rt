@@ -5,7 +5,8 @@ ghost use Rattle.explorer_model.specs.declared.chess.Move.{Move};
 ghost use Rattle.explorer_model.specs.declared.query.Filter.{Filter};
 ghost use Rattle.explorer_model.specs.Chess.{Legal};
 ghost use Rattle.explorer_model.specs.Counting.{any_next, total};
-ghost use Rattle.lookup.specs.Hits.{hit_as, rows_from, game_limit, AreSound};
+ghost use Rattle.explorer_model.specs.Journal.{game_limit};
+ghost use Rattle.lookup.specs.Hits.{hit_as, rows_from, AreSound};
 ghost use Rattle.lookup.specs.Lines.{IsAveraged, IsLineMade};
 ghost use Rattle.lookup.specs.MoveSums.{sum_as};
 ghost use Rattle.lookup.specs.Sums.{top_where, plays};
@@ -37,7 +38,10 @@ pub fn lines_of(
     requires legal { AllByRecursion (λ sum. Legal board.now sum.next) sums.now }
     requires averaged { AllByRecursion (λ sum. IsAveraged (map hit_as hits.now) sum.next) sums.now }
     requires sums { AllByRecursion (λ sum. sum ≡ sum_as (map hit_as hits.now) sum.next) sums.now }
-    ensures { IfOk result (λ lines. AllZip (λ sum line. IsLineMade board.now tallies.now (map hit_as hits.now) sum.next line) sums.now lines.items) }
+    ensures { IfOk result
+        (λ lines. AllZip
+        (λ sum line. IsLineMade board.now tallies.now
+        (map hit_as hits.now) sum.next line) sums.now lines.items) }
 {
     let legal = board.legal();
     let mut lines = Vec::with_capacity(alloc, sums.len())?;
@@ -62,7 +66,8 @@ fn line_of(
     requires legal { Legal board.now sum.now.next }
     requires averaged { IsAveraged (map hit_as hits.now) sum.now.next }
     requires sum { sum.now ≡ sum_as (map hit_as hits.now) sum.now.next }
-    ensures { IfOk result (λ line. IsLineMade board.now tallies.now (map hit_as hits.now) sum.now.next line) }
+    ensures { IfOk result
+        (λ line. IsLineMade board.now tallies.now (map hit_as hits.now) sum.now.next line) }
 {
     Ok(MoveLine {
         next: sum.next,
@@ -91,9 +96,11 @@ fn only_game(
     next: Step,
 ) -> Result<Option<Listed>, AllocError>
     requires { AreSound (map hit_as hits.now) }
-    ensures { IfOk result (λ game. (key : List ℕ) (wanted : Filter) (each : AllByRecursion IsCounted tallies.now)
+    ensures { IfOk result
+        (λ game. (key : List ℕ) (wanted : Filter) (each : AllByRecursion IsCounted tallies.now)
         → map hit_as hits.now ≡ rows_from key (meets wanted any_next) 0 tallies.now
-        → game ≡ option_and_then (listing key (all_of (tracks_in tallies.now each))) (only_entry (top_where (map hit_as hits.now) (plays next)))) }
+        → game ≡ option_and_then (listing key (all_of (tracks_in tallies.now each)))
+        (only_entry (top_where (map hit_as hits.now) (plays next)))) }
 {
     only_listed(alloc, tallies, hits, top_of_move(hits, next).entries())
 }

@@ -38,7 +38,9 @@ pub fn listed_by_rating(
     hits: &[Hit],
     entries: &[Entry],
 ) -> Result<Vec<Listed>, AllocError>
-    ensures { IfOk result (λ listed. IsListingOf (λ row. row.top) tallies.now (map hit_as hits.now) entries.now listed.items) }
+    ensures { IfOk result
+        (λ listed. IsListingOf (λ row. row.top) tallies.now
+        (map hit_as hits.now) entries.now listed.items) }
 {
     listed_in(alloc, tallies, hits, Listing::Top, entries)
 }
@@ -50,7 +52,9 @@ pub fn listed_by_month(
     hits: &[Hit],
     entries: &[Entry],
 ) -> Result<Vec<Listed>, AllocError>
-    ensures { IfOk result (λ listed. IsListingOf (λ row. row.recent) tallies.now (map hit_as hits.now) entries.now listed.items) }
+    ensures { IfOk result
+        (λ listed. IsListingOf (λ row. row.recent) tallies.now
+        (map hit_as hits.now) entries.now listed.items) }
 {
     listed_in(alloc, tallies, hits, Listing::Recent, entries)
 }
@@ -63,7 +67,9 @@ pub fn only_listed(
     hits: &[Hit],
     entries: &[Entry],
 ) -> Result<Option<Listed>, AllocError>
-    ensures { IfOk result (λ game. IsOnlyListingOf (λ row. row.top) tallies.now (map hit_as hits.now) entries.now game) }
+    ensures { IfOk result
+        (λ game. IsOnlyListingOf (λ row. row.top) tallies.now
+        (map hit_as hits.now) entries.now game) }
 {
     let [entry] = entries else {
         return Ok(None);
@@ -99,7 +105,8 @@ fn game_of(
     list: Listing,
     number: u32,
 ) -> Result<Option<Listed>, AllocError>
-    ensures { IfOk result (λ game. game ≡ listed_where (list_of list) tallies.now (map hit_as hits.now) number) }
+    ensures { IfOk result (λ game. game
+        ≡ listed_where (list_of list) tallies.now (map hit_as hits.now) number) }
 {
     let Some(next) = next_in(hits, list, number) else {
         return Ok(None);
@@ -114,7 +121,9 @@ fn listed(
     next: Move,
     number: u32,
 ) -> Result<Option<Listed>, AllocError>
-    ensures { IfOk result (λ listed. listed ≡ option_map (λ classes. record { next = next; classes = classes }) (slice_get (all_classes tallies.now) number)) }
+    ensures { IfOk result (λ listed. listed
+        ≡ option_map (λ classes. record { next = next; classes = classes })
+        (slice_get (all_classes tallies.now) number)) }
 {
     let Some(classes) = classes_of(tallies, number as usize) else {
         return Ok(None);
@@ -134,7 +143,8 @@ fn copy_of(classes: &Classes) -> Result<Classes, AllocError>
 
 /// What is known of the game of a number.
 fn classes_of(tallies: &[Tally], number: usize) -> Option<&Classes>
-    ensures { option_map (λ classes. classes.now) result ≡ slice_get (all_classes tallies.now) number }
+    ensures { option_map (λ classes. classes.now) result
+        ≡ slice_get (all_classes tallies.now) number }
 {
     let mut left = number;
     for tally in tallies {

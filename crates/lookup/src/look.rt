@@ -4,11 +4,12 @@ ghost use Rattle.std.specs.List.{AllByRecursion};
 ghost use Rattle.explorer_model.specs.Chess.{IsValid, Legal};
 ghost use Rattle.explorer_model.specs.Counting.{any_next};
 ghost use Rattle.explorer_model.specs.Finds.{IsFound};
-ghost use Rattle.lookup.specs.Hits.{hit_as, games_counted, game_limit, rows_from, in_months, in_cells, AreSound};
+ghost use Rattle.explorer_model.specs.Journal.{game_limit};
+ghost use Rattle.lookup.specs.Hits.{hit_as, games_counted, rows_from, in_months, in_cells, AreSound};
 ghost use Rattle.lookup.specs.Lines.{IsPutTogether};
 ghost use Rattle.lookup.specs.Sums.{history_in, moves_in, totals_where};
 ghost use Rattle.tally_rows.specs.Cover.{meets};
-ghost use Rattle.tally_rows.specs.Row.{parts_of};
+ghost use Rattle.tally_rows.specs.Row.{row_key_of};
 ghost use Rattle.tally_rows.specs.Tally.{IsCounted};
 
 use crate::best_games::{recent_of, top_of};
@@ -40,7 +41,8 @@ pub fn look_rows(alloc: Global, tallies: &[Tally], query: &Query) -> Result<Foun
     requires top { query.now.top ≤ 4 }
     requires recent { query.now.recent ≤ 4 }
     requires games { games_counted tallies.now ≤ game_limit }
-    ensures { IfOk result (λ found. IsFound (map (λ tally. tally.batch) tallies.now) query.now found) }
+    ensures { IfOk result
+        (λ found. IsFound (map (λ tally. tally.batch) tallies.now) query.now found) }
 {
     tallies_recount();
     tracks_tell_legal_moves();
@@ -61,8 +63,11 @@ fn count<'a>(
 ) -> Result<Counting<'a>, AllocError>
     requires { games_counted tallies.now ≤ game_limit }
     ensures counted { IfOk result (λ _. AllByRecursion IsCounted tallies.now) }
-    ensures totals { IfOk result (λ counting. counting.totals ≡ totals_where (rows_from key.now (in_months wanted.now) 0 tallies.now) (λ row. in_cells wanted.now (parts_of row))) }
-    ensures hits { IfOk result (λ counting. map hit_as counting.hits.items ≡ rows_from key.now (meets wanted.now any_next) 0 tallies.now) }
+    ensures totals { IfOk result (λ counting. counting.totals
+        ≡ totals_where (rows_from key.now (in_months wanted.now) 0 tallies.now)
+        (λ row. in_cells wanted.now (row_key_of row))) }
+    ensures hits { IfOk result (λ counting. map hit_as counting.hits.items
+        ≡ rows_from key.now (meets wanted.now any_next) 0 tallies.now) }
     ensures sound { IfOk result (λ counting. AreSound (map hit_as counting.hits.items)) }
 {
     picked_rows_are_sound();
@@ -87,7 +92,8 @@ fn found_in(
     requires sound { AreSound (map hit_as hits.now) }
     requires legal { AllByRecursion (λ m. Legal board.now m) (moves_in (map hit_as hits.now)) }
     ensures totals { IfOk result (λ found. found.totals ≡ totals) }
-    ensures rest { IfOk result (λ found. IsPutTogether query.now tallies.now (map hit_as hits.now) found) }
+    ensures rest { IfOk result
+        (λ found. IsPutTogether query.now tallies.now (map hit_as hits.now) found) }
 {
     let sums = first_moves(alloc, hits, query.moves)?;
     let moves = lines_of(alloc, board, tallies, hits, sums.as_slice())?;
@@ -118,7 +124,8 @@ fn asked_history(
     asked: bool,
 ) -> Result<Option<Items<MonthLine>>, AllocError>
     requires { AreSound (map hit_as hits.now) }
-    ensures { IfOk result (λ history. history ≡ cond asked (Some (history_in (map hit_as hits.now))) None) }
+    ensures { IfOk result (λ history. history
+        ≡ cond asked (Some (history_in (map hit_as hits.now))) None) }
 {
     if asked {
         Ok(Some(Items::from_vec(history_of(alloc, hits)?)))

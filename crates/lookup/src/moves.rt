@@ -90,7 +90,8 @@ pub fn sum_of(hits: &[Hit], next: Move) -> MoveSum
 /// The sums of each move of the rows.
 fn sums_of_moves(alloc: Global, hits: &[Hit]) -> Result<Vec<MoveSum>, AllocError>
     requires { AreSound (map hit_as hits.now) }
-    ensures { IfOk result (λ sums. sums.items ≡ map (sum_as (map hit_as hits.now)) (moves_in (map hit_as hits.now))) }
+    ensures { IfOk result (λ sums. sums.items
+        ≡ map (sum_as (map hit_as hits.now)) (moves_in (map hit_as hits.now))) }
 {
     let moves = moves_in(alloc, hits)?;
     let mut sums = Vec::with_capacity(alloc, moves.len())?;

@@ -3,14 +3,14 @@ ghost use Rattle.std.specs.Prelude.{◌≡◌, map, filter, bytes_eq};
 ghost use Rattle.std.specs.Cmp.Lexicographic.{slice_cmp};
 ghost use Rattle.std.specs.List.Sorted.{IsStrictlySortedBy};
 ghost use Rattle.std.specs.Ordering.{nat_cmp, is_lt, is_le};
-ghost use Rattle.tally_rows.specs.Parts.{parts_order};
-ghost use Rattle.tally_rows.specs.Row.{parts_of};
+ghost use Rattle.tally_rows.specs.RowKey.{row_order};
+ghost use Rattle.tally_rows.specs.Row.{row_key_of};
 
 use tally_rows::Row;
 
 /// The rows of the position that has the key. They stand together, since rows are in the order of their keys.
 pub fn rows_at<'a>(rows: &'a [Row], key: &[u8; 34]) -> &'a [Row]
-    requires ordered { IsStrictlySortedBy parts_order (map parts_of rows.now) }
+    requires ordered { IsStrictlySortedBy row_order (map row_key_of rows.now) }
     ensures { result.now ≡ filter (λ row. bytes_eq row.key key.now) rows.now }
 {
     let first = rows.partition_point(|row| is_before(row, key));

@@ -1,7 +1,8 @@
 ghost use Rattle.std.specs.Prelude.{◌≤◌, length, IsTrue, IfOk, IfSome};
 ghost use Rattle.std.specs.List.{All};
 ghost use Rattle.explorer_model.specs.Chess.{IsValid};
-ghost use Rattle.lookup.specs.Hits.{games_counted, game_limit};
+ghost use Rattle.explorer_model.specs.Journal.{game_limit};
+ghost use Rattle.lookup.specs.Hits.{games_counted};
 
 use crate::look_rows;
 use batch_tally::tally;

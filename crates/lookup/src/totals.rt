@@ -6,7 +6,7 @@ ghost use Rattle.explorer_model.specs.Order.{speed_index};
 ghost use Rattle.lookup.specs.Hits.{AreSound, hit_as, in_cells};
 ghost use Rattle.lookup.specs.Sums.{totals_where, ratings_where};
 ghost use Rattle.tally_rows.specs.Grid.{Fit, added, cell_at, cell_of, chosen, total};
-ghost use Rattle.tally_rows.specs.Row.{parts_of};
+ghost use Rattle.tally_rows.specs.Row.{row_key_of};
 
 use crate::filter::group_place;
 use crate::hits::Hit;
@@ -18,7 +18,8 @@ use tally_rows::{Grid, Row};
 /// How many games of each outcome are counted by the rows whose speed and group the filter takes.
 pub fn totals_of(hits: &[Hit], wanted: &Filter) -> Totals
     requires sound { AreSound (map hit_as hits.now) }
-    ensures { result ≡ totals_where (map hit_as hits.now) (λ row. in_cells wanted.now (parts_of row)) }
+    ensures { result
+        ≡ totals_where (map hit_as hits.now) (λ row. in_cells wanted.now (row_key_of row)) }
 {
     let grid = grid_of(hits);
     grid.sum_of(&wanted.speeds, &wanted.groups).totals
@@ -30,8 +31,8 @@ fn grid_of(hits: &[Hit]) -> Grid<6, 9>
     ensures { (wanted : Filter) → length wanted.speeds ≡ 6 → length wanted.groups ≡ 9
         → total (chosen wanted.speeds wanted.groups result)
         ≡ record {
-          totals = totals_where (map hit_as hits.now) (λ row. in_cells wanted (parts_of row));
-          ratings = ratings_where (map hit_as hits.now) (λ row. in_cells wanted (parts_of row));
+          totals = totals_where (map hit_as hits.now) (λ row. in_cells wanted (row_key_of row));
+          ratings = ratings_where (map hit_as hits.now) (λ row. in_cells wanted (row_key_of row));
         } }
 {
     grid_sums_rows();

@@ -7,38 +7,38 @@ use Rattle.explorer_model.specs.declared.chess.Role.TheVariants.{Pawn, Knight, B
 use Rattle.explorer_model.specs.declared.chess.Piece.{Piece}
 use Rattle.explorer_model.specs.declared.chess.Rights.{Rights}
 use Rattle.explorer_model.specs.declared.square.Square.{Square}
-use Rattle.explorer_model.specs.Board.{man_of}
-use Rattle.explorer_model.specs.Keys.{packed, role_code, color_code, man_code, turn_code, bit_of, state_code, en_passant_code}
+use Rattle.explorer_model.specs.Board.{piece_of}
+use Rattle.explorer_model.specs.Keys.{packed, role_code, color_code, piece_code, turn_code, bit_of, state_code, en_passant_code}
 use Rattle.explorer_model.proofs.Squares.{square_eq}
 
--- the men in the order of their codes
-men : List (Option Piece)
-men =
-    None ∷ man_of White Pawn ∷ man_of White Knight ∷ man_of White Bishop ∷ man_of White Rook ∷ man_of White Queen ∷ man_of White King
-    ∷ man_of Black Pawn ∷ man_of Black Knight ∷ man_of Black Bishop ∷ man_of Black Rook ∷ man_of Black Queen ∷ man_of Black King ∷ []
+-- the pieces in the order of their codes
+pieces : List (Option Piece)
+pieces =
+    None ∷ piece_of White Pawn ∷ piece_of White Knight ∷ piece_of White Bishop ∷ piece_of White Rook ∷ piece_of White Queen ∷ piece_of White King
+    ∷ piece_of Black Pawn ∷ piece_of Black Knight ∷ piece_of Black Bishop ∷ piece_of Black Rook ∷ piece_of Black Queen ∷ piece_of Black King ∷ []
 
-man_at_its_code : (color : Color) (role : Role) → slice_index_or men (color_code color + role_code role) None ≡ man_of color role
-unfolding men
-man_at_its_code White Pawn = refl
-man_at_its_code White Knight = refl
-man_at_its_code White Bishop = refl
-man_at_its_code White Rook = refl
-man_at_its_code White Queen = refl
-man_at_its_code White King = refl
-man_at_its_code Black Pawn = refl
-man_at_its_code Black Knight = refl
-man_at_its_code Black Bishop = refl
-man_at_its_code Black Rook = refl
-man_at_its_code Black Queen = refl
-man_at_its_code Black King = refl
+piece_at_its_code : (color : Color) (role : Role) → slice_index_or pieces (color_code color + role_code role) None ≡ piece_of color role
+unfolding pieces
+piece_at_its_code White Pawn = refl
+piece_at_its_code White Knight = refl
+piece_at_its_code White Bishop = refl
+piece_at_its_code White Rook = refl
+piece_at_its_code White Queen = refl
+piece_at_its_code White King = refl
+piece_at_its_code Black Pawn = refl
+piece_at_its_code Black Knight = refl
+piece_at_its_code Black Bishop = refl
+piece_at_its_code Black Rook = refl
+piece_at_its_code Black Queen = refl
+piece_at_its_code Black King = refl
 
-man_at_code : (man : Option Piece) → slice_index_or men (man_code man) None ≡ man
-unfolding men
-man_at_code None = refl
-man_at_code (Some man) = man_at_its_code man.color man.role
+piece_at_code : (occupant : Option Piece) → slice_index_or pieces (piece_code occupant) None ≡ occupant
+unfolding pieces
+piece_at_code None = refl
+piece_at_code (Some occupant) = piece_at_its_code occupant.color occupant.role
 
-man_code-names : (a b : Option Piece) → man_code a ≡ man_code b → a ≡ b
-man_code-names a b e = sym (man_at_code a) ∙ (ap (λ n. slice_index_or men n None) e ∙ man_at_code b)
+piece_code-names : (a b : Option Piece) → piece_code a ≡ piece_code b → a ≡ b
+piece_code-names a b e = sym (piece_at_code a) ∙ (ap (λ n. slice_index_or pieces n None) e ∙ piece_at_code b)
 
 role_code-small : (role : Role) → role_code role ≤ 6
 role_code-small Pawn = omega arith
@@ -52,9 +52,9 @@ color_code-small : (color : Color) → color_code color ≤ 6
 color_code-small White = omega arith
 color_code-small Black = omega arith
 
-pub man_code-small : (man : Option Piece) → man_code man ≤ 12
-man_code-small None = omega arith
-man_code-small (Some man) = omega (arith, color_code-small man.color, role_code-small man.role)
+pub piece_code-small : (occupant : Option Piece) → piece_code occupant ≤ 12
+piece_code-small None = omega arith
+piece_code-small (Some occupant) = omega (arith, color_code-small occupant.color, role_code-small occupant.role)
 
 -- a board of an even number of squares is told by its bytes
 pub packed-names : (xs ys : List (Option Piece)) (n : ℕ) → length xs ≡ n + n → length ys ≡ n + n → packed xs ≡ packed ys → xs ≡ ys
@@ -65,10 +65,10 @@ packed-names (x ∷ []) ys n e f same = absurd (omega (arith, e))
 packed-names (x ∷ z ∷ xs) (y ∷ []) n e f same = absurd (omega (arith, f))
 packed-names (x ∷ z ∷ xs) (y ∷ w ∷ ys) zero e f same = absurd (omega (arith, e))
 packed-names (x ∷ z ∷ xs) (y ∷ w ∷ ys) (suc n) e f same =
-    let byte : man_code x + 16 * man_code z ≡ man_code y + 16 * man_code w = ap (λ bytes. slice_index_or bytes 0 0) same in
+    let byte : piece_code x + 16 * piece_code z ≡ piece_code y + 16 * piece_code w = ap (λ bytes. slice_index_or bytes 0 0) same in
     let rest : xs ≡ ys = packed-names xs ys n (omega (arith, e)) (omega (arith, f)) (ap (λ bytes. drop 1 bytes) same) in
-    let low : x ≡ y = man_code-names x y (omega (arith, byte, man_code-small x, man_code-small y)) in
-    let high : z ≡ w = man_code-names z w (omega (arith, byte, man_code-small x, man_code-small y)) in
+    let low : x ≡ y = piece_code-names x y (omega (arith, byte, piece_code-small x, piece_code-small y)) in
+    let high : z ≡ w = piece_code-names z w (omega (arith, byte, piece_code-small x, piece_code-small y)) in
     λ i. low i ∷ high i ∷ rest i
 
 -- The state.

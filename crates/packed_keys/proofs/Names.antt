@@ -4,7 +4,7 @@ use Rattle.std.proofs.Math.Seq.{take-append_seam}
 use Rattle.explorer_model.specs.declared.chess.Position.{Position}
 use Rattle.explorer_model.specs.Keys.{key, packed, state_code, en_passant_code}
 use Rattle.packed_keys.proofs.Packed.{byte_at, board_length, bytes_of-board, bytes_of-state, bytes_of-en_passant}
-use Rattle.packed_keys.proofs.CodeNames.{man_code-small, state_code-small, state_code-names, en_passant_code-small, en_passant_code-names, packed-names}
+use Rattle.packed_keys.proofs.CodeNames.{piece_code-small, state_code-small, state_code-names, en_passant_code-small, en_passant_code-names, packed-names}
 
 front : (xs ys : List ℕ) (n : ℕ) → length xs ≡ n → take n (xs ++ ys) ≡ xs
 front xs ys n e = subst (λ m. take m (xs ++ ys) ≡ xs) e (take-append_seam xs ys)
@@ -38,10 +38,10 @@ pub no_en_passant : (p : Position) (bytes : List ℕ) → length p.squares ≡ 6
 no_en_passant p bytes board large e =
     absurd (omega (arith, large, ap (λ xs. get_or xs 33 0) e, key-en_passant p board, en_passant_code-small p.en_passant))
 
-pub no_low_man : (p : Position) (bytes : List ℕ) (k : ℕ) → length p.squares ≡ 64 → k < 32 → 12 < get_or bytes k 0 % 16 → key p ≢ bytes
-no_low_man p bytes k board below large e =
-    absurd (omega (arith, large, ap (λ xs. get_or xs k 0) e, key-board p k board below, man_code-small (get_or p.squares (2 * k) None)))
+pub no_low_piece : (p : Position) (bytes : List ℕ) (k : ℕ) → length p.squares ≡ 64 → k < 32 → 12 < get_or bytes k 0 % 16 → key p ≢ bytes
+no_low_piece p bytes k board below large e =
+    absurd (omega (arith, large, ap (λ xs. get_or xs k 0) e, key-board p k board below, piece_code-small (get_or p.squares (2 * k) None)))
 
-pub no_high_man : (p : Position) (bytes : List ℕ) (k : ℕ) → length p.squares ≡ 64 → k < 32 → 12 < get_or bytes k 0 / 16 → key p ≢ bytes
-no_high_man p bytes k board below large e =
-    absurd (omega (arith, large, ap (λ xs. get_or xs k 0) e, key-board p k board below, man_code-small (get_or p.squares (2 * k) None), man_code-small (get_or p.squares (2 * k + 1) None)))
+pub no_high_piece : (p : Position) (bytes : List ℕ) (k : ℕ) → length p.squares ≡ 64 → k < 32 → 12 < get_or bytes k 0 / 16 → key p ≢ bytes
+no_high_piece p bytes k board below large e =
+    absurd (omega (arith, large, ap (λ xs. get_or xs k 0) e, key-board p k board below, piece_code-small (get_or p.squares (2 * k) None), piece_code-small (get_or p.squares (2 * k + 1) None)))

@@ -5,11 +5,11 @@ use Rattle.std.proofs.lemmas.Grind.{common_steps}
 use Rattle.std.proofs.Math.Nat.{eq-or-lt_of_le}
 use Rattle.std.proofs.Math.ListN.{get_or-append}
 use Rattle.explorer_model.specs.declared.chess.Piece.{Piece}
-use Rattle.explorer_model.specs.Keys.{packed, man_code}
+use Rattle.explorer_model.specs.Keys.{packed, piece_code}
 
 -- the byte of two squares
 abbrev pub byte_of : Option Piece → Option Piece → ℕ
-byte_of low high = man_code low + 16 * man_code high
+byte_of low high = piece_code low + 16 * piece_code high
 
 -- byte k of the key of a board
 abbrev pub byte_at : List (Option Piece) → ℕ → ℕ
@@ -81,13 +81,13 @@ pub bytes_of-is : (squares : List (Option Piece)) (state en_passant : ℕ) (byte
     → get_or bytes 32 0 ≡ state
     → get_or bytes 33 0 ≡ en_passant
     → bytes_of squares state en_passant ≡ bytes
-bytes_of-is squares state en_passant bytes board size men is_state is_en_passant =
+bytes_of-is squares state en_passant bytes board size pieces is_state is_en_passant =
     ext_get_or 0 (bytes_of squares state en_passant) bytes (bytes_of-length squares state en_passant board ∙ sym size)
     (λ k below. at k (subst (λ n. k < n) (bytes_of-length squares state en_passant board) below))
   where
     at : (k : ℕ) → k < 34 → get_or (bytes_of squares state en_passant) k 0 ≡ get_or bytes k 0
     at k below = elim (place k below) [
-      | inl less ↦ bytes_of-board squares state en_passant k board less ∙ sym (men k less)
+      | inl less ↦ bytes_of-board squares state en_passant k board less ∙ sym (pieces k less)
       | inr (inl e) ↦
           subst (λ n. get_or (bytes_of squares state en_passant) n 0 ≡ get_or bytes n 0) (sym e)
           (bytes_of-state squares state en_passant board ∙ sym is_state)

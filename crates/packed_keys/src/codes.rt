@@ -1,12 +1,12 @@
-//! What each byte of a key says: the men of two squares, the state, the en passant square.
+//! What each byte of a key says: the pieces of two squares, the state, the en passant square.
 ghost use Rattle.std.specs.Prelude.{◌≡◌, ◌≤◌, ◌<◌, ◌+◌, ◌*◌, ◌%◌};
-ghost use Rattle.explorer_model.specs.Keys.{role_code, color_code, man_code, turn_code, state_code, en_passant_code};
+ghost use Rattle.explorer_model.specs.Keys.{role_code, color_code, piece_code, turn_code, state_code, en_passant_code};
 
 use explorer_model::chess::{Color, Piece, Rights, Role};
 use explorer_model::square::Square;
 
 /// The greatest code of a square: Black's king.
-pub const LAST_MAN: u8 = 12;
+pub const LAST_PIECE: u8 = 12;
 
 /// The greatest state: Black to move, with all four rights.
 pub const LAST_STATE: u8 = 31;
@@ -14,41 +14,12 @@ pub const LAST_STATE: u8 = 31;
 /// The greatest code of an en passant square: h8.
 pub const LAST_EN_PASSANT: u8 = 64;
 
-fn role_code(role: Role) -> u8
-    ensures code { result ≡ role_code role }
-    ensures small { result ≤ 6 }
-{
-    match role {
-        Role::Pawn => 1,
-        Role::Knight => 2,
-        Role::Bishop => 3,
-        Role::Rook => 4,
-        Role::Queen => 5,
-        Role::King => 6,
-    }
-}
-
-fn role_of_code(code: u8) -> Role
-    requires positive { 1 ≤ code }
-    requires small { code ≤ 6 }
-    ensures { role_code result ≡ code }
-{
-    match code {
-        1 => Role::Pawn,
-        2 => Role::Knight,
-        3 => Role::Bishop,
-        4 => Role::Rook,
-        5 => Role::Queen,
-        _ => Role::King,
-    }
-}
-
-/// 0 for an empty square, 1 to 6 for White's men, 7 to 12 for Black's.
-pub fn man_code(man: Option<Piece>) -> u8
-    ensures code { result ≡ man_code man }
+/// 0 for an empty square, 1 to 6 for White's pieces, 7 to 12 for Black's.
+pub fn piece_code(occupant: Option<Piece>) -> u8
+    ensures code { result ≡ piece_code occupant }
     ensures small { result ≤ 12 }
 {
-    match man {
+    match occupant {
         None => 0,
         Some(piece) => match piece.color {
             Color::White => role_code(piece.role),
@@ -57,9 +28,9 @@ pub fn man_code(man: Option<Piece>) -> u8
     }
 }
 
-pub fn man_of_code(code: u8) -> Option<Piece>
+pub fn piece_of_code(code: u8) -> Option<Piece>
     requires { code ≤ 12 }
-    ensures { man_code result ≡ code }
+    ensures { piece_code result ≡ code }
 {
     if code == 0 {
         return None;
@@ -129,4 +100,33 @@ pub fn en_passant_of_code(code: u8) -> Option<Square>
         return None;
     }
     Some(Square { index: code - 1 })
+}
+
+fn role_code(role: Role) -> u8
+    ensures code { result ≡ role_code role }
+    ensures small { result ≤ 6 }
+{
+    match role {
+        Role::Pawn => 1,
+        Role::Knight => 2,
+        Role::Bishop => 3,
+        Role::Rook => 4,
+        Role::Queen => 5,
+        Role::King => 6,
+    }
+}
+
+fn role_of_code(code: u8) -> Role
+    requires positive { 1 ≤ code }
+    requires small { code ≤ 6 }
+    ensures { role_code result ≡ code }
+{
+    match code {
+        1 => Role::Pawn,
+        2 => Role::Knight,
+        3 => Role::Bishop,
+        4 => Role::Rook,
+        5 => Role::Queen,
+        _ => Role::King,
+    }
 }

@@ -6,9 +6,8 @@
 //! castling and Black's. Byte 33 is 0 without an en passant square, else the square's index plus 1.
 #![tactic(auto)]
 
-ghost use Rattle.std.specs.Prelude.{◌≡◌, ◌≢◌, ◌++◌, ◌∷◌, [], length, IfSome, IfNone};
-ghost use Rattle.explorer_model.specs.declared.chess.Position.{Position};
-ghost use Rattle.explorer_model.specs.Keys.{key, packed};
+ghost use Rattle.std.specs.Prelude.{◌≡◌, ◌++◌, ◌∷◌, [], length, IfSome, IfNone};
+ghost use Rattle.explorer_model.specs.Keys.{key, packed, HasKey, IsKey};
 
 mod codes;
 pub mod laws;
@@ -16,26 +15,10 @@ pub mod laws;
 mod tests;
 
 use crate::codes::{
-    LAST_EN_PASSANT, LAST_MAN, LAST_STATE, en_passant_code, en_passant_of_code, man_code,
-    man_of_code, rights_of_code, state_code, turn_of_code,
+    LAST_EN_PASSANT, LAST_PIECE, LAST_STATE, en_passant_code, en_passant_of_code, piece_code,
+    piece_of_code, rights_of_code, state_code, turn_of_code,
 };
 use explorer_model::chess::{Piece, Position};
-
-/// A key whose last two bytes are known.
-fn key_bytes(squares: &[Option<Piece>; 64], state: u8, en_passant: u8) -> [u8; 34]
-    ensures bytes { result ≡ packed squares.now ++ state ∷ en_passant ∷ [] }
-    ensures board { length squares.now ≡ 64 }
-{
-    let mut bytes = [0u8; 34];
-    bytes[32] = state;
-    bytes[33] = en_passant;
-    for byte in 0..32usize {
-        let low = man_code(squares[2 * byte]);
-        let high = man_code(squares[2 * byte + 1]);
-        bytes[byte] = low + 16 * high;
-    }
-    bytes
-}
 
 /// The key of a position, valid or not.
 pub fn pack(position: &Position) -> [u8; 34]
@@ -52,8 +35,8 @@ pub fn pack(position: &Position) -> [u8; 34]
 
 /// The position that has this key, valid or not.
 pub fn unpack(bytes: &[u8; 34]) -> Option<Position>
-    ensures some { IfSome result (λ p. (length p.squares ≡ 64) × (key p ≡ bytes.now)) }
-    ensures none { IfNone result ((p : Position) → length p.squares ≡ 64 → key p ≢ bytes.now) }
+    ensures some { IfSome result (λ p. HasKey p bytes.now) }
+    ensures none { IfNone result (¬ IsKey bytes.now) }
 {
     let state = bytes[32];
     let en_passant = bytes[33];
@@ -64,11 +47,11 @@ pub fn unpack(bytes: &[u8; 34]) -> Option<Position>
     for byte in 0..32usize {
         let low = bytes[byte] % 16;
         let high = bytes[byte] / 16;
-        if low > LAST_MAN || high > LAST_MAN {
+        if low > LAST_PIECE || high > LAST_PIECE {
             return None;
         }
-        squares[2 * byte] = man_of_code(low);
-        squares[2 * byte + 1] = man_of_code(high);
+        squares[2 * byte] = piece_of_code(low);
+        squares[2 * byte + 1] = piece_of_code(high);
     }
     Some(Position {
         squares,
@@ -76,4 +59,20 @@ pub fn unpack(bytes: &[u8; 34]) -> Option<Position>
         rights: rights_of_code(state),
         en_passant: en_passant_of_code(en_passant),
     })
+}
+
+/// A key whose last two bytes are known.
+fn key_bytes(squares: &[Option<Piece>; 64], state: u8, en_passant: u8) -> [u8; 34]
+    ensures bytes { result ≡ packed squares.now ++ state ∷ en_passant ∷ [] }
+    ensures board { length squares.now ≡ 64 }
+{
+    let mut bytes = [0u8; 34];
+    bytes[32] = state;
+    bytes[33] = en_passant;
+    for byte in 0..32usize {
+        let low = piece_code(squares[2 * byte]);
+        let high = piece_code(squares[2 * byte + 1]);
+        bytes[byte] = low + 16 * high;
+    }
+    bytes
 }

@@ -55,13 +55,13 @@ fn start() -> Position {
         Role::Knight,
         Role::Rook,
     ];
-    let man = |color, role| Some(Piece { color, role });
+    let piece = |color, role| Some(Piece { color, role });
     let mut squares = [None; 64];
     for file in 0..8 {
-        squares[file] = man(Color::White, home[file]);
-        squares[8 + file] = man(Color::White, Role::Pawn);
-        squares[48 + file] = man(Color::Black, Role::Pawn);
-        squares[56 + file] = man(Color::Black, home[file]);
+        squares[file] = piece(Color::White, home[file]);
+        squares[8 + file] = piece(Color::White, Role::Pawn);
+        squares[48 + file] = piece(Color::Black, Role::Pawn);
+        squares[56 + file] = piece(Color::Black, home[file]);
     }
     let rights = Rights {
         white_short: true,

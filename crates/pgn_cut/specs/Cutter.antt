@@ -49,7 +49,8 @@ IsAtStart cutter = StandsAtStart cutter.stage
 
 -- what is done with a piece before the first text
 pub record FeedsFront (front : Front) (piece : List ℕ) (next : Stage × Fed) : Type 0 where
-  pub cuts : (rest : List ℕ) → cuts_in next.1.cut ++ cuts_from_stage next.0 rest ≡ cuts_of_front front (take next.1.taken piece ++ rest)
+  pub cuts : (rest : List ℕ) → cuts_in next.1.cut ++ cuts_from_stage next.0 rest
+      ≡ cuts_of_front front (take next.1.taken piece ++ rest)
   pub some : 0 < length piece → 0 < next.1.taken
   pub taken : next.1.taken ≤ length piece
   pub whole : IsNone next.1.cut → next.1.taken ≡ length piece

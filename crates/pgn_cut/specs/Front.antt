@@ -32,9 +32,13 @@ pub record Starts (f : Front) (piece : List ℕ) (taken : ℕ) (first : Option �
   pub some : 0 < taken
   pub within : taken ≤ length piece
   pub behind : 7 ≤ f.came + taken
-  pub cuts : (rest : List ℕ) → refusal_of first ++ cuts_of_text (at_start (f.came + taken - 7)) rest ≡ cuts_of_front f (take taken piece ++ rest)
+  pub cuts : (rest : List ℕ) → refusal_of first
+      ++ cuts_of_text (at_start (f.came + taken - 7)) rest
+      ≡ cuts_of_front f (take taken piece ++ rest)
 
 -- no cut ends in the piece, or a start ends with the bytes that were taken
 abbrev pub GoesOnward : Front → List ℕ → Onward → Type 0
-GoesOnward f piece (Before f') = (f'.came ≡ f.came + length piece) × ((rest : List ℕ) → cuts_of_front f' rest ≡ cuts_of_front f (piece ++ rest))
+GoesOnward f piece (Before f') =
+    (f'.came ≡ f.came + length piece)
+    × ((rest : List ℕ) → cuts_of_front f' rest ≡ cuts_of_front f (piece ++ rest))
 GoesOnward f piece (Start taken first) = Starts f piece taken first

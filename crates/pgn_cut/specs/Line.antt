@@ -19,7 +19,8 @@ ahead head parts = record { before = head ++ parts.before; texts = parts.texts }
 pub record GoesOn (matched : ℕ) (bytes : List ℕ) (matched' : ℕ) : Type 0 where
   pub head : List ℕ
   pub same : open_bytes matched ++ bytes ≡ head ++ open_bytes matched'
-  pub parts : (rest : List ℕ) → parted_after matched (bytes ++ rest) ≡ ahead head (parted_after matched' rest)
+  pub parts : (rest : List ℕ) → parted_after matched (bytes ++ rest)
+      ≡ ahead head (parted_after matched' rest)
 
 -- so far in a piece: `taken` bytes of it, and the count behind them
 pub record Scanned (matched : ℕ) (piece : List ℕ) (taken matched' : ℕ) : Type 0 where

@@ -14,7 +14,8 @@ pub record Passes (count : ℕ) (piece : List ℕ) (front : Front) (taken : ℕ)
   pub within : taken ≤ length piece
   pub came : front.came ≡ count + taken
   pub cuts : (n : ℕ) → taken ≤ n → (n < length piece → 3 ≤ count + n) → (rest : List ℕ)
-      → cuts_of_front front (drop taken (take n piece) ++ rest) ≡ cuts_of_mark count (take n piece ++ rest)
+      → cuts_of_front front (drop taken (take n piece) ++ rest)
+      ≡ cuts_of_mark count (take n piece ++ rest)
 
 pub record StaysMark (count : ℕ) (piece : List ℕ) (count' : ℕ) : Type 0 where
   pub came : count' ≡ count + length piece

@@ -24,7 +24,9 @@ settled t = t.count - (t.matched - 1)
 -- the cut of a text by its front, of n bytes, and the rest of it
 unfoldable pub cut_with : ℕ → ℕ → List ℕ → List ℕ → Cut
 cut_with place n front more =
-    if nat_le (n + length more) text_limit then Text (record { place = place; bytes = front ++ more }) else TooLong place (n + length more)
+    if nat_le (n + length more) text_limit
+    then Text (record { place = place; bytes = front ++ more })
+    else TooLong place (n + length more)
 
 -- the cuts of the text in hand and of the rest of the stream
 unfoldable pub cuts_of_text : TextState → List ℕ → List Cut

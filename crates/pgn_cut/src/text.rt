@@ -65,7 +65,8 @@ impl Text {
         ensures some { IfOk result (λ fed. 0 < length piece.now → 0 < fed.taken) }
         ensures whole { IfOk result (λ fed. IsNone fed.cut → fed.taken ≡ length piece.now) }
         ensures stops { IfOk result (λ fed. IsSome fed.cut → self.new ≡ at_start self.new.place) }
-        ensures came { IfOk result (λ fed. self.new.place + self.new.count ≡ self.old.place + self.old.count + fed.taken) }
+        ensures came { IfOk result (λ fed. self.new.place + self.new.count
+            ≡ self.old.place + self.old.count + fed.taken) }
         ensures small { IfOk result (λ _. length self.new.kept ≤ kept_limit) }
         ensures unchanged { OnErr result (self.new ≡ self.old) }
     {
@@ -118,7 +119,9 @@ fn cut_of(place: u64, length: u64, kept: Vec<u8>) -> Cut
 /// Adds the bytes to those that are kept, as far as the limit allows.
 fn keep(kept: &mut Vec<u8>, bytes: &[u8]) -> Result<(), AllocError>
     requires { length kept.old.items ≤ kept_limit }
-    ensures { kept.new.items ≡ (if is_ok result then kept.old.items ++ take (kept_limit - length kept.old.items) bytes.now else kept.old.items) }
+    ensures { kept.new.items
+        ≡ (if is_ok result then kept.old.items
+        ++ take (kept_limit - length kept.old.items) bytes.now else kept.old.items) }
 {
     let room = KEPT_LIMIT - kept.len();
     kept.extend_from_slice(&bytes[..room.min(bytes.len())])

@@ -10,9 +10,13 @@ StandsAt text place bytes = (0 < length bytes) × (take (length bytes) (drop pla
 -- from the place to the text's end, each item stands where the one before it ends
 abbrev pub StandInARow : List ℕ → ℕ → List Item → Type 0
 StandInARow text place [] = place ≡ length text
-StandInARow text place (item ∷ items) = (item.place ≡ place) × StandsAt text place item.text × StandInARow text (place + length item.text) items
+StandInARow text place (item ∷ items) =
+    (item.place ≡ place) × StandsAt text place item.text
+    × StandInARow text (place + length item.text) items
 
 -- from the place on, each token stands behind the ones before it
 abbrev pub StandApart : List ℕ → ℕ → List Token → Type 0
 StandApart text place [] = ⊤
-StandApart text place (token ∷ tokens) = (place ≤ token.place) × StandsAt text token.place token.text × StandApart text (token.place + length token.text) tokens
+StandApart text place (token ∷ tokens) =
+    (place ≤ token.place) × StandsAt text token.place token.text
+    × StandApart text (token.place + length token.text) tokens

@@ -42,11 +42,13 @@ added_kind _ item front = front
 
 -- an item behind the front
 abbrev pub added : model.Section → Item → Front → Front
-added section item front = if is_in_variation section then front else added_kind item.kind item front
+added section item front =
+    if is_in_variation section then front else added_kind item.kind item front
 
 -- the parts from a place on behind the front
 abbrev pub onto : Front → Parts → Parts
-onto front parts = record parts { tags = front.tags ++ parts.tags; tokens = front.tokens ++ parts.tokens }
+onto front parts =
+    record parts { tags = front.tags ++ parts.tags; tokens = front.tokens ++ parts.tokens }
 
 abbrev pub with_front : Front → Result Parts LexFault → Result Parts LexFault
 with_front front reading = reading >>= λ parts. Ok (onto front parts)
@@ -55,7 +57,9 @@ abbrev pub finished : model.Section → Front → Result Parts LexFault
 finished section front = with_front front (at_end section)
 
 -- what is read before the place, and then the rest of the text
-pub record IsReadUpTo (text : List ℕ) (at : ℕ) (section : model.Section) (front : Front) : Type 0 where
+pub record IsReadUpTo (text : List ℕ) (at : ℕ) (section : model.Section)
+    (front : Front) : Type 0 where
   pub within : at ≤ length text
   pub depth : depth_of section ≤ at
-  pub goes_on : with_front front (meaning section (items_from 0 (begins_line at text) at (drop at text))) ≡ parts text
+  pub goes_on : with_front front
+      (meaning section (items_from 0 (begins_line at text) at (drop at text))) ≡ parts text

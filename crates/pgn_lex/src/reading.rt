@@ -54,8 +54,10 @@ pub fn parts(alloc: Global, text: &[u8]) -> Result<Parts, Stop<LexFault>>
 /// Where the text stands after an item, or none where such an item must not stand.
 fn after(section: Section, kind: Kind<'_>, place: u32) -> Option<Section>
     requires { depth_of (section_as section) < 2 ^ 32 }
-    ensures next { option_map section_as result ≡ after (section_as section) (kind_as kind.entry) place }
-    ensures depth { IfSome result (λ next. depth_of (section_as next) ≤ depth_of (section_as section) + 1) }
+    ensures next { option_map section_as result
+        ≡ after (section_as section) (kind_as kind.entry) place }
+    ensures depth { IfSome result
+        (λ next. depth_of (section_as next) ≤ depth_of (section_as section) + 1) }
 {
     if let Kind::Blank = kind {
         return Some(section);
@@ -95,7 +97,8 @@ fn after_in_moves(kind: Kind<'_>, place: u32) -> Option<Section>
 
 fn after_in_variation(inner: u32, outer: u32, kind: Kind<'_>) -> Option<Section>
     requires { inner + 1 < 2 ^ 32 }
-    ensures next { option_map section_as result ≡ after_in_variation inner outer (kind_as kind.entry) }
+    ensures next { option_map section_as result
+        ≡ after_in_variation inner outer (kind_as kind.entry) }
     ensures depth { IfSome result (λ next. depth_of (section_as next) ≤ inner + 2) }
 {
     match kind {
@@ -118,7 +121,8 @@ fn after_in_variation(inner: u32, outer: u32, kind: Kind<'_>) -> Option<Section>
 impl Found {
     /// Adds what an item says; what stands in a variation says nothing.
     fn add(&mut self, alloc: Global, section: Section, item: Item<'_>) -> Result<(), AllocError>
-        ensures { OnOk result (front_of self.new ≡ added (section_as section) (item_as item.entry) (front_of self.old)) }
+        ensures { OnOk result (front_of self.new
+            ≡ added (section_as section) (item_as item.entry) (front_of self.old)) }
     {
         if let Section::Variation { .. } = section {
             return Ok(());

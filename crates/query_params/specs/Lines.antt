@@ -21,20 +21,27 @@ NamesRoot text root =
 
 -- the line of the code
 abbrev pub line_as : Result code.Line BadParameter → Result Line BadParameter
-line_as line = result_map_both (λ line. record { moves = line.moves; at = line.board }) (λ fault. fault) line
+line_as line =
+    result_map_both (λ line. record { moves = line.moves; at = line.board }) (λ fault. fault) line
 
 -- moves before those of the rest
 abbrev pub onto_front : List Move → Result Line BadParameter → Result Line BadParameter
-onto_front moves rest = result_map_both (λ line. record { moves = moves ++ line.moves; at = line.at }) (λ fault. fault) rest
+onto_front moves rest =
+    result_map_both (λ line. record { moves = moves ++ line.moves; at = line.at })
+    (λ fault. fault) rest
 
 -- Moves were played from the root to the board: what the texts that are left give from the board completes what all of
 -- them give from the root.
-pub record Playing (root : Position) (texts : List (List ℕ)) (board : Position) (moves : List Move) (left : List (List ℕ)) : Type 0 where
-  pub completes : (rest : Result Line BadParameter) → MovesRead board left rest → MovesRead root texts (onto_front moves rest)
+pub record Playing (root : Position) (texts : List (List ℕ)) (board : Position) (moves : List Move)
+    (left : List (List ℕ)) : Type 0 where
+  pub completes : (rest : Result Line BadParameter) → MovesRead board left rest
+      → MovesRead root texts (onto_front moves rest)
 
 -- the query of a position and a line, where all parameters are well-formed, or the first that is not
-abbrev pub query_by : List (List ℕ × List ℕ) → Result Position BadParameter → Result Line BadParameter → Result Query BadParameter
-query_by pairs root line = asked standard_only true Variant pairs >>= λ standard. root >>= λ p. line >>= λ l. query_from pairs p l
+abbrev pub query_by : List (List ℕ × List ℕ) → Result Position BadParameter
+    → Result Line BadParameter → Result Query BadParameter
+query_by pairs root line =
+    asked standard_only true Variant pairs >>= λ standard. root >>= λ p. line >>= λ l. query_from pairs p l
 
 -- the answer is the query of the text, or the first parameter that is malformed; want of memory is free
 abbrev pub GivesQuery : List ℕ → Result Query (Stop BadParameter) → Type 0

@@ -63,7 +63,9 @@ fn judged(
 /// The parameters behind the position.
 #[tactic(auto, unfolding(explorer_model::specs::Query::query_from))]
 fn query_from(pairs: &[Pair], root: &Board, line: Line) -> Result<Query, BadParameter>
-    ensures reads { result ≡ query_from (map texts pairs.now) root.now (record { moves = line.moves; at = line.board }) }
+    ensures reads { result
+        ≡ query_from (map texts pairs.now) root.now
+        (record { moves = line.moves; at = line.board }) }
     ensures root { IfOk result (λ query. IsValid query.root) }
     ensures at { IfOk result (λ query. IsValid query.at) }
     ensures top { IfOk result (λ query. query.top ≤ 4) }

@@ -15,7 +15,8 @@ pub fn bad(name: Parameter) -> BadParameter
 
 /// The value of a parameter, where it is given and not empty.
 pub fn given(pairs: &[Pair], name: Parameter) -> Result<Option<&str>, BadParameter>
-    ensures { result_map_both (λ value. option_map (λ text. text.now) value) (λ fault. fault) result ≡ given_in name (map texts pairs.now) }
+    ensures { result_map_both (λ value. option_map (λ text. text.now) value)
+        (λ fault. fault) result ≡ given_in name (map texts pairs.now) }
 {
     match value_of(pairs, name) {
         None => Err(bad(name)),

@@ -8,7 +8,8 @@ use fen_uci::laws::{fen_is_determined, uci_is_determined};
 
 /// A query string has one reading.
 pub fn query_is_determined()
-    ensures { (text : List ℕ) (r s : Result AQuery ABadParameter) → QueryReads text r → QueryReads text s → r ≡ s }
+    ensures { (text : List ℕ) (r s : Result AQuery ABadParameter) → QueryReads text r
+        → QueryReads text s → r ≡ s }
 {
     fen_is_determined();
     uci_is_determined();

@@ -26,7 +26,8 @@ pub fn variant(pairs: &[Pair]) -> Result<bool, BadParameter>
 }
 
 pub fn speeds(pairs: &[Pair]) -> Result<[bool; 6], BadParameter>
-    ensures { result ≡ asked (names_given speed_names) (all_given speed_names) Speeds (map texts pairs.now) }
+    ensures { result ≡ asked (names_given speed_names) (all_given speed_names) Speeds
+        (map texts pairs.now) }
 {
     let Some(text) = given(pairs, Parameter::Speeds)? else {
         return Ok([true; 6]);
@@ -36,7 +37,8 @@ pub fn speeds(pairs: &[Pair]) -> Result<[bool; 6], BadParameter>
 
 /// Rating groups, by the least rating of each.
 pub fn groups(pairs: &[Pair]) -> Result<[bool; 9], BadParameter>
-    ensures { result ≡ asked (names_given group_names) (all_given group_names) Ratings (map texts pairs.now) }
+    ensures { result ≡ asked (names_given group_names) (all_given group_names) Ratings
+        (map texts pairs.now) }
 {
     let Some(text) = given(pairs, Parameter::Ratings)? else {
         return Ok([true; 9]);

@@ -46,7 +46,8 @@ pub fn line_of(
     root: &Result<Board, BadParameter>,
     pairs: &[Pair],
 ) -> Result<Result<Line, BadParameter>, AllocError>
-    ensures { IfOk result (λ line. LineReads root.now (value_in Play (map texts pairs.now)) (line_as line)) }
+    ensures { IfOk result (λ line. LineReads root.now (value_in Play (map texts pairs.now))
+        (line_as line)) }
 {
     match root {
         Ok(board) => play_of(alloc, board, pairs),
@@ -59,7 +60,8 @@ fn play_of(
     root: &Board,
     pairs: &[Pair],
 ) -> Result<Result<Line, BadParameter>, AllocError>
-    ensures { IfOk result (λ line. PlayReads root.now (value_in Play (map texts pairs.now)) (line_as line)) }
+    ensures { IfOk result (λ line. PlayReads root.now (value_in Play (map texts pairs.now))
+        (line_as line)) }
 {
     match given(pairs, Parameter::Play) {
         Ok(Some(text)) => played(alloc, root, text),

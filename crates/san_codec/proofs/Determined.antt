@@ -12,7 +12,7 @@ use Rattle.explorer_model.specs.declared.notation.Start.{Start}
 use Rattle.explorer_model.specs.declared.notation.Start.TheVariants.{Unnamed, File, Rank, Square}
 use Rattle.explorer_model.specs.declared.notation.CheckMark.{CheckMark}
 use Rattle.explorer_model.specs.declared.notation.CheckMark.TheVariants.{Quiet, Check, Mate}
-use Rattle.explorer_model.specs.Board.{man_at}
+use Rattle.explorer_model.specs.Board.{piece_at}
 use Rattle.explorer_model.specs.Chess.{after}
 use Rattle.explorer_model.specs.San.{san_form, Answers, AnswersAs, SanReads, IsRole, PieceStart, StartOf, IsMarked, MoveText, SanText, named_text, mark_text}
 
@@ -66,7 +66,7 @@ start_of_same p m Rook a b h g = start_same p m a b h g
 start_of_same p m Queen a b h g = start_same p m a b h g
 start_of_same p m King a b h g = start_same p m a b h g
 
-role_same : (man : Option Piece) (a b : Role) → IsRole a man → IsRole b man → a ≡ b
+role_same : (occupant : Option Piece) (a b : Role) → IsRole a occupant → IsRole b occupant → a ≡ b
 role_same None a b h g = absurd h
 role_same (Some piece) a b h g = sym h ∙ g
 
@@ -86,7 +86,7 @@ move_text_same p m a b (inl (is, e)) (inl (again, g)) = e ∙ sym g
 move_text_same p m a b (inl (is, e)) (inr (not, named)) = cc
 move_text_same p m a b (inr (not, named)) (inl (is, e)) = cc
 move_text_same p m a b (inr (not, (role, start, is, starts, e))) (inr (again, (role', start', is', starts', e'))) =
-    let roles = role_same (man_at p.squares m.from.index) role role' is is' in
+    let roles = role_same (piece_at p.squares m.from.index) role role' is is' in
     e ∙ named_same role role' start start' roles starts starts' ∙ sym e'
   where
     named_same : (role role' : Role) (start start' : Start) → role ≡ role' → StartOf p m role start → StartOf p m role' start'

@@ -10,7 +10,7 @@ use Rattle.explorer_model.specs.declared.notation.NamedMove.{NamedMove}
 use Rattle.explorer_model.specs.declared.notation.SanForm.TheVariants.{Castling, Named}
 use Rattle.explorer_model.specs.declared.notation.CheckMark.{CheckMark}
 use Rattle.explorer_model.specs.declared.notation.CheckMark.TheVariants.{Quiet, Check, Mate}
-use Rattle.explorer_model.specs.Board.{file_of, rank_of, man_at}
+use Rattle.explorer_model.specs.Board.{file_of, rank_of, piece_at}
 use Rattle.explorer_model.specs.Chess.{is_castling, castling_side, IsValid, Legal}
 use Rattle.explorer_model.specs.San.{is_mark, captures, IsRole, IsAsNamed, StartOf, MoveText, SanText, SanReads, mark_text, named_text, castling_text}
 use Rattle.san_codec.proofs.Reading.{reads}
@@ -41,7 +41,7 @@ own_rank Rank s = refl
 own_rank Square s = refl
 
 named_reads : (p : Position) (m : Move) (role : Role) (start : Start) (marks : List ℕ) → IsValid p → Legal p m → is_castling p m ≡ false
-    → IsRole role (man_at p.squares m.from.index) → StartOf p m role start → IsTrue (list_all is_mark marks) → SanReads p (named_text p m role start ++ marks) (Ok m)
+    → IsRole role (piece_at p.squares m.from.index) → StartOf p m role start → IsTrue (list_all is_mark marks) → SanReads p (named_text p m role start ++ marks) (Ok m)
 named_reads p m role start marks valid legal not is starts all =
     reads p (named_text p m role start ++ marks) (Named (form_of_move p m role start)) (Ok m)
     (sym (named_form role start m.from.index (captures p m) m.to.index m.promotion marks m.from.on_board m.to.on_board (promotes_well p m role legal is) all)) (

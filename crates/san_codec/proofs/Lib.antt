@@ -1,6 +1,5 @@
 pub mod Determined
 pub mod Law
-pub mod Listing
 pub mod Moves
 pub mod Reading
 pub mod Rivals

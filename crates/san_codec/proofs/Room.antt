@@ -6,10 +6,10 @@ use Rattle.explorer_model.specs.declared.chess.Position.{Position}
 use Rattle.explorer_model.specs.declared.chess.Move.{Move}
 use Rattle.explorer_model.specs.declared.notation.Start.{Start}
 use Rattle.explorer_model.specs.declared.notation.Start.TheVariants.{Unnamed, File, Rank, Square}
-use Rattle.explorer_model.specs.Board.{man_at}
+use Rattle.explorer_model.specs.Board.{piece_at}
 use Rattle.explorer_model.specs.Chess.{Legal}
 use Rattle.explorer_model.specs.San.{captures, IsRole, StartOf, role_text, start_text, capture_text, promotion_text, named_text}
-use Rattle.san_codec.proofs.Moves.{goes_legally}
+use Rattle.san_codec.proofs.Moves.{moves_legally}
 
 capture_room : (c : Bool) → length (capture_text c) ≤ 1
 capture_room true = omega arith
@@ -46,17 +46,17 @@ together p m role start h =
     let parts = named_text p m role start in
     simp length-append (omega (arith, h, capture_room (captures p m)))
 
-pub named_room : (p : Position) (m : Move) (role : Role) (start : Start) → Legal p m → IsRole role (man_at p.squares m.from.index)
+pub named_room : (p : Position) (m : Move) (role : Role) (start : Start) → Legal p m → IsRole role (piece_at p.squares m.from.index)
     → StartOf p m role start → length (named_text p m role start) ≤ 7
 named_room p m Pawn start legal is starts =
     together p m Pawn start (omega (arith, pawn_start_room (captures p m) start m.from.index starts, promotion_room m.promotion))
 named_room p m Knight start legal is starts =
-    together p m Knight start (omega (arith, start_room start m.from.index, no_promotion_room m.promotion (goes_legally p m Knight legal is).1))
+    together p m Knight start (omega (arith, start_room start m.from.index, no_promotion_room m.promotion (moves_legally p m Knight legal is).1))
 named_room p m Bishop start legal is starts =
-    together p m Bishop start (omega (arith, start_room start m.from.index, no_promotion_room m.promotion (goes_legally p m Bishop legal is).1))
+    together p m Bishop start (omega (arith, start_room start m.from.index, no_promotion_room m.promotion (moves_legally p m Bishop legal is).1))
 named_room p m Rook start legal is starts =
-    together p m Rook start (omega (arith, start_room start m.from.index, no_promotion_room m.promotion (goes_legally p m Rook legal is).1))
+    together p m Rook start (omega (arith, start_room start m.from.index, no_promotion_room m.promotion (moves_legally p m Rook legal is).1))
 named_room p m Queen start legal is starts =
-    together p m Queen start (omega (arith, start_room start m.from.index, no_promotion_room m.promotion (goes_legally p m Queen legal is).1))
+    together p m Queen start (omega (arith, start_room start m.from.index, no_promotion_room m.promotion (moves_legally p m Queen legal is).1))
 named_room p m King start legal is starts =
-    together p m King start (omega (arith, start_room start m.from.index, no_promotion_room m.promotion (goes_legally p m King legal is).1))
+    together p m King start (omega (arith, start_room start m.from.index, no_promotion_room m.promotion (moves_legally p m King legal is).1))

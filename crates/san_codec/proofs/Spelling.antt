@@ -1,5 +1,5 @@
 -- A written move is read as the form that it was written from.
-use Rattle.std.proofs.Common.{◌≡◌, ℕ, ◌+◌, ◌*◌, ◌/◌, ◌%◌, ◌<◌, ◌++◌, ◌&&◌, ◌==◌, ◌⊎◌, inl, inr, Bool, true, false, Option, Some, None, option_map, option_and_then, is_some, List, [], ◌∷◌, reverse, IsTrue, refl, ap, ◌∙◌, append_assoc, arith, if◌then◌else◌}
+use Rattle.std.proofs.Common.{◌≡◌, ℕ, ◌+◌, ◌/◌, ◌%◌, ◌<◌, ◌++◌, ◌&&◌, ◌==◌, ◌⊎◌, inl, inr, Bool, true, false, Option, Some, None, option_map, option_and_then, is_some, List, [], ◌∷◌, reverse, IsTrue, refl, ap, ◌∙◌, append_assoc, arith, if◌then◌else◌}
 use Rattle.std.specs.List.{list_all}
 use Rattle.std.proofs.lemmas.List.{reverse-append}
 use Rattle.std.proofs.lemmas.Bool.{and_parts}
@@ -15,33 +15,28 @@ use Rattle.explorer_model.specs.declared.notation.SanForm.{SanForm}
 use Rattle.explorer_model.specs.declared.notation.SanForm.TheVariants.{Castling, Named}
 use Rattle.explorer_model.specs.Board.{file_of, rank_of}
 use Rattle.explorer_model.specs.Chess.{IsPromotion}
-use Rattle.explorer_model.specs.Letters.{role_of, promotions, file_named, rank_named, file_letter, rank_digit, square_text, square_named}
+use Rattle.explorer_model.specs.Letters.{byte, role_of, promotions, file_named, rank_named, file_letter, rank_digit, square_text}
 use Rattle.explorer_model.specs.San.{is_mark, unmarked, optional, byte_is, promoted, moved, from_start, to_target, named_move, is_o, castling, form_of, san_form, role_text, start_text, capture_text, promotion_text, castling_text}
+use Rattle.explorer_model.proofs.LetterLemmas.{file_read, rank_read, square_read}
 
 -- Files and ranks.
 
-file_at : (n : ℕ) → n < 8 → file_named (97 + n) ≡ Some n
-file_at n h = grind (arith, nat_tests)
-
-rank_at : (n : ℕ) → n < 8 → rank_named (49 + n) ≡ Some n
-rank_at n h = grind (arith, nat_tests)
-
-no_rank : (n : ℕ) → n < 8 → rank_named (97 + n) ≡ None
+no_rank : (n : ℕ) → n < 8 → rank_named (byte "a" + n) ≡ None
 no_rank n h = grind (arith, nat_tests)
 
-no_x_file : (n : ℕ) → n < 8 → byte_is 120 (97 + n) ≡ None
+no_x_file : (n : ℕ) → n < 8 → byte_is (byte "x") (byte "a" + n) ≡ None
 no_x_file n h = grind (arith, nat_tests)
 
-no_x_rank : (n : ℕ) → n < 8 → byte_is 120 (49 + n) ≡ None
+no_x_rank : (n : ℕ) → n < 8 → byte_is (byte "x") (byte "1" + n) ≡ None
 no_x_rank n h = grind (arith, nat_tests)
 
-no_promotion : (n : ℕ) → n < 8 → role_of promotions (49 + n) ≡ None
+no_promotion : (n : ℕ) → n < 8 → role_of promotions (byte "1" + n) ≡ None
 no_promotion n h = grind (arith, nat_tests)
 
-no_o : (n : ℕ) → n < 8 → is_o (49 + n) ≡ false
+no_o : (n : ℕ) → n < 8 → is_o (byte "1" + n) ≡ false
 no_o n h = grind (arith, nat_tests)
 
-no_mark : (n : ℕ) → n < 8 → is_mark (49 + n) ≡ false
+no_mark : (n : ℕ) → n < 8 → is_mark (byte "1" + n) ≡ false
 no_mark n h = grind (arith, nat_tests)
 
 file_below : (s : ℕ) → s % 8 < 8
@@ -49,16 +44,6 @@ file_below s = omega arith
 
 rank_below : (s : ℕ) → s < 64 → s / 8 < 8
 rank_below s h = omega arith
-
-joined : (file rank : Option ℕ) (f r : ℕ) → file ≡ Some f → rank ≡ Some r → option_and_then (λ a. option_map (λ b. 8 * b + a) rank) file ≡ Some (8 * r + f)
-joined (Some a) (Some b) f r e g = cc
-joined (Some a) None f r e g = cc
-joined None rank f r e g = cc
-
-square_at : (s : ℕ) → s < 64 → square_named (file_letter s) (rank_digit s) ≡ Some s
-square_at s h =
-    joined (file_named (file_letter s)) (rank_named (rank_digit s)) (s % 8) (s / 8) (file_at (s % 8) (file_below s)) (rank_at (s / 8) (rank_below s h))
-    ∙ ap (λ (n : ℕ). Some n) (omega arith)
 
 -- Parts.
 
@@ -76,7 +61,7 @@ x_in : Bool → Option ℕ
 x_in true = Some 120
 x_in false = None
 
-with_x : (c : Bool) (bytes : List ℕ) → optional (byte_is 120) bytes ≡ (None, bytes) → optional (byte_is 120) (reverse (capture_text c) ++ bytes) ≡ (x_in c, bytes)
+with_x : (c : Bool) (bytes : List ℕ) → optional (byte_is (byte "x")) bytes ≡ (None, bytes) → optional (byte_is (byte "x")) (reverse (capture_text c) ++ bytes) ≡ (x_in c, bytes)
 unfolding x_in
 with_x true bytes e = refl
 with_x false bytes e = e
@@ -86,7 +71,7 @@ unfolding x_in
 is_x true = refl
 is_x false = refl
 
-no_x_role : (role : Role) → optional (byte_is 120) (reverse (role_text role)) ≡ (None, reverse (role_text role))
+no_x_role : (role : Role) → optional (byte_is (byte "x")) (reverse (role_text role)) ≡ (None, reverse (role_text role))
 no_x_role Pawn = refl
 no_x_role Knight = refl
 no_x_role Bishop = refl
@@ -135,7 +120,7 @@ abbrev form_with : Role → Option ℕ → Option ℕ → Bool → ℕ → Optio
 form_with role file rank c target promotion = record { role = role; file = file; rank = rank; captures = c; target = target; promotion = promotion }
 
 parts : (promotion : Option Role) (target : ℕ) (bytes : List ℕ) (c : Bool) (after_x : List ℕ) (rank : Option ℕ) (after_rank : List ℕ) (file : Option ℕ) (after_file : List ℕ) (role : Role)
-    → optional (byte_is 120) bytes ≡ (x_in c, after_x) → optional rank_named after_x ≡ (rank, after_rank) → optional file_named after_rank ≡ (file, after_file)
+    → optional (byte_is (byte "x")) bytes ≡ (x_in c, after_x) → optional rank_named after_x ≡ (rank, after_rank) → optional file_named after_rank ≡ (file, after_file)
     → moved after_file ≡ Some role → from_start promotion target bytes ≡ Some (form_with role file rank c target promotion)
 parts promotion target bytes c after_x rank after_rank file after_file role e g h k = rw (e, g, h, k, is_x c) refl
 
@@ -149,24 +134,24 @@ start_parts promotion target s File c role h =
     let end = reverse (role_text role) in
     let named = file_letter s ∷ end in
     parts promotion target (reverse (capture_text c) ++ named) c named None named (Some (file_of s)) end role
-    (with_x c named (optional_none (byte_is 120) (file_letter s) end (no_x_file (s % 8) (file_below s))))
+    (with_x c named (optional_none (byte_is (byte "x")) (file_letter s) end (no_x_file (s % 8) (file_below s))))
     (optional_none rank_named (file_letter s) end (no_rank (s % 8) (file_below s)))
-    (optional_some file_named (file_letter s) end (s % 8) (file_at (s % 8) (file_below s))) (moved_role role)
+    (optional_some file_named (file_letter s) end (s % 8) (file_read (s % 8) (file_below s))) (moved_role role)
 start_parts promotion target s Rank c role h =
     let end = reverse (role_text role) in
     let named = rank_digit s ∷ end in
     parts promotion target (reverse (capture_text c) ++ named) c named (Some (rank_of s)) end None end role
-    (with_x c named (optional_none (byte_is 120) (rank_digit s) end (no_x_rank (s / 8) (rank_below s h))))
-    (optional_some rank_named (rank_digit s) end (s / 8) (rank_at (s / 8) (rank_below s h)))
+    (with_x c named (optional_none (byte_is (byte "x")) (rank_digit s) end (no_x_rank (s / 8) (rank_below s h))))
+    (optional_some rank_named (rank_digit s) end (s / 8) (rank_read (s / 8) (rank_below s h)))
     (no_file_role role) (moved_role role)
 start_parts promotion target s Square c role h =
     let end = reverse (role_text role) in
     let file = file_letter s ∷ end in
     let named = rank_digit s ∷ file in
     parts promotion target (reverse (capture_text c) ++ named) c named (Some (rank_of s)) file (Some (file_of s)) end role
-    (with_x c named (optional_none (byte_is 120) (rank_digit s) file (no_x_rank (s / 8) (rank_below s h))))
-    (optional_some rank_named (rank_digit s) file (s / 8) (rank_at (s / 8) (rank_below s h)))
-    (optional_some file_named (file_letter s) end (s % 8) (file_at (s % 8) (file_below s))) (moved_role role)
+    (with_x c named (optional_none (byte_is (byte "x")) (rank_digit s) file (no_x_rank (s / 8) (rank_below s h))))
+    (optional_some rank_named (rank_digit s) file (s / 8) (rank_read (s / 8) (rank_below s h)))
+    (optional_some file_named (file_letter s) end (s % 8) (file_read (s % 8) (file_below s))) (moved_role role)
 
 -- The target and the promotion.
 
@@ -182,11 +167,11 @@ targeted : (bytes : List ℕ) (promotion : Option Role) (target : ℕ) (before :
     → promoted bytes ≡ (promotion, rank_digit target ∷ file_letter target ∷ before) → from_start promotion target before ≡ Some form → named_move bytes ≡ Some form
 targeted bytes promotion target before form h e g =
     ap (λ (q : Option Role × List ℕ). to_target q.0 q.1) e
-    ∙ ap (λ (o : Option ℕ). option_and_then (λ t. from_start promotion t before) o) (square_at target h)
+    ∙ ap (λ (o : Option ℕ). option_and_then (λ t. from_start promotion t before) o) (square_read target h)
     ∙ g
 
-no_promoted : (n : ℕ) (bytes : List ℕ) → n < 8 → promoted ((49 + n) ∷ bytes) ≡ (None, (49 + n) ∷ bytes)
-no_promoted n bytes h = rw (optional_none (role_of promotions) (49 + n) bytes (no_promotion n h)) refl
+no_promoted : (n : ℕ) (bytes : List ℕ) → n < 8 → promoted ((byte "1" + n) ∷ bytes) ≡ (None, (byte "1" + n) ∷ bytes)
+no_promoted n bytes h = rw (optional_none (role_of promotions) (byte "1" + n) bytes (no_promotion n h)) refl
 
 abbrev chosen_form : Option NamedMove → Option Side → Option SanForm
 chosen_form move (Some side) = Some (Castling side)

@@ -6,49 +6,15 @@ ghost use Rattle.explorer_model.specs.San.{unmarked, optional, byte_is, promoted
 use explorer_model::chess::{Role, Side};
 use explorer_model::notation::{NamedMove, SanForm};
 
-fn promotion_named(byte: u8) -> Option<Role>
-    ensures { result ≡ role_of promotions byte }
+/// What `text` names, where it is in the grammar.
+pub fn parse(text: &[u8]) -> Option<SanForm>
+    ensures { result ≡ san_form text.now }
 {
-    match byte {
-        b'N' => Some(Role::Knight),
-        b'B' => Some(Role::Bishop),
-        b'R' => Some(Role::Rook),
-        b'Q' => Some(Role::Queen),
-        _ => None,
+    let text = unmarked(text);
+    match castling(text) {
+        Some(side) => Some(SanForm::Castling(side)),
+        None => Some(SanForm::Named(named_move(text)?)),
     }
-}
-
-fn role_named(byte: u8) -> Option<Role>
-    ensures { result ≡ role_of lettered byte }
-{
-    match byte {
-        b'K' => Some(Role::King),
-        _ => promotion_named(byte),
-    }
-}
-
-fn file_named(byte: u8) -> Option<u8>
-    ensures { result ≡ file_named byte }
-{
-    match byte {
-        b'a'..=b'h' => Some(byte - b'a'),
-        _ => None,
-    }
-}
-
-fn rank_named(byte: u8) -> Option<u8>
-    ensures { result ≡ rank_named byte }
-{
-    match byte {
-        b'1'..=b'8' => Some(byte - b'1'),
-        _ => None,
-    }
-}
-
-fn square_named(file: u8, rank: u8) -> Option<u8>
-    ensures { result ≡ square_named file rank }
-{
-    Some(8 * rank_named(rank)? + file_named(file)?)
 }
 
 /// The text before its check marks.
@@ -62,47 +28,29 @@ fn unmarked(text: &[u8]) -> &[u8]
     rest
 }
 
-fn split_rank(text: &[u8]) -> (Option<u8>, &[u8])
-    ensures part { result.0 ≡ (optional rank_named (reverse text.now)).0 }
-    ensures rest { reverse result.1.now ≡ (optional rank_named (reverse text.now)).1 }
+fn castling(text: &[u8]) -> Option<Side>
+    ensures { result ≡ castling (reverse text.now) }
 {
-    if let Some((byte, rest)) = text.split_last()
-        && let Some(rank) = rank_named(*byte)
-    {
-        return (Some(rank), rest);
-    }
-    (None, text)
-}
-
-fn split_file(text: &[u8]) -> (Option<u8>, &[u8])
-    ensures part { result.0 ≡ (optional file_named (reverse text.now)).0 }
-    ensures rest { reverse result.1.now ≡ (optional file_named (reverse text.now)).1 }
-{
-    if let Some((byte, rest)) = text.split_last()
-        && let Some(file) = file_named(*byte)
-    {
-        return (Some(file), rest);
-    }
-    (None, text)
-}
-
-fn split_capture(text: &[u8]) -> (bool, &[u8])
-    ensures part { result.0 ≡ is_some (optional (byte_is 120) (reverse text.now)).0 }
-    ensures rest { reverse result.1.now ≡ (optional (byte_is 120) (reverse text.now)).1 }
-{
-    match text.split_last() {
-        Some((b'x', rest)) => (true, rest),
-        _ => (false, text),
+    match *text {
+        [a, b, c] if is_o(a) && b == b'-' && is_o(c) => Some(Side::Short),
+        [a, b, c, d, e] if is_o(a) && b == b'-' && is_o(c) && d == b'-' && is_o(e) => {
+            Some(Side::Long)
+        }
+        _ => None,
     }
 }
 
-fn before_equals(text: &[u8]) -> &[u8]
-    ensures { reverse result.now ≡ (optional (byte_is 61) (reverse text.now)).1 }
+fn is_o(byte: u8) -> bool
+    ensures { result ≡ is_o byte }
 {
-    match text.split_last() {
-        Some((b'=', rest)) => rest,
-        _ => text,
-    }
+    matches!(byte, b'O' | b'0')
+}
+
+fn named_move(text: &[u8]) -> Option<NamedMove>
+    ensures { result ≡ named_move (reverse text.now) }
+{
+    let (promotion, text) = split_promotion(text);
+    to_target(text, promotion)
 }
 
 fn split_promotion(text: &[u8]) -> (Option<Role>, &[u8])
@@ -117,20 +65,33 @@ fn split_promotion(text: &[u8]) -> (Option<Role>, &[u8])
     (None, text)
 }
 
-/// The piece of a move whose text before the file is `text`.
-fn moved(text: &[u8]) -> Option<Role>
-    ensures { result ≡ moved (reverse text.now) }
+fn promotion_named(byte: u8) -> Option<Role>
+    ensures { result ≡ role_of promotions byte }
+{
+    match byte {
+        b'N' => Some(Role::Knight),
+        b'B' => Some(Role::Bishop),
+        b'R' => Some(Role::Rook),
+        b'Q' => Some(Role::Queen),
+        _ => None,
+    }
+}
+
+fn before_equals(text: &[u8]) -> &[u8]
+    ensures { reverse result.now ≡ (optional (byte_is 61) (reverse text.now)).1 }
 {
     match text.split_last() {
-        None => Some(Role::Pawn),
-        Some((byte, rest)) => {
-            if rest.is_empty() {
-                role_named(*byte)
-            } else {
-                None
-            }
-        }
+        Some((b'=', rest)) => rest,
+        _ => text,
     }
+}
+
+fn to_target(text: &[u8], promotion: Option<Role>) -> Option<NamedMove>
+    ensures { result ≡ to_target promotion (reverse text.now) }
+{
+    let (rank, text) = text.split_last()?;
+    let (file, text) = text.split_last()?;
+    from_start(text, square_named(*file, *rank)?, promotion)
 }
 
 fn from_start(text: &[u8], target: u8, promotion: Option<Role>) -> Option<NamedMove>
@@ -149,46 +110,85 @@ fn from_start(text: &[u8], target: u8, promotion: Option<Role>) -> Option<NamedM
     })
 }
 
-fn to_target(text: &[u8], promotion: Option<Role>) -> Option<NamedMove>
-    ensures { result ≡ to_target promotion (reverse text.now) }
+fn split_capture(text: &[u8]) -> (bool, &[u8])
+    ensures part { result.0 ≡ is_some (optional (byte_is 120) (reverse text.now)).0 }
+    ensures rest { reverse result.1.now ≡ (optional (byte_is 120) (reverse text.now)).1 }
 {
-    let (rank, text) = text.split_last()?;
-    let (file, text) = text.split_last()?;
-    from_start(text, square_named(*file, *rank)?, promotion)
+    match text.split_last() {
+        Some((b'x', rest)) => (true, rest),
+        _ => (false, text),
+    }
 }
 
-fn named_move(text: &[u8]) -> Option<NamedMove>
-    ensures { result ≡ named_move (reverse text.now) }
+fn split_rank(text: &[u8]) -> (Option<u8>, &[u8])
+    ensures part { result.0 ≡ (optional rank_named (reverse text.now)).0 }
+    ensures rest { reverse result.1.now ≡ (optional rank_named (reverse text.now)).1 }
 {
-    let (promotion, text) = split_promotion(text);
-    to_target(text, promotion)
+    if let Some((byte, rest)) = text.split_last()
+        && let Some(rank) = rank_named(*byte)
+    {
+        return (Some(rank), rest);
+    }
+    (None, text)
 }
 
-fn is_o(byte: u8) -> bool
-    ensures { result ≡ is_o byte }
+fn rank_named(byte: u8) -> Option<u8>
+    ensures { result ≡ rank_named byte }
 {
-    matches!(byte, b'O' | b'0')
-}
-
-fn castling(text: &[u8]) -> Option<Side>
-    ensures { result ≡ castling (reverse text.now) }
-{
-    match *text {
-        [a, b, c] if is_o(a) && b == b'-' && is_o(c) => Some(Side::Short),
-        [a, b, c, d, e] if is_o(a) && b == b'-' && is_o(c) && d == b'-' && is_o(e) => {
-            Some(Side::Long)
-        }
+    match byte {
+        b'1'..=b'8' => Some(byte - b'1'),
         _ => None,
     }
 }
 
-/// What `text` names, where it is in the grammar.
-pub fn parse(text: &[u8]) -> Option<SanForm>
-    ensures { result ≡ san_form text.now }
+fn split_file(text: &[u8]) -> (Option<u8>, &[u8])
+    ensures part { result.0 ≡ (optional file_named (reverse text.now)).0 }
+    ensures rest { reverse result.1.now ≡ (optional file_named (reverse text.now)).1 }
 {
-    let text = unmarked(text);
-    match castling(text) {
-        Some(side) => Some(SanForm::Castling(side)),
-        None => Some(SanForm::Named(named_move(text)?)),
+    if let Some((byte, rest)) = text.split_last()
+        && let Some(file) = file_named(*byte)
+    {
+        return (Some(file), rest);
     }
+    (None, text)
+}
+
+fn file_named(byte: u8) -> Option<u8>
+    ensures { result ≡ file_named byte }
+{
+    match byte {
+        b'a'..=b'h' => Some(byte - b'a'),
+        _ => None,
+    }
+}
+
+/// The piece of a move whose text before the file is `text`.
+fn moved(text: &[u8]) -> Option<Role>
+    ensures { result ≡ moved (reverse text.now) }
+{
+    match text.split_last() {
+        None => Some(Role::Pawn),
+        Some((byte, rest)) => {
+            if rest.is_empty() {
+                role_named(*byte)
+            } else {
+                None
+            }
+        }
+    }
+}
+
+fn role_named(byte: u8) -> Option<Role>
+    ensures { result ≡ role_of lettered byte }
+{
+    match byte {
+        b'K' => Some(Role::King),
+        _ => promotion_named(byte),
+    }
+}
+
+fn square_named(file: u8, rank: u8) -> Option<u8>
+    ensures { result ≡ square_named file rank }
+{
+    Some(8 * rank_named(rank)? + file_named(file)?)
 }

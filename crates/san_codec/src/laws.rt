@@ -10,12 +10,16 @@ ghost use Rattle.explorer_model.specs.San.{is_mark, MoveText, SanText, SanReads}
 /// What is written is read as the same move, whatever run of `+` and `#` follows it, and also
 /// where it follows the move without its own mark.
 pub fn written_is_read()
-    ensures written { (p : APosition) (m : AMove) (text marks : List ℕ) → IsValid p → Legal p m → SanText p m text → IsTrue (list_all is_mark marks) → SanReads p (text ++ marks) (Ok m) }
-    ensures any_marks { (p : APosition) (m : AMove) (text marks : List ℕ) → IsValid p → Legal p m → MoveText p m text → IsTrue (list_all is_mark marks) → SanReads p (text ++ marks) (Ok m) }
+    ensures written { (p : APosition) (m : AMove) (text marks : List ℕ) → IsValid p → Legal p m
+        → SanText p m text → IsTrue (list_all is_mark marks) → SanReads p (text ++ marks) (Ok m) }
+    ensures any_marks { (p : APosition) (m : AMove) (text marks : List ℕ) → IsValid p → Legal p m
+        → MoveText p m text → IsTrue (list_all is_mark marks) → SanReads p (text ++ marks) (Ok m) }
 {}
 
 /// A text has one reading in a position, and a move one written form.
 pub fn notation_is_determined()
-    ensures reading { (p : APosition) (text : List ℕ) (r s : Result AMove SanFault) → SanReads p text r → SanReads p text s → r ≡ s }
-    ensures writing { (p : APosition) (m : AMove) (text other : List ℕ) → SanText p m text → SanText p m other → text ≡ other }
+    ensures reading { (p : APosition) (text : List ℕ) (r s : Result AMove SanFault)
+        → SanReads p text r → SanReads p text s → r ≡ s }
+    ensures writing { (p : APosition) (m : AMove) (text other : List ℕ)
+        → SanText p m text → SanText p m other → text ≡ other }
 {}

@@ -7,21 +7,60 @@ use crate::grammar::parse;
 use explorer_model::chess::{Move, Piece, Position, Role};
 use explorer_model::fault::SanFault;
 use explorer_model::notation::{NamedMove, SanForm};
-use plain_chess::board::man_at;
-use plain_chess::geometry::{file_of, rank_of};
-use plain_chess::play::{castling_side, is_castling, takes_en_passant};
 
-/// Does the move take something, en passant included?
-pub fn captures(position: &Position, step: Move) -> bool
-    ensures { result ≡ captures position.now step }
+/// The one legal move that `text` names. Any run of `+` and `#` may follow the move; what it says
+/// is not asked.
+pub fn read(text: &[u8], position: &Position, legal: &[Move]) -> Result<Move, SanFault>
+    requires valid { IsValid position.now }
+    requires each { (m : AMove) → Contains legal.now m ↔ Legal position.now m }
+    requires once { AllPairs (λ a b. a ≢ b) legal.now }
+    ensures { SanReads position.now text.now result }
 {
-    man_at(&position.squares, step.to.index).is_some() || takes_en_passant(position, step)
+    let Some(form) = parse(text) else {
+        return Err(SanFault::NotSan);
+    };
+    let mut found = None;
+    for m in legal {
+        if agrees(position, form, *m) {
+            if found.is_some() {
+                return Err(SanFault::Ambiguous);
+            }
+            found = Some(*m);
+        }
+    }
+    found.ok_or(SanFault::NoSuchMove)
 }
 
-fn is_role(role: Role, man: Option<Piece>) -> bool
-    ensures { IsTrue result ↔ IsRole role man }
+/// Does the move take something, en passant included?
+pub fn captures(position: &Position, m: Move) -> bool
+    ensures { result ≡ captures position.now m }
 {
-    match man {
+    position.piece_at(m.to).is_some() || position.takes_en_passant(m)
+}
+
+fn agrees(position: &Position, form: SanForm, m: Move) -> bool
+    ensures { IsTrue result ↔ Agrees position.now form m }
+{
+    match form {
+        SanForm::Castling(side) => position.is_castling(m) && m.castling_side() == side,
+        SanForm::Named(named) => {
+            !position.is_castling(m) && starts_as(position, named, m) && ends_as(position, named, m)
+        }
+    }
+}
+
+fn starts_as(position: &Position, form: NamedMove, m: Move) -> bool
+    ensures { IsTrue result ↔ StartsAs position.now form m }
+{
+    is_role(form.role, position.piece_at(m.from))
+        && is_as_named(form.file, m.from.file())
+        && is_as_named(form.rank, m.from.rank())
+}
+
+fn is_role(role: Role, occupant: Option<Piece>) -> bool
+    ensures { IsTrue result ↔ IsRole role occupant }
+{
+    match occupant {
         Some(piece) => piece.role == role,
         None => false,
     }
@@ -36,54 +75,10 @@ fn is_as_named(named: Option<u8>, actual: u8) -> bool
     }
 }
 
-fn starts_as(position: &Position, form: NamedMove, step: Move) -> bool
-    ensures { IsTrue result ↔ StartsAs position.now form step }
+fn ends_as(position: &Position, form: NamedMove, m: Move) -> bool
+    ensures { IsTrue result ↔ EndsAs position.now form m }
 {
-    is_role(form.role, man_at(&position.squares, step.from.index))
-        && is_as_named(form.file, file_of(step.from.index))
-        && is_as_named(form.rank, rank_of(step.from.index))
-}
-
-fn ends_as(position: &Position, form: NamedMove, step: Move) -> bool
-    ensures { IsTrue result ↔ EndsAs position.now form step }
-{
-    captures(position, step) == form.captures
-        && step.to.index == form.target
-        && step.promotion == form.promotion
-}
-
-fn agrees(position: &Position, form: SanForm, step: Move) -> bool
-    ensures { IsTrue result ↔ Agrees position.now form step }
-{
-    match form {
-        SanForm::Castling(side) => is_castling(position, step) && castling_side(step) == side,
-        SanForm::Named(named) => {
-            !is_castling(position, step)
-                && starts_as(position, named, step)
-                && ends_as(position, named, step)
-        }
-    }
-}
-
-/// The one legal move that `text` names. Any run of `+` and `#` may follow the move; what it says
-/// is not asked.
-pub fn read(text: &[u8], position: &Position, legal: &[Move]) -> Result<Move, SanFault>
-    requires valid { IsValid position.now }
-    requires each { (m : AMove) → Contains legal.now m ↔ Legal position.now m }
-    requires once { AllPairs (λ a b. a ≢ b) legal.now }
-    ensures { SanReads position.now text.now result }
-{
-    let Some(form) = parse(text) else {
-        return Err(SanFault::NotSan);
-    };
-    let mut found = None;
-    for step in legal {
-        if agrees(position, form, *step) {
-            if found.is_some() {
-                return Err(SanFault::Ambiguous);
-            }
-            found = Some(*step);
-        }
-    }
-    found.ok_or(SanFault::NoSuchMove)
+    captures(position, m) == form.captures
+        && m.to.index == form.target
+        && m.promotion == form.promotion
 }

@@ -4,11 +4,11 @@ use Rattle.std.specs.Bool.{Decides}
 use Rattle.std.specs.Int.{bit_at}
 use Rattle.std.proofs.lemmas.Bool.Decides.{Decides-and, Decides-or, Decides-eqb, Decides-like, not_from_Decides}
 use Rattle.step_tables.specs.Squares.{file_of, rank_of, gap, files_apart, ranks_apart, RookLine, BishopLine, QueenLine, IsBetween}
-use Rattle.step_tables.specs.Mask.{HasBit}
+use Rattle.step_tables.specs.Bitboard.{Holds}
 use Rattle.step_tables.specs.Test.{all_below, is_set_of}
-use Rattle.step_tables.proofs.Test.{all_below-at, HasBit-is_set_of}
+use Rattle.step_tables.proofs.Test.{all_below-at, Holds-is_set_of}
 use Rattle.step_tables.proofs.Rule.{is_rook_line, is_bishop_line, Decides-is_rook_line, Decides-is_bishop_line}
-use Rattle.step_tables.proofs.MaskLemmas.{HasBit-zero}
+use Rattle.step_tables.proofs.BitboardLemmas.{Holds-zero}
 use Rattle.step_tables.specs.declared.in_between.TheConstants.{BETWEEN}
 
 abbrev is_between : ℕ → ℕ → ℕ → Bool
@@ -51,17 +51,17 @@ either false set none e = inr (refl, e)
 QueenLine-IsBetween : (a s b : ℕ) → IsBetween a s b → QueenLine a b
 QueenLine-IsBetween a s b h = ⊎_elim (λ r. inl r.0) (λ d. inr d.0) h.0
 
-pub HasBit-entry : (low high s : ℕ) → low ≤ high → high < 64 → s < 64 → HasBit (entry low high) s ↔ IsBetween low s high
-HasBit-entry low high s order on_board hs =
+pub Holds-entry : (low high s : ℕ) → low ≤ high → high < 64 → s < 64 → Holds (entry low high) s ↔ IsBetween low s high
+Holds-entry low high s order on_board hs =
     let rows = all_below-at (λ h. all_below (λ l. is_right l h) (h + 1)) 64 all_right high on_board in
     let right : is_right low high ≡ true = all_below-at (λ l. is_right l high) (high + 1) rows low (omega arith) in
     let line = Decides-or _ _ (Decides-is_rook_line low high) (Decides-is_bishop_line low high) in
     ⊎_elim
-    (λ yes. HasBit-is_set_of (λ k. is_between low k high) (λ k. IsBetween low k high) _ (λ k. Decides-is_between low k high)
+    (λ yes. Holds-is_set_of (λ k. is_between low k high) (λ k. IsBetween low k high) _ (λ k. Decides-is_between low k high)
     yes.1 s hs)
     (λ no.
     let none : entry low high ≡ 0 = (Decides-eqb _ _).0 no.1 in (
-      λ h. absurd (HasBit-zero s (sym (ap (λ m. bit_at m s) none) ∙ h)),
+      λ h. absurd (Holds-zero s (sym (ap (λ m. bit_at m s) none) ∙ h)),
       λ h. absurd (not_from_Decides _ line no.0 (QueenLine-IsBetween low s high h)),
     ))
     (either (is_rook_line low high || is_bishop_line low high) _ _ right)

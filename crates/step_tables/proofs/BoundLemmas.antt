@@ -4,7 +4,7 @@ use Rattle.std.specs.List.{filter, range_with_len}
 use Rattle.std.specs.Int.{bit_at}
 use Rattle.std.proofs.lemmas.Bool.{ltb-true}
 use Rattle.std.proofs.lemmas.Bool.Decides.{Decides-eqb}
-use Rattle.step_tables.specs.Mask.{squares_of}
+use Rattle.step_tables.specs.Bitboard.{squares_of}
 use Rattle.step_tables.specs.Step.{AtMostInSight}
 use Rattle.step_tables.specs.Test.{all_below, any_below, is_in_sight}
 use Rattle.step_tables.specs.Piece.{queen_directions}
@@ -38,8 +38,8 @@ length-filter-le p q a (suc n) stronger =
 
 pub AtMostInSight-queen : AtMostInSight queen_directions 27
 unfolding squares_of
-AtMostInSight-queen a mask on_board within =
-    let most = length-filter-le (λ b. bit_at mask b == 1) (is_in_sight queen_directions a) 0 64
+AtMostInSight-queen a bitboard on_board within =
+    let most = length-filter-le (λ b. bit_at bitboard b == 1) (is_in_sight queen_directions a) 0 64
     (λ i h set. (Decides-is_in_sight queen_directions a i).1 (within i (omega (arith, h)) ((Decides-eqb _ _).0 set))) in
     let bound = length-in_sight a on_board in
     omega (arith, most, bound)

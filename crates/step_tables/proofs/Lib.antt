@@ -1,5 +1,5 @@
 pub mod Test
 pub mod Rule
-pub mod MaskLemmas
+pub mod BitboardLemmas
 pub mod BetweenLemmas
 pub mod BoundLemmas

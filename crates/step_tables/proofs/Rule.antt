@@ -4,11 +4,11 @@ use Rattle.std.specs.Bool.{Decides}
 use Rattle.std.specs.Cmp.{booleans_Decides}
 use Rattle.std.proofs.Math.Bool.{not, beq}
 use Rattle.std.proofs.lemmas.Bool.Decides.{Decides-and, Decides-or, Decides-eqb, Decides-ltb, Decides-not, Decides-like}
-use Rattle.step_tables.specs.Squares.{file_of, rank_of, files_apart, ranks_apart, RookLine, BishopLine, QueenLine}
-use Rattle.step_tables.specs.Step.{IsReached, IsAhead, IsInSight}
-use Rattle.step_tables.specs.Test.{all_below, any_below, is_reached, is_ahead, is_in_sight}
-use Rattle.step_tables.specs.Piece.{north, north_east, east, south_east, south, south_west, west, north_west, knight_steps, king_steps, white_pawn_steps, black_pawn_steps, rook_directions, bishop_directions, queen_directions, KnightStep, KingStep, WhitePawnStep, BlackPawnStep}
-use Rattle.step_tables.proofs.Test.{all_below-at, Decides-is_reached, Decides-is_ahead, Decides-is_in_sight}
+use Rattle.step_tables.specs.Squares.{rank_of, files_apart, ranks_apart, RookLine, BishopLine, QueenLine}
+use Rattle.step_tables.specs.Step.{IsReached, IsInSight}
+use Rattle.step_tables.specs.Test.{all_below, any_below, is_reached, is_in_sight}
+use Rattle.step_tables.specs.Piece.{knight_steps, king_steps, white_pawn_steps, black_pawn_steps, rook_directions, bishop_directions, queen_directions, KnightStep, KingStep, WhitePawnStep, BlackPawnStep}
+use Rattle.step_tables.proofs.Test.{all_below-at, Decides-is_reached, Decides-is_in_sight}
 
 -- one equivalence after another
 pub both : {P Q R : Type 0} → P ↔ Q → Q ↔ R → P ↔ R
@@ -116,101 +116,3 @@ pub queen_rule : (a b : ℕ) → a < 64 → b < 64 → IsInSight queen_direction
 queen_rule a b ha hb =
     rule (is_in_sight queen_directions) (λ x y. is_rook_line x y || is_bishop_line x y) _ _ a b agree-queen ha hb
     (Decides-is_in_sight queen_directions a b) (Decides-or _ _ (Decides-is_rook_line a b) (Decides-is_bishop_line a b))
-
--- each line by itself
-
-abbrev is_north : ℕ → ℕ → Bool
-is_north a b = files_apart a b == 0 && nat_lt (rank_of a) (rank_of b)
-
-agree-north : agree (is_ahead north) is_north ≡ true
-unfolding all_below any_below
-agree-north = refl
-
-pub north_rule : (a b : ℕ) → a < 64 → b < 64 → IsAhead north a b ↔ ((files_apart a b ≡ 0) × (rank_of a < rank_of b))
-north_rule a b ha hb =
-    rule (is_ahead north) is_north _ _ a b agree-north ha hb (Decides-is_ahead north a b) (Decides-and _ _ (Decides-eqb _ _) (Decides-ltb _ _))
-
-abbrev is_east : ℕ → ℕ → Bool
-is_east a b = nat_lt (file_of a) (file_of b) && ranks_apart a b == 0
-
-agree-east : agree (is_ahead east) is_east ≡ true
-unfolding all_below any_below
-agree-east = refl
-
-pub east_rule : (a b : ℕ) → a < 64 → b < 64 → IsAhead east a b ↔ ((file_of a < file_of b) × (ranks_apart a b ≡ 0))
-east_rule a b ha hb =
-    rule (is_ahead east) is_east _ _ a b agree-east ha hb (Decides-is_ahead east a b) (Decides-and _ _ (Decides-ltb _ _) (Decides-eqb _ _))
-
-abbrev is_south : ℕ → ℕ → Bool
-is_south a b = files_apart a b == 0 && nat_lt (rank_of b) (rank_of a)
-
-agree-south : agree (is_ahead south) is_south ≡ true
-unfolding all_below any_below
-agree-south = refl
-
-pub south_rule : (a b : ℕ) → a < 64 → b < 64 → IsAhead south a b ↔ ((files_apart a b ≡ 0) × (rank_of b < rank_of a))
-south_rule a b ha hb =
-    rule (is_ahead south) is_south _ _ a b agree-south ha hb (Decides-is_ahead south a b) (Decides-and _ _ (Decides-eqb _ _) (Decides-ltb _ _))
-
-abbrev is_west : ℕ → ℕ → Bool
-is_west a b = nat_lt (file_of b) (file_of a) && ranks_apart a b == 0
-
-agree-west : agree (is_ahead west) is_west ≡ true
-unfolding all_below any_below
-agree-west = refl
-
-pub west_rule : (a b : ℕ) → a < 64 → b < 64 → IsAhead west a b ↔ ((file_of b < file_of a) × (ranks_apart a b ≡ 0))
-west_rule a b ha hb =
-    rule (is_ahead west) is_west _ _ a b agree-west ha hb (Decides-is_ahead west a b) (Decides-and _ _ (Decides-ltb _ _) (Decides-eqb _ _))
-
-abbrev is_north_east : ℕ → ℕ → Bool
-is_north_east a b = files_apart a b == ranks_apart a b && (nat_lt (file_of a) (file_of b) && nat_lt (rank_of a) (rank_of b))
-
-agree-north_east : agree (is_ahead north_east) is_north_east ≡ true
-unfolding all_below any_below
-agree-north_east = refl
-
-pub north_east_rule : (a b : ℕ) → a < 64 → b < 64 → IsAhead north_east a b ↔ ((files_apart a b ≡ ranks_apart a b) × (file_of a < file_of b) × (rank_of a < rank_of b))
-north_east_rule a b ha hb =
-    both (rule (is_ahead north_east) is_north_east _ _ a b agree-north_east ha hb (Decides-is_ahead north_east a b)
-    (Decides-and _ _ (Decides-eqb _ _) (Decides-and _ _ (Decides-ltb _ _) (Decides-ltb _ _))))
-    (λ h. (h.0, h.1.0, h.1.1), λ h. (h.0, (h.1, h.2)))
-
-abbrev is_south_east : ℕ → ℕ → Bool
-is_south_east a b = files_apart a b == ranks_apart a b && (nat_lt (file_of a) (file_of b) && nat_lt (rank_of b) (rank_of a))
-
-agree-south_east : agree (is_ahead south_east) is_south_east ≡ true
-unfolding all_below any_below
-agree-south_east = refl
-
-pub south_east_rule : (a b : ℕ) → a < 64 → b < 64 → IsAhead south_east a b ↔ ((files_apart a b ≡ ranks_apart a b) × (file_of a < file_of b) × (rank_of b < rank_of a))
-south_east_rule a b ha hb =
-    both (rule (is_ahead south_east) is_south_east _ _ a b agree-south_east ha hb (Decides-is_ahead south_east a b)
-    (Decides-and _ _ (Decides-eqb _ _) (Decides-and _ _ (Decides-ltb _ _) (Decides-ltb _ _))))
-    (λ h. (h.0, h.1.0, h.1.1), λ h. (h.0, (h.1, h.2)))
-
-abbrev is_south_west : ℕ → ℕ → Bool
-is_south_west a b = files_apart a b == ranks_apart a b && (nat_lt (file_of b) (file_of a) && nat_lt (rank_of b) (rank_of a))
-
-agree-south_west : agree (is_ahead south_west) is_south_west ≡ true
-unfolding all_below any_below
-agree-south_west = refl
-
-pub south_west_rule : (a b : ℕ) → a < 64 → b < 64 → IsAhead south_west a b ↔ ((files_apart a b ≡ ranks_apart a b) × (file_of b < file_of a) × (rank_of b < rank_of a))
-south_west_rule a b ha hb =
-    both (rule (is_ahead south_west) is_south_west _ _ a b agree-south_west ha hb (Decides-is_ahead south_west a b)
-    (Decides-and _ _ (Decides-eqb _ _) (Decides-and _ _ (Decides-ltb _ _) (Decides-ltb _ _))))
-    (λ h. (h.0, h.1.0, h.1.1), λ h. (h.0, (h.1, h.2)))
-
-abbrev is_north_west : ℕ → ℕ → Bool
-is_north_west a b = files_apart a b == ranks_apart a b && (nat_lt (file_of b) (file_of a) && nat_lt (rank_of a) (rank_of b))
-
-agree-north_west : agree (is_ahead north_west) is_north_west ≡ true
-unfolding all_below any_below
-agree-north_west = refl
-
-pub north_west_rule : (a b : ℕ) → a < 64 → b < 64 → IsAhead north_west a b ↔ ((files_apart a b ≡ ranks_apart a b) × (file_of b < file_of a) × (rank_of a < rank_of b))
-north_west_rule a b ha hb =
-    both (rule (is_ahead north_west) is_north_west _ _ a b agree-north_west ha hb (Decides-is_ahead north_west a b)
-    (Decides-and _ _ (Decides-eqb _ _) (Decides-and _ _ (Decides-ltb _ _) (Decides-ltb _ _))))
-    (λ h. (h.0, h.1.0, h.1.1), λ h. (h.0, (h.1, h.2)))

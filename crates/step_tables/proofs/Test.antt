@@ -5,7 +5,7 @@ use Rattle.std.specs.List.{Any, list_any}
 use Rattle.std.specs.Int.{bit_at}
 use Rattle.std.proofs.lemmas.Bool.Decides.{Decides-below_and, Decides-below_or, Decides-and, Decides-int_eq, Decides-eqb}
 use Rattle.std.proofs.lemmas.List.Folds.{Any-from_list_any, list_any-from_Any}
-use Rattle.step_tables.specs.Mask.{HasBit}
+use Rattle.step_tables.specs.Bitboard.{Holds}
 use Rattle.step_tables.specs.Step.{IsStep, IsReached, IsAhead, IsInSight, times, direction_at}
 use Rattle.step_tables.specs.Test.{all_below, any_below, is_set_of, is_step, is_reached, is_ahead, is_in_sight, has_reached, has_sights, has_lines}
 use Rattle.step_tables.specs.declared.step.Step.{Step}
@@ -22,10 +22,10 @@ bit_of bit true P d e = (λ _. d.0 refl, λ _. e)
 bit_of bit false P d e =
     (λ h. absurd (omega (arith, sym e ∙ h)), λ x. absurd (true≢false (sym (d.1 x))))
 
-pub HasBit-is_set_of : (test : ℕ → Bool) (P : ℕ → Type 0) (mask : ℕ) → ((b : ℕ) → Decides (test b) (P b))
-    → is_set_of test mask ≡ true → (b : ℕ) → b < 64 → HasBit mask b ↔ P b
-HasBit-is_set_of test P mask decides e b h =
-    bit_of _ (test b) (P b) (decides b) ((Decides-eqb _ _).0 (all_below-at (λ k. bit_at mask k == cond (test k) 1 0) 64 e b h))
+pub Holds-is_set_of : (test : ℕ → Bool) (P : ℕ → Type 0) (bitboard : ℕ) → ((b : ℕ) → Decides (test b) (P b))
+    → is_set_of test bitboard ≡ true → (b : ℕ) → b < 64 → Holds bitboard b ↔ P b
+Holds-is_set_of test P bitboard decides e b h =
+    bit_of _ (test b) (P b) (decides b) ((Decides-eqb _ _).0 (all_below-at (λ k. bit_at bitboard k == cond (test k) 1 0) 64 e b h))
 
 -- a test of a list's elements
 pub Decides-list_any : {X : Type 0} (test : X → Bool) (P : X → Type 0) → ((x : X) → Decides (test x) (P x)) → (xs : List X)
@@ -51,27 +51,27 @@ Decides-is_ahead direction a b =
 pub Decides-is_in_sight : (directions : List Step) (a b : ℕ) → Decides (is_in_sight directions a b) (IsInSight directions a b)
 Decides-is_in_sight directions a b = Decides-list_any _ _ (λ direction. Decides-is_ahead direction a b) directions
 
--- the masks of a table that passed
-pub HasBit-has_reached : (steps : List Step) (masks : List ℕ) → has_reached steps masks ≡ true
-    → (a b : ℕ) → a < 64 → b < 64 → HasBit (slice_index masks a) b ↔ IsReached steps a b
+-- the bitboards of a table that passed
+pub Holds-has_reached : (steps : List Step) (bitboards : List ℕ) → has_reached steps bitboards ≡ true
+    → (a b : ℕ) → a < 64 → b < 64 → Holds (slice_index bitboards a) b ↔ IsReached steps a b
 unfolding has_reached
-HasBit-has_reached steps masks e a b ha hb =
-    HasBit-is_set_of (is_reached steps a) (IsReached steps a) _ (Decides-is_reached steps a)
-    (all_below-at (λ k. is_set_of (is_reached steps k) (slice_index masks k)) 64 e a ha) b hb
+Holds-has_reached steps bitboards e a b ha hb =
+    Holds-is_set_of (is_reached steps a) (IsReached steps a) _ (Decides-is_reached steps a)
+    (all_below-at (λ k. is_set_of (is_reached steps k) (slice_index bitboards k)) 64 e a ha) b hb
 
-pub HasBit-has_sights : (directions : List Step) (masks : List ℕ) → has_sights directions masks ≡ true
-    → (a b : ℕ) → a < 64 → b < 64 → HasBit (slice_index masks a) b ↔ IsInSight directions a b
+pub Holds-has_sights : (directions : List Step) (bitboards : List ℕ) → has_sights directions bitboards ≡ true
+    → (a b : ℕ) → a < 64 → b < 64 → Holds (slice_index bitboards a) b ↔ IsInSight directions a b
 unfolding has_sights
-HasBit-has_sights directions masks e a b ha hb =
-    HasBit-is_set_of (is_in_sight directions a) (IsInSight directions a) _ (Decides-is_in_sight directions a)
-    (all_below-at (λ k. is_set_of (is_in_sight directions k) (slice_index masks k)) 64 e a ha) b hb
+Holds-has_sights directions bitboards e a b ha hb =
+    Holds-is_set_of (is_in_sight directions a) (IsInSight directions a) _ (Decides-is_in_sight directions a)
+    (all_below-at (λ k. is_set_of (is_in_sight directions k) (slice_index bitboards k)) 64 e a ha) b hb
 
-pub HasBit-has_lines : (count : ℕ) (directions : List Step) (lines : List (List ℕ)) → has_lines count directions lines ≡ true
+pub Holds-has_lines : (count : ℕ) (directions : List Step) (lines : List (List ℕ)) → has_lines count directions lines ≡ true
     → (a d b : ℕ) → a < 64 → d < count → b < 64
-    → HasBit (slice_index (slice_index_or lines a []) d) b ↔ IsAhead (direction_at directions d) a b
+    → Holds (slice_index (slice_index_or lines a []) d) b ↔ IsAhead (direction_at directions d) a b
 unfolding has_lines
-HasBit-has_lines count directions lines e a d b ha hd hb =
+Holds-has_lines count directions lines e a d b ha hd hb =
     let row = λ (k i : ℕ). is_set_of (is_ahead (direction_at directions i) k) (slice_index (slice_index_or lines k []) i) in
-    HasBit-is_set_of (is_ahead (direction_at directions d) a) (IsAhead (direction_at directions d) a) _
+    Holds-is_set_of (is_ahead (direction_at directions d) a) (IsAhead (direction_at directions d) a) _
     (Decides-is_ahead (direction_at directions d) a)
     (all_below-at (row a) count (all_below-at (λ k. all_below (row k) count) 64 e a ha) d hd) b hb

@@ -1,5 +1,5 @@
 pub mod Squares
-pub mod Mask
+pub mod Bitboard
 pub mod Step
 pub mod Test
 pub mod Piece

@@ -54,7 +54,9 @@ queen_directions = rook_directions ++ bishop_directions
 
 -- a knight's step: one file and two ranks, or two files and one rank
 abbrev pub KnightStep : ℕ → ℕ → Type 0
-KnightStep a b = ((files_apart a b ≡ 1) × (ranks_apart a b ≡ 2)) ⊎ ((files_apart a b ≡ 2) × (ranks_apart a b ≡ 1))
+KnightStep a b =
+    ((files_apart a b ≡ 1) × (ranks_apart a b ≡ 2))
+    ⊎ ((files_apart a b ≡ 2) × (ranks_apart a b ≡ 1))
 
 -- a king's step: to an adjoining square
 abbrev pub KingStep : ℕ → ℕ → Type 0

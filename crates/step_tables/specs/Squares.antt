@@ -1,6 +1,8 @@
--- The squares 0 to 63 by file and rank, and the lines that two of them share.
+-- The squares 0 to 63 by file and rank, and the lines that two of them share. The crate stands on
+-- no other, so these are said again in the definitions of chess; where both meet they are the same
+-- by unfolding.
 use Rattle.std.specs.Prelude.{◌≡◌, ◌≢◌, ℕ, ◌+◌, ◌-◌, ◌/◌, ◌%◌, ◌<◌, ◌⊎◌}
-use Rattle.step_tables.specs.Mask.{HasBit}
+use Rattle.step_tables.specs.Bitboard.{Holds}
 
 -- 0 for file a, 7 for file h
 abbrev pub file_of : ℕ → ℕ
@@ -34,10 +36,11 @@ QueenLine a b = RookLine a b ⊎ BishopLine a b
 -- s lies strictly between a and b, on their common file, rank or diagonal
 abbrev pub IsBetween : ℕ → ℕ → ℕ → Type 0
 IsBetween a s b =
-    ((RookLine a b × RookLine a s × RookLine s b) ⊎ (BishopLine a b × BishopLine a s × BishopLine s b))
+    ((RookLine a b × RookLine a s × RookLine s b)
+    ⊎ (BishopLine a b × BishopLine a s × BishopLine s b))
     × (files_apart a s + files_apart s b ≡ files_apart a b)
     × (ranks_apart a s + ranks_apart s b ≡ ranks_apart a b)
 
--- no square of the mask lies strictly between a and b
+-- no square of the bitboard lies strictly between a and b
 abbrev pub IsUnblocked : ℕ → ℕ → ℕ → Type 0
-IsUnblocked occupied a b = (s : ℕ) → s < 64 → IsBetween a s b → ¬ HasBit occupied s
+IsUnblocked occupied a b = (s : ℕ) → s < 64 → IsBetween a s b → ¬ Holds occupied s

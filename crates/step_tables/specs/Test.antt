@@ -17,14 +17,15 @@ unfoldable pub any_below : (ℕ → Bool) → ℕ → Bool
 any_below test zero = false
 any_below test (suc n) = test n || any_below test n
 
--- the mask is the set of the squares that pass
+-- the bitboard is the set of the squares that pass
 abbrev pub is_set_of : (ℕ → Bool) → ℕ → Bool
-is_set_of test mask = all_below (λ b. bit_at mask b == cond (test b) 1 0) 64
+is_set_of test bitboard = all_below (λ b. bit_at bitboard b == cond (test b) 1 0) 64
 
 -- the step leads from a to b
 abbrev pub is_step : Step → ℕ → ℕ → Bool
 is_step step a b =
-    int_eq (pos (file_of a) +ℤ step.files) (pos (file_of b)) && int_eq (pos (rank_of a) +ℤ step.ranks) (pos (rank_of b))
+    int_eq (pos (file_of a) +ℤ step.files) (pos (file_of b))
+    && int_eq (pos (rank_of a) +ℤ step.ranks) (pos (rank_of b))
 
 -- one of the steps leads from a to b
 abbrev pub is_reached : List Step → ℕ → ℕ → Bool
@@ -38,16 +39,19 @@ is_ahead direction a b = any_below (λ passed. is_step (times (passed + 1) direc
 abbrev pub is_in_sight : List Step → ℕ → ℕ → Bool
 is_in_sight directions a b = list_any (λ direction. is_ahead direction a b) directions
 
--- each square has the mask of the squares that its steps reach
+-- each square has the bitboard of the squares that its steps reach
 unfoldable pub has_reached : List Step → List ℕ → Bool
-has_reached steps masks = all_below (λ a. is_set_of (is_reached steps a) (slice_index masks a)) 64
+has_reached steps bitboards =
+    all_below (λ a. is_set_of (is_reached steps a) (slice_index bitboards a)) 64
 
--- each square has the mask of the squares on its lines
+-- each square has the bitboard of the squares on its lines
 unfoldable pub has_sights : List Step → List ℕ → Bool
-has_sights directions masks = all_below (λ a. is_set_of (is_in_sight directions a) (slice_index masks a)) 64
+has_sights directions bitboards =
+    all_below (λ a. is_set_of (is_in_sight directions a) (slice_index bitboards a)) 64
 
--- each square has a mask for each direction, of the squares on that line
+-- each square has a bitboard for each direction, of the squares on that line
 unfoldable pub has_lines : ℕ → List Step → List (List ℕ) → Bool
 has_lines count directions lines =
     all_below (λ a. all_below (λ direction.
-    is_set_of (is_ahead (direction_at directions direction) a) (slice_index (slice_index_or lines a []) direction)) count) 64
+    is_set_of (is_ahead (direction_at directions direction) a)
+    (slice_index (slice_index_or lines a []) direction)) count) 64

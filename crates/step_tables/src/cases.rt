@@ -65,7 +65,7 @@ macro_rules! leaper {
     ($($step:tt)*) => {
         Leaper {
             steps: [$(step!($step)),*],
-            masks: &each_square!(reached! [$($step)*]),
+            bitboards: &each_square!(reached! [$($step)*]),
         }
     };
 }
@@ -126,7 +126,7 @@ macro_rules! slider {
         Slider {
             directions: [$(step!($direction)),*],
             lines: &each_square!(lines! [$($direction)*]),
-            masks: &each_square!(crossed! [$piece]),
+            bitboards: &each_square!(crossed! [$piece]),
         }
     };
 }

@@ -1,8 +1,9 @@
 ghost use Rattle.std.specs.Prelude.{◌≡◌, ◌↔◌, ℕ, ◌<◌, IsTrue};
-ghost use Rattle.step_tables.specs.Mask.{HasBit};
+ghost use Rattle.step_tables.specs.Bitboard.{Holds};
 ghost use Rattle.step_tables.specs.Step.{IsReached};
 ghost use Rattle.step_tables.specs.Test.{has_reached};
 
+use crate::bitboard::Bitboard;
 use crate::cases::{OFF_FILE_A, OFF_FILE_H, each_square, leaper, reached, step};
 use crate::step::Step;
 
@@ -11,17 +12,17 @@ pub struct Leaper<const N: usize> {
     /// The steps.
     pub steps: [Step; N],
     /// For each square, from a1 to h8, the squares that are a step away.
-    pub masks: &'static [u64; 64],
-    pub ghost right: { IsTrue (has_reached steps masks.now) },
+    pub bitboards: &'static [Bitboard; 64],
+    pub ghost right: { IsTrue (has_reached steps bitboards.now) },
 }
 
 impl<const N: usize> Leaper<N> {
     /// The squares that are one of the steps away from `square`.
-    pub fn targets(&self, square: u8) -> u64
+    pub fn targets(&self, square: u8) -> Bitboard
         requires { square < 64 }
-        ensures { (b : ℕ) → b < 64 → (HasBit result b ↔ IsReached self.now.steps square b) }
+        ensures { (b : ℕ) → b < 64 → (Holds result b ↔ IsReached self.now.steps square b) }
     {
-        self.masks[square as usize]
+        self.bitboards[square as usize]
     }
 }
 

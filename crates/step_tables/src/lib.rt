@@ -1,20 +1,21 @@
-//! Where the pieces step: for each square the squares that a piece reaches on an empty board, as masks.
+//! Where the pieces step: for each square the squares that a piece reaches on an empty board, as
+//! bitboards.
 //!
-//! A square is its index from 0 to 63, `8 * rank + file`, so a1 is 0 and h8 is 63. A mask is a set of squares: bit `b`
-//! stands for square `b`.
+//! A square is its index from 0 to 63, `8 * rank + file`, so a1 is 0 and h8 is 63. A bitboard is a
+//! set of squares: bit `b` stands for square `b`.
 #![tactic(auto)]
 
+mod bitboard;
 mod cases;
 mod in_between;
 mod leaper;
-mod mask;
 mod pieces;
 mod slider;
 mod step;
 
+pub use bitboard::{Bitboard, Squares, contains, is_disjoint, lowest, only, without};
 pub use in_between::{between, unblocked};
 pub use leaper::{BLACK_PAWN, KING, KNIGHT, Leaper, WHITE_PAWN};
-pub use mask::{Squares, contains, is_disjoint, lowest, only, without};
 pub use pieces::{
     bishop_line, bishop_targets, black_pawn_targets, king_targets, knight_targets, queen_bound,
     queen_line, queen_targets, rook_line, rook_targets, white_pawn_targets,
@@ -26,10 +27,10 @@ pub use step::Step;
 mod tests {
     use super::*;
 
-    /// Adds the number of squares of each mask to its total.
-    fn count(totals: &mut [u32], masks: &[u64]) {
-        for (total, mask) in totals.iter_mut().zip(masks) {
-            *total = total.wrapping_add(mask.count_ones());
+    /// Adds the number of squares of each bitboard to its total.
+    fn count(totals: &mut [u32], bitboards: &[Bitboard]) {
+        for (total, bitboard) in totals.iter_mut().zip(bitboards) {
+            *total = total.wrapping_add(bitboard.count_ones());
         }
     }
 
@@ -69,7 +70,8 @@ mod tests {
         let pawn = 7 * 14;
         assert_eq!(rt; targets, [336, 420, pawn, pawn, 896, 560, 1456]);
         assert_eq!(rt; lines, [896, 560, 560]);
-        // Three squares of one line have one between the others, from either side: 16 ranks and files, 26 diagonals.
+        // Three squares of one line have one between the others, from either side: 16 ranks and
+        // files, 26 diagonals.
         assert_eq!(rt;
             passed,
             [2 * (16 * 56 + 2 * (56 + 2 * (35 + 20 + 10 + 4 + 1)))]
@@ -77,7 +79,7 @@ mod tests {
     }
 
     #[test]
-    fn the_squares_of_a_mask(rt: HostRuntime) {
+    fn the_squares_of_a_bitboard(rt: HostRuntime) {
         let corners = only(0) | only(7) | only(56) | only(63);
         let mut squares = Squares::of(without(corners, 56));
         assert_eq!(rt; squares.next(), Some(0));

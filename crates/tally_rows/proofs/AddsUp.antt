@@ -8,29 +8,29 @@ use Rattle.best_lists.specs.Ranking.{before_by_rating, before_by_month, by_ratin
 use Rattle.best_lists.proofs.BestLaws.{best-best}
 use Rattle.explorer_model.specs.declared.archive.Outcome.{Outcome}
 use Rattle.explorer_model.specs.declared.archive.Outcome.TheVariants as outcomes
-use Rattle.tally_rows.specs.declared.parts.Parts.{Parts}
+use Rattle.tally_rows.specs.declared.row_key.RowKey.{RowKey}
 use Rattle.tally_rows.specs.declared.row.Row.{Row}
-use Rattle.tally_rows.specs.Parts.{parts_order, same_parts}
+use Rattle.tally_rows.specs.RowKey.{row_order, same_row_key}
 use Rattle.tally_rows.specs.Track.{Track, has}
-use Rattle.tally_rows.specs.Row.{parts_of, is_white, is_draw, is_black}
+use Rattle.tally_rows.specs.Row.{row_key_of, is_white, is_draw, is_black}
 use Rattle.tally_rows.specs.Tallied.{entries, has_move, mover_rating, rating_sum, track_month, IsTally, Tallied}
 use Rattle.tally_rows.specs.Adding.{sum_at, listed_at, SameAt, IsSound}
 use Rattle.tally_rows.proofs.Members.{IsIn, All-from_IsIn, All-IsIn, recursion-from_IsIn, recursion-IsIn, Any-IsIn, Found-from_Any, IsIn-from_Contains, Contains-IsIn, Found-map, count-positive, Found-from_count}
-use Rattle.tally_rows.proofs.PartsOrder.{same_parts-self}
+use Rattle.tally_rows.proofs.RowOrder.{same_row_key-self}
 use Rattle.tally_rows.proofs.At.{NoneAt, sum_at-none, listed_at-none, sum_at-own, listed_at-own, row_or_none}
 use Rattle.tally_rows.proofs.EntryLists.{entries-none}
 
 -- at these parts the rows have what the games have
-pub record AddsUp (tracks : List Track) (rows : List Row) (parts : Parts) : Type 0 where
-  pub white : sum_at (λ row. row.white) parts rows ≡ count_by (λ t. has parts t && is_white t.classes.outcome) tracks
-  pub draws : sum_at (λ row. row.draws) parts rows ≡ count_by (λ t. has parts t && is_draw t.classes.outcome) tracks
-  pub black : sum_at (λ row. row.black) parts rows ≡ count_by (λ t. has parts t && is_black t.classes.outcome) tracks
-  pub ratings : sum_at (λ row. row.ratings) parts rows ≡ sum_by (λ t. cond (has_move parts t) (mover_rating parts.key t.classes) 0) tracks
-  pub top : best before_by_rating 4 (listed_at (λ row. row.top) parts rows) ≡ best before_by_rating 4 (entries rating_sum (has_move parts) 0 tracks)
-  pub recent : best before_by_month 4 (listed_at (λ row. row.recent) parts rows) ≡ best before_by_month 4 (entries track_month (has_move parts) 0 tracks)
+pub record AddsUp (tracks : List Track) (rows : List Row) (row_key : RowKey) : Type 0 where
+  pub white : sum_at (λ row. row.white) row_key rows ≡ count_by (λ t. has row_key t && is_white t.classes.outcome) tracks
+  pub draws : sum_at (λ row. row.draws) row_key rows ≡ count_by (λ t. has row_key t && is_draw t.classes.outcome) tracks
+  pub black : sum_at (λ row. row.black) row_key rows ≡ count_by (λ t. has row_key t && is_black t.classes.outcome) tracks
+  pub ratings : sum_at (λ row. row.ratings) row_key rows ≡ sum_by (λ t. cond (has_move row_key t) (mover_rating row_key.key t.classes) 0) tracks
+  pub top : best before_by_rating 4 (listed_at (λ row. row.top) row_key rows) ≡ best before_by_rating 4 (entries rating_sum (has_move row_key) 0 tracks)
+  pub recent : best before_by_month 4 (listed_at (λ row. row.recent) row_key rows) ≡ best before_by_month 4 (entries track_month (has_move row_key) 0 tracks)
 
 -- rows that have the same add up to the same
-pub AddsUp-same : (tracks : List Track) (xs ys : List Row) (c : Parts) → SameAt xs ys c → AddsUp tracks xs c → AddsUp tracks ys c
+pub AddsUp-same : (tracks : List Track) (xs ys : List Row) (c : RowKey) → SameAt xs ys c → AddsUp tracks xs c → AddsUp tracks ys c
 AddsUp-same tracks xs ys c s a = record {
   white = sym s.white ∙ a.white;
   draws = sym s.draws ∙ a.draws;
@@ -64,18 +64,18 @@ count-outcomes p (t ∷ ts) =
     one false outcome = refl
 
 -- where the rows add up, are strictly sorted, and each counts some game, they are tallied
-pub tallied_from : (tracks : List Track) (rows : List Row) → ((c : Parts) → AddsUp tracks rows c) → All IsSound rows
-    → IsStrictlySortedBy parts_order (map parts_of rows) → Tallied tracks rows
+pub tallied_from : (tracks : List Track) (rows : List Row) → ((c : RowKey) → AddsUp tracks rows c) → All IsSound rows
+    → IsStrictlySortedBy row_order (map row_key_of rows) → Tallied tracks rows
 tallied_from tracks rows adds sound ordered = record {
   each = All-from_IsIn (IsTally tracks) rows each;
-  some = All-from_IsIn (λ row. Any (λ t. has (parts_of row) t ≡ true) tracks) rows some;
+  some = All-from_IsIn (λ row. Any (λ t. has (row_key_of row) t ≡ true) tracks) rows some;
   every = every;
   ordered = ordered;
 }
   where
     each : (row : Row) → IsIn row rows → IsTally tracks row
     each row m =
-        let at_row = adds (parts_of row) in
+        let at_row = adds (row_key_of row) in
         let fine = All-IsIn IsSound rows sound row m in
         record {
           white = sym (sum_at-own (λ r. r.white) rows ordered row m) ∙ at_row.white;
@@ -86,21 +86,21 @@ tallied_from tracks rows adds sound ordered = record {
           recent = sym fine.recent ∙ ap (best before_by_month 4) (sym (listed_at-own (λ r. r.recent) rows ordered row m)) ∙ at_row.recent;
         }
 
-    some : (row : Row) → IsIn row rows → Any (λ t. has (parts_of row) t ≡ true) tracks
+    some : (row : Row) → IsIn row rows → Any (λ t. has (row_key_of row) t ≡ true) tracks
     some row m =
         let counts = each row m in
         let fine = All-IsIn IsSound rows sound row m in
-        let found = Found-from_count (has (parts_of row)) tracks
-        (omega (arith, count-outcomes (has (parts_of row)) tracks, counts.white, counts.draws, counts.black, fine.seen)) in
-        Any-IsIn (λ t. has (parts_of row) t ≡ true) tracks found.value found.is_in found.holds
+        let found = Found-from_count (has (row_key_of row)) tracks
+        (omega (arith, count-outcomes (has (row_key_of row)) tracks, counts.white, counts.draws, counts.black, fine.some)) in
+        Any-IsIn (λ t. has (row_key_of row) t ≡ true) tracks found.value found.is_in found.holds
 
-    every : (c : Parts) → Any (λ t. has c t ≡ true) tracks → Contains (map parts_of rows) c
+    every : (c : RowKey) → Any (λ t. has c t ≡ true) tracks → Contains (map row_key_of rows) c
     every c h =
         let found = Found-from_Any (λ t. has c t ≡ true) tracks h in
         let positive = count-positive (has c) tracks found.value found.is_in found.holds in
         let at_c = adds c in
         elim (row_or_none c rows) [
-          | inl m ↦ Contains-IsIn (map parts_of rows) c m
+          | inl m ↦ Contains-IsIn (map row_key_of rows) c m
           | inr none ↦ absurd (omega (
             arith,
             positive,
@@ -121,42 +121,42 @@ IsSound-tallied tracks rows h = All-from_IsIn IsSound rows sound
     sound : (row : Row) → IsIn row rows → IsSound row
     sound row m =
         let counts = All-IsIn (IsTally tracks) rows h.each row m in
-        let found = Found-from_Any (λ t. has (parts_of row) t ≡ true) tracks (All-IsIn (λ r. Any (λ t. has (parts_of r) t ≡ true) tracks) rows h.some row m) in
-        let positive = count-positive (has (parts_of row)) tracks found.value found.is_in found.holds in
+        let found = Found-from_Any (λ t. has (row_key_of row) t ≡ true) tracks (All-IsIn (λ r. Any (λ t. has (row_key_of r) t ≡ true) tracks) rows h.some row m) in
+        let positive = count-positive (has (row_key_of row)) tracks found.value found.is_in found.holds in
         record {
-          seen = omega (arith, positive, count-outcomes (has (parts_of row)) tracks, counts.white, counts.draws, counts.black);
-          top = ap (best before_by_rating 4) counts.top ∙ best-best by_rating_is_order 4 (entries rating_sum (has_move (parts_of row)) 0 tracks) ∙ sym counts.top;
-          recent = ap (best before_by_month 4) counts.recent ∙ best-best by_month_is_order 4 (entries track_month (has_move (parts_of row)) 0 tracks) ∙ sym counts.recent;
+          some = omega (arith, positive, count-outcomes (has (row_key_of row)) tracks, counts.white, counts.draws, counts.black);
+          top = ap (best before_by_rating 4) counts.top ∙ best-best by_rating_is_order 4 (entries rating_sum (has_move (row_key_of row)) 0 tracks) ∙ sym counts.top;
+          recent = ap (best before_by_month 4) counts.recent ∙ best-best by_month_is_order 4 (entries track_month (has_move (row_key_of row)) 0 tracks) ∙ sym counts.recent;
         }
 
 -- no game has the parts
-NoTrack : Parts → List Track → Type 0
+NoTrack : RowKey → List Track → Type 0
 NoTrack c tracks = AllByRecursion (λ t. has c t ≡ false) tracks
 
-NoTrack-NoneAt : (tracks : List Track) (rows : List Row) (c : Parts) → Tallied tracks rows → NoneAt c rows
+NoTrack-NoneAt : (tracks : List Track) (rows : List Row) (c : RowKey) → Tallied tracks rows → NoneAt c rows
     → AllByRecursion (λ t. has c t ≡ false) tracks
 NoTrack-NoneAt tracks rows c h none = recursion-from_IsIn (λ t. has c t ≡ false) tracks (λ t m. lacks t m (has c t) refl)
   where
     lacks : (t : Track) → IsIn t tracks → (b : Bool) → has c t ≡ b → has c t ≡ false
     lacks t m false e = e
     lacks t m true e =
-        let there = IsIn-from_Contains (map parts_of rows) c (h.every c (Any-IsIn (λ s. has c s ≡ true) tracks t m e)) in
-        let row = Found-map parts_of rows c there in
-        let clash : same_parts c (parts_of row.value) ≡ false = recursion-IsIn (λ r. same_parts c (parts_of r) ≡ false) rows none row.value row.is_in in
-        let self : same_parts c (parts_of row.value) ≡ true = ap (same_parts c) row.holds ∙ same_parts-self c in
+        let there = IsIn-from_Contains (map row_key_of rows) c (h.every c (Any-IsIn (λ s. has c s ≡ true) tracks t m e)) in
+        let row = Found-map row_key_of rows c there in
+        let clash : same_row_key c (row_key_of row.value) ≡ false = recursion-IsIn (λ r. same_row_key c (row_key_of r) ≡ false) rows none row.value row.is_in in
+        let self : same_row_key c (row_key_of row.value) ≡ true = ap (same_row_key c) row.holds ∙ same_row_key-self c in
         cc
 
 -- tallied rows add up at each parts
-pub AddsUp-tallied : (tracks : List Track) (rows : List Row) → Tallied tracks rows → (c : Parts) → AddsUp tracks rows c
+pub AddsUp-tallied : (tracks : List Track) (rows : List Row) → Tallied tracks rows → (c : RowKey) → AddsUp tracks rows c
 AddsUp-tallied tracks rows h c =
     elim (row_or_none c rows) [
       | inl m ↦
-          let found = Found-map parts_of rows c m in
+          let found = Found-map row_key_of rows c m in
           subst (AddsUp tracks rows) found.holds (at_row found.value found.is_in)
       | inr none ↦ at_none none (NoTrack-NoneAt tracks rows c h none)
     ]
   where
-    at_row : (row : Row) → IsIn row rows → AddsUp tracks rows (parts_of row)
+    at_row : (row : Row) → IsIn row rows → AddsUp tracks rows (row_key_of row)
     at_row row m =
         let counts = All-IsIn (IsTally tracks) rows h.each row m in
         record {
@@ -165,9 +165,9 @@ AddsUp-tallied tracks rows h c =
           black = sum_at-own (λ r. r.black) rows h.ordered row m ∙ counts.black;
           ratings = sum_at-own (λ r. r.ratings) rows h.ordered row m ∙ counts.ratings;
           top = ap (best before_by_rating 4) (listed_at-own (λ r. r.top) rows h.ordered row m ∙ counts.top)
-              ∙ best-best by_rating_is_order 4 (entries rating_sum (has_move (parts_of row)) 0 tracks);
+              ∙ best-best by_rating_is_order 4 (entries rating_sum (has_move (row_key_of row)) 0 tracks);
           recent = ap (best before_by_month 4) (listed_at-own (λ r. r.recent) rows h.ordered row m ∙ counts.recent)
-              ∙ best-best by_month_is_order 4 (entries track_month (has_move (parts_of row)) 0 tracks);
+              ∙ best-best by_month_is_order 4 (entries track_month (has_move (row_key_of row)) 0 tracks);
         }
 
     nothing : (test : Track → Bool) (f : Track → ℕ) (ts : List Track) → AllByRecursion (λ t. test t ≡ false) ts

@@ -11,26 +11,26 @@ use Rattle.best_lists.specs.declared.entry.Entry.{Entry}
 use Rattle.best_lists.proofs.BestLaws.{best-best, best-one, best-nil}
 use Rattle.explorer_model.specs.declared.archive.Outcome.{Outcome}
 use Rattle.explorer_model.specs.declared.archive.Outcome.TheVariants as outcomes
-use Rattle.tally_rows.specs.declared.parts.Parts.{Parts}
+use Rattle.tally_rows.specs.declared.row_key.RowKey.{RowKey}
 use Rattle.tally_rows.specs.declared.row.Row.{Row}
 use Rattle.tally_rows.specs.declared.single.Single.{Single}
 use Rattle.tally_rows.specs.Adding.{sum_at, listed_at, SameAt, IsSound}
-use Rattle.tally_rows.specs.Parts.{parts_order, parts_order-total, same_parts}
-use Rattle.tally_rows.specs.Row.{parts_of, is_white, is_draw, is_black, row_of, combined, combined_from, combined_rows}
+use Rattle.tally_rows.specs.RowKey.{row_order, row_order-total, same_row_key}
+use Rattle.tally_rows.specs.Row.{row_key_of, is_white, is_draw, is_black, row_of, combined, combined_from, combined_rows}
 use Rattle.tally_rows.proofs.At.{sum_at-cons}
 use Rattle.tally_rows.proofs.Bests.{best-left, best-right}
-use Rattle.tally_rows.proofs.PartsOrder.{same_parts-is, same_parts-comm}
+use Rattle.tally_rows.proofs.RowOrder.{same_row_key-is, same_row_key-comm}
 
 pub combined_from-nil : (last : Row) → combined_from last [] ≡ last ∷ []
 unfolding combined_from
 combined_from-nil last = refl
 
-pub combined_from-same : (last row : Row) (rows : List Row) → same_parts (parts_of last) (parts_of row) ≡ true
+pub combined_from-same : (last row : Row) (rows : List Row) → same_row_key (row_key_of last) (row_key_of row) ≡ true
     → combined_from last (row ∷ rows) ≡ combined_from (combined last row) rows
 unfolding combined_from
 combined_from-same last row rows e = ap (λ b. if b then combined_from (combined last row) rows else last ∷ combined_from row rows) e
 
-pub combined_from-other : (last row : Row) (rows : List Row) → same_parts (parts_of last) (parts_of row) ≡ false
+pub combined_from-other : (last row : Row) (rows : List Row) → same_row_key (row_key_of last) (row_key_of row) ≡ false
     → combined_from last (row ∷ rows) ≡ last ∷ combined_from row rows
 unfolding combined_from
 combined_from-other last row rows e = ap (λ b. if b then combined_from (combined last row) rows else last ∷ combined_from row rows) e
@@ -51,12 +51,12 @@ module _ (done : List Row) (last row : Row) (singles : List Single) (i : ℕ) (s
       ap (map row_of) (drop_more singles i s below) ∙ ap (λ t. row_of t ∷ map row_of (drop (i + 1) singles)) (sym is)
       ∙ ap (λ r. r ∷ map row_of (drop (i + 1) singles)) (sym of)
 
-  pub step-same : same_parts (parts_of last) (parts_of row) ≡ true
+  pub step-same : same_row_key (row_key_of last) (row_key_of row) ≡ true
       → done ++ combined_from (combined last row) (map row_of (drop (i + 1) singles)) ≡ done ++ combined_from last (map row_of (drop i singles))
   step-same e =
       sym (ap (λ l. done ++ combined_from last l) next ∙ ap (λ l. done ++ l) (combined_from-same last row (map row_of (drop (i + 1) singles)) e))
 
-  pub step-other : same_parts (parts_of last) (parts_of row) ≡ false
+  pub step-other : same_row_key (row_key_of last) (row_key_of row) ≡ false
       → (done ++ last ∷ []) ++ combined_from row (map row_of (drop (i + 1) singles)) ≡ done ++ combined_from last (map row_of (drop i singles))
   step-other e =
       append_assoc done (last ∷ []) (combined_from row (map row_of (drop (i + 1) singles)))
@@ -79,12 +79,12 @@ pub combined-ratings : (a b : Row) → (combined a b).ratings ≡ a.ratings + b.
 unfolding combined
 combined-ratings a b = refl
 
-pub combined-parts : (a b : Row) → parts_of (combined a b) ≡ parts_of a
+pub combined-row_key : (a b : Row) → row_key_of (combined a b) ≡ row_key_of a
 unfolding combined
-combined-parts a b = refl
+combined-row_key a b = refl
 
 -- putting together keeps what rows add up to
-module _ (c : Parts) where
+module _ (c : RowKey) where
   cond-add : (b : Bool) (m n : ℕ) → cond b (m + n) 0 ≡ cond b m 0 + cond b n 0
   cond-add true m n = refl
   cond-add false m n = refl
@@ -93,14 +93,14 @@ module _ (c : Parts) where
       → sum_at f c (combined_from last rows) ≡ sum_at f c (last ∷ rows)
   sum_at-combined_from f adds last [] = ap (sum_at f c) (combined_from-nil last)
   sum_at-combined_from f adds last (row ∷ rows) =
-      elim (same_parts (parts_of last) (parts_of row)) as (λ b. same_parts (parts_of last) (parts_of row) ≡ b
+      elim (same_row_key (row_key_of last) (row_key_of row)) as (λ b. same_row_key (row_key_of last) (row_key_of row) ≡ b
       → sum_at f c (combined_from last (row ∷ rows)) ≡ sum_at f c (last ∷ row ∷ rows)) [
         | true ↦ λ e.
-            let here = same_parts c (parts_of last) in
-            let one : cond (same_parts c (parts_of (combined last row))) (f (combined last row)) 0 ≡ cond here (f last) 0 + cond (same_parts c (parts_of row)) (f row) 0 =
-            ap (λ p. cond (same_parts c p) (f (combined last row)) 0) (combined-parts last row)
+            let here = same_row_key c (row_key_of last) in
+            let one : cond (same_row_key c (row_key_of (combined last row))) (f (combined last row)) 0 ≡ cond here (f last) 0 + cond (same_row_key c (row_key_of row)) (f row) 0 =
+            ap (λ p. cond (same_row_key c p) (f (combined last row)) 0) (combined-row_key last row)
             ∙ ap (λ n. cond here n 0) (adds last row) ∙ cond-add here (f last) (f row)
-            ∙ ap (λ p. cond here (f last) 0 + cond (same_parts c p) (f row) 0) (same_parts-is (parts_of last) (parts_of row) e) in
+            ∙ ap (λ p. cond here (f last) 0 + cond (same_row_key c p) (f row) 0) (same_row_key-is (row_key_of last) (row_key_of row) e) in
             ap (sum_at f c) (combined_from-same last row rows e) ∙ sum_at-combined_from f adds (combined last row) rows
             ∙ omega (arith, one, sum_at-cons f c (combined last row) rows, sum_at-cons f c last (row ∷ rows), sum_at-cons f c row rows)
         | false ↦ λ e.
@@ -113,20 +113,20 @@ module _ (c : Parts) where
       → best before 4 (listed_at f c (combined_from last rows)) ≡ best before 4 (listed_at f c (last ∷ rows))
   listed_at-combined_from {before} order f joins last [] = ap (λ l. best before 4 (listed_at f c l)) (combined_from-nil last)
   listed_at-combined_from {before} order f joins last (row ∷ rows) =
-      elim (same_parts (parts_of last) (parts_of row)) as (λ b. same_parts (parts_of last) (parts_of row) ≡ b
+      elim (same_row_key (row_key_of last) (row_key_of row)) as (λ b. same_row_key (row_key_of last) (row_key_of row) ≡ b
       → best before 4 (listed_at f c (combined_from last (row ∷ rows))) ≡ best before 4 (listed_at f c (last ∷ row ∷ rows))) [
         | true ↦ λ e.
             let rest = listed_at f c rows in
             ap (λ l. best before 4 (listed_at f c l)) (combined_from-same last row rows e)
             ∙ listed_at-combined_from order f joins (combined last row) rows
-            ∙ ap (λ p. best before 4 (cond (same_parts c p) (f (combined last row)) [] ++ rest)) (combined-parts last row)
-            ∙ ap (λ l. best before 4 (cond (same_parts c (parts_of last)) l [] ++ rest)) (joins last row)
-            ∙ both (same_parts c (parts_of last)) rest
-            ∙ ap (λ p. best before 4 (cond (same_parts c (parts_of last)) (f last) [] ++ (cond (same_parts c p) (f row) [] ++ rest)))
-            (same_parts-is (parts_of last) (parts_of row) e)
+            ∙ ap (λ p. best before 4 (cond (same_row_key c p) (f (combined last row)) [] ++ rest)) (combined-row_key last row)
+            ∙ ap (λ l. best before 4 (cond (same_row_key c (row_key_of last)) l [] ++ rest)) (joins last row)
+            ∙ both (same_row_key c (row_key_of last)) rest
+            ∙ ap (λ p. best before 4 (cond (same_row_key c (row_key_of last)) (f last) [] ++ (cond (same_row_key c p) (f row) [] ++ rest)))
+            (same_row_key-is (row_key_of last) (row_key_of row) e)
         | false ↦ λ e.
             ap (λ l. best before 4 (listed_at f c l)) (combined_from-other last row rows e)
-            ∙ best-right order 4 (cond (same_parts c (parts_of last)) (f last) []) (listed_at f c (combined_from row rows)) (listed_at f c (row ∷ rows))
+            ∙ best-right order 4 (cond (same_row_key c (row_key_of last)) (f last) []) (listed_at f c (combined_from row rows)) (listed_at f c (row ∷ rows))
             (listed_at-combined_from order f joins row rows)
       ] refl
     where
@@ -143,7 +143,7 @@ combined-recent : (a b : Row) → (combined a b).recent ≡ best before_by_month
 unfolding combined
 combined-recent a b = refl
 
-pub SameAt-combined_rows : (rows : List Row) (c : Parts) → SameAt rows (combined_rows rows) c
+pub SameAt-combined_rows : (rows : List Row) (c : RowKey) → SameAt rows (combined_rows rows) c
 unfolding combined_rows
 SameAt-combined_rows [] c = record { white = refl; draws = refl; black = refl; ratings = refl; top = refl; recent = refl }
 SameAt-combined_rows (row ∷ rows) c = record {
@@ -158,7 +158,7 @@ SameAt-combined_rows (row ∷ rows) c = record {
 -- rows that are sound stay so
 IsSound-combined : (a b : Row) → IsSound a → IsSound (combined a b)
 IsSound-combined a b h = record {
-  seen = omega (arith, h.seen, combined-white a b, combined-draws a b, combined-black a b);
+  some = omega (arith, h.some, combined-white a b, combined-draws a b, combined-black a b);
   top = rw (combined-top a b) (best-best by_rating_is_order 4 (a.top ++ b.top));
   recent = rw (combined-recent a b) (best-best by_month_is_order 4 (a.recent ++ b.recent));
 }
@@ -166,7 +166,7 @@ IsSound-combined a b h = record {
 IsSound-combined_from : (last : Row) (rows : List Row) → IsSound last → AllByRecursion IsSound rows → AllByRecursion IsSound (combined_from last rows)
 IsSound-combined_from last [] h all = subst (AllByRecursion IsSound) (sym (combined_from-nil last)) (h, tt)
 IsSound-combined_from last (row ∷ rows) h all =
-    elim (same_parts (parts_of last) (parts_of row)) as (λ b. same_parts (parts_of last) (parts_of row) ≡ b → AllByRecursion IsSound (combined_from last (row ∷ rows))) [
+    elim (same_row_key (row_key_of last) (row_key_of row)) as (λ b. same_row_key (row_key_of last) (row_key_of row) ≡ b → AllByRecursion IsSound (combined_from last (row ∷ rows))) [
       | true ↦ λ e. subst (AllByRecursion IsSound) (sym (combined_from-same last row rows e)) (IsSound-combined_from (combined last row) rows (IsSound-combined last row h) all.1)
       | false ↦ λ e. subst (AllByRecursion IsSound) (sym (combined_from-other last row rows e)) (h, IsSound-combined_from row rows all.0 all.1)
     ] refl
@@ -179,9 +179,9 @@ IsSound-combined_rows (row ∷ rows) h = IsSound-combined_from row rows h.0 h.1
 pub IsSound-row_of : (s : Single) → IsSound (row_of s)
 unfolding row_of
 IsSound-row_of s = record {
-  seen = omega (arith, row_of-one s);
-  top = own by_rating_is_order (is_some s.parts.next) _;
-  recent = own by_month_is_order (is_some s.parts.next) _;
+  some = omega (arith, row_of-one s);
+  top = own by_rating_is_order (is_some s.row_key.next) _;
+  recent = own by_month_is_order (is_some s.row_key.next) _;
 }
   where
     own : {before : Entry → Entry → Bool} → IsStrictTotalOrder before → (b : Bool) (e : Entry) → best before 4 (cond b (e ∷ []) []) ≡ cond b (e ∷ []) []
@@ -189,32 +189,32 @@ IsSound-row_of s = record {
     own {before} order false e = best-nil before 4
 
 -- the parts of rows that were put together: no two that stand next to each other are the same
-parts-combined_from : (last : Row) (rows : List Row) → map parts_of (combined_from last rows) ≡ dedup_from same_parts (parts_of last) (map parts_of rows)
-parts-combined_from last [] = ap (map parts_of) (combined_from-nil last)
-parts-combined_from last (row ∷ rows) =
-    elim (same_parts (parts_of last) (parts_of row)) as (λ b. same_parts (parts_of last) (parts_of row) ≡ b
-    → map parts_of (combined_from last (row ∷ rows)) ≡ dedup_from same_parts (parts_of last) (map parts_of (row ∷ rows))) [
+row_key-combined_from : (last : Row) (rows : List Row) → map row_key_of (combined_from last rows) ≡ dedup_from same_row_key (row_key_of last) (map row_key_of rows)
+row_key-combined_from last [] = ap (map row_key_of) (combined_from-nil last)
+row_key-combined_from last (row ∷ rows) =
+    elim (same_row_key (row_key_of last) (row_key_of row)) as (λ b. same_row_key (row_key_of last) (row_key_of row) ≡ b
+    → map row_key_of (combined_from last (row ∷ rows)) ≡ dedup_from same_row_key (row_key_of last) (map row_key_of (row ∷ rows))) [
       | true ↦ λ e.
-          ap (map parts_of) (combined_from-same last row rows e) ∙ parts-combined_from (combined last row) rows
-          ∙ ap (λ p. dedup_from same_parts p (map parts_of rows)) (combined-parts last row)
-          ∙ sym (ap (λ b. cond b (dedup_from same_parts (parts_of last) (map parts_of rows)) (parts_of last ∷ dedup_from same_parts (parts_of row) (map parts_of rows)))
-          (same_parts-comm (parts_of row) (parts_of last) ∙ e))
+          ap (map row_key_of) (combined_from-same last row rows e) ∙ row_key-combined_from (combined last row) rows
+          ∙ ap (λ p. dedup_from same_row_key p (map row_key_of rows)) (combined-row_key last row)
+          ∙ sym (ap (λ b. cond b (dedup_from same_row_key (row_key_of last) (map row_key_of rows)) (row_key_of last ∷ dedup_from same_row_key (row_key_of row) (map row_key_of rows)))
+          (same_row_key-comm (row_key_of row) (row_key_of last) ∙ e))
       | false ↦ λ e.
-          ap (map parts_of) (combined_from-other last row rows e) ∙ ap (λ l. parts_of last ∷ l) (parts-combined_from row rows)
-          ∙ sym (ap (λ b. cond b (dedup_from same_parts (parts_of last) (map parts_of rows)) (parts_of last ∷ dedup_from same_parts (parts_of row) (map parts_of rows)))
-          (same_parts-comm (parts_of row) (parts_of last) ∙ e))
+          ap (map row_key_of) (combined_from-other last row rows e) ∙ ap (λ l. row_key_of last ∷ l) (row_key-combined_from row rows)
+          ∙ sym (ap (λ b. cond b (dedup_from same_row_key (row_key_of last) (map row_key_of rows)) (row_key_of last ∷ dedup_from same_row_key (row_key_of row) (map row_key_of rows)))
+          (same_row_key-comm (row_key_of row) (row_key_of last) ∙ e))
     ] refl
 
-parts-combined_rows : (rows : List Row) → map parts_of (combined_rows rows) ≡ dedup same_parts (map parts_of rows)
+row_key-combined_rows : (rows : List Row) → map row_key_of (combined_rows rows) ≡ dedup same_row_key (map row_key_of rows)
 unfolding combined_rows
-parts-combined_rows [] = refl
-parts-combined_rows (row ∷ rows) = parts-combined_from row rows
+row_key-combined_rows [] = refl
+row_key-combined_rows (row ∷ rows) = row_key-combined_from row rows
 
-same_parts-ties : (a b : Parts) → same_parts a b ≡ eq_by_cmp parts_order a b
-unfolding same_parts
-same_parts-ties a b = refl
+same_row_key-ties : (a b : RowKey) → same_row_key a b ≡ eq_by_cmp row_order a b
+unfolding same_row_key
+same_row_key-ties a b = refl
 
 -- rows that stood in their order are strictly sorted
-pub combined_rows-ordered : (rows : List Row) → IsSorted parts_order (map parts_of rows) → IsStrictlySortedBy parts_order (map parts_of (combined_rows rows))
+pub combined_rows-ordered : (rows : List Row) → IsSorted row_order (map row_key_of rows) → IsStrictlySortedBy row_order (map row_key_of (combined_rows rows))
 combined_rows-ordered rows h =
-    subst (IsStrictlySortedBy parts_order) (sym (parts-combined_rows rows)) (IsStrictlySortedBy-dedup parts_order-total same_parts-ties (map parts_of rows) h)
+    subst (IsStrictlySortedBy row_order) (sym (row_key-combined_rows rows)) (IsStrictlySortedBy-dedup row_order-total same_row_key-ties (map row_key_of rows) h)

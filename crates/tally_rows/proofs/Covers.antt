@@ -11,61 +11,61 @@ use Rattle.best_lists.specs.declared.entry.Entry.{Entry}
 use Rattle.best_lists.proofs.BestLaws.{best-append, best-nil, best-flat_map}
 use Rattle.best_lists.proofs.Entries.{best-moved}
 use Rattle.best_lists.proofs.Same.{ties, best-same}
-use Rattle.tally_rows.specs.declared.parts.Parts.{Parts}
+use Rattle.tally_rows.specs.declared.row_key.RowKey.{RowKey}
 use Rattle.tally_rows.specs.declared.row.Row.{Row}
 use Rattle.tally_rows.specs.Adding.{sum_at}
-use Rattle.tally_rows.specs.Parts.{same_parts}
+use Rattle.tally_rows.specs.RowKey.{same_row_key}
 use Rattle.tally_rows.specs.Recount.{is_counted, is_listed, picks, picked_sum, picked_lists, cover_lists, GivesPicked}
-use Rattle.tally_rows.specs.Row.{parts_of, is_white, is_draw, is_black}
+use Rattle.tally_rows.specs.Row.{row_key_of, is_white, is_draw, is_black}
 use Rattle.tally_rows.specs.Tallied.{entries, has_move, mover_rating, rating_sum, track_month, IsTally, Tallied}
-use Rattle.tally_rows.specs.Track.{Track, parts_at, is_some_where, has}
+use Rattle.tally_rows.specs.Track.{Track, row_keys_at, is_some_where, has}
 use Rattle.tally_rows.proofs.At.{sum_at-own}
 use Rattle.tally_rows.proofs.EntryLists.{entry_of, entries-nil, entries-append, entries-moved, count-entries}
 use Rattle.tally_rows.proofs.Members.{IsIn, All-IsIn, recursion-from_IsIn, Any-IsIn, IsIn-from_Contains, Found-map}
-use Rattle.tally_rows.proofs.PartsOrder.{same_parts-is, same_parts-self}
+use Rattle.tally_rows.proofs.RowOrder.{same_row_key-is, same_row_key-self}
 use Rattle.tally_rows.proofs.Sums.{cells_sum, sum_by-agree, sum_by-zero, sum_by-flat_map}
-use Rattle.tally_rows.proofs.Visits.{has-parts_at, parts_at-has, parts_at-AreOf}
+use Rattle.tally_rows.proofs.Visits.{has-row_keys_at, row_keys_at-has, row_keys_at-AreOf}
 
 -- ---- each game that is counted falls into one row that is picked
 
-module _ (key : List ℕ) (pick : Parts → Bool) where
+module _ (key : List ℕ) (pick : RowKey → Bool) where
   picks-key : (row : Row) → picks key pick row ≡ true → row.key ≡ key
   unfolding picks
-  picks-key row e = by (bytes_eq row.key key) (pick (parts_of row)) e (bytes_decides row.key key).0
+  picks-key row e = by (bytes_eq row.key key) (pick (row_key_of row)) e (bytes_decides row.key key).0
     where
       by : (a b : Bool) → (a && b) ≡ true → (a ≡ true → row.key ≡ key) → row.key ≡ key
       by true b e f = f refl
       by false b e f = cc
 
-  picks-own : (row : Row) → row.key ≡ key → picks key pick row ≡ pick (parts_of row)
+  picks-own : (row : Row) → row.key ≡ key → picks key pick row ≡ pick (row_key_of row)
   unfolding picks
-  picks-own row e = ap (λ b. b && pick (parts_of row)) ((bytes_decides row.key key).1 e)
+  picks-own row e = ap (λ b. b && pick (row_key_of row)) ((bytes_decides row.key key).1 e)
 
   -- a game that does not visit the position has the parts of no row of it
-  falls-none : (t : Track) → parts_at key t ≡ None → (row : Row) → (picks key pick row && has (parts_of row) t) ≡ false
-  falls-none t none row = by (picks key pick row) (has (parts_of row) t) refl refl
+  falls-none : (t : Track) → row_keys_at key t ≡ None → (row : Row) → (picks key pick row && has (row_key_of row) t) ≡ false
+  falls-none t none row = by (picks key pick row) (has (row_key_of row) t) refl refl
     where
-      by : (a b : Bool) → picks key pick row ≡ a → has (parts_of row) t ≡ b → (a && b) ≡ false
+      by : (a b : Bool) → picks key pick row ≡ a → has (row_key_of row) t ≡ b → (a && b) ≡ false
       by true true p h =
-          let there : parts_at row.key t ≡ Some (parts_of row) = has-parts_at (parts_of row) t h in
-          let same : parts_at row.key t ≡ parts_at key t = ap (λ k. parts_at k t) (picks-key row p) in
+          let there : row_keys_at row.key t ≡ Some (row_key_of row) = has-row_keys_at (row_key_of row) t h in
+          let same : row_keys_at row.key t ≡ row_keys_at key t = ap (λ k. row_keys_at k t) (picks-key row p) in
           cc
       by true false p h = refl
       by false b p h = refl
 
-  falls-some : (t : Track) (c : Parts) → parts_at key t ≡ Some c → (row : Row)
-      → (picks key pick row && has (parts_of row) t) ≡ cond (same_parts c (parts_of row)) (pick c) false
-  falls-some t c at row = by (same_parts c (parts_of row)) refl
+  falls-some : (t : Track) (c : RowKey) → row_keys_at key t ≡ Some c → (row : Row)
+      → (picks key pick row && has (row_key_of row) t) ≡ cond (same_row_key c (row_key_of row)) (pick c) false
+  falls-some t c at row = by (same_row_key c (row_key_of row)) refl
     where
       here : c.key ≡ key
-      here = (parts_at-AreOf key t c at).position
+      here = (row_keys_at-AreOf key t c at).position
 
-      other : (a b : Bool) → picks key pick row ≡ a → has (parts_of row) t ≡ b → same_parts c (parts_of row) ≡ false → (a && b) ≡ false
+      other : (a b : Bool) → picks key pick row ≡ a → has (row_key_of row) t ≡ b → same_row_key c (row_key_of row) ≡ false → (a && b) ≡ false
       other true true p h s =
-          let there : parts_at row.key t ≡ Some (parts_of row) = has-parts_at (parts_of row) t h in
-          let same : parts_at row.key t ≡ parts_at key t = ap (λ k. parts_at k t) (picks-key row p) in
-          let is : c ≡ parts_of row = cc in
-          let self : same_parts c (parts_of row) ≡ true = subst (λ d. same_parts c d ≡ true) is (same_parts-self c) in
+          let there : row_keys_at row.key t ≡ Some (row_key_of row) = has-row_keys_at (row_key_of row) t h in
+          let same : row_keys_at row.key t ≡ row_keys_at key t = ap (λ k. row_keys_at k t) (picks-key row p) in
+          let is : c ≡ row_key_of row = cc in
+          let self : same_row_key c (row_key_of row) ≡ true = subst (λ d. same_row_key c d ≡ true) is (same_row_key-self c) in
           cc
       other true false p h s = refl
       other false b p h s = refl
@@ -74,57 +74,57 @@ module _ (key : List ℕ) (pick : Parts → Bool) where
       and_true true = refl
       and_true false = refl
 
-      by : (b : Bool) → same_parts c (parts_of row) ≡ b → (picks key pick row && has (parts_of row) t) ≡ cond b (pick c) false
+      by : (b : Bool) → same_row_key c (row_key_of row) ≡ b → (picks key pick row && has (row_key_of row) t) ≡ cond b (pick c) false
       by true s =
-          let is : c ≡ parts_of row = same_parts-is c (parts_of row) s in
+          let is : c ≡ row_key_of row = same_row_key-is c (row_key_of row) s in
           let row_key : row.key ≡ key = sym (ap (λ p. p.key) is) ∙ here in
-          let row_has : has (parts_of row) t ≡ true =
-          parts_at-has (parts_of row) t (ap (λ k. parts_at k t) row_key ∙ at ∙ ap Some is) in
+          let row_has : has (row_key_of row) t ≡ true =
+          row_keys_at-has (row_key_of row) t (ap (λ k. row_keys_at k t) row_key ∙ at ∙ ap Some is) in
           ap (λ b. picks key pick row && b) row_has ∙ and_true (picks key pick row) ∙ picks-own row row_key ∙ sym (ap pick is)
-      by false s = other (picks key pick row) (has (parts_of row) t) refl refl s
+      by false s = other (picks key pick row) (has (row_key_of row) t) refl refl s
 
   module _ (tracks : List Track) (rows : List Row) (tallied : Tallied tracks rows) where
-    hit : (t : Track) → IsIn t tracks → count_by (λ row. picks key pick row && has (parts_of row) t) rows ≡ cond (is_counted key pick t) 1 0
+    hit : (t : Track) → IsIn t tracks → count_by (λ row. picks key pick row && has (row_key_of row) t) rows ≡ cond (is_counted key pick t) 1 0
     unfolding is_counted
-    hit t m = by (parts_at key t) refl
+    hit t m = by (row_keys_at key t) refl
       where
-        by : (o : Option Parts) → parts_at key t ≡ o
-            → count_by (λ row. picks key pick row && has (parts_of row) t) rows ≡ cond (is_some_where pick o) 1 0
+        by : (o : Option RowKey) → row_keys_at key t ≡ o
+            → count_by (λ row. picks key pick row && has (row_key_of row) t) rows ≡ cond (is_some_where pick o) 1 0
         by None none =
             ap (λ h. sum_by h rows) (λ i row. cond (falls-none t none row i) 1 0) ∙ sum_by-zero rows
         by (Some c) at =
-            let here : c.key ≡ key = (parts_at-AreOf key t c at).position in
-            let c_has : has c t ≡ true = parts_at-has c t (ap (λ k. parts_at k t) here ∙ at) in
-            let there = IsIn-from_Contains (map parts_of rows) c (tallied.every c (Any-IsIn (λ s. has c s ≡ true) tracks t m c_has)) in
-            let row = Found-map parts_of rows c there in
+            let here : c.key ≡ key = (row_keys_at-AreOf key t c at).position in
+            let c_has : has c t ≡ true = row_keys_at-has c t (ap (λ k. row_keys_at k t) here ∙ at) in
+            let there = IsIn-from_Contains (map row_key_of rows) c (tallied.every c (Any-IsIn (λ s. has c s ≡ true) tracks t m c_has)) in
+            let row = Found-map row_key_of rows c there in
             let one : sum_at (λ r. cond (pick c) 1 0) c rows ≡ cond (pick c) 1 0 =
             subst (λ p. sum_at (λ r. cond (pick c) 1 0) p rows ≡ cond (pick c) 1 0) row.holds
             (sum_at-own (λ r. cond (pick c) 1 0) rows tallied.ordered row.value row.is_in) in
             ap (λ h. sum_by h rows) (λ i row. cond (falls-some t c at row i) 1 0)
-            ∙ ap (λ h. sum_by h rows) (λ i row. nested (same_parts c (parts_of row)) (pick c) i)
+            ∙ ap (λ h. sum_by h rows) (λ i row. nested (same_row_key c (row_key_of row)) (pick c) i)
             ∙ one
           where
             nested : (a b : Bool) → cond {A = ℕ} (cond a b false) 1 0 ≡ cond a (cond {A = ℕ} b 1 0) 0
             nested true b = refl
             nested false b = refl
 
-    hits : AllByRecursion (λ t. count_by (λ row. picks key pick row && has (parts_of row) t) rows ≡ cond (is_counted key pick t) 1 0) tracks
+    hits : AllByRecursion (λ t. count_by (λ row. picks key pick row && has (row_key_of row) t) rows ≡ cond (is_counted key pick t) 1 0) tracks
     hits = recursion-from_IsIn _ tracks hit
 
 -- ---- one part of a cover
 
 -- the parts that are picked, with a move among them
-with_move : (Parts → Bool) → Parts → Bool
-with_move pick parts = is_some parts.next && pick parts
+with_move : (RowKey → Bool) → RowKey → Bool
+with_move pick row_key = is_some row_key.next && pick row_key
 
-module _ (key : List ℕ) (pick : Parts → Bool) where
+module _ (key : List ℕ) (pick : RowKey → Bool) where
   is_listed-is : (t : Track) → is_counted key (with_move pick) t ≡ is_listed key pick t
   unfolding is_counted is_listed with_move
   is_listed-is t = refl
 
-  picks_move-is : (t : Track) (row : Row) → (picks key (with_move pick) row && has (parts_of row) t) ≡ (picks key pick row && has_move (parts_of row) t)
+  picks_move-is : (t : Track) (row : Row) → (picks key (with_move pick) row && has (row_key_of row) t) ≡ (picks key pick row && has_move (row_key_of row) t)
   unfolding picks with_move
-  picks_move-is t row = by (bytes_eq row.key key) (is_some row.next) (pick (parts_of row)) (has (parts_of row) t)
+  picks_move-is t row = by (bytes_eq row.key key) (is_some row.next) (pick (row_key_of row)) (has (row_key_of row) t)
     where
       by : (a b c d : Bool) → ((a && (b && c)) && d) ≡ ((a && c) && (b && d))
       by true true c d = refl
@@ -133,7 +133,7 @@ module _ (key : List ℕ) (pick : Parts → Bool) where
       by false b c d = refl
 
   module _ (tracks : List Track) (rows : List Row) (tallied : Tallied tracks rows) where
-    hits_move : AllByRecursion (λ t. count_by (λ row. picks key pick row && has_move (parts_of row) t) rows ≡ cond (is_listed key pick t) 1 0) tracks
+    hits_move : AllByRecursion (λ t. count_by (λ row. picks key pick row && has_move (row_key_of row) t) rows ≡ cond (is_listed key pick t) 1 0) tracks
     hits_move =
         recursion-from_IsIn _ tracks
         (λ t m. ap (λ h. sum_by h rows) (λ i row. cond (sym (picks_move-is t row) i) 1 0) ∙ hit key (with_move pick) tracks rows tallied t m
@@ -160,19 +160,19 @@ module _ (key : List ℕ) (pick : Parts → Bool) where
     both false b = refl
 
     part-count : (count : Row → ℕ) (test : Track → Bool)
-        → ((row : Row) → IsIn row rows → count row ≡ count_by (λ t. has (parts_of row) t && test t) tracks)
+        → ((row : Row) → IsIn row rows → count row ≡ count_by (λ t. has (row_key_of row) t && test t) tracks)
         → picked_sum key pick count rows ≡ count_by (λ t. is_counted key pick t && test t) tracks
     part-count count test each =
-        part-sum count (λ row t. has (parts_of row) t) (is_counted key pick) (λ t. cond (test t) 1 0)
-        (λ row m p. each row m ∙ ap (λ h. sum_by h tracks) (λ i t. both (has (parts_of row) t) (test t) i))
+        part-sum count (λ row t. has (row_key_of row) t) (is_counted key pick) (λ t. cond (test t) 1 0)
+        (λ row m p. each row m ∙ ap (λ h. sum_by h tracks) (λ i t. both (has (row_key_of row) t) (test t) i))
         (hits key pick tracks rows tallied)
         ∙ ap (λ h. sum_by h tracks) (λ i t. sym (both (is_counted key pick t) (test t)) i)
 
     part-ratings : picked_sum key pick (λ row. row.ratings) rows ≡ sum_by (λ t. cond (is_listed key pick t) (mover_rating key t.classes) 0) tracks
     part-ratings =
-        part-sum (λ row. row.ratings) (λ row t. has_move (parts_of row) t) (is_listed key pick) (λ t. mover_rating key t.classes)
+        part-sum (λ row. row.ratings) (λ row t. has_move (row_key_of row) t) (is_listed key pick) (λ t. mover_rating key t.classes)
         (λ row m p. (All-IsIn (IsTally tracks) rows tallied.each row m).ratings
-        ∙ ap (λ k. sum_by (λ t. cond (has_move (parts_of row) t) (mover_rating k t.classes) 0) tracks) (picks-key key pick row p))
+        ∙ ap (λ k. sum_by (λ t. cond (has_move (row_key_of row) t) (mover_rating k t.classes) 0) tracks) (picks-key key pick row p))
         hits_move
 
     -- the same test of each value with its place
@@ -182,14 +182,14 @@ module _ (key : List ℕ) (pick : Parts → Bool) where
 
     -- the best of the rows' lists are the best of the games
     part-lists : {before : Entry → Entry → Bool} → IsStrictTotalOrder before → (list : Row → List Entry) (rank : Track → ℕ)
-        → ((row : Row) → IsIn row rows → list row ≡ best before 4 (entries rank (has_move (parts_of row)) 0 tracks))
+        → ((row : Row) → IsIn row rows → list row ≡ best before 4 (entries rank (has_move (row_key_of row)) 0 tracks))
         → best before 4 (picked_lists key pick list rows) ≡ best before 4 (entries rank (is_listed key pick) 0 tracks)
     part-lists {before} order list rank each =
         ap (best before 4) (agree rows each) ∙ sym (best-flat_map order 4 (λ row. cond (picks key pick row) (all row) []) rows)
         ∙ best-same order 4 (flat_map (λ row. cond (picks key pick row) (all row) []) rows) (entries rank (is_listed key pick) 0 tracks) counted
       where
         all : Row → List Entry
-        all row = entries rank (has_move (parts_of row)) 0 tracks
+        all row = entries rank (has_move (row_key_of row)) 0 tracks
 
         agree : (rs : List Row) → ((row : Row) → IsIn row rs → list row ≡ best before 4 (all row))
             → flat_map (λ row. cond (picks key pick row) (list row) []) rs ≡ flat_map (λ row. best before 4 (cond (picks key pick row) (all row) [])) rs
@@ -208,9 +208,9 @@ module _ (key : List ℕ) (pick : Parts → Bool) where
             let f = λ (q : ℕ × Track). cond {A = ℕ} (ties before e (entry_of rank q.0 q.1)) 1 0 in
             sum_by-flat_map (λ d. cond (ties before e d) 1 0) (λ row. cond (picks key pick row) (all row) []) rows
             ∙ ap (λ h. sum_by h rows) (λ i row. (inside e (picks key pick row) row ∙ ap (λ n. cond (picks key pick row) n 0)
-            (count-entries rank (has_move (parts_of row)) (ties before e) 0 tracks)) i)
-            ∙ cells_sum (picks key pick) (λ row q. has_move (parts_of row) q.1) (λ q. is_listed key pick q.1) f rows (enumerate_from 0 tracks)
-            (enumerated (λ t. count_by (λ row. picks key pick row && has_move (parts_of row) t) rows ≡ cond (is_listed key pick t) 1 0) 0 tracks hits_move)
+            (count-entries rank (has_move (row_key_of row)) (ties before e) 0 tracks)) i)
+            ∙ cells_sum (picks key pick) (λ row q. has_move (row_key_of row) q.1) (λ q. is_listed key pick q.1) f rows (enumerate_from 0 tracks)
+            (enumerated (λ t. count_by (λ row. picks key pick row && has_move (row_key_of row) t) rows ≡ cond (is_listed key pick t) 1 0) 0 tracks hits_move)
             ∙ sym (count-entries rank (is_listed key pick) (ties before e) 0 tracks)
           where
             inside : (e : Entry) (b : Bool) (row : Row) → count_by (ties before e) (cond b (all row) []) ≡ cond b (count_by (ties before e) (all row)) 0
@@ -219,7 +219,7 @@ module _ (key : List ℕ) (pick : Parts → Bool) where
 
 -- ---- the whole cover
 
-module _ (key : List ℕ) (pick : Parts → Bool) where
+module _ (key : List ℕ) (pick : RowKey → Bool) where
   cover-sum : (count : Row → ℕ) (f : Track → ℕ)
       → ((tracks : List Track) (rows : List Row) → Tallied tracks rows → picked_sum key pick count rows ≡ sum_by f tracks)
       → (cover : List (List Track)) (tallies : List (List Row)) → AllZip Tallied cover tallies
@@ -263,7 +263,7 @@ module _ (key : List ℕ) (pick : Parts → Bool) where
       ∙ ap (best before 4) (sym (entries-append rank test first tracks whole))
 
 pub GivesPicked-cover : (cover : List (List Track)) (tallies : List (List Row)) → AllZip Tallied cover tallies
-    → (key : List ℕ) (pick : Parts → Bool) → GivesPicked key pick cover tallies
+    → (key : List ℕ) (pick : RowKey → Bool) → GivesPicked key pick cover tallies
 GivesPicked-cover cover tallies h key pick = record {
   white = cover-sum key pick (λ r. r.white) _
       (λ tracks rows t. part-count key pick tracks rows t (λ r. r.white) (λ s. is_white s.classes.outcome)

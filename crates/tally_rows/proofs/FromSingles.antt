@@ -13,19 +13,19 @@ use Rattle.explorer_model.specs.Best.{best, IsStrictTotalOrder}
 use Rattle.best_lists.specs.Ranking.{before_by_rating, before_by_month, by_rating_is_order, by_month_is_order}
 use Rattle.best_lists.specs.declared.entry.Entry.{Entry}
 use Rattle.best_lists.proofs.Same.{ties, best-same}
-use Rattle.tally_rows.specs.declared.parts.Parts.{Parts}
+use Rattle.tally_rows.specs.declared.row_key.RowKey.{RowKey}
 use Rattle.tally_rows.specs.declared.row.Row.{Row}
 use Rattle.tally_rows.specs.declared.single.Single.{Single}
 use Rattle.tally_rows.specs.Adding.{sum_at, listed_at, SameAt, IsSound}
-use Rattle.tally_rows.specs.Parts.{parts_order, same_parts}
-use Rattle.tally_rows.specs.Row.{parts_of, row_of, is_white, is_draw, is_black, month_rank, combined_rows}
+use Rattle.tally_rows.specs.RowKey.{row_order, same_row_key}
+use Rattle.tally_rows.specs.Row.{row_key_of, row_of, is_white, is_draw, is_black, month_rank, combined_rows}
 use Rattle.tally_rows.specs.Single.{single_order, single_of, AreSingles}
 use Rattle.tally_rows.specs.Tallied.{entries, has_move, mover_rating, rating_sum, track_month, Tallied}
 use Rattle.tally_rows.specs.Track.{Track, has}
 use Rattle.tally_rows.proofs.AddsUp.{AddsUp, AddsUp-same, tallied_from}
 use Rattle.tally_rows.proofs.Combining.{SameAt-combined_rows, IsSound-row_of, IsSound-combined_rows, combined_rows-ordered}
 use Rattle.tally_rows.proofs.EntryLists.{entry_of}
-use Rattle.tally_rows.proofs.Visits.{has-parts_at, parts_at-AreOf}
+use Rattle.tally_rows.proofs.Visits.{has-row_keys_at, row_keys_at-AreOf}
 use Rattle.tally_rows.proofs.Sums.{sum_by-map, sum_by-filter, sum_by-flat_map}
 
 -- ---- lists
@@ -73,17 +73,17 @@ sum_by-enumerate f n (x ∷ xs) =
 
 -- ---- the singles of games, each as a row, add up to the games
 
-pub row_of-parts : (s : Single) → parts_of (row_of s) ≡ s.parts
+pub row_of-row_key : (s : Single) → row_key_of (row_of s) ≡ s.row_key
 unfolding row_of
-row_of-parts s = refl
+row_of-row_key s = refl
 
-module _ (tracks : List Track) (singles : List Single) (given : AreSingles tracks singles) (c : Parts) where
+module _ (tracks : List Track) (singles : List Single) (given : AreSingles tracks singles) (c : RowKey) where
   sum_at-singles : (f : Row → ℕ) (g : Track → ℕ) → ((p : ℕ × Track) → f (row_of (single_of c p)) ≡ g p.1)
       → sum_at f c (map row_of singles) ≡ sum_by (λ t. cond (has c t) (g t) 0) tracks
   sum_at-singles f g e =
-      sum_by-map (λ row. cond (same_parts c (parts_of row)) (f row) 0) row_of singles
-      ∙ ap (λ h. sum_by h singles) (λ i s. cond (same_parts c (row_of-parts s i)) (f (row_of s)) 0)
-      ∙ sym (sum_by-filter (λ s. f (row_of s)) (λ s. same_parts c s.parts) singles)
+      sum_by-map (λ row. cond (same_row_key c (row_key_of row)) (f row) 0) row_of singles
+      ∙ ap (λ h. sum_by h singles) (λ i s. cond (same_row_key c (row_of-row_key s i)) (f (row_of s)) 0)
+      ∙ sym (sum_by-filter (λ s. f (row_of s)) (λ s. same_row_key c s.row_key) singles)
       ∙ ap (sum_by (λ s. f (row_of s))) (given.at c)
       ∙ sum_by-map (λ s. f (row_of s)) (single_of c) (filter (λ p. has c p.1) (enumerate_from 0 tracks))
       ∙ ap (λ h. sum_by h (filter (λ p. has c p.1) (enumerate_from 0 tracks))) (λ i p. e p i)
@@ -95,9 +95,9 @@ module _ (tracks : List Track) (singles : List Single) (given : AreSingles track
       → listed_at f c (map row_of singles) ≡ entries rank (has_move c) 0 tracks
   unfolding entries
   listed_at-singles f rank e =
-      flat_map-map (λ row. cond (same_parts c (parts_of row)) (f row) []) row_of singles
-      ∙ ap (λ h. flat_map h singles) (λ i s. cond (same_parts c (row_of-parts s i)) (f (row_of s)) [])
-      ∙ flat_map-filter (λ s. same_parts c s.parts) (λ s. f (row_of s)) singles
+      flat_map-map (λ row. cond (same_row_key c (row_key_of row)) (f row) []) row_of singles
+      ∙ ap (λ h. flat_map h singles) (λ i s. cond (same_row_key c (row_of-row_key s i)) (f (row_of s)) [])
+      ∙ flat_map-filter (λ s. same_row_key c s.row_key) (λ s. f (row_of s)) singles
       ∙ ap (flat_map (λ s. f (row_of s))) (given.at c)
       ∙ flat_map-map (λ s. f (row_of s)) (single_of c) (filter (λ p. has c p.1) (enumerate_from 0 tracks))
       ∙ flat_map-agree (λ p. has c p.1) (λ p. f (row_of (single_of c p))) (λ p. cond (is_some c.next) (entry_of rank p.0 p.1 ∷ []) []) e
@@ -128,17 +128,17 @@ module _ (tracks : List Track) (singles : List Single) (given : AreSingles track
     top = ap (best before_by_rating 4) (listed_at-singles (λ r. r.top) rating_sum (λ p e. refl));
     recent = ap (best before_by_month 4) (listed_at-singles (λ r. r.recent) track_month
         (λ p e. ap (λ m. cond (is_some c.next) (record { rank = month_rank m; number = p.0 } ∷ []) [])
-        (parts_at-AreOf c.key p.1 c (has-parts_at c p.1 e)).month));
+        (row_keys_at-AreOf c.key p.1 c (has-row_keys_at c p.1 e)).month));
   }
 
 -- ---- singles that stand in another order
 
-SameAt-permutation : (xs ys : List Row) → IsPermutation xs ys → (c : Parts) → SameAt xs ys c
+SameAt-permutation : (xs ys : List Row) → IsPermutation xs ys → (c : RowKey) → SameAt xs ys c
 SameAt-permutation xs ys h c = record {
-  white = sym (sum_by-IsPermutation (λ row. cond (same_parts c (parts_of row)) row.white 0) xs ys h);
-  draws = sym (sum_by-IsPermutation (λ row. cond (same_parts c (parts_of row)) row.draws 0) xs ys h);
-  black = sym (sum_by-IsPermutation (λ row. cond (same_parts c (parts_of row)) row.black 0) xs ys h);
-  ratings = sym (sum_by-IsPermutation (λ row. cond (same_parts c (parts_of row)) row.ratings 0) xs ys h);
+  white = sym (sum_by-IsPermutation (λ row. cond (same_row_key c (row_key_of row)) row.white 0) xs ys h);
+  draws = sym (sum_by-IsPermutation (λ row. cond (same_row_key c (row_key_of row)) row.draws 0) xs ys h);
+  black = sym (sum_by-IsPermutation (λ row. cond (same_row_key c (row_key_of row)) row.black 0) xs ys h);
+  ratings = sym (sum_by-IsPermutation (λ row. cond (same_row_key c (row_key_of row)) row.ratings 0) xs ys h);
   top = lists by_rating_is_order (λ r. r.top);
   recent = lists by_month_is_order (λ r. r.recent);
 }
@@ -146,7 +146,7 @@ SameAt-permutation xs ys h c = record {
     lists : {before : Entry → Entry → Bool} → IsStrictTotalOrder before → (f : Row → List Entry)
         → best before 4 (listed_at f c xs) ≡ best before 4 (listed_at f c ys)
     lists {before} order f =
-        let at = λ (row : Row). cond (same_parts c (parts_of row)) (f row) [] in
+        let at = λ (row : Row). cond (same_row_key c (row_key_of row)) (f row) [] in
         best-same order 4 (listed_at f c xs) (listed_at f c ys)
         (λ e. sum_by-flat_map (λ d. cond (ties before e d) 1 0) at xs
         ∙ sym (sum_by-IsPermutation (λ row. sum_by (λ d. cond (ties before e d) 1 0) (at row)) xs ys h)
@@ -159,16 +159,16 @@ first_order Less q e = e
 first_order Equal q e = refl
 first_order Greater q e = refl
 
-parts_sorted : (singles : List Single) → IsSorted single_order singles → IsSorted parts_order (map parts_of (map row_of singles))
-parts_sorted [] h = λ k d low high. absurd (omega arith)
-parts_sorted (s ∷ ss) h = λ k d low high.
+row_keys_sorted : (singles : List Single) → IsSorted single_order singles → IsSorted row_order (map row_key_of (map row_of singles))
+row_keys_sorted [] h = λ k d low high. absurd (omega arith)
+row_keys_sorted (s ∷ ss) h = λ k d low high.
     let singles = s ∷ ss in
     let rows = map row_of singles in
     let long = length-map singles row_of in
-    let longer = length-map rows parts_of in
+    let longer = length-map rows row_key_of in
     let at = λ (j : ℕ) (below : j < length singles).
-    get_or-map parts_of rows j (row_of s) d (omega arith) ∙ ap parts_of (get_or-map row_of singles j s (row_of s) below) ∙ row_of-parts (get_or singles j s) in
-    let tested : is_lt (parts_order (get_or singles (k + 1) s).parts (get_or singles k s).parts) ≡ false =
+    get_or-map row_key_of rows j (row_of s) d (omega arith) ∙ ap row_key_of (get_or-map row_of singles j s (row_of s) below) ∙ row_of-row_key (get_or singles j s) in
+    let tested : is_lt (row_order (get_or singles (k + 1) s).row_key (get_or singles k s).row_key) ≡ false =
     first_order _ (nat_cmp (get_or singles (k + 1) s).number (get_or singles k s).number) (h k s low (omega arith)) in
     rw (at (k + 1) (omega arith), at k (omega arith)) tested
 
@@ -176,13 +176,13 @@ pub Tallied-singles : (tracks : List Track) (singles sorted : List Single) → A
     → IsSorted single_order sorted → Tallied tracks (combined_rows (map row_of sorted))
 Tallied-singles tracks singles sorted given moved order =
     let rows = map row_of sorted in
-    let adds = λ (c : Parts).
+    let adds = λ (c : RowKey).
     AddsUp-same tracks rows (combined_rows rows) c (SameAt-combined_rows rows c)
     (AddsUp-same tracks (map row_of singles) rows c (SameAt-permutation (map row_of singles) rows (IsPermutation-map row_of singles sorted moved) c)
     (AddsUp-singles tracks singles given c)) in
     tallied_from tracks (combined_rows rows) adds
     (All-from_recursion IsSound (combined_rows rows) (IsSound-combined_rows rows (each sorted)))
-    (combined_rows-ordered rows (parts_sorted sorted order))
+    (combined_rows-ordered rows (row_keys_sorted sorted order))
   where
     each : (ss : List Single) → AllByRecursion IsSound (map row_of ss)
     each [] = tt

@@ -11,7 +11,7 @@ use Rattle.best_lists.proofs.Same.{ties, best-same}
 use Rattle.explorer_model.specs.declared.chess.Move.{Move}
 use Rattle.explorer_model.specs.declared.query.Filter.{Filter}
 use Rattle.explorer_model.specs.Counting.{passes, any_next, is_move, is_same_move, visits}
-use Rattle.tally_rows.specs.declared.parts.Parts.{Parts}
+use Rattle.tally_rows.specs.declared.row_key.RowKey.{RowKey}
 use Rattle.tally_rows.specs.declared.row.Row.{Row}
 use Rattle.tally_rows.specs.Cover.{meets, rows_moves, JoinsMoves}
 use Rattle.tally_rows.specs.Recount.{all_of, is_listed, is_counted, cover_lists}
@@ -21,7 +21,7 @@ use Rattle.tally_rows.proofs.EntryLists.{entry_of, count-entries}
 use Rattle.tally_rows.proofs.Members.{IsIn, recursion-from_IsIn, count-positive}
 use Rattle.tally_rows.proofs.Moves.{is_same_move-is, is_same_move-self}
 use Rattle.tally_rows.proofs.Recounting.{given, somewhere, any-rows}
-use Rattle.tally_rows.proofs.Sights.{follows, counted-meets, listed-any, listed-one}
+use Rattle.tally_rows.proofs.GamesWithMove.{follows, counted-meets, listed-any, listed-one}
 use Rattle.tally_rows.proofs.Somewhere.{any-count, count-distinct}
 use Rattle.tally_rows.proofs.Sums.{cells_sum, sum_by-zero, sum_by-flat_map}
 
@@ -67,7 +67,7 @@ module _ (cover : List (List Track)) (tallies : List (List Row)) (tallied : AllZ
   enumerated P n [] h = tt
   enumerated P n (t ∷ ts) h = (h.0, enumerated P (n + 1) ts h.1)
 
-  by_moves : {before : Entry → Entry → Bool} → IsStrictTotalOrder before → (rank : Track → ℕ) (lists : (Parts → Bool) → List Entry)
+  by_moves : {before : Entry → Entry → Bool} → IsStrictTotalOrder before → (rank : Track → ℕ) (lists : (RowKey → Bool) → List Entry)
       → ((test : Option Move → Bool) → best before 4 (lists (meets wanted test)) ≡ best before 4 (entries rank (is_listed key (meets wanted test)) 0 (all_of cover)))
       → best before 4 (flat_map (λ m. best before 4 (lists (meets wanted (is_move m)))) (rows_moves key tallies wanted)) ≡ best before 4 (lists (meets wanted any_next))
   by_moves {before} order rank lists e =

@@ -1,7 +1,7 @@
 pub mod Sums
 pub mod Members
 pub mod Bests
-pub mod PartsOrder
+pub mod RowOrder
 pub mod At
 pub mod EntryLists
 pub mod AddsUp
@@ -13,7 +13,7 @@ pub mod Grids
 pub mod Singles
 pub mod Covers
 pub mod Somewhere
-pub mod Sights
+pub mod GamesWithMove
 pub mod Moves
 pub mod Recounting
 pub mod Joining

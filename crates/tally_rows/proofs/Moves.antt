@@ -15,7 +15,7 @@ use Rattle.explorer_model.specs.Counting.{promotion_number, is_same_move}
 use Rattle.explorer_model.specs.Uci.{uci_text}
 use Rattle.explorer_model.proofs.Squares.{square_eq}
 use Rattle.explorer_model.proofs.UciText.{uci_text-names}
-use Rattle.tally_rows.proofs.PartsOrder.{role_index-same}
+use Rattle.tally_rows.proofs.RowOrder.{role_index-same}
 
 -- ---- whether two moves are one
 

@@ -5,6 +5,7 @@ use Rattle.std.specs.List.{All, Any, AllZip, AllByRecursion, sum_by, count_by, f
 use Rattle.std.proofs.lemmas.Bool.Decides.{nat_tests}
 use Rattle.std.proofs.lemmas.List.Elements.{recursion_from_All, All-append, All-filter, All-cons, All-nil, All-head, All-tail, All-map}
 use Rattle.std.proofs.lemmas.List.{take_all, length-map}
+use Rattle.explorer_model.specs.SoundClasses.{IsMonth}
 use Rattle.explorer_model.specs.Best.{best, IsStrictTotalOrder}
 use Rattle.best_lists.specs.Ranking as entry_order
 use Rattle.best_lists.proofs.BestLaws.{best-map, best_is, All-best}
@@ -18,22 +19,22 @@ use Rattle.explorer_model.specs.declared.archive.Outcome.TheVariants as outcomes
 use Rattle.explorer_model.specs.declared.chess.Color.TheVariants.{White, Black}
 use Rattle.explorer_model.specs.declared.chess.Move.{Move}
 use Rattle.explorer_model.specs.declared.query.Filter.{Filter}
-use Rattle.explorer_model.specs.Counting.{passes, counts, any_next, is_move, is_same_move, is_same_month, is_in_month, is_outcome, count_of, totals_of, total, rating_of, rating_sum, Sighting, sighting, sighting_by, sightings, ratings_of, month_number, first_moves, moves_played, months_counted, before_in_time, month_line, visits, distinct}
-use Rattle.explorer_model.specs.Visits.{Seen}
-use Rattle.tally_rows.specs.declared.parts.Parts.{Parts}
+use Rattle.explorer_model.specs.Counting.{passes, counts, any_next, is_move, is_same_move, is_same_month, is_in_month, is_outcome, count_of, totals_of, total, rating_of, rating_sum, NumberedGame, game_with_move, game_with_move_by, games_with_move, ratings_of, month_number, first_moves, moves_played, months_counted, before_in_time, month_line, visits, distinct}
+use Rattle.explorer_model.specs.Visits.{GameAt}
+use Rattle.tally_rows.specs.declared.row_key.RowKey.{RowKey}
 use Rattle.tally_rows.specs.declared.row.Row.{Row}
 use Rattle.tally_rows.specs.Adding.{IsSound}
-use Rattle.tally_rows.specs.Cover.{seen_at, turn_of, passes_parts, meets, meets_in, rows_totals, rows_ratings, rows_before, rows_moves, rows_months, IsMonth, Recounts}
+use Rattle.tally_rows.specs.Cover.{game_at, turn_of, passes_row_key, meets, meets_in, rows_totals, rows_ratings, rows_before, rows_moves, rows_months, Recounts}
 use Rattle.tally_rows.specs.Recount.{all_of, is_counted, picks, GivesPicked}
-use Rattle.tally_rows.specs.Row.{parts_of, is_white, is_draw, is_black}
+use Rattle.tally_rows.specs.Row.{row_key_of, is_white, is_draw, is_black}
 use Rattle.tally_rows.specs.Tallied.{is_black_to_move, mover_rating, Tallied}
 use Rattle.tally_rows.specs.Track.{Track, visit, has}
 use Rattle.tally_rows.proofs.AddsUp.{IsSound-tallied, count-outcomes}
 use Rattle.tally_rows.proofs.Covers.{GivesPicked-cover}
 use Rattle.tally_rows.proofs.Members.{IsIn, All-from_IsIn, All-IsIn, Found-from_Any, IsIn-append_left, IsIn-append_right}
 use Rattle.tally_rows.proofs.Moves.{is_same_move-is, is_same_move-self, number_first, text_before, text_before-order, ties-is}
-use Rattle.tally_rows.proofs.Visits.{has-parts_at, parts_at-AreOf}
-use Rattle.tally_rows.proofs.Sights.{counted-meets, counted-month, counted-meets_in, listed-is_move, games-listed, only-listed}
+use Rattle.tally_rows.proofs.Visits.{has-row_keys_at, row_keys_at-AreOf}
+use Rattle.tally_rows.proofs.GamesWithMove.{counted-meets, counted-month, counted-meets_in, listed-is_move, games-listed, only-listed}
 use Rattle.tally_rows.proofs.Somewhere.{any-count, any-sum, any-map, any-filter, count-distinct, map-distinct}
 use Rattle.tally_rows.proofs.Sums.{sum_by-map, sum_by-add, sum_by-flat_map}
 
@@ -54,19 +55,19 @@ black-is outcomes.White = refl
 black-is outcomes.Draw = refl
 black-is outcomes.Black = refl
 
-module _ (key : List ℕ) (pick : Parts → Bool) (counted : Seen → Bool) (agree : (t : Track) → is_counted key pick t ≡ counted (seen_at key t)) where
-  count-seen : (outcome : Outcome) (test : Outcome → Bool) → ((o : Outcome) → is_outcome outcome o ≡ test o) → (tracks : List Track)
-      → count_of outcome counted (map (seen_at key) tracks) ≡ count_by (λ t. is_counted key pick t && test t.classes.outcome) tracks
-  count-seen outcome test e tracks =
-      sum_by-map (λ game. cond (counted game && is_outcome outcome game.classes.outcome) 1 0) (seen_at key) tracks
+module _ (key : List ℕ) (pick : RowKey → Bool) (counted : GameAt → Bool) (agree : (t : Track) → is_counted key pick t ≡ counted (game_at key t)) where
+  count-games_at : (outcome : Outcome) (test : Outcome → Bool) → ((o : Outcome) → is_outcome outcome o ≡ test o) → (tracks : List Track)
+      → count_of outcome counted (map (game_at key) tracks) ≡ count_by (λ t. is_counted key pick t && test t.classes.outcome) tracks
+  count-games_at outcome test e tracks =
+      sum_by-map (λ game. cond (counted game && is_outcome outcome game.classes.outcome) 1 0) (game_at key) tracks
       ∙ ap (λ f. sum_by f tracks) (λ i t. cond (sym (agree t) i && e t.classes.outcome i) 1 0)
 
-  totals-seen : (cover : List (List Track)) (tallies : List (List Row)) → GivesPicked key pick cover tallies
-      → totals_of counted (map (seen_at key) (all_of cover)) ≡ rows_totals key tallies pick
-  totals-seen cover tallies g =
-      let white = count-seen outcomes.White is_white white-is (all_of cover) ∙ sym g.white in
-      let draws = count-seen outcomes.Draw is_draw draw-is (all_of cover) ∙ sym g.draws in
-      let black = count-seen outcomes.Black is_black black-is (all_of cover) ∙ sym g.black in
+  totals-games_at : (cover : List (List Track)) (tallies : List (List Row)) → GivesPicked key pick cover tallies
+      → totals_of counted (map (game_at key) (all_of cover)) ≡ rows_totals key tallies pick
+  totals-games_at cover tallies g =
+      let white = count-games_at outcomes.White is_white white-is (all_of cover) ∙ sym g.white in
+      let draws = count-games_at outcomes.Draw is_draw draw-is (all_of cover) ∙ sym g.draws in
+      let black = count-games_at outcomes.Black is_black black-is (all_of cover) ∙ sym g.black in
       λ i. record { white = white i; draws = draws i; black = black i }
 
 mover-is : (key : List ℕ) (classes : Classes) → rating_of (turn_of key) classes ≡ mover_rating key classes
@@ -76,11 +77,11 @@ mover-is key classes =
       | false ↦ refl
     ]
 
-ratings-seen : (key : List ℕ) (wanted : Filter) (m : Move) (cover : List (List Track)) (tallies : List (List Row))
+ratings-games_at : (key : List ℕ) (wanted : Filter) (m : Move) (cover : List (List Track)) (tallies : List (List Row))
     → GivesPicked key (meets wanted (is_move m)) cover tallies
-    → rating_sum (turn_of key) (counts (is_move m) wanted) (map (seen_at key) (all_of cover)) ≡ rows_ratings key tallies (meets wanted (is_move m))
-ratings-seen key wanted m cover tallies g =
-    sum_by-map (λ game. cond (counts (is_move m) wanted game) (rating_of (turn_of key) game.classes) 0) (seen_at key) (all_of cover)
+    → rating_sum (rating_of (turn_of key)) (counts (is_move m) (passes wanted)) (map (game_at key) (all_of cover)) ≡ rows_ratings key tallies (meets wanted (is_move m))
+ratings-games_at key wanted m cover tallies g =
+    sum_by-map (λ game. cond (counts (is_move m) (passes wanted) game) (rating_of (turn_of key) game.classes) 0) (game_at key) (all_of cover)
     ∙ ap (λ f. sum_by f (all_of cover)) (λ i t. cond (sym (listed-is_move key wanted t m) i) (mover-is key t.classes i) 0)
     ∙ sym g.ratings
 
@@ -93,7 +94,7 @@ module _ (cover : List (List Track)) (tallies : List (List Row)) (tallied : AllZ
   all_sound (tracks ∷ c) [] h = absurd h
   all_sound (tracks ∷ c) (rows ∷ ts) h = All-append IsSound rows (all_of ts) (IsSound-tallied tracks rows h.0) (all_sound c ts h.1)
 
-  module _ (key : List ℕ) (pick : Parts → Bool) where
+  module _ (key : List ℕ) (pick : RowKey → Bool) where
     pub given : GivesPicked key pick cover tallies
     given = GivesPicked-cover cover tallies tallied key pick
 
@@ -120,20 +121,20 @@ module _ (cover : List (List Track)) (tallies : List (List Row)) (tallied : AllZ
     unfolding count_all
     somewhere =
         any-sum (picks key pick) (λ row. row.white + row.draws + row.black) (all_of tallies)
-        (seen (all_of tallies) (recursion_from_All IsSound (all_of tallies) (all_sound cover tallies tallied)))
+        (has_games (all_of tallies) (recursion_from_All IsSound (all_of tallies) (all_sound cover tallies tallied)))
         ∙ ap (nat_lt 0) (sym totals-all ∙ (λ i. given.white i + given.draws i + given.black i) ∙ count-outcomes (is_counted key pick) (all_of cover))
         ∙ sym (any-count (is_counted key pick) (all_of cover))
       where
-        seen : (rows : List Row) → AllByRecursion IsSound rows → AllByRecursion (λ row. 0 < row.white + row.draws + row.black) rows
-        seen [] h = tt
-        seen (row ∷ rows) h = (h.0.seen, seen rows h.1)
+        has_games : (rows : List Row) → AllByRecursion IsSound rows → AllByRecursion (λ row. 0 < row.white + row.draws + row.black) rows
+        has_games [] h = tt
+        has_games (row ∷ rows) h = (h.0.some, has_games rows h.1)
 
 -- ---- the moves that are played
 
 picks-test : (key : List ℕ) (wanted : Filter) (test : Option Move → Bool) (row : Row)
     → (picks key (meets wanted any_next) row && test row.next) ≡ picks key (meets wanted test) row
 unfolding picks
-picks-test key wanted test row = by (bytes_eq row.key key) (passes_parts wanted (parts_of row)) (test row.next)
+picks-test key wanted test row = by (bytes_eq row.key key) (passes_row_key wanted (row_key_of row)) (test row.next)
   where
     by : (a b c : Bool) → ((a && (b && true)) && c) ≡ (a && (b && c))
     by true true c = refl
@@ -141,21 +142,21 @@ picks-test key wanted test row = by (bytes_eq row.key key) (passes_parts wanted 
     by false b c = refl
 
 module _ (key : List ℕ) (wanted : Filter) (m : Move) where
-  any-sighting : (b : Bool) (o : Option (Option Move)) (n : ℕ) (classes : Classes) (rest : List Sighting)
-      → list_any (is_same_move m) (map (λ s. s.next) (cons_option (sighting_by b n classes o) rest))
+  any-game_with_move : (b : Bool) (o : Option (Option Move)) (n : ℕ) (classes : Classes) (rest : List NumberedGame)
+      → list_any (is_same_move m) (map (λ s. s.next) (cons_option (game_with_move_by b n classes o) rest))
       ≡ ((b && visits (is_move m) o) || list_any (is_same_move m) (map (λ s. s.next) rest))
-  any-sighting true (Some (Some next)) n classes rest = refl
-  any-sighting true (Some None) n classes rest = refl
-  any-sighting true None n classes rest = refl
-  any-sighting false o n classes rest = refl
+  any-game_with_move true (Some (Some next)) n classes rest = refl
+  any-game_with_move true (Some None) n classes rest = refl
+  any-game_with_move true None n classes rest = refl
+  any-game_with_move false o n classes rest = refl
 
-  any-sightings : (n : ℕ) (ts : List Track)
-      → list_any (is_same_move m) (map (λ s. s.next) (filter_map (sighting wanted) (enumerate_from n (map (seen_at key) ts))))
+  any-games_with_move : (n : ℕ) (ts : List Track)
+      → list_any (is_same_move m) (map (λ s. s.next) (filter_map (game_with_move (passes wanted)) (enumerate_from n (map (game_at key) ts))))
       ≡ list_any (is_counted key (meets wanted (is_move m))) ts
-  any-sightings n [] = refl
-  any-sightings n (t ∷ ts) =
-      any-sighting (passes wanted t.classes) (visit key t) n t.classes (filter_map (sighting wanted) (enumerate_from (n + 1) (map (seen_at key) ts)))
-      ∙ (λ i. sym (counted-meets key wanted t (is_move m)) i || any-sightings (n + 1) ts i)
+  any-games_with_move n [] = refl
+  any-games_with_move n (t ∷ ts) =
+      any-game_with_move (passes wanted t.classes) (visit key t) n t.classes (filter_map (game_with_move (passes wanted)) (enumerate_from (n + 1) (map (game_at key) ts)))
+      ∙ (λ i. sym (counted-meets key wanted t (is_move m)) i || any-games_with_move (n + 1) ts i)
 
   any-option : (b : Bool) (o : Option Move) (rest : List Move)
       → list_any (is_same_move m) (cons_option (if b then o else None) rest) ≡ ((b && is_move m o) || list_any (is_same_move m) rest)
@@ -172,30 +173,30 @@ module _ (key : List ℕ) (wanted : Filter) (m : Move) where
       ∙ (λ i. picks-test key wanted (is_move m) row i || any-rows rows i)
 
 module _ (cover : List (List Track)) (tallies : List (List Row)) (tallied : AllZip Tallied cover tallies) (key : List ℕ) (wanted : Filter) where
-  same_moves : (m : Move) → count_by (is_same_move m) (moves_played wanted (map (seen_at key) (all_of cover)))
+  same_moves : (m : Move) → count_by (is_same_move m) (moves_played (passes wanted) (map (game_at key) (all_of cover)))
       ≡ count_by (is_same_move m) (rows_moves key tallies wanted)
-  unfolding moves_played rows_moves sightings
+  unfolding moves_played rows_moves games_with_move
   same_moves m =
       count-distinct is_same_move is_same_move-is is_same_move-self m _
-      ∙ ap (λ b. cond b 1 0) (any-sightings key wanted m 0 (all_of cover)
+      ∙ ap (λ b. cond b 1 0) (any-games_with_move key wanted m 0 (all_of cover)
       ∙ sym (somewhere cover tallies tallied key (meets wanted (is_move m))) ∙ sym (any-rows key wanted m (all_of tallies)))
       ∙ sym (count-distinct is_same_move is_same_move-is is_same_move-self m _)
 
   order_by : (Move → Totals) → Move → Move → Bool
   order_by f a b = nat_lt (total (f b)) (total (f a)) || ((total (f a) == total (f b)) && text_before a b)
 
-  moves-seen : (most : ℕ) → first_moves most wanted (map (seen_at key) (all_of cover)) ≡ best (rows_before key tallies wanted) most (rows_moves key tallies wanted)
+  moves-games_at : (most : ℕ) → first_moves most (passes wanted) (map (game_at key) (all_of cover)) ≡ best (rows_before key tallies wanted) most (rows_moves key tallies wanted)
   unfolding order_by
-  moves-seen most =
-      let seen = map (seen_at key) (all_of cover) in
+  moves-games_at most =
+      let games_at = map (game_at key) (all_of cover) in
       let of_rows = λ (m : Move). rows_totals key tallies (meets wanted (is_move m)) in
-      let agree = λ (m : Move). totals-seen key (meets wanted (is_move m)) (counts (is_move m) wanted) (λ t. counted-meets key wanted t (is_move m))
+      let agree = λ (m : Move). totals-games_at key (meets wanted (is_move m)) (counts (is_move m) (passes wanted)) (λ t. counted-meets key wanted t (is_move m))
       cover tallies (given cover tallies tallied key (meets wanted (is_move m))) in
       let order = number_first text_before-order (λ m. total (of_rows m)) in
       let tied = ties-is order is_same_move is_same_move-is is_same_move-self in
-      ap (λ f. best (order_by f) most (moves_played wanted seen)) (λ i m. agree m i)
-      ∙ best-same order most (moves_played wanted seen) (rows_moves key tallies wanted)
-      (λ m. ap (λ p. count_by p (moves_played wanted seen)) (λ i n. tied m n i) ∙ same_moves m
+      ap (λ f. best (order_by f) most (moves_played (passes wanted) games_at)) (λ i m. agree m i)
+      ∙ best-same order most (moves_played (passes wanted) games_at) (rows_moves key tallies wanted)
+      (λ m. ap (λ p. count_by p (moves_played (passes wanted) games_at)) (λ i n. tied m n i) ∙ same_moves m
       ∙ ap (λ p. count_by p (rows_moves key tallies wanted)) (λ i n. sym (tied m n) i))
 
 -- ---- the months
@@ -244,21 +245,21 @@ All-distinct P same (x ∷ xs) h =
 
 module _ (cover : List (List Track)) (tallies : List (List Row)) (tallied : AllZip Tallied cover tallies) (key : List ℕ) (wanted : Filter) where
   -- the games of a month by its number
-  pick_month : ℕ → Parts → Bool
-  pick_month x parts = passes_parts wanted parts && (x == month_number parts.month)
+  pick_month : ℕ → RowKey → Bool
+  pick_month x row_key = passes_row_key wanted row_key && (x == month_number row_key.month)
 
-  numbers-seen : (x : ℕ) → list_any (λ n. x == n) (map month_number (map (λ game. game.classes.month) (filter (counts any_next wanted) (map (seen_at key) (all_of cover)))))
+  numbers-games_at : (x : ℕ) → list_any (λ n. x == n) (map month_number (map (λ game. game.classes.month) (filter (counts any_next (passes wanted)) (map (game_at key) (all_of cover)))))
       ≡ list_any (is_counted key (pick_month x)) (all_of cover)
   unfolding pick_month
-  numbers-seen x =
-      any-map (λ n. x == n) month_number _ ∙ any-map (λ m. x == month_number m) (λ (game : Seen). game.classes.month) _
-      ∙ any-filter (λ (game : Seen). x == month_number game.classes.month) (counts any_next wanted) (map (seen_at key) (all_of cover))
-      ∙ any-map (λ game. counts any_next wanted game && (x == month_number game.classes.month)) (seen_at key) (all_of cover)
+  numbers-games_at x =
+      any-map (λ n. x == n) month_number _ ∙ any-map (λ m. x == month_number m) (λ (game : GameAt). game.classes.month) _
+      ∙ any-filter (λ (game : GameAt). x == month_number game.classes.month) (counts any_next (passes wanted)) (map (game_at key) (all_of cover))
+      ∙ any-map (λ game. counts any_next (passes wanted) game && (x == month_number game.classes.month)) (game_at key) (all_of cover)
       ∙ ap (λ p. list_any p (all_of cover)) (λ i t. sym (counted-month key wanted t (λ m. x == month_number m)) i)
 
   picks-month : (x : ℕ) (row : Row) → (picks key (meets wanted any_next) row && (x == month_number row.month)) ≡ picks key (pick_month x) row
   unfolding picks pick_month
-  picks-month x row = by (bytes_eq row.key key) (passes_parts wanted (parts_of row)) (x == month_number row.month)
+  picks-month x row = by (bytes_eq row.key key) (passes_row_key wanted (row_key_of row)) (x == month_number row.month)
     where
       by : (a b c : Bool) → ((a && (b && true)) && c) ≡ (a && (b && c))
       by true true c = refl
@@ -272,11 +273,11 @@ module _ (cover : List (List Track)) (tallies : List (List Row)) (tallied : AllZ
       ∙ any-filter (λ (row : Row). x == month_number row.month) (picks key (meets wanted any_next)) (all_of tallies)
       ∙ ap (λ p. list_any p (all_of tallies)) (λ i row. picks-month x row i)
 
-  same_numbers : ranked nat_lt (map month_number (months_counted wanted (map (seen_at key) (all_of cover))))
+  same_numbers : ranked nat_lt (map month_number (months_counted (passes wanted) (map (game_at key) (all_of cover))))
       ≡ ranked nat_lt (map month_number (rows_months key tallies wanted))
   unfolding months_counted rows_months
   same_numbers =
-      let left = map (λ (game : Seen). game.classes.month) (filter (counts any_next wanted) (map (seen_at key) (all_of cover))) in
+      let left = map (λ (game : GameAt). game.classes.month) (filter (counts any_next (passes wanted)) (map (game_at key) (all_of cover))) in
       let right = map (λ (row : Row). row.month) (filter (picks key (meets wanted any_next)) (all_of tallies)) in
       let test = λ (m n : ℕ). m == n in
       let tied = ties-is by_number test number-is number-self in
@@ -285,7 +286,7 @@ module _ (cover : List (List Track)) (tallies : List (List Row)) (tallied : AllZ
       ∙ ranked-same by_number (distinct test (map month_number left)) (distinct test (map month_number right))
       (λ x. ap (λ p. count_by p (distinct test (map month_number left))) (λ i n. tied x n i)
       ∙ once x (map month_number left)
-      ∙ ap (λ b. cond b 1 0) (numbers-seen x ∙ sym (somewhere cover tallies tallied key (pick_month x)) ∙ sym (numbers-rows x))
+      ∙ ap (λ b. cond b 1 0) (numbers-games_at x ∙ sym (somewhere cover tallies tallied key (pick_month x)) ∙ sym (numbers-rows x))
       ∙ sym (once x (map month_number right))
       ∙ ap (λ p. count_by p (distinct test (map month_number right))) (λ i n. sym (tied x n) i))
       ∙ ap (ranked nat_lt) (sym (map-distinct month_number right))
@@ -302,20 +303,20 @@ module _ (cover : List (List Track)) (tallies : List (List Row)) (tallied : AllZ
     where
       here : (row : Row) → IsIn row rows → IsMonth row.month
       here row m =
-          let found = Found-from_Any (λ t. has (parts_of row) t ≡ true) tracks (All-IsIn (λ r. Any (λ t. has (parts_of r) t ≡ true) tracks) rows h.0.some row m) in
-          let of = parts_at-AreOf row.key found.value (parts_of row) (has-parts_at (parts_of row) found.value found.holds) in
+          let found = Found-from_Any (λ t. has (row_key_of row) t ≡ true) tracks (All-IsIn (λ r. Any (λ t. has (row_key_of r) t ≡ true) tracks) rows h.0.some row m) in
+          let of = row_keys_at-AreOf row.key found.value (row_key_of row) (has-row_keys_at (row_key_of row) found.value found.holds) in
           subst IsMonth (sym of.month) (e found.value (IsIn-append_left tracks (all_of c) found.value found.is_in))
 
-  history-seen : All (λ track. IsMonth track.classes.month) (all_of cover)
-      → best before_in_time (length (months_counted wanted (map (seen_at key) (all_of cover)))) (months_counted wanted (map (seen_at key) (all_of cover)))
+  history-games_at : All (λ track. IsMonth track.classes.month) (all_of cover)
+      → best before_in_time (length (months_counted (passes wanted) (map (game_at key) (all_of cover)))) (months_counted (passes wanted) (map (game_at key) (all_of cover)))
       ≡ best before_in_time (length (rows_months key tallies wanted)) (rows_months key tallies wanted)
   unfolding months_counted rows_months
-  history-seen valid =
-      let seen = map (seen_at key) (all_of cover) in
-      let left = map (λ (game : Seen). game.classes.month) (filter (counts any_next wanted) seen) in
+  history-games_at valid =
+      let games_at = map (game_at key) (all_of cover) in
+      let left = map (λ (game : GameAt). game.classes.month) (filter (counts any_next (passes wanted)) games_at) in
       let right = map (λ (row : Row). row.month) (filter (picks key (meets wanted any_next)) (all_of tallies)) in
-      let left_valid = All-map IsMonth (λ (game : Seen). game.classes.month) (filter (counts any_next wanted) seen)
-      (All-filter (counts any_next wanted) (λ game. IsMonth game.classes.month) seen (All-map (λ game. IsMonth game.classes.month) (seen_at key) (all_of cover) valid)) in
+      let left_valid = All-map IsMonth (λ (game : GameAt). game.classes.month) (filter (counts any_next (passes wanted)) games_at)
+      (All-filter (counts any_next (passes wanted)) (λ game. IsMonth game.classes.month) games_at (All-map (λ game. IsMonth game.classes.month) (game_at key) (all_of cover) valid)) in
       let right_valid = All-map IsMonth (λ (row : Row). row.month) (filter (picks key (meets wanted any_next)) (all_of tallies))
       (All-filter (picks key (meets wanted any_next)) (λ row. IsMonth row.month) (all_of tallies)
       (months_of_rows cover tallies tallied (All-IsIn (λ t. IsMonth t.classes.month) (all_of cover) valid))) in
@@ -330,20 +331,20 @@ pub Recounts-cover : (cover : List (List Track)) (tallies : List (List Row)) →
     → (key : List ℕ) (wanted : Filter) → Recounts key wanted cover tallies
 Recounts-cover cover tallies tallied key wanted =
     let picked = given cover tallies tallied key in
-    let month = λ (m : Month). totals-seen key (meets_in m wanted) (is_in_month m wanted) (λ t. counted-meets_in key wanted t m) cover tallies
+    let month = λ (m : Month). totals-games_at key (meets_in m wanted) (is_in_month m (passes wanted)) (λ t. counted-meets_in key wanted t m) cover tallies
     (picked (meets_in m wanted)) in
     record {
-      totals = λ test. totals-seen key (meets wanted test) (counts test wanted) (λ t. counted-meets key wanted t test) cover tallies
+      totals = λ test. totals-games_at key (meets wanted test) (counts test (passes wanted)) (λ t. counted-meets key wanted t test) cover tallies
           (picked (meets wanted test));
-      ratings = λ m. ratings-seen key wanted m cover tallies (picked (meets wanted (is_move m)));
-      moves = moves-seen cover tallies tallied key wanted;
+      ratings = λ m. ratings-games_at key wanted m cover tallies (picked (meets wanted (is_move m)));
+      moves = moves-games_at cover tallies tallied key wanted;
       only_game = λ m. only-listed key wanted ratings_of entry_order.by_rating_is_order m (all_of cover) _ (picked (meets wanted (is_move m))).top;
       top = λ most few. games-listed key wanted ratings_of entry_order.by_rating_is_order most few (all_of cover) _ (picked (meets wanted any_next)).top;
       recent = λ most few. games-listed key wanted (λ classes. month_number classes.month) entry_order.by_month_is_order most few (all_of cover) _
           (picked (meets wanted any_next)).recent;
       month = month;
       history = λ valid.
-          ap (λ l. Some (map (month_line wanted (map (seen_at key) (all_of cover))) l)) (history-seen cover tallies tallied key wanted valid)
+          ap (λ l. Some (map (month_line (passes wanted) (map (game_at key) (all_of cover))) l)) (history-games_at cover tallies tallied key wanted valid)
           ∙ ap (λ f. Some (map f (best before_in_time (length (rows_months key tallies wanted)) (rows_months key tallies wanted))))
           (λ i m. record { month = m; totals = month m i });
     }

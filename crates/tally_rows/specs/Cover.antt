@@ -14,12 +14,13 @@ use Rattle.explorer_model.specs.declared.chess.Color.{Color}
 use Rattle.explorer_model.specs.declared.chess.Color.TheVariants.{White, Black}
 use Rattle.explorer_model.specs.declared.chess.Move.{Move}
 use Rattle.explorer_model.specs.declared.query.Filter.{Filter}
-use Rattle.explorer_model.specs.Counting.{group_place, is_since, is_until, counts, any_next, is_move, is_same_move, is_same_month, is_in_month, totals_of, total, rating_sum, distinct, first_moves, game_of_move, games_by, before_by_rating, before_by_month, before_in_time}
+use Rattle.explorer_model.specs.Counting.{passes, rating_of, group_place, is_since, is_until, counts, any_next, is_move, is_same_move, is_same_month, is_in_month, totals_of, total, rating_sum, distinct, first_moves, game_of_move, games_by, before_by_rating, before_by_month, before_in_time}
 use Rattle.explorer_model.specs.Finds.{history_of}
 use Rattle.explorer_model.specs.Order.{speed_index}
+use Rattle.explorer_model.specs.SoundClasses.{IsMonth}
 use Rattle.explorer_model.specs.Uci.{uci_text}
-use Rattle.explorer_model.specs.Visits.{Seen}
-use Rattle.tally_rows.specs.declared.parts.Parts.{Parts}
+use Rattle.explorer_model.specs.Visits.{GameAt}
+use Rattle.tally_rows.specs.declared.row_key.RowKey.{RowKey}
 use Rattle.tally_rows.specs.declared.row.Row.{Row}
 use Rattle.tally_rows.specs.Recount.{all_of, picks, picked_sum, cover_lists}
 use Rattle.tally_rows.specs.Tallied.{is_black_to_move}
@@ -28,8 +29,8 @@ use Rattle.tally_rows.specs.Track.{Track, visit}
 -- ---- games
 
 -- a game as it is seen from the position of a key
-abbrev pub seen_at : List ℕ → Track → Seen
-seen_at key track = record { classes = track.classes; visit = visit key track }
+abbrev pub game_at : List ℕ → Track → GameAt
+game_at key track = record { classes = track.classes; visit = visit key track }
 
 -- who is to move in the position of a key
 abbrev pub turn_of : List ℕ → Color
@@ -41,7 +42,8 @@ listed_by _ track = None
 
 -- the game of an entry, with the move that it plays in the position
 abbrev pub listing : List ℕ → List Track → Entry → Option Listed
-listing key tracks entry = option_and_then (λ track. listed_by (visit key track) track) (slice_get tracks entry.number)
+listing key tracks entry =
+    option_and_then (λ track. listed_by (visit key track) track) (slice_get tracks entry.number)
 
 -- the entry of a list that has just one
 abbrev pub only_entry : List Entry → Option Entry
@@ -51,38 +53,40 @@ only_entry _ = None
 -- ---- which rows
 
 -- the speed, the group and the month are among those that the filter takes
-unfoldable pub passes_parts : Filter → Parts → Bool
-passes_parts wanted parts =
-    slice_index_or wanted.speeds (speed_index parts.speed) false
-    && slice_index_or wanted.groups (group_place parts.group.value) false
-    && is_since wanted.since parts.month
-    && is_until wanted.until parts.month
+unfoldable pub passes_row_key : Filter → RowKey → Bool
+passes_row_key wanted row_key =
+    slice_index_or wanted.speeds (speed_index row_key.speed) false
+    && slice_index_or wanted.groups (group_place row_key.group.value) false
+    && is_since wanted.since row_key.month
+    && is_until wanted.until row_key.month
 
 -- and what follows meets a test
-abbrev pub meets : Filter → (Option Move → Bool) → Parts → Bool
-meets wanted test parts = passes_parts wanted parts && test parts.next
+abbrev pub meets : Filter → (Option Move → Bool) → RowKey → Bool
+meets wanted test row_key = passes_row_key wanted row_key && test row_key.next
 
 -- and they are of a month
-abbrev pub meets_in : Month → Filter → Parts → Bool
-meets_in month wanted parts = passes_parts wanted parts && is_same_month month parts.month
+abbrev pub meets_in : Month → Filter → RowKey → Bool
+meets_in month wanted row_key = passes_row_key wanted row_key && is_same_month month row_key.month
 
 -- ---- what the rows give
 
 module _ (key : List ℕ) (tallies : List (List Row)) where
-  abbrev pub rows_totals : (Parts → Bool) → Totals
+  abbrev pub rows_totals : (RowKey → Bool) → Totals
   rows_totals pick = record {
     white = sum_by (picked_sum key pick (λ row. row.white)) tallies;
     draws = sum_by (picked_sum key pick (λ row. row.draws)) tallies;
     black = sum_by (picked_sum key pick (λ row. row.black)) tallies;
   }
 
-  abbrev pub rows_ratings : (Parts → Bool) → ℕ
+  abbrev pub rows_ratings : (RowKey → Bool) → ℕ
   rows_ratings pick = sum_by (picked_sum key pick (λ row. row.ratings)) tallies
 
   -- the moves of the rows that pass the filter, each once
   unfoldable pub rows_moves : Filter → List Move
   rows_moves wanted =
-      distinct is_same_move (filter_map (λ row. if picks key (meets wanted any_next) row then row.next else None) (all_of tallies))
+      distinct is_same_move
+      (filter_map (λ row. if picks key (meets wanted any_next) row then row.next else None)
+      (all_of tallies))
 
   -- the greater total first, then the lesser text of UCI
   abbrev pub rows_before : Filter → Move → Move → Bool
@@ -93,46 +97,63 @@ module _ (key : List ℕ) (tallies : List (List Row)) where
 
   -- the months of these rows, each once
   unfoldable pub rows_months : Filter → List Month
-  rows_months wanted = distinct is_same_month (map (λ row. row.month) (filter (picks key (meets wanted any_next)) (all_of tallies)))
+  rows_months wanted =
+      distinct is_same_month
+      (map (λ row. row.month) (filter (picks key (meets wanted any_next)) (all_of tallies)))
 
   abbrev pub rows_month_line : Filter → Month → MonthLine
-  rows_month_line wanted month = record { month = month; totals = rows_totals (meets_in month wanted) }
-
--- a month of a calendar
-abbrev pub IsMonth : Month → Type 0
-IsMonth month = (1 ≤ month.month) × (month.month ≤ 12)
+  rows_month_line wanted month =
+      record { month = month; totals = rows_totals (meets_in month wanted) }
 
 -- what all games of a cover say of a position, in the words of the answer, is what its rows give
-pub record Recounts (key : List ℕ) (wanted : Filter) (cover : List (List Track)) (tallies : List (List Row)) : Type 0 where
+pub record Recounts (key : List ℕ) (wanted : Filter) (cover : List (List Track))
+    (tallies : List (List Row)) : Type 0 where
   pub totals : (test : Option Move → Bool)
-      → totals_of (counts test wanted) (map (seen_at key) (all_of cover)) ≡ rows_totals key tallies (meets wanted test)
+      → totals_of (counts test (passes wanted)) (map (game_at key) (all_of cover))
+      ≡ rows_totals key tallies (meets wanted test)
   pub ratings : (m : Move)
-      → rating_sum (turn_of key) (counts (is_move m) wanted) (map (seen_at key) (all_of cover)) ≡ rows_ratings key tallies (meets wanted (is_move m))
+      → rating_sum (rating_of (turn_of key)) (counts (is_move m) (passes wanted))
+      (map (game_at key) (all_of cover)) ≡ rows_ratings key tallies (meets wanted (is_move m))
   pub moves : (most : ℕ)
-      → first_moves most wanted (map (seen_at key) (all_of cover)) ≡ best (rows_before key tallies wanted) most (rows_moves key tallies wanted)
+      → first_moves most (passes wanted) (map (game_at key) (all_of cover))
+      ≡ best (rows_before key tallies wanted) most (rows_moves key tallies wanted)
   pub only_game : (m : Move)
-      → game_of_move m wanted (map (seen_at key) (all_of cover))
+      → game_of_move m (passes wanted) (map (game_at key) (all_of cover))
       ≡ option_and_then (listing key (all_of cover))
-      (only_entry (best entry_order.before_by_rating 4 (cover_lists key (meets wanted (is_move m)) (λ row. row.top) 0 cover tallies)))
+      (only_entry (best entry_order.before_by_rating 4
+      (cover_lists key (meets wanted (is_move m)) (λ row. row.top) 0 cover tallies)))
   pub top : (most : ℕ) → most ≤ 4
-      → map Some (games_by before_by_rating most wanted (map (seen_at key) (all_of cover)))
+      → map Some (games_by before_by_rating most (passes wanted) (map (game_at key) (all_of cover)))
       ≡ map (listing key (all_of cover))
-      (take most (best entry_order.before_by_rating 4 (cover_lists key (meets wanted any_next) (λ row. row.top) 0 cover tallies)))
+      (take most
+      (best entry_order.before_by_rating 4
+      (cover_lists key (meets wanted any_next) (λ row. row.top) 0 cover tallies)))
   pub recent : (most : ℕ) → most ≤ 4
-      → map Some (games_by before_by_month most wanted (map (seen_at key) (all_of cover)))
+      → map Some (games_by before_by_month most (passes wanted) (map (game_at key) (all_of cover)))
       ≡ map (listing key (all_of cover))
-      (take most (best entry_order.before_by_month 4 (cover_lists key (meets wanted any_next) (λ row. row.recent) 0 cover tallies)))
+      (take most
+      (best entry_order.before_by_month 4
+      (cover_lists key (meets wanted any_next) (λ row. row.recent) 0 cover tallies)))
   pub month : (month : Month)
-      → totals_of (is_in_month month wanted) (map (seen_at key) (all_of cover)) ≡ rows_totals key tallies (meets_in month wanted)
+      → totals_of (is_in_month month (passes wanted)) (map (game_at key) (all_of cover))
+      ≡ rows_totals key tallies (meets_in month wanted)
   pub history : All (λ track. IsMonth track.classes.month) (all_of cover)
-      → history_of true wanted (map (seen_at key) (all_of cover))
-      ≡ (let months = rows_months key tallies wanted in Some (map (rows_month_line key tallies wanted) (best before_in_time (length months) months)))
+      → history_of true (passes wanted) (map (game_at key) (all_of cover))
+      ≡ (let months = rows_months key tallies wanted in Some
+      (map (rows_month_line key tallies wanted) (best before_in_time (length months) months)))
 
 -- the best games of the position are the best of those of each of its moves
-pub record JoinsMoves (key : List ℕ) (wanted : Filter) (cover : List (List Track)) (tallies : List (List Row)) : Type 0 where
+pub record JoinsMoves (key : List ℕ) (wanted : Filter) (cover : List (List Track))
+    (tallies : List (List Row)) : Type 0 where
   pub top : best entry_order.before_by_rating 4
-      (flat_map (λ m. best entry_order.before_by_rating 4 (cover_lists key (meets wanted (is_move m)) (λ row. row.top) 0 cover tallies)) (rows_moves key tallies wanted))
-      ≡ best entry_order.before_by_rating 4 (cover_lists key (meets wanted any_next) (λ row. row.top) 0 cover tallies)
+      (flat_map (λ m. best entry_order.before_by_rating 4
+      (cover_lists key (meets wanted (is_move m)) (λ row. row.top) 0 cover tallies))
+      (rows_moves key tallies wanted))
+      ≡ best entry_order.before_by_rating 4
+      (cover_lists key (meets wanted any_next) (λ row. row.top) 0 cover tallies)
   pub recent : best entry_order.before_by_month 4
-      (flat_map (λ m. best entry_order.before_by_month 4 (cover_lists key (meets wanted (is_move m)) (λ row. row.recent) 0 cover tallies)) (rows_moves key tallies wanted))
-      ≡ best entry_order.before_by_month 4 (cover_lists key (meets wanted any_next) (λ row. row.recent) 0 cover tallies)
+      (flat_map (λ m. best entry_order.before_by_month 4
+      (cover_lists key (meets wanted (is_move m)) (λ row. row.recent) 0 cover tallies))
+      (rows_moves key tallies wanted))
+      ≡ best entry_order.before_by_month 4
+      (cover_lists key (meets wanted any_next) (λ row. row.recent) 0 cover tallies)

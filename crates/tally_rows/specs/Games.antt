@@ -2,7 +2,7 @@
 use Rattle.std.specs.Prelude.{ℕ, ◌+◌, Bool, List, [], ◌∷◌, ◌++◌, map, bytes_eq, if◌then◌else◌}
 use Rattle.std.specs.List.{list_any}
 use Rattle.explorer_model.specs.declared.archive.Classes.{Classes}
-use Rattle.tally_rows.specs.declared.parts.Parts.{Parts}
+use Rattle.tally_rows.specs.declared.row_key.RowKey.{RowKey}
 use Rattle.tally_rows.specs.declared.single.Single.{Single}
 use Rattle.tally_rows.specs.Tallied.{mover_rating}
 use Rattle.tally_rows.specs.Track.{Step, Track}
@@ -18,13 +18,14 @@ first_steps earlier (step ∷ steps) =
     then first_steps (earlier ++ step ∷ []) steps
     else step ∷ first_steps (earlier ++ step ∷ []) steps
 
-abbrev pub parts_in : Classes → Step → Parts
-parts_in classes step = record { key = step.key; next = step.next; month = classes.month; speed = classes.speed; group = classes.group }
+abbrev pub row_key_in : Classes → Step → RowKey
+row_key_in classes step =
+    record { key = step.key; next = step.next; month = classes.month; speed = classes.speed; group = classes.group }
 
 -- the single of a game, of this number, at one of its steps
 abbrev pub single_at : Classes → ℕ → Step → Single
 single_at classes number step = record {
-  parts = parts_in classes step;
+  row_key = row_key_in classes step;
   number = number;
   outcome = classes.outcome;
   rating = mover_rating step.key classes;

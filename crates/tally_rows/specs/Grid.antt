@@ -36,7 +36,8 @@ pub record Fit (a b : Cell) : Type 0 where
 
 -- a row as a cell
 abbrev pub cell_of : Row → Cell
-cell_of row = record { totals = record { white = row.white; draws = row.draws; black = row.black }; ratings = row.ratings }
+cell_of row =
+    record { totals = record { white = row.white; draws = row.draws; black = row.black }; ratings = row.ratings }
 
 abbrev pub cell_at : List (List Cell) → ℕ → ℕ → Cell
 cell_at grid speed group = slice_index_or (slice_index_or grid speed []) group no_games
@@ -44,11 +45,14 @@ cell_at grid speed group = slice_index_or (slice_index_or grid speed []) group n
 -- the grid with a row in the sum of one cell
 unfoldable pub added : List (List Cell) → ℕ → ℕ → Row → List (List Cell)
 added grid speed group row =
-    slice_set grid speed (slice_set (slice_index_or grid speed []) group (plus (cell_at grid speed group) (cell_of row)))
+    slice_set grid speed
+    (slice_set (slice_index_or grid speed []) group
+    (plus (cell_at grid speed group) (cell_of row)))
 
 -- the cells whose speed and group are chosen
 abbrev pub chosen : List Bool → List Bool → List (List Cell) → List Cell
-chosen speeds groups grid = flat_map (λ line. items_where_true groups line) (items_where_true speeds grid)
+chosen speeds groups grid =
+    flat_map (λ line. items_where_true groups line) (items_where_true speeds grid)
 
 -- the sums over cells
 unfoldable pub total : List Cell → Cell

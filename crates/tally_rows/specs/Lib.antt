@@ -1,4 +1,4 @@
-pub mod Parts
+pub mod RowKey
 pub mod Track
 pub mod Row
 pub mod Tallied

@@ -5,28 +5,29 @@ use Rattle.explorer_model.specs.Best.{best}
 use Rattle.best_lists.specs.Entry.{moved_by}
 use Rattle.best_lists.specs.Ranking.{before_by_rating, before_by_month}
 use Rattle.best_lists.specs.declared.entry.Entry.{Entry}
-use Rattle.tally_rows.specs.declared.parts.Parts.{Parts}
+use Rattle.tally_rows.specs.declared.row_key.RowKey.{RowKey}
 use Rattle.tally_rows.specs.declared.row.Row.{Row}
-use Rattle.tally_rows.specs.Track.{Track, parts_at, is_some_where}
-use Rattle.tally_rows.specs.Row.{parts_of, is_white, is_draw, is_black}
+use Rattle.tally_rows.specs.Track.{Track, row_keys_at, is_some_where}
+use Rattle.tally_rows.specs.Row.{row_key_of, is_white, is_draw, is_black}
 use Rattle.tally_rows.specs.Tallied.{entries, mover_rating, rating_sum, track_month}
 
 -- the values of lists, one list after another
 abbrev pub all_of : {A : Type 0} → List (List A) → List A
 all_of lists = flat_map (λ list. list) lists
 
-module _ (key : List ℕ) (pick : Parts → Bool) where
+module _ (key : List ℕ) (pick : RowKey → Bool) where
   -- whether the game visits the position, and its parts there are picked
   unfoldable pub is_counted : Track → Bool
-  is_counted track = is_some_where pick (parts_at key track)
+  is_counted track = is_some_where pick (row_keys_at key track)
 
   -- and it has a move there
   unfoldable pub is_listed : Track → Bool
-  is_listed track = is_some_where (λ parts. is_some parts.next && pick parts) (parts_at key track)
+  is_listed track =
+      is_some_where (λ row_key. is_some row_key.next && pick row_key) (row_keys_at key track)
 
   -- whether the row is of the position, and its parts are picked
   unfoldable pub picks : Row → Bool
-  picks row = bytes_eq row.key key && pick (parts_of row)
+  picks row = bytes_eq row.key key && pick (row_key_of row)
 
   -- the sum of a count over the rows that are picked
   abbrev pub picked_sum : (Row → ℕ) → List Row → ℕ
@@ -37,11 +38,13 @@ module _ (key : List ℕ) (pick : Parts → Bool) where
   picked_lists list rows = flat_map (λ row. cond (picks row) (list row) []) rows
 
   -- those of the rows of each part of a cover, their games numbered from a first one on
-  unfoldable pub cover_lists : (Row → List Entry) → ℕ → List (List Track) → List (List Row) → List Entry
+  unfoldable pub cover_lists : (Row → List Entry) → ℕ → List (List Track) → List (List Row)
+      → List Entry
   cover_lists list first [] tallies = []
   cover_lists list first (tracks ∷ cover) [] = []
   cover_lists list first (tracks ∷ cover) (rows ∷ tallies) =
-      map (moved_by first) (picked_lists list rows) ++ cover_lists list (first + length tracks) cover tallies
+      map (moved_by first) (picked_lists list rows)
+      ++ cover_lists list (first + length tracks) cover tallies
 
   -- what the rows of a cover give is what all its games give
   pub record GivesPicked (cover : List (List Track)) (tallies : List (List Row)) : Type 0 where

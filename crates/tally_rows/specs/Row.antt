@@ -7,14 +7,15 @@ use Rattle.best_lists.specs.Ranking.{before_by_rating, before_by_month}
 use Rattle.explorer_model.specs.declared.archive.Month.{Month}
 use Rattle.explorer_model.specs.declared.archive.Outcome.{Outcome}
 use Rattle.explorer_model.specs.declared.archive.Outcome.TheVariants as outcomes
-use Rattle.tally_rows.specs.declared.parts.Parts.{Parts}
-use Rattle.tally_rows.specs.Parts.{same_parts}
+use Rattle.tally_rows.specs.declared.row_key.RowKey.{RowKey}
+use Rattle.tally_rows.specs.RowKey.{same_row_key}
 use Rattle.tally_rows.specs.declared.row.Row.{Row}
 use Rattle.tally_rows.specs.declared.single.Single.{Single}
 
 -- what the games of a row have in common
-abbrev pub parts_of : Row → Parts
-parts_of row = record { key = row.key; next = row.next; month = row.month; speed = row.speed; group = row.group }
+abbrev pub row_key_of : Row → RowKey
+row_key_of row =
+    record { key = row.key; next = row.next; month = row.month; speed = row.speed; group = row.group }
 
 abbrev pub is_white : Outcome → Bool
 is_white outcomes.White = true
@@ -34,24 +35,28 @@ month_rank month = 12 * month.year + month.month
 
 -- the game of a single as it is listed, where a move follows
 abbrev pub rating_entries : Single → List Entry
-rating_entries single = cond (is_some single.parts.next) (record { rank = single.sum; number = single.number } ∷ []) []
+rating_entries single =
+    cond (is_some single.row_key.next) (record { rank = single.sum; number = single.number }
+    ∷ []) []
 
 abbrev pub month_entries : Single → List Entry
-month_entries single = cond (is_some single.parts.next) (record { rank = month_rank single.parts.month; number = single.number } ∷ []) []
+month_entries single =
+    cond (is_some single.row_key.next)
+    (record { rank = month_rank single.row_key.month; number = single.number } ∷ []) []
 
 -- the row of one game
 unfoldable pub row_of : Single → Row
 row_of single =
     record {
-      key = single.parts.key;
-      next = single.parts.next;
-      month = single.parts.month;
-      speed = single.parts.speed;
-      group = single.parts.group;
+      key = single.row_key.key;
+      next = single.row_key.next;
+      month = single.row_key.month;
+      speed = single.row_key.speed;
+      group = single.row_key.group;
       white = cond (is_white single.outcome) 1 0;
       draws = cond (is_draw single.outcome) 1 0;
       black = cond (is_black single.outcome) 1 0;
-      ratings = cond (is_some single.parts.next) single.rating 0;
+      ratings = cond (is_some single.row_key.next) single.rating 0;
       top = rating_entries single;
       recent = month_entries single;
     }
@@ -76,13 +81,15 @@ pub record Fit (a b : Row) : Type 0 where
 
 -- the same row of games that stand later in the list of games
 unfoldable pub shifted_row : ℕ → Row → Row
-shifted_row by row = record row { top = map (moved_by by) row.top; recent = map (moved_by by) row.recent }
+shifted_row by row =
+    record row { top = map (moved_by by) row.top; recent = map (moved_by by) row.recent }
 
 -- rows in a row, those with the same parts that stand next to each other put together
 unfoldable pub combined_from : Row → List Row → List Row
 combined_from last [] = last ∷ []
 combined_from last (row ∷ rows) =
-    if same_parts (parts_of last) (parts_of row) then combined_from (combined last row) rows else last ∷ combined_from row rows
+    if same_row_key (row_key_of last) (row_key_of row) then combined_from (combined last row) rows
+    else last ∷ combined_from row rows
 
 unfoldable pub combined_rows : List Row → List Row
 combined_rows [] = []

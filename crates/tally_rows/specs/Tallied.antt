@@ -6,11 +6,11 @@ use Rattle.explorer_model.specs.Best.{best}
 use Rattle.best_lists.specs.Ranking.{before_by_rating, before_by_month}
 use Rattle.best_lists.specs.declared.entry.Entry.{Entry}
 use Rattle.explorer_model.specs.declared.archive.Classes.{Classes}
-use Rattle.tally_rows.specs.declared.parts.Parts.{Parts}
+use Rattle.tally_rows.specs.declared.row_key.RowKey.{RowKey}
 use Rattle.tally_rows.specs.declared.row.Row.{Row}
-use Rattle.tally_rows.specs.Parts.{parts_order}
+use Rattle.tally_rows.specs.RowKey.{row_order}
 use Rattle.tally_rows.specs.Track.{Track, has}
-use Rattle.tally_rows.specs.Row.{parts_of, is_white, is_draw, is_black, month_rank}
+use Rattle.tally_rows.specs.Row.{row_key_of, is_white, is_draw, is_black, month_rank}
 
 -- bit 0 of the key's byte of state
 abbrev pub is_black_to_move : List ℕ → Bool
@@ -28,24 +28,32 @@ track_month track = month_rank track.classes.month
 
 -- the games that pass a test, with their places from a first one on
 unfoldable pub entries : (Track → ℕ) → (Track → Bool) → ℕ → List Track → List Entry
-entries rank test first tracks = map (λ p. record { rank = rank p.1; number = p.0 }) (filter (λ p. test p.1) (enumerate_from first tracks))
+entries rank test first tracks =
+    map (λ p. record { rank = rank p.1; number = p.0 })
+    (filter (λ p. test p.1) (enumerate_from first tracks))
 
 -- whether the game has the parts, and a move among them
-abbrev pub has_move : Parts → Track → Bool
-has_move parts track = is_some parts.next && has parts track
+abbrev pub has_move : RowKey → Track → Bool
+has_move row_key track = is_some row_key.next && has row_key track
 
 -- the row counts the games that have its parts
 pub record IsTally (tracks : List Track) (row : Row) : Type 0 where
-  pub white : row.white ≡ count_by (λ t. has (parts_of row) t && is_white t.classes.outcome) tracks
-  pub draws : row.draws ≡ count_by (λ t. has (parts_of row) t && is_draw t.classes.outcome) tracks
-  pub black : row.black ≡ count_by (λ t. has (parts_of row) t && is_black t.classes.outcome) tracks
-  pub ratings : row.ratings ≡ sum_by (λ t. cond (has_move (parts_of row) t) (mover_rating row.key t.classes) 0) tracks
-  pub top : row.top ≡ best before_by_rating 4 (entries rating_sum (has_move (parts_of row)) 0 tracks)
-  pub recent : row.recent ≡ best before_by_month 4 (entries track_month (has_move (parts_of row)) 0 tracks)
+  pub white : row.white
+      ≡ count_by (λ t. has (row_key_of row) t && is_white t.classes.outcome) tracks
+  pub draws : row.draws ≡ count_by (λ t. has (row_key_of row) t && is_draw t.classes.outcome) tracks
+  pub black : row.black
+      ≡ count_by (λ t. has (row_key_of row) t && is_black t.classes.outcome) tracks
+  pub ratings : row.ratings
+      ≡ sum_by (λ t. cond (has_move (row_key_of row) t) (mover_rating row.key t.classes) 0) tracks
+  pub top : row.top
+      ≡ best before_by_rating 4 (entries rating_sum (has_move (row_key_of row)) 0 tracks)
+  pub recent : row.recent
+      ≡ best before_by_month 4 (entries track_month (has_move (row_key_of row)) 0 tracks)
 
 -- exactly one row for each five parts that some game has, and no other
 pub record Tallied (tracks : List Track) (rows : List Row) : Type 0 where
   pub each : All (IsTally tracks) rows
-  pub some : All (λ row. Any (λ t. has (parts_of row) t ≡ true) tracks) rows
-  pub every : (parts : Parts) → Any (λ t. has parts t ≡ true) tracks → Contains (map parts_of rows) parts
-  pub ordered : IsStrictlySortedBy parts_order (map parts_of rows)
+  pub some : All (λ row. Any (λ t. has (row_key_of row) t ≡ true) tracks) rows
+  pub every : (row_key : RowKey) → Any (λ t. has row_key t ≡ true) tracks
+      → Contains (map row_key_of rows) row_key
+  pub ordered : IsStrictlySortedBy row_order (map row_key_of rows)

@@ -1,11 +1,10 @@
 -- What is counted of a batch: the tracks of its games, and the rows that are tallied for them.
-use Rattle.std.specs.Prelude.{◌≡◌, ◌≢◌, ◌<◌, ◌≤◌, ℕ, List, length, map}
-use Rattle.std.specs.List.{All, AllPairs, AllZip}
+use Rattle.std.specs.Prelude.{◌≡◌, ℕ, List, map}
+use Rattle.std.specs.List.{AllZip}
 use Rattle.explorer_model.specs.declared.archive.Batch.{Batch}
 use Rattle.explorer_model.specs.declared.archive.Classes.{Classes}
 use Rattle.explorer_model.specs.declared.archive.Game.{Game}
-use Rattle.explorer_model.specs.Cuts.{text_limit}
-use Rattle.explorer_model.specs.Imports.{group_limit}
+use Rattle.explorer_model.specs.Journal.{IsBatch, HaveDifferentIds}
 use Rattle.explorer_model.specs.Tidy.{IsTidyKey}
 use Rattle.explorer_model.specs.Visits.{IsTextOf, Stage, counted_stages}
 use Rattle.tally_rows.specs.declared.row.Row.{Row}
@@ -22,7 +21,8 @@ pub record IsTrackOf (game : Game) (track : Track) : Type 0 where
   pub steps : AllZip IsStepOf (counted_stages game) track.steps
 
 -- what the games of the texts are, and the rows that count them
-pub record IsTallyOf (texts : List (List ℕ)) (classes : List Classes) (rows : List Row) : Type 0 where
+pub record IsTallyOf (texts : List (List ℕ)) (classes : List Classes)
+    (rows : List Row) : Type 0 where
   pub games : List Game
   pub are_games : AllZip IsTextOf texts games
   pub classes_are : classes ≡ map (λ game. game.classes) games
@@ -36,13 +36,7 @@ pub record Counted : Type 0 where
   pub classes : List Classes
   pub rows : List Row
 
--- no two games have one id
-abbrev pub HaveDifferentIds : List Classes → Type 0
-HaveDifferentIds classes = AllPairs (λ a b. a.id.bytes ≢ b.id.bytes) classes
-
 pub record IsCounted (counted : Counted) : Type 0 where
-  pub some : 0 < length counted.batch.texts
-  pub few : length counted.batch.texts ≤ group_limit
-  pub short : All (λ text. length text ≤ text_limit) counted.batch.texts
+  pub batch : IsBatch counted.batch
   pub different : HaveDifferentIds counted.classes
   pub tally : IsTallyOf counted.batch.texts counted.classes counted.rows

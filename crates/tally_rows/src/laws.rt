@@ -8,14 +8,14 @@ ghost use Rattle.explorer_model.specs.Keys.{key};
 ghost use Rattle.tally_rows.specs.Adding.{SameAt, IsSound};
 ghost use Rattle.tally_rows.specs.Cover.{JoinsMoves, Recounts, turn_of};
 ghost use Rattle.tally_rows.specs.declared.grid.Cell.{Cell};
-ghost use Rattle.tally_rows.specs.declared.parts.Parts.{Parts};
+ghost use Rattle.tally_rows.specs.declared.row_key.RowKey.{RowKey};
 ghost use Rattle.tally_rows.specs.declared.row.Row.{Row};
 ghost use Rattle.tally_rows.specs.Grid.{IsShaped, zeros, no_games, plus, cell_of, added, chosen, total};
 ghost use Rattle.tally_rows.specs.Games.{singles_from};
-ghost use Rattle.tally_rows.specs.Parts.{parts_order};
+ghost use Rattle.tally_rows.specs.RowKey.{row_order};
 ghost use Rattle.tally_rows.specs.Single.{AreSingles};
 ghost use Rattle.tally_rows.specs.Recount.{GivesPicked};
-ghost use Rattle.tally_rows.specs.Row.{parts_of, shifted_row};
+ghost use Rattle.tally_rows.specs.Row.{row_key_of, shifted_row};
 ghost use Rattle.tally_rows.specs.Tallied.{Tallied};
 ghost use Rattle.tally_rows.specs.Track.{Track};
 
@@ -25,8 +25,9 @@ ghost use Rattle.tally_rows.specs.Track.{Track};
 pub fn tallied_both()
     ensures { (left right : List Track) (left_rows right_rows rows : List Row)
         → Tallied left left_rows → Tallied right right_rows
-        → ((parts : Parts) → SameAt (left_rows ++ map (shifted_row (length left)) right_rows) rows parts)
-        → All IsSound rows → IsStrictlySortedBy parts_order (map parts_of rows)
+        → ((row_key : RowKey)
+        → SameAt (left_rows ++ map (shifted_row (length left)) right_rows) rows row_key)
+        → All IsSound rows → IsStrictlySortedBy row_order (map row_key_of rows)
         → Tallied (left ++ right) rows }
 {}
 
@@ -37,20 +38,27 @@ pub fn tallied_rows_are_sound()
 
 /// A list of games has one list of tallied rows.
 pub fn tallied_rows_are_determined()
-    ensures { (tracks : List Track) (rows others : List Row) → Tallied tracks rows → Tallied tracks others → rows ≡ others }
+    ensures { (tracks : List Track) (rows others : List Row) → Tallied tracks rows
+        → Tallied tracks others → rows ≡ others }
 {}
 
 /// A row that is added to a grid is in its sums exactly where its speed and group are chosen.
 pub fn grid_sums_rows()
-    ensures zeros { (speeds groups : List Bool) (s r : ℕ) → total (chosen speeds groups (zeros s r)) ≡ no_games }
-    ensures added { (speeds groups : List Bool) (grid : List (List Cell)) (speed group : ℕ) (row : Row)
-        → IsShaped (length speeds) (length groups) grid → speed < length speeds → group < length groups
+    ensures zeros { (speeds groups : List Bool) (s r : ℕ)
+        → total (chosen speeds groups (zeros s r)) ≡ no_games }
+    ensures added { (speeds groups : List Bool) (grid : List (List Cell)) (speed group : ℕ)
+        (row : Row)
+        → IsShaped (length speeds) (length groups) grid → speed < length speeds
+        → group < length groups
         → total (chosen speeds groups (added grid speed group row))
         ≡ plus (total (chosen speeds groups grid))
-        (cond (slice_index_or speeds speed false && slice_index_or groups group false) (cell_of row) no_games) }
+        (cond (slice_index_or speeds speed false && slice_index_or groups group false)
+        (cell_of row) no_games) }
     ensures zeros_shape { (speeds groups : ℕ) → IsShaped speeds groups (zeros speeds groups) }
-    ensures added_shape { (speeds groups : ℕ) (grid : List (List Cell)) (speed group : ℕ) (row : Row)
-        → IsShaped speeds groups grid → speed < speeds → IsShaped speeds groups (added grid speed group row) }
+    ensures added_shape { (speeds groups : ℕ) (grid : List (List Cell)) (speed group : ℕ)
+        (row : Row)
+        → IsShaped speeds groups grid → speed < speeds
+        → IsShaped speeds groups (added grid speed group row) }
 {}
 
 /// What games count for in each position that they visit first are their singles.
@@ -69,7 +77,7 @@ pub fn cover_recounts()
 /// The same for games whose parts are picked in any way, in numbers and entries alone.
 pub fn cover_gives_what_is_picked()
     ensures { (cover : List (List Track)) (tallies : List (List Row)) → AllZip Tallied cover tallies
-        → (bytes : List ℕ) (pick : Parts → Bool) → GivesPicked bytes pick cover tallies }
+        → (bytes : List ℕ) (pick : RowKey → Bool) → GivesPicked bytes pick cover tallies }
 {}
 
 /// The best games of a position are the best of those of each of its moves.

@@ -3,8 +3,8 @@
 
 mod grid;
 pub mod laws;
-mod parts;
 mod row;
+mod row_key;
 mod rows;
 mod single;
 mod tally;
@@ -12,8 +12,8 @@ mod tally;
 mod tests;
 
 pub use grid::{Cell, Grid};
-pub use parts::Parts;
 pub use row::Row;
+pub use row_key::RowKey;
 pub use rows::rows_of;
 pub use single::Single;
 pub use tally::Tally;

@@ -1,9 +1,9 @@
 //! A row: games with five parts in common, counted.
 ghost use Rattle.std.specs.Prelude.{◌≡◌, ◌<◌, ◌^◌, cond, is_some};
-ghost use Rattle.tally_rows.specs.Parts.{same_parts};
-ghost use Rattle.tally_rows.specs.Row.{parts_of, combined, row_of, rating_entries, month_entries, is_white, is_draw, is_black, month_rank, Fit};
+ghost use Rattle.tally_rows.specs.RowKey.{same_row_key};
+ghost use Rattle.tally_rows.specs.Row.{row_key_of, combined, row_of, rating_entries, month_entries, is_white, is_draw, is_black, month_rank, Fit};
 
-use crate::{Parts, Single};
+use crate::{RowKey, Single};
 use best_lists::{Best4, ByMonth, ByRating};
 use explorer_model::archive::{Group, Month, Outcome, Speed};
 use explorer_model::chess::Move;
@@ -33,10 +33,10 @@ pub struct Row {
 
 impl Row {
     /// What the row's games have in common.
-    pub fn parts(&self) -> Parts
-        ensures { result ≡ parts_of self.now }
+    pub fn row_key(&self) -> RowKey
+        ensures { result ≡ row_key_of self.now }
     {
-        Parts {
+        RowKey {
             key: self.key,
             next: self.next,
             month: self.month,
@@ -46,11 +46,11 @@ impl Row {
     }
 
     /// Whether both rows count games with the same five parts.
-    #[tactic(auto, unfolding(crate::specs::Parts::same_parts, crate::specs::Parts::parts_order))]
-    pub fn has_parts_of(&self, other: &Row) -> bool
-        ensures { result ≡ same_parts (parts_of self.now) (parts_of other.now) }
+    #[tactic(auto, unfolding(crate::specs::RowKey::same_row_key, crate::specs::RowKey::row_order))]
+    pub fn has_row_key_of(&self, other: &Row) -> bool
+        ensures { result ≡ same_row_key (row_key_of self.now) (row_key_of other.now) }
     {
-        self.parts().cmp(&other.parts()).is_eq()
+        self.row_key().cmp(&other.row_key()).is_eq()
     }
 
     /// The row of one game.
@@ -61,11 +61,11 @@ impl Row {
     {
         let (white, draws, black) = counts_of(single.outcome);
         Row {
-            key: single.parts.key,
-            next: single.parts.next,
-            month: single.parts.month,
-            speed: single.parts.speed,
-            group: single.parts.group,
+            key: single.row_key.key,
+            next: single.row_key.next,
+            month: single.row_key.month,
+            speed: single.row_key.speed,
+            group: single.row_key.group,
             white,
             draws,
             black,
@@ -78,7 +78,7 @@ impl Row {
     /// The row of the games of both. A game that counts in both counts twice.
     #[tactic(auto, unfolding(crate::specs::Row::combined))]
     pub fn combine(&self, other: &Row) -> Row
-        requires same { parts_of self.now ≡ parts_of other.now }
+        requires same { row_key_of self.now ≡ row_key_of other.now }
         requires fit { Fit self.now other.now }
         ensures { result ≡ combined self.now other.now }
     {
@@ -113,10 +113,10 @@ fn counts_of(outcome: Outcome) -> (u32, u32, u32)
 
 /// The rating of the side to move, where it moves.
 fn ratings_of(single: &Single) -> u64
-    ensures rating { result ≡ cond (is_some single.now.parts.next) single.now.rating 0 }
+    ensures rating { result ≡ cond (is_some single.now.row_key.next) single.now.rating 0 }
     ensures small { result < 2 ^ 16 }
 {
-    if single.parts.next.is_some() {
+    if single.row_key.next.is_some() {
         u64::from(single.rating)
     } else {
         0
@@ -127,7 +127,7 @@ fn ratings_of(single: &Single) -> u64
 fn top_of(single: &Single) -> Best4<ByRating>
     ensures { result ≡ rating_entries single.now }
 {
-    if single.parts.next.is_some() {
+    if single.row_key.next.is_some() {
         Best4::one(single.sum, single.number)
     } else {
         Best4::empty()
@@ -138,8 +138,8 @@ fn top_of(single: &Single) -> Best4<ByRating>
 fn recent_of(single: &Single) -> Best4<ByMonth>
     ensures { result ≡ month_entries single.now }
 {
-    if single.parts.next.is_some() {
-        Best4::one(month_rank(single.parts.month), single.number)
+    if single.row_key.next.is_some() {
+        Best4::one(month_rank(single.row_key.month), single.number)
     } else {
         Best4::empty()
     }

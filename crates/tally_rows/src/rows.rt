@@ -11,7 +11,8 @@ use std::alloc::{AllocError, Global};
 /// The rows of games, from the singles of each of them in each position that it visits.
 pub fn rows_of(alloc: Global, mut singles: Vec<Single>) -> Result<Vec<Row>, AllocError>
     requires { vec_len singles < 2 ^ 32 }
-    ensures { IfOk result (λ rows. (tracks : List Track) → AreSingles tracks singles.items → Tallied tracks rows.items) }
+    ensures { IfOk result (λ rows. (tracks : List Track) → AreSingles tracks singles.items
+        → Tallied tracks rows.items) }
 {
     singles.sort_unstable();
     combine_sorted(alloc, singles.as_slice())
@@ -29,7 +30,7 @@ fn combine_sorted(alloc: Global, singles: &[Single]) -> Result<Vec<Row>, AllocEr
     let mut last = Row::of(first);
     for single in rest {
         let row = Row::of(single);
-        if last.has_parts_of(&row) {
+        if last.has_row_key_of(&row) {
             last = last.combine(&row);
         } else {
             rows.push(last)?;

@@ -5,14 +5,14 @@ ghost use Rattle.std.specs.Cmp.{partial_order_from_own_ties};
 ghost use Rattle.std.specs.Cmp.Rules.{comparing};
 ghost use Rattle.std.specs.Ordering.{as_partial_cmp, eq_by_cmp};
 
-use crate::Parts;
+use crate::RowKey;
 use explorer_model::archive::Outcome;
 use std::cmp::Ordering;
 
 /// One game in one position that it visits.
 #[derive(Clone, Copy, Debug)]
 pub struct Single {
-    pub parts: Parts,
+    pub row_key: RowKey,
     /// The game's place in the list of games, from 0.
     pub number: u32,
     pub outcome: Outcome,
@@ -30,7 +30,7 @@ impl PartialEq for Single {
 
     ghost laws = { Prim.search (comparing, single_order-total, rules) };
 
-    #[tactic(auto, unfolding(crate::specs::Parts::parts_order))]
+    #[tactic(auto, unfolding(crate::specs::RowKey::row_order))]
     fn eq(&self, other: &Single) -> bool {
         self.cmp(other).is_eq()
     }
@@ -53,10 +53,10 @@ impl Ord for Single {
 
     ghost matches_eq = { Prim.search (comparing, rules) };
 
-    #[tactic(auto, unfolding(crate::specs::Parts::parts_order))]
+    #[tactic(auto, unfolding(crate::specs::RowKey::row_order))]
     fn cmp(&self, other: &Single) -> Ordering {
-        self.parts
-            .cmp(&other.parts)
+        self.row_key
+            .cmp(&other.row_key)
             .then(self.number.cmp(&other.number))
     }
 }

@@ -46,6 +46,16 @@ impl Tally {
         self.batch
     }
 
+    /// The batch, what the tags say of its games, and the rows that count them.
+    pub fn into_parts(self) -> (Batch, Items<Classes>, Items<Row>)
+        ensures batch { result.0 ≡ self.batch }
+        ensures classes { result.1 ≡ self.classes }
+        ensures rows { result.2 ≡ self.rows }
+        ensures counted { IsCounted self }
+    {
+        (self.batch, self.classes, self.rows)
+    }
+
     pub fn batch(&self) -> &Batch
         ensures batch { result.now ≡ self.now.batch }
         ensures counted { IsCounted self.now }

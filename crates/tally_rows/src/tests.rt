@@ -1,6 +1,6 @@
 ghost use Rattle.std.specs.Prelude.{◌≡◌};
 
-use crate::{Cell, Grid, Parts, Row, Single, rows_of};
+use crate::{Cell, Grid, Row, RowKey, Single, rows_of};
 use best_lists::Entry;
 use explorer_model::answer::Totals;
 use explorer_model::archive::{Group, Month, Outcome, Speed};
@@ -24,8 +24,8 @@ fn king_pawn() -> Move {
     }
 }
 
-fn parts(first: u8, next: Option<Move>) -> Parts {
-    Parts {
+fn row_key(first: u8, next: Option<Move>) -> RowKey {
+    RowKey {
         key: key(first),
         next,
         month: Month {
@@ -37,11 +37,11 @@ fn parts(first: u8, next: Option<Move>) -> Parts {
     }
 }
 
-fn single(parts: Parts, number: u32, outcome: Outcome, rating: u16, sum: u32) -> Single
-    ensures { result.parts ≡ parts }
+fn single(row_key: RowKey, number: u32, outcome: Outcome, rating: u16, sum: u32) -> Single
+    ensures { result.row_key ≡ row_key }
 {
     Single {
-        parts,
+        row_key,
         number,
         outcome,
         rating,
@@ -50,11 +50,11 @@ fn single(parts: Parts, number: u32, outcome: Outcome, rating: u16, sum: u32) ->
 }
 
 #[test]
-fn rows_count_the_games_of_their_parts(rt: HostRuntime) -> Result<(), Fail> {
-    let played = parts(1, Some(king_pawn()));
+fn rows_count_the_games_of_their_row_key(rt: HostRuntime) -> Result<(), Fail> {
+    let played = row_key(1, Some(king_pawn()));
     let singles = vec![in rt.alloc();
         single(played, 0, Outcome::White, 1700, 3300),
-        single(parts(1, None), 1, Outcome::Draw, 1650, 3310),
+        single(row_key(1, None), 1, Outcome::Draw, 1650, 3310),
         single(played, 2, Outcome::Black, 1600, 3400),
     ]?;
     let rows = rows_of(rt.alloc(), singles)?;
@@ -105,8 +105,8 @@ fn promotes(to: Square, role: Role) -> Option<Move> {
 }
 
 #[test]
-fn parts_stand_by_key_move_month_speed_and_group(rt: HostRuntime) -> Result<(), Fail> {
-    let first = parts(1, None);
+fn row_keys_stand_by_key_move_month_speed_and_group(rt: HostRuntime) -> Result<(), Fail> {
+    let first = row_key(1, None);
     let a8 = Square { index: 56 };
     let b8 = Square { index: 57 };
     let later = Month {
@@ -115,23 +115,23 @@ fn parts_stand_by_key_move_month_speed_and_group(rt: HostRuntime) -> Result<(), 
     };
     let ascending = [
         first,
-        Parts {
+        RowKey {
             group: Group { value: 2500 },
             ..first
         },
-        Parts {
+        RowKey {
             speed: Speed::Rapid,
             ..first
         },
-        Parts {
+        RowKey {
             month: later,
             ..first
         },
-        parts(1, Some(king_pawn())),
-        parts(1, promotes(a8, Role::Knight)),
-        parts(1, promotes(a8, Role::Queen)),
-        parts(1, promotes(b8, Role::Knight)),
-        parts(2, None),
+        row_key(1, Some(king_pawn())),
+        row_key(1, promotes(a8, Role::Knight)),
+        row_key(1, promotes(a8, Role::Queen)),
+        row_key(1, promotes(b8, Role::Knight)),
+        row_key(2, None),
     ];
     for pair in ascending.windows(2) {
         assert!(rt; pair[0] < pair[1]);
@@ -141,10 +141,10 @@ fn parts_stand_by_key_move_month_speed_and_group(rt: HostRuntime) -> Result<(), 
 
 #[test]
 fn combined_rows_have_the_sums(rt: HostRuntime) -> Result<(), Fail> {
-    let played = parts(1, Some(king_pawn()));
+    let played = row_key(1, Some(king_pawn()));
     let one = Row::of(&single(played, 5, Outcome::White, 1700, 3300));
     let other = Row::of(&single(played, 9, Outcome::White, 1650, 3310));
-    assert!(rt; one.has_parts_of(&other) && one.parts() == played);
+    assert!(rt; one.has_row_key_of(&other) && one.row_key() == played);
     let both = one.combine(&other);
     assert_eq!(rt;
         (both.white, both.draws, both.black, both.ratings),
@@ -156,7 +156,7 @@ fn combined_rows_have_the_sums(rt: HostRuntime) -> Result<(), Fail> {
 
 #[test]
 fn grids_sum_what_is_chosen(rt: HostRuntime) -> Result<(), Fail> {
-    let row = Row::of(&single(parts(1, Some(king_pawn())), 5, Outcome::Draw, 1700, 3300));
+    let row = Row::of(&single(row_key(1, Some(king_pawn())), 5, Outcome::Draw, 1700, 3300));
     let mut grid = Grid::<2, 3>::new();
     grid.add(1, 2, &row);
     let counted = Cell {

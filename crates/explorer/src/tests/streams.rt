@@ -1,7 +1,9 @@
 //! Streams of texts: which games count, and what is reported of the others.
 ghost use Rattle.std.specs.Prelude.{◌<◌};
 
-use super::{NO_GAME, ONE_DRAW, ONE_WHITE, Tags, faultless, game, named, one_move, run_on, tagged};
+use super::{
+    FAULTLESS, NEVER, NO_GAME, ONE_DRAW, ONE_WHITE, Tags, game, named, one_move, run_on, tagged,
+};
 use std::alloc::{AllocError, Global};
 use std::test::Fail;
 
@@ -10,18 +12,14 @@ use std::test::Fail;
 fn counts(
     rt: &HostRuntime,
     text: &str,
-    piece: usize,
+    most: usize,
     answer: &str,
     report: &str,
 ) -> Result<bool, AllocError>
-    requires { 0 < piece }
+    requires { 0 < most }
 {
-    let alloc = rt.alloc();
-    let failing = faultless(alloc);
-    let seen = run_on(rt, &["count"], text, piece, failing)?;
-    let printed = seen.output.bytes() == answer.as_bytes();
-    let reported = seen.errors.bytes() == report.as_bytes();
-    Ok(seen.status == 0 && printed && reported)
+    let seen = run_on(rt, &["count"], text, most, FAULTLESS)?;
+    Ok(seen.is(0, answer, report))
 }
 
 #[test]
@@ -32,9 +30,9 @@ fn answers_alike_at_each_read_size(rt: HostRuntime) -> Result<(), Fail> {
     let draw = game(alloc, "1/2-1/2", "1/2-1/2")?;
     let text = format!(in alloc; "hello\n{unknown}\n{differs}{draw}")?;
     let report = "0 Preamble\n6 UnknownResult\n197 ResultDiffers\n";
-    for piece in 1..=100 {
-        let counts = counts(&rt, text.as_str(), piece, ONE_DRAW, report)?;
-        assert!(rt; counts, "{piece}");
+    for most in 1..=100 {
+        let counts = counts(&rt, text.as_str(), most, ONE_DRAW, report)?;
+        assert!(rt; counts, "{most}");
     }
     Ok(())
 }
@@ -176,31 +174,54 @@ fn won(alloc: Global, games: u32) -> Result<String, AllocError> {
     )
 }
 
+/// So many moveless games that White won, each of 194 bytes, with ids of their own.
+fn games(alloc: Global, count: u32) -> Result<String, AllocError> {
+    let mut text = String::new(alloc);
+    for number in 0..count {
+        let id = format!(in alloc; "{number:08}")?;
+        let game = named(alloc, id.as_str(), "1-0", "1-0")?;
+        text.push_str(game.as_str())?;
+    }
+    Ok(text)
+}
+
 /// A group has 512 texts, and ids are compared within a group alone.
 #[test]
 fn counts_the_games_of_two_groups(rt: HostRuntime) -> Result<(), Fail> {
     let alloc = rt.alloc();
-    let mut text = String::new(alloc);
-    for number in 10_000_000..10_000_513 {
-        let id = format!(in alloc; "{number}")?;
-        let game = named(alloc, id.as_str(), "1-0", "1-0")?;
+    let mut text = games(alloc, 512)?;
+    let answer = won(alloc, 512)?;
+    assert!(rt; counts(&rt, text.as_str(), 4096, answer.as_str(), "")?);
+    for id in ["00000512", "00000000", "00000512"] {
+        let game = named(alloc, id, "1-0", "1-0")?;
         text.push_str(game.as_str())?;
     }
-    let answer = won(alloc, 513)?;
-    assert!(rt; counts(&rt, text.as_str(), 4096, answer.as_str(), "")?);
-    let first = named(alloc, "10000000", "1-0", "1-0")?;
-    text.push_str(first.as_str())?;
-    let last = named(alloc, "10000512", "1-0", "1-0")?;
-    text.push_str(last.as_str())?;
     let answer = won(alloc, 514)?;
-    assert!(rt;
-        counts(
-            &rt,
-            text.as_str(),
-            4096,
-            answer.as_str(),
-            "99716 Twice 99328\n"
-        )?
-    );
+    let report = "99716 Twice 99328\n";
+    assert!(rt; counts(&rt, text.as_str(), 4096, answer.as_str(), report)?);
+    Ok(())
+}
+
+/// A text ends where the next begins, so that the last one of a stream that is cut off has not
+/// ended, and a group is reported once its last text has.
+#[test]
+fn reports_whole_groups_where_a_read_fails(rt: HostRuntime) -> Result<(), Fail> {
+    let alloc = rt.alloc();
+    let unknown = game(alloc, "*", "*")?;
+    let whole = games(alloc, 511)?;
+    let beyond = games(alloc, 512)?;
+    let one_group = format!(in alloc; "{unknown}{whole}")?;
+    let two_groups = format!(in alloc; "{unknown}{beyond}")?;
+    let table = [
+        (one_group.as_str(), NEVER, "read fault\n"),
+        (two_groups.as_str(), NEVER, "0 UnknownResult\nread fault\n"),
+        (two_groups.as_str(), 0, "read fault\n"),
+        (two_groups.as_str(), 1, "0 UnknownResult\n"),
+    ];
+    for (text, failing, report) in table {
+        let reads = text.len().div_ceil(4096) as u64;
+        let seen = run_on(&rt, &["count"], text, 4096, [reads, NEVER, failing])?;
+        assert!(rt; seen.is(4, "", report), "{report}");
+    }
     Ok(())
 }

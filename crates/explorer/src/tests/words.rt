@@ -1,6 +1,6 @@
 //! The words of the command line, queries that are refused, and runs that end by a fault.
-use super::{Failing, ONE_WHITE, game, run_on, with_name};
-use crate::command::{Command, asked};
+use super::{NEVER, ONE_WHITE, game, run_on, with_name};
+use crate::command::{Command, parse_words};
 use std::alloc::{AllocError, Global};
 use std::test::Fail;
 
@@ -10,24 +10,19 @@ fn tells_of_faults(rt: HostRuntime) -> Result<(), Fail> {
     let win = game(alloc, "1-0", "1-0")?;
     let unknown = game(alloc, "*", "*")?;
     let text = format!(in alloc; "{unknown}\n{win}")?;
-    let table: [([u64; 3], u8, &str, &str); 6] = [
-        ([1, 9, 9], 4, "", "read fault\n"),
-        ([2, 9, 9], 4, "", "read fault\n"),
-        ([9, 0, 9], 5, "", "0 UnknownResult\nwrite fault\n"),
-        ([9, 9, 0], 5, ONE_WHITE, "write fault\n"),
-        ([9, 9, 1], 0, ONE_WHITE, "0 UnknownResult\n"),
-        ([2, 9, 0], 4, "", ""),
+    let table = [
+        ([1, NEVER, NEVER], 4, "", "read fault\n"),
+        ([2, NEVER, NEVER], 4, "", "read fault\n"),
+        ([2, NEVER, 0], 4, "", ""),
+        ([NEVER, 0, NEVER], 5, "", "0 UnknownResult\nwrite fault\n"),
+        ([NEVER, 0, 0], 5, "", "write fault\n"),
+        ([NEVER, 0, 1], 5, "", "0 UnknownResult\n"),
+        ([NEVER, NEVER, 0], 5, ONE_WHITE, "write fault\n"),
+        ([NEVER, NEVER, 1], 0, ONE_WHITE, "0 UnknownResult\n"),
     ];
-    for ([reads, output, errors], status, answer, report) in table {
-        let failing = Failing {
-            reads: vec![in alloc; reads]?,
-            output: vec![in alloc; output]?,
-            errors: vec![in alloc; errors]?,
-        };
-        let seen = run_on(&rt, &["count"], text.as_str(), 100, failing)?;
-        assert_eq!(rt; seen.status, status);
-        assert!(rt; seen.output.bytes() == answer.as_bytes());
-        assert!(rt; seen.errors.bytes() == report.as_bytes());
+    for (failing, status, answer, report) in table {
+        let seen = run_on(&rt, &["count"], text.as_str(), 200, failing)?;
+        assert!(rt; seen.is(status, answer, report), "{status} {report}");
     }
     Ok(())
 }
@@ -35,7 +30,7 @@ fn tells_of_faults(rt: HostRuntime) -> Result<(), Fail> {
 /// Whether the words ask for a count of this query by so many workers.
 fn asks_for(alloc: Global, words: &[&str], query: &str, workers: u8) -> Result<bool, AllocError> {
     let all = with_name(alloc, words)?;
-    let Ok(command) = asked(alloc, all.as_slice()) else {
+    let Ok(command) = parse_words(alloc, all.as_slice()) else {
         return Ok(false);
     };
     Ok(is_count(&command, query, workers))
@@ -69,14 +64,12 @@ fn reads_what_is_asked(rt: HostRuntime) -> Result<(), Fail> {
 #[test]
 fn refuses_other_words(rt: HostRuntime) -> Result<(), Fail> {
     let alloc = rt.alloc();
-    let table: [(&[&str], &str); 9] = [
+    let table: [(&[&str], &str); 7] = [
         (
             &[],
             "error: 'explorer' requires a subcommand but one was not provided\n",
         ),
         (&["fly"], "error: unrecognized subcommand 'fly'\n"),
-        (&["Count"], "error: unrecognized subcommand 'Count'\n"),
-        (&["help"], "error: unrecognized subcommand 'help'\n"),
         (
             &["--help"],
             "An opening explorer for games of chess\n\nUsage: explorer <COMMAND>\n",
@@ -99,12 +92,7 @@ fn refuses_other_words(rt: HostRuntime) -> Result<(), Fail> {
         ),
     ];
     for (words, front) in table {
-        let failing = Failing {
-            reads: vec![in alloc; 0]?,
-            output: Vec::new(alloc),
-            errors: Vec::new(alloc),
-        };
-        let seen = run_on(&rt, words, "", 1, failing)?;
+        let seen = run_on(&rt, words, "", 1, [0, NEVER, NEVER])?;
         assert_eq!(rt; seen.status, 2);
         assert!(rt; seen.output.bytes() == b"".as_slice());
         assert!(rt;
@@ -121,10 +109,7 @@ fn refuses_malformed_queries_before_the_input(rt: HostRuntime) -> Result<(), Fai
     let alloc = rt.alloc();
     let table = [
         ("speeds=blitz,slow&ratings=5", "bad parameter speeds\n"),
-        ("ratings=5", "bad parameter ratings\n"),
-        ("moves=-1", "bad parameter moves\n"),
         ("moves=3&moves=3", "bad parameter moves\n"),
-        ("play=e2e5", "bad parameter play\n"),
         ("fen=8/8/8/8/8/8/8/8+w+-+-", "bad parameter fen\n"),
         ("until=2020-1&since=2020-13", "bad parameter since\n"),
         ("history=yes&variant=chess960", "bad parameter variant\n"),
@@ -134,15 +119,8 @@ fn refuses_malformed_queries_before_the_input(rt: HostRuntime) -> Result<(), Fai
         ),
     ];
     for (query, line) in table {
-        let failing = Failing {
-            reads: vec![in alloc; 0]?,
-            output: Vec::new(alloc),
-            errors: Vec::new(alloc),
-        };
-        let seen = run_on(&rt, &["count", query], "", 1, failing)?;
-        assert_eq!(rt; seen.status, 3);
-        assert!(rt; seen.output.bytes() == b"".as_slice());
-        assert!(rt; seen.errors.bytes() == line.as_bytes(), "{query}");
+        let seen = run_on(&rt, &["count", query], "", 1, [0, NEVER, NEVER])?;
+        assert!(rt; seen.is(3, "", line), "{query}");
     }
     Ok(())
 }

@@ -1,4 +1,5 @@
-//! Legal moves against counts that programs agree on, and against what the Laws say of single moves.
+//! Legal moves against counts that programs agree on, and against what the Laws say of single
+//! moves.
 use super::{ALL_RIGHTS, NO_RIGHTS, WHITE_RIGHTS, position, square};
 use crate::board::Board;
 use explorer_model::chess::{Color, Move, Position};
@@ -9,7 +10,8 @@ fn count_moves(at: &Position) -> Option<usize> {
     Some(board.legal().len())
 }
 
-/// The counts are those that programs agree on, as the wiki of chess programming lists them under 'Perft Results'.
+/// The counts are those that programs agree on, as the wiki of chess programming lists them under
+/// 'Perft Results'.
 #[test]
 fn legal_moves_are_as_many_as_known(rt: HostRuntime) {
     assert_eq!(rt; Board::start().legal().len(), 20);
@@ -63,7 +65,7 @@ fn count_between(at: &Position, name: &[u8; 4]) -> usize {
         .legal()
         .as_slice()
         .iter()
-        .filter(|step| step.from == from && step.to == to)
+        .filter(|m| m.from == from && m.to == to)
         .count()
 }
 
@@ -84,7 +86,8 @@ fn moves_are_listed_where_the_laws_say_so(rt: HostRuntime) {
         ("4k3/P7/8/8/8/8/8/R3K2R", white, None, b"a7a8", 4),
         ("4k3/8/8/8/8/4n3/4P3/R3K2R", white, None, b"e2e4", 0),
         ("4k3/8/8/8/1b6/2N5/8/R3K2R", white, None, b"c3d5", 0),
-        // Taking en passant leaves the rank between the rook and the king empty, unless the rook stands elsewhere.
+        // Taking en passant leaves the rank between the rook and the king empty, unless the rook
+        // stands elsewhere.
         (
             "8/2p5/3p4/KP6/1R2Pp1k/8/8/8",
             Color::Black,

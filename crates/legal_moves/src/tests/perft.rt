@@ -10,8 +10,8 @@ fn count_lines(board: &Board, depth: u32) -> u64 {
         return moves.len() as u64;
     }
     let mut total: u64 = 0;
-    for step in moves.as_slice() {
-        total = total.wrapping_add(count_lines(&board.play(*step), depth - 1));
+    for m in moves.as_slice() {
+        total = total.wrapping_add(count_lines(&board.play(*m), depth - 1));
     }
     total
 }

@@ -5,7 +5,7 @@ use Rattle.packed_keys.proofs.key_bytes.Given as goal
 abbrev pub invariant-loop-byte : goal.invariant-loop-byte
 invariant-loop-byte l = record {
   size : length l.bytes ≡ 34;
-  men : (k : ℕ) → k < l.byte → slice_index_or l.bytes k 0 ≡ byte_at l.squares k;
+  pieces : (k : ℕ) → k < l.byte → slice_index_or l.bytes k 0 ≡ byte_at l.squares k;
   state : slice_index_or l.bytes 32 0 ≡ l.state;
   en_passant : slice_index_or l.bytes 33 0 ≡ l.en_passant;
 }

@@ -5,5 +5,5 @@ use Rattle.packed_keys.proofs.unpack.Given as goal
 abbrev pub invariant-loop-byte : goal.invariant-loop-byte
 invariant-loop-byte l = record {
   board : length l.squares ≡ 64;
-  men : (k : ℕ) → k < l.byte → slice_index_or l.bytes k 0 ≡ byte_at l.squares k;
+  pieces : (k : ℕ) → k < l.byte → slice_index_or l.bytes k 0 ≡ byte_at l.squares k;
 }

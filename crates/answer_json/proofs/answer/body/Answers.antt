@@ -1,11 +1,11 @@
 use Rattle.std.proofs.Common.{◌∙◌, ap, arith}
 use Rattle.serde_json.specs.Written.{has_float}
-use Rattle.explorer_model.specs.Answer.{answer_body}
+use Rattle.explorer_model.specs.Answer.{named_body}
 use Rattle.answer_json.proofs.Values.{no_float-answer}
 use Rattle.answer_json.proofs.answer.body.Goals as goal
 
 pub returns : goal.returns
-unfolding answer_body
+unfolding named_body
 returns c =
     let is = c.in_ok-answer_value.ensures in
     let sound = ap has_float is ∙ no_float-answer c.args.found.now in

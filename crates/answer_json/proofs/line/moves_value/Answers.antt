@@ -1,7 +1,9 @@
-use Rattle.std.proofs.Common.{arith}
-use Rattle.explorer_model.specs.Answer.{move_value}
-use Rattle.answer_json.proofs.Values.{all_valued}
+use Rattle.std.proofs.Common.{◌∙◌, ap, arith, None}
+use Rattle.serde_json.specs.Data.{array}
+use Rattle.answer_json.proofs.Values.{all_valued, plain_move, moves-unnamed}
 use Rattle.answer_json.proofs.line.moves_value.Goals as goal
 
 pub returns : goal.returns
-returns c = all_valued move_value c.loop-line.values c.args.lines.now c.loop-line.line-index (omega arith) c.loop-line.invariant
+returns c =
+    all_valued plain_move c.loop-line.values c.args.lines.now c.loop-line.line-index (omega arith) c.loop-line.invariant
+    ∙ ap array (moves-unnamed c.args.lines.now)

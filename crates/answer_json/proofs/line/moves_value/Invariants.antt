@@ -1,7 +1,7 @@
 use Rattle.std.proofs.Common.{◌≡◌, map, take}
 use Rattle.serde_json.specs.View.{view}
-use Rattle.explorer_model.specs.Answer.{move_value}
+use Rattle.answer_json.proofs.Values.{plain_move}
 use Rattle.answer_json.proofs.line.moves_value.Given as goal
 
 abbrev pub invariant-loop-line : goal.invariant-loop-line
-invariant-loop-line l = map view l.values.items ≡ map move_value (take l.line-index l.lines)
+invariant-loop-line l = map view l.values.items ≡ map plain_move (take l.line-index l.lines)

@@ -1,4 +1,4 @@
-use Rattle.batch_tally.proofs.Fates.{Sorting}
+use Rattle.batch_tally.proofs.Verdicts.{Sorting}
 use Rattle.batch_tally.proofs.accepting.accept.Given as goal
 
 abbrev pub invariant-loop-reading : goal.invariant-loop-reading

@@ -3,7 +3,7 @@ use Rattle.std.specs.List.{All}
 use Rattle.tally_rows.specs.Tally.{Counted}
 use Rattle.batch_tally.specs.declared.accepting.Accepted.{Accepted}
 use Rattle.batch_tally.specs.Accepting.{candidate_as}
-use Rattle.batch_tally.specs.Singles.{AreLegal}
+use Rattle.explorer_model.specs.Visits.{AreLegal}
 use Rattle.batch_tally.specs.Tallying.{Counts}
 use Rattle.batch_tally.proofs.Made.{games-legal, made-of, made-counted, made-counts}
 use Rattle.batch_tally.proofs.tallying.tally_of.Goals as goal

@@ -1,48 +1,68 @@
-use Rattle.std.proofs.Common.{◌≡◌, ℕ, List, true, Err, inl, refl, sym, subst, rules}
-use Rattle.explorer_model.specs.declared.query.BadParameter.{BadParameter}
-use Rattle.explorer_model.specs.Query.{QueryReads}
-use Rattle.explorer.specs.declared.fault.Fault.{Fault}
-use Rattle.explorer.specs.declared.fault.Fault.TheVariants as faults
-use Rattle.explorer.specs.Faults.{HasCause, moment}
-use Rattle.explorer.proofs.Answering.{no_query, one_parameter, is_counted}
-use Rattle.explorer.specs.declared.import.Import.{Import}
-use Rattle.explorer.proofs.Ending.{too_much_on}
+use Rattle.std.proofs.Common.{◌≡◌, ◌⊎◌, inl, inr, None, Ok, ap, sym, ◌∙◌}
+use Rattle.outside.proofs.StreamLemmas.{takes-faults}
+use Rattle.explorer.specs.Count.{Counts}
+use Rattle.explorer.specs.Faults.{fault_of_end, fault_of_query}
+use Rattle.explorer.specs.Report.{report}
+use Rattle.explorer.specs.Run.{Starves}
+use Rattle.explorer.specs.World.{World, world}
+use Rattle.explorer.proofs.CountLemmas.{all_came, answered, broken, by_residual, starved_by, starves_later, unread_query, unwritten_by, write_one}
 use Rattle.explorer.proofs.count.count.Goals as goal
 
-pub returns-in-Err-Fault-clause-malformed : goal.returns-in-Err-Fault-clause-malformed
-returns-in-Err-Fault-clause-malformed g c = λ parameter reads.
-    let same : c.in-Err-Fault.bad ≡ parameter = one_parameter _ _ _ c.query_is_determined.ensures (rw c.in-Err-Fault.field-0-is at c.in-Err-Fault.ensures.reads) reads in
-    let is = c.of_query.ensures in
-    inl (cc)
+pub returns-in_err-query : goal.returns-in_err-query
+returns-in_err-query g c =
+    let before : World = world (g.I.Source.source c.args.input.now) (g.O.Sink.sink c.args.output.now) (g.E.Sink.sink c.args.errors.now) in
+    by_residual c.from_residual.result (λ fault. fault ≡ fault_of_query c.in_err-query.field-0.0) (λ ending. Starves before before ending ⊎ Counts c.args.query_text.now before before ending) c.from_residual.ensures.1
+    (λ fault is. unread_query c.args.query_text.now before c.in_err-query.field-0.0 fault is c.in_err-query.ensures.reads)
 
-pub returns-in-Err-clause-malformed : goal.returns-in-Err-clause-malformed
-returns-in-Err-clause-malformed g c = λ parameter reads. absurd (no_query _ _ _ c.query_is_determined.ensures c.in-Ok.ensures.reads reads)
+pub returns-in_err-lines : goal.returns-in_err-lines
+returns-in_err-lines g c =
+    starved_by c.from_residual-in_err-lines.result c.args.query_text.now _ _ c.from_residual-in_err-lines.ensures.1
+    (starves_later _ _ _ _ c.in_ok-imported.imported c.in_ok-imported.ensures.imports)
 
-pub returns-in_default-write-clause-malformed : goal.returns-in_default-write-clause-malformed
-returns-in_default-write-clause-malformed g c = λ parameter reads. absurd (no_query _ _ _ c.query_is_determined.ensures c.in-Ok.ensures.reads reads)
+pub returns-in-Some : goal.returns-in-Some
+returns-in-Some g c =
+    inr (broken c.args.query_text.now c.in_ok-query.query _ _ _ _ _ c.in_ok-imported.imported c.in-Some.fault c.as_slice-in-Some.result.now c.in_ok-query.ensures.reads c.in_ok-imported.ensures.imports
+    (sym c.fault.ensures ∙ c.in-Some.is) (c.as_slice-in-Some.ensures.value ∙ c.in_ok-lines.ensures ∙ ap report c.as_slice.ensures.value)
+    (write_one c.write_lines.result _ _ _ c.write_lines.ensures.takes c.write_lines.ensures.fails))
 
-pub returns-then-not-import-clause-malformed : goal.returns-then-not-import-clause-malformed
-returns-then-not-import-clause-malformed g c = λ parameter reads. absurd (no_query _ _ _ c.query_is_determined.ensures c.in-Ok.ensures.reads reads)
+pub returns-in_err-answer : goal.returns-in_err-answer
+returns-in_err-answer g c =
+    starved_by c.from_residual-in_err-answer.result c.args.query_text.now _ _ c.from_residual-in_err-answer.ensures.1
+    (starves_later _ _ _ _ c.in_ok-imported.imported c.in_ok-imported.ensures.imports)
 
-pub returns-clause-malformed : goal.returns-clause-malformed
-returns-clause-malformed g c = λ parameter reads. absurd (no_query _ _ _ c.query_is_determined.ensures c.in-Ok.ensures.reads reads)
+pub returns-in_err-reported : goal.returns-in_err-reported
+returns-in_err-reported g c =
+    let none : fault_of_end c.in_ok-imported.imported.end ≡ None = sym c.fault.ensures ∙ c.in_default.is in
+    let answers = answered c.in_ok-query.query _ _ _ _ _ _ c.in_ok-imported.imported _ _ c.in_ok-answer.answer.items _ c.in_ok-imported.ensures.imports none
+    (c.as_slice-3.ensures.value ∙ c.in_ok-lines.ensures ∙ ap report c.as_slice.ensures.value) (write_one c.write_lines-reported.result _ _ _ c.write_lines-reported.ensures.takes c.write_lines-reported.ensures.fails)
+    c.as_slice-2.ensures.value c.in_ok-answer.ensures c.as_slice-4.ensures.value (write_one c.write-answered.result _ _ _ c.write-answered.ensures.takes c.write-answered.ensures.fails) in
+    unwritten_by c.from_residual-in_err-reported.result c.args.query_text.now c.in_ok-query.query _ _ c.from_residual-in_err-reported.ensures.1 c.in_ok-query.ensures.reads answers
+    (record { reads = all_came _ _ c.in_ok-imported.imported c.in_ok-imported.ensures.imports none; rises = inr c.in_err-reported.ensures.fails.rises })
 
-pub returns-clause-counted : goal.returns-clause-counted
-returns-clause-counted g c =
-    let all : c.in-Ok-read_all.import.all_reported ≡ true = search rules in
-    is_counted c.args.query_text.now _ _ _ _ _ _ c.in-Ok.query c.in-Ok-read_all.import _ c.in-Ok-line_for.line.items _ c.in-Ok.ensures.reads c.in-Ok-read_all.ensures.read all c.as_slice.ensures.value c.in-Ok-line_for.ensures c.as_slice-2.ensures.value c.in-Ok-write.ensures.appended
+pub returns-in_err-answered : goal.returns-in_err-answered
+returns-in_err-answered g c =
+    let none : fault_of_end c.in_ok-imported.imported.end ≡ None = sym c.fault.ensures ∙ c.in_default.is in
+    let answers = answered c.in_ok-query.query _ _ _ _ _ _ c.in_ok-imported.imported _ _ c.in_ok-answer.answer.items _ c.in_ok-imported.ensures.imports none
+    (c.as_slice-3.ensures.value ∙ c.in_ok-lines.ensures ∙ ap report c.as_slice.ensures.value) (write_one c.write_lines-reported.result _ _ _ c.write_lines-reported.ensures.takes c.write_lines-reported.ensures.fails)
+    c.as_slice-2.ensures.value c.in_ok-answer.ensures c.as_slice-4.ensures.value (write_one c.write-answered.result _ _ _ c.write-answered.ensures.takes c.write-answered.ensures.fails) in
+    unwritten_by c.from_residual-in_err-answered.result c.args.query_text.now c.in_ok-query.query _ _ c.from_residual-in_err-answered.ensures.1 c.in_ok-query.ensures.reads answers
+    (record { reads = all_came _ _ c.in_ok-imported.imported c.in_ok-imported.ensures.imports none; rises = inl c.in_err-answered.ensures.fails.rises })
 
-pub returns-in-Err-clause-within : goal.returns-in-Err-clause-within
-returns-in-Err-clause-within g c = λ all. too_much_on {A = Import} {B = Unit {0}} c.in-Err.fault (c.in-Err.ensures.within all)
-
-pub returns-in-Err-Fault-clause-caused : goal.returns-in-Err-Fault-clause-caused
-returns-in-Err-Fault-clause-caused g c = λ words command asks is.
-    let P : BadParameter = c.in-Err-Fault.bad in
-    let reads : QueryReads c.args.query_text.now (Err P) = rw c.in-Err-Fault.field-0-is at c.in-Err-Fault.ensures.reads in
-    let H : Fault → Type 0 = λ fault. HasCause fault words
-    (moment (g.I.Source.left c.args.input.now) (g.I.Source.given c.args.input.now) (g.I.Source.read_fault_count c.args.input.now) (g.O.Sink.write_fault_count c.args.output.now) (g.E.Sink.write_fault_count c.args.errors.now))
-    (moment (g.I.Source.left c.args.input.now) (g.I.Source.given c.args.input.now) (g.I.Source.read_fault_count c.args.input.now) (g.O.Sink.write_fault_count c.args.output.now) (g.E.Sink.write_fault_count c.args.errors.now)) in
-    let made = c.of_query.ensures in
-    let named = c.in-Err-Fault.bad-is in
-    let told : c.of_query.result ≡ faults.BadParameter P.name = cc in
-    subst H (sym told) ((command, asks, subst (λ (text : List ℕ). QueryReads text (Err P)) (sym is) reads), refl)
+pub returns : goal.returns
+returns g c =
+    let none : fault_of_end c.in_ok-imported.imported.end ≡ None = sym c.fault.ensures ∙ c.in_default.is in
+    let answers = answered c.in_ok-query.query _ _ _ _ _ _ c.in_ok-imported.imported _ _ c.in_ok-answer.answer.items _ c.in_ok-imported.ensures.imports none
+    (c.as_slice-3.ensures.value ∙ c.in_ok-lines.ensures ∙ ap report c.as_slice.ensures.value) (write_one c.write_lines-reported.result _ _ _ c.write_lines-reported.ensures.takes c.write_lines-reported.ensures.fails)
+    c.as_slice-2.ensures.value c.in_ok-answer.ensures c.as_slice-4.ensures.value (write_one c.write-answered.result _ _ _ c.write-answered.ensures.takes c.write-answered.ensures.fails) in
+    inr (
+      Ok c.in_ok-query.query,
+      c.in_ok-query.ensures.reads,
+      (
+        answers,
+        record {
+          reads = all_came _ _ c.in_ok-imported.imported c.in_ok-imported.ensures.imports none;
+          output = takes-faults _ _ _ c.in_ok-answered.ensures.takes;
+          errors = takes-faults _ _ _ c.in_ok-reported.ensures.takes;
+        },
+      ),
+    )

@@ -2,9 +2,9 @@ use Rattle.std.proofs.Common.{◌≡◌, ◌+◌, ◌≤◌, ◌++◌, length, d
 use Rattle.explorer_model.specs.Fen.{run_text}
 use Rattle.fen_uci.proofs.writer.push_rank.Given as goal
 
-abbrev pub invariant-loop-man : goal.invariant-loop-man
-invariant-loop-man l = record {
-  text : l.text.items ++ run_text l.run (drop l.man-index l.squares) ≡ l.fn.text.items ++ run_text 0 l.squares;
-  run : l.run ≤ l.man-index;
-  room : length l.text.items + l.run ≤ length l.fn.text.items + l.man-index;
+abbrev pub invariant-loop-occupant : goal.invariant-loop-occupant
+invariant-loop-occupant l = record {
+  text : l.text.items ++ run_text l.run (drop l.occupant-index l.squares) ≡ l.fn.text.items ++ run_text 0 l.squares;
+  run : l.run ≤ l.occupant-index;
+  room : length l.text.items + l.run ≤ length l.fn.text.items + l.occupant-index;
 }

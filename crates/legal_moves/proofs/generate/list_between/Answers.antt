@@ -1,7 +1,7 @@
 use Rattle.std.proofs.Common.{◌≡◌, ℕ, ◌+◌, ◌*◌, refl, subst, arith}
 use Rattle.legal_moves.specs.Listing.{ListsBelow}
 use Rattle.legal_moves.proofs.Lists.{some-true, none-false, quiet-listed, promotions-next, promotions-listed}
-use Rattle.legal_moves.proofs.TargetLemmas.{quiet_candidate}
+use Rattle.legal_moves.proofs.DestinationLemmas.{quiet_pseudo_legal}
 use Rattle.legal_moves.proofs.generate.list_between.Goals as goal
 
 quiet_place : (a b : ℕ) → 512 * a + 8 * b + 0 + 1 ≡ 512 * a + 8 * b + 1
@@ -19,9 +19,9 @@ pub returns-then-is_promoting : goal.returns-then-is_promoting
 returns-then-is_promoting c =
     promotions-listed c.args.position.now c.args.from.index c.args.to.index c.list_promotions.new.moves.items c.args.to.on_board c.list_promotions.ensures
 
-pub list_move-requires-clause-candidate : goal.list_move-requires-clause-candidate
-list_move-requires-clause-candidate c =
-    quiet_candidate c.args.position.now _ (c.requires.reaches _ refl refl) refl
+pub list_move-requires-clause-pseudo_legal : goal.list_move-requires-clause-pseudo_legal
+list_move-requires-clause-pseudo_legal c =
+    quiet_pseudo_legal c.args.position.now _ (c.requires.destination _ refl refl) refl
     (none-false c.is_promoting.result _ c.is_promoting.ensures c.if-is_promoting.false)
 
 pub list_move-requires-clause-before : goal.list_move-requires-clause-before

@@ -1,16 +1,16 @@
 use Rattle.std.proofs.Common.{◌≡◌, ℕ, ◌+◌, ◌*◌, ◌≤◌, refl, sym, subst, arith}
 use Rattle.legal_moves.specs.Listing.{place_of, ListsBelow}
 use Rattle.legal_moves.proofs.Places.{step_with, place_of-step_with, promotions_promote}
-use Rattle.legal_moves.proofs.TargetLemmas.{promoting_candidate}
+use Rattle.legal_moves.proofs.DestinationLemmas.{promoting_pseudo_legal}
 use Rattle.legal_moves.proofs.generate.list_promotions.Goals as goal
 
 next : (a b n k : ℕ) → n ≡ 512 * a + 8 * b + 1 + k → n + 1 ≡ 512 * a + 8 * b + 1 + (k + 1)
 next a b n k e = omega arith
 
-pub list_move-requires-clause-candidate : goal.list_move-requires-clause-candidate
-list_move-requires-clause-candidate c =
-    promoting_candidate c.args.position.now (step_with c.args.from c.args.to c.loop-promotion.promotion-index)
-    (c.requires.reaches (step_with c.args.from c.args.to c.loop-promotion.promotion-index) refl refl) c.requires.promoting
+pub list_move-requires-clause-pseudo_legal : goal.list_move-requires-clause-pseudo_legal
+list_move-requires-clause-pseudo_legal c =
+    promoting_pseudo_legal c.args.position.now (step_with c.args.from c.args.to c.loop-promotion.promotion-index)
+    (c.requires.destination (step_with c.args.from c.args.to c.loop-promotion.promotion-index) refl refl) c.requires.promoting
     (promotions_promote c.loop-promotion.promotion-index c.loop-promotion-test.true)
 
 pub list_move-requires-clause-before : goal.list_move-requires-clause-before

@@ -1,11 +1,7 @@
-use Rattle.std.proofs.Common.{subst}
-use Rattle.explorer_model.specs.declared.chess.Move.{Move}
-use Rattle.explorer_model.specs.declared.chess.Position.{Position}
-use Rattle.explorer_model.specs.Chess.{Legal}
+use Rattle.legal_moves.proofs.Lists.{listed_legal}
 use Rattle.legal_moves.proofs.tests.played.Goals as goal
 
 pub play-requires : goal.play-requires
 play-requires c =
-    let step : Move = record { from = c.square.result; to = c.square-2.result; promotion = c.args.promotion } in
-    let IsLegal : Position → Type 0 = λ p. Legal p step in
-    subst IsLegal c.position.ensures.same (c.is_legal.ensures.0 c.if-is_legal.true)
+    listed_legal c.in_ok-board.board c.as_slice-m-items.result.now c.legal.result.items c.loop-m.m-index c.m-item.result c.legal.ensures.sound
+    c.as_slice-m-items.ensures.value c.loop-m-test.true c.m-item.is

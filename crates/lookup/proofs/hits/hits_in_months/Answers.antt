@@ -3,7 +3,7 @@ use Rattle.std.proofs.lemmas.List.Sums.{sum_by_more}
 use Rattle.lookup.specs.Hits.{hit_as, in_months, rows_from, games_counted}
 use Rattle.lookup.proofs.Numbered.{numbered, picked-rows, rows_from-nil, rows_from-more, AllByRecursion-more}
 use Rattle.tally_rows.specs.Recount.{picks}
-use Rattle.tally_rows.specs.Row.{parts_of}
+use Rattle.tally_rows.specs.Row.{row_key_of}
 use Rattle.tally_rows.specs.Tally.{Counted, IsCounted}
 use Rattle.lookup.proofs.hits.hits_in_months.Goals as goal
 
@@ -24,7 +24,7 @@ loop-tally-preserved c =
     let found : c.rows_of.result.now ≡ filter (λ row. bytes_eq row.key key) tally.rows = c.rows_of.ensures.rows in
     record {
       rows = c.in_ok-add_hits.ensures
-          ∙ (λ k. c.loop-tally.invariant.rows k ++ map (numbered c.loop-tally.first) (filter (λ row. pick (parts_of row)) (found k)))
+          ∙ (λ k. c.loop-tally.invariant.rows k ++ map (numbered c.loop-tally.first) (filter (λ row. pick (row_key_of row)) (found k)))
           ∙ (λ k. rows_from key pick 0 (take i tallies) ++ map (numbered (c.loop-tally.invariant.first k)) (picked-rows key pick tally.rows k))
           ∙ (λ k. rows_from key pick 0 (take i tallies) ++ map (numbered (games_counted (take i tallies))) (filter (picks key pick) (c.tally-item.is k).rows))
           ∙ sym (rows_from-more key pick tallies i tally (omega arith));

@@ -42,7 +42,7 @@ returns c =
     if-ok (λ found. P found × Q found) (λ found. IsFound (map (λ tally. tally.batch) c.args.tallies.now) c.args.query.now found) c.found_in.result
     (λ found is.
     c.tallies_recount.ensures c.args.tallies.now c.in_ok-totals.ensures.counted c.args.query.now c.pack-key.result found
-    (record { valid = valid; tidy = tidy; top = c.requires.top; recent = c.requires.recent })
+    (record { board = valid.board; tidy = tidy; top = c.requires.top; recent = c.requires.recent })
     (put-together c.args.query.now c.pack-key.result c.args.tallies.now c.in_ok-totals.ensures.counted (map hit_as c.as_slice.result.now) found rows
     (is.0 ∙ c.in_ok-totals.ensures.totals) is.1))
     (both-ok P Q c.found_in.result c.found_in.ensures.totals c.found_in.ensures.rest)

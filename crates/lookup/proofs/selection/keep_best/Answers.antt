@@ -12,11 +12,11 @@ split_at_mut-others-requires g c =
 pub loop-place-preserved : goal.loop-place-preserved
 loop-place-preserved g c =
     let values = c.loop-place.items.items in
-    let parts = c.split_at_mut-others.ensures in
+    let row_key = c.split_at_mut-others.ensures in
     let below : c.loop-place.place < c.args.most = omega (arith, c.min-place-end.ensures) in
     let within : c.loop-place.place < length values = omega (arith, c.len.ensures, c.min-place-end.ensures, c.loop-place.invariant.same_length) in
     chosen-step g.T.Ranked.before values c.deref_mut.result.now c.loop-place.place c.args.most c.args.items.now.items _ _ _ c.loop-place.items.len
-    below within c.deref_mut.ensures.value c.deref_mut.ensures.len parts.front parts.back c.put_best_first.ensures c.loop-place.invariant
+    below within c.deref_mut.ensures.value c.deref_mut.ensures.len row_key.front row_key.back c.put_best_first.ensures c.loop-place.invariant
 
 pub returns : goal.returns
 returns g c =

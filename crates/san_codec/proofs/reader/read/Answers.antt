@@ -10,24 +10,24 @@ use Rattle.san_codec.proofs.reader.read.Goals.{then-agrees+else-is_some, else-ag
 pub returns-then-is_some : goal.returns-then-is_some
 returns-then-is_some c =
     reads c.args.position.now c.args.text.now c.in-Some.form (Err Ambiguous) c.in-Some.ensures
-    (narrows-clash c.args.position.now c.in-Some.form c.args.legal.now c.loop-step.step-index c.loop-step.found c.step-item.result c.loop-step-test.true c.step-item.is
-    (c.if-agrees.ensures.0 refl) (sym c.if-is_some.ensures) c.loop-step.invariant c.requires.each c.requires.once)
+    (narrows-clash c.args.position.now c.in-Some.form c.args.legal.now c.loop-m.m-index c.loop-m.found c.m-item.result c.loop-m-test.true c.m-item.is
+    (c.if-agrees.ensures.0 refl) (sym c.if-is_some.ensures) c.loop-m.invariant c.requires.each c.requires.once)
 
-pub loop-step-preserved : goal.loop-step-preserved
-loop-step-preserved c = elim c.if-agrees.branch [
+pub loop-m-preserved : goal.loop-m-preserved
+loop-m-preserved c = elim c.if-agrees.branch [
   | then-agrees+else-is_some w ↦
-      subst (λ o. Narrows c.args.position.now c.in-Some.form c.args.legal.now (c.loop-step.step-index + 1) o) (sym w.found-is)
-      (narrows-take c.args.position.now c.in-Some.form c.args.legal.now c.loop-step.step-index c.loop-step.found c.step-item.result c.loop-step-test.true c.step-item.is
-      (w.if-agrees.ensures.0 refl) (sym w.if-is_some.ensures) c.loop-step.invariant)
+      subst (λ o. Narrows c.args.position.now c.in-Some.form c.args.legal.now (c.loop-m.m-index + 1) o) (sym w.found-is)
+      (narrows-take c.args.position.now c.in-Some.form c.args.legal.now c.loop-m.m-index c.loop-m.found c.m-item.result c.loop-m-test.true c.m-item.is
+      (w.if-agrees.ensures.0 refl) (sym w.if-is_some.ensures) c.loop-m.invariant)
   | else-agrees w ↦
-      subst (λ o. Narrows c.args.position.now c.in-Some.form c.args.legal.now (c.loop-step.step-index + 1) o) (sym w.found-is)
-      (narrows-skip c.args.position.now c.in-Some.form c.args.legal.now c.loop-step.step-index c.loop-step.found c.step-item.result c.loop-step-test.true c.step-item.is
-      (λ agrees. not_false (w.if-agrees.ensures.1 agrees)) c.loop-step.invariant)
+      subst (λ o. Narrows c.args.position.now c.in-Some.form c.args.legal.now (c.loop-m.m-index + 1) o) (sym w.found-is)
+      (narrows-skip c.args.position.now c.in-Some.form c.args.legal.now c.loop-m.m-index c.loop-m.found c.m-item.result c.loop-m-test.true c.m-item.is
+      (λ agrees. not_false (w.if-agrees.ensures.1 agrees)) c.loop-m.invariant)
 ]
 
 pub returns : goal.returns
 returns c =
-    let last : c.loop-step.step-index ≡ length c.args.legal.now = omega (arith, c.loop-step-test.false, c.loop-step.auto.step-index-end) in
+    let last : c.loop-m.m-index ≡ length c.args.legal.now = omega (arith, c.loop-m-test.false, c.loop-m.auto.m-index-end) in
     subst (λ r. SanReads c.args.position.now c.args.text.now r) (sym c.ok_or.ensures.value)
-    (reads c.args.position.now c.args.text.now c.in-Some.form (ok_or c.loop-step.found NoSuchMove) c.in-Some.ensures
-    (narrows-end c.args.position.now c.in-Some.form c.args.legal.now c.loop-step.found (subst (λ n. Narrows c.args.position.now c.in-Some.form c.args.legal.now n c.loop-step.found) last c.loop-step.invariant) c.requires.each))
+    (reads c.args.position.now c.args.text.now c.in-Some.form (ok_or c.loop-m.found NoSuchMove) c.in-Some.ensures
+    (narrows-end c.args.position.now c.in-Some.form c.args.legal.now c.loop-m.found (subst (λ n. Narrows c.args.position.now c.in-Some.form c.args.legal.now n c.loop-m.found) last c.loop-m.invariant) c.requires.each))

@@ -1,15 +1,15 @@
 use Rattle.std.proofs.Common.{◌≡◌, ◌≢◌, ◌↔◌, ℕ, ◌<◌, ◌==◌, true, false, true≢false, ◌⊎◌, inl, inr, ⊎_elim, sym, subst, ◌∙◌}
 use Rattle.std.proofs.lemmas.Bool.Decides.{eqb_tells}
-use Rattle.step_tables.specs.Mask.{HasBit}
+use Rattle.step_tables.specs.Bitboard.{Holds}
 use Rattle.step_tables.specs.Squares.{IsUnblocked}
-use Rattle.step_tables.proofs.MaskLemmas.{HasBit-or}
+use Rattle.step_tables.proofs.BitboardLemmas.{Holds-or}
 use Rattle.step_tables.proofs.in_between.unblocked.Goals as goal
 
 -- P is that the square is unblocked; the target goes out of the rest
 module _ (P : ℕ → Type 0) (targets seen rest later target : ℕ)
-    (others : (b : ℕ) → b < 64 → HasBit later b ↔ (HasBit rest b × b ≢ target))
-    (all : (b : ℕ) → b < 64 → HasBit targets b → P b → ¬ HasBit rest b → HasBit seen b) where
-  all_but : (b : ℕ) → b < 64 → HasBit targets b → P b → ¬ HasBit later b → (b ≡ target) ⊎ HasBit seen b
+    (others : (b : ℕ) → b < 64 → Holds later b ↔ (Holds rest b × b ≢ target))
+    (all : (b : ℕ) → b < 64 → Holds targets b → P b → ¬ Holds rest b → Holds seen b) where
+  all_but : (b : ℕ) → b < 64 → Holds targets b → P b → ¬ Holds later b → (b ≡ target) ⊎ Holds seen b
   all_but b h x y z =
       ⊎_elim (λ (same : (b == target ≡ true) × (b ≡ target)). inl same.1)
       (λ (apart : (b == target ≡ false) × (b ≢ target)). inr (all b h x y (λ r. z ((others b h).1 (r, apart.1)))))
@@ -21,9 +21,9 @@ at_target P b target e p = subst P (sym e) p
 pub loop-rest-preserved-then-is_disjoint : goal.loop-rest-preserved-then-is_disjoint
 loop-rest-preserved-then-is_disjoint c =
     let Open : ℕ → Type 0 = λ b. IsUnblocked c.args.occupied c.args.square b in
-    let Taken : ℕ → Type 0 = λ b. HasBit c.args.targets b × Open b in
+    let Taken : ℕ → Type 0 = λ b. Holds c.args.targets b × Open b in
     let loop = c.loop-rest.invariant in
-    let either = HasBit-or c.loop-rest.seen c.only-seen.result in
+    let either = Holds-or c.loop-rest.seen c.only-seen.result in
     let here : Taken c.lowest-target.result = (
       loop.left _ c.lowest-target.ensures.on_board c.lowest-target.ensures.within,
       λ s h x. c.is_disjoint.ensures.0 c.if-is_disjoint.true s h ((c.between.ensures s h).1 x),

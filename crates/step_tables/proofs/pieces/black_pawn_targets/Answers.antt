@@ -1,5 +1,5 @@
 use Rattle.std.proofs.Common.{◌↔◌, refl}
-use Rattle.step_tables.specs.Mask.{HasBit}
+use Rattle.step_tables.specs.Bitboard.{Holds}
 use Rattle.step_tables.specs.Step.{IsReached}
 use Rattle.step_tables.specs.Piece.{black_pawn_steps}
 use Rattle.step_tables.specs.Test.{all_below, has_reached}
@@ -12,5 +12,5 @@ invariant_of-table c = record { right = refl }
 
 pub returns : goal.returns
 returns c = λ b h.
-    let reached : HasBit c.targets.result b ↔ IsReached black_pawn_steps c.args.square b = c.targets.ensures b h in
+    let reached : Holds c.targets.result b ↔ IsReached black_pawn_steps c.args.square b = c.targets.ensures b h in
     both reached (black_pawn_rule c.args.square b c.requires h)

@@ -3,9 +3,9 @@ use Rattle.std.proofs.lemmas.List.{drop_all, nil_from_length}
 use Rattle.tally_rows.specs.declared.row.Row.{Row}
 use Rattle.tally_rows.specs.Row.{row_of, combined, combined_from, combined_rows}
 use Rattle.tally_rows.proofs.Combining.{combined_from-nil, row_of-one, step-same, step-other, combined-white, combined-draws, combined-black, combined-ratings}
-use Rattle.tally_rows.proofs.PartsOrder.{same_parts-is}
+use Rattle.tally_rows.proofs.RowOrder.{same_row_key-is}
 use Rattle.tally_rows.proofs.rows.combine_sorted.Goals as goal
-use Rattle.tally_rows.proofs.rows.combine_sorted.Goals.{then-has_parts_of, else-has_parts_of+in_ok-push}
+use Rattle.tally_rows.proofs.rows.combine_sorted.Goals.{then-has_row_key_of, else-has_row_key_of+in_ok-push}
 
 pub returns-in_default : goal.returns-in_default
 unfolding combined_rows
@@ -26,7 +26,7 @@ loop-single-init c =
     }
 
 pub combine-last-requires-clause-same : goal.combine-last-requires-clause-same
-combine-last-requires-clause-same c = same_parts-is _ _ (sym c.has_parts_of.ensures ∙ c.if-has_parts_of.true)
+combine-last-requires-clause-same c = same_row_key-is _ _ (sym c.has_row_key_of.ensures ∙ c.if-has_row_key_of.true)
 
 pub combine-last-requires-clause-fit : goal.combine-last-requires-clause-fit
 combine-last-requires-clause-fit c =
@@ -43,11 +43,11 @@ loop-single-preserved c =
     let added = c.of-row.result in
     let below : i < length rest = omega arith in
     let one : added.white + added.draws + added.black ≡ 1 = rw c.of-row.ensures.row (row_of-one c.single-item.result) in
-    elim c.if-has_parts_of.branch [
-      | then-has_parts_of w ↦
+    elim c.if-has_row_key_of.branch [
+      | then-has_row_key_of w ↦
           let at = step-same c.loop-single.rows.items last added rest i c.single-item.result below c.single-item.is c.of-row.ensures.row
-          (sym c.has_parts_of.ensures ∙ w.if-has_parts_of.true) in
-          let is : c.if-has_parts_of.last ≡ combined last added = w.last-is ∙ w.combine-last.ensures in
+          (sym c.has_row_key_of.ensures ∙ w.if-has_row_key_of.true) in
+          let is : c.if-has_row_key_of.last ≡ combined last added = w.last-is ∙ w.combine-last.ensures in
           let white = ap (λ (r : Row). r.white) is ∙ combined-white last added in
           let draws = ap (λ (r : Row). r.draws) is ∙ combined-draws last added in
           let black = ap (λ (r : Row). r.black) is ∙ combined-black last added in
@@ -58,10 +58,10 @@ loop-single-preserved c =
             within = omega arith;
             rows_of_all = rw (w.rows-is, is) (at ∙ c.loop-single.invariant.rows_of_all);
           }
-      | else-has_parts_of+in_ok-push w ↦
+      | else-has_row_key_of+in_ok-push w ↦
           let at = step-other c.loop-single.rows.items last added rest i c.single-item.result below c.single-item.is c.of-row.ensures.row
-          (sym c.has_parts_of.ensures ∙ w.if-has_parts_of.false) in
-          let is : c.if-has_parts_of.last ≡ added = w.last-is in
+          (sym c.has_row_key_of.ensures ∙ w.if-has_row_key_of.false) in
+          let is : c.if-has_row_key_of.last ≡ added = w.last-is in
           let white = ap (λ (r : Row). r.white) is in
           let draws = ap (λ (r : Row). r.draws) is in
           let black = ap (λ (r : Row). r.black) is in

@@ -1,13 +1,13 @@
 use Rattle.std.proofs.Common.{◌≡◌, ◌+◌, ap, sym, ◌∙◌, arith}
-use Rattle.tally_rows.specs.Row.{parts_of}
+use Rattle.tally_rows.specs.Row.{row_key_of}
 use Rattle.tally_rows.proofs.Combining.{row_of-one}
-use Rattle.tally_rows.proofs.FromSingles.{row_of-parts}
+use Rattle.tally_rows.proofs.FromSingles.{row_of-row_key}
 use Rattle.tally_rows.proofs.tests.combined_rows_have_the_sums.Goals as goal
 
 pub combine-both-requires-clause-same : goal.combine-both-requires-clause-same
 combine-both-requires-clause-same g c =
-    ap parts_of c.of-one.ensures.row ∙ row_of-parts c.single.result ∙ c.single.ensures ∙ sym c.single-2.ensures
-    ∙ sym (row_of-parts c.single-2.result) ∙ ap parts_of (sym c.of-other.ensures.row)
+    ap row_key_of c.of-one.ensures.row ∙ row_of-row_key c.single.result ∙ c.single.ensures ∙ sym c.single-2.ensures
+    ∙ sym (row_of-row_key c.single-2.result) ∙ ap row_key_of (sym c.of-other.ensures.row)
 
 pub combine-both-requires-clause-fit : goal.combine-both-requires-clause-fit
 combine-both-requires-clause-fit g c =

@@ -6,7 +6,7 @@ use Rattle.legal_moves.proofs.board.Board.tidy.Goals as goal
 
 pub invariant_of-result : goal.invariant_of-result
 invariant_of-result c = record {
-  valid = tidied_valid c.self.inside.position c.open_en_passant.result c.self.invariant.valid c.open_en_passant.ensures;
+  valid = tidied_valid c.self.inside.position c.legal_en_passant.result c.self.invariant.valid c.legal_en_passant.ensures;
   told = c.self.invariant.told;
 }
 
@@ -16,6 +16,6 @@ returns c =
       squares = c.self.inside.position.squares;
       turn = c.self.inside.position.turn;
       rights = c.self.inside.position.rights;
-      en_passant = c.open_en_passant.result;
+      en_passant = c.legal_en_passant.result;
     } in
-    subst P c.self.view_is (record { squares = refl; turn = refl; rights = refl; en_passant = c.open_en_passant.ensures })
+    subst P c.self.view_is (record { squares = refl; turn = refl; rights = refl; en_passant = c.legal_en_passant.ensures })

@@ -1,6 +1,6 @@
 use Rattle.std.proofs.Common.{ℕ, ◌*◌, ◌<◌, ◌≤◌, Fits, w64, arith}
 use Rattle.std.proofs.lemmas.Nat.{mul-le}
-use Rattle.step_tables.proofs.Test.{HasBit-has_lines}
+use Rattle.step_tables.proofs.Test.{Holds-has_lines}
 use Rattle.step_tables.proofs.slider.Slider.line.Goals as goal
 
 small : (square count : ℕ) → square < 64 → count ≤ 8 → Fits w64 (square * (count * 8))
@@ -15,4 +15,4 @@ offset_bounds-self-direction g c = omega (arith, c.requires.known, c.args.self.n
 
 pub returns : goal.returns
 returns g c = λ b h.
-    HasBit-has_lines _ _ _ c.args.self.now.right_lines c.args.square c.args.direction b c.requires.on_board c.requires.known h
+    Holds-has_lines _ _ _ c.args.self.now.right_lines c.args.square c.args.direction b c.requires.on_board c.requires.known h

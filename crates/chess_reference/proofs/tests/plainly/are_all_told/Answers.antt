@@ -1,0 +1,7 @@
+use Rattle.legal_moves.proofs.Lists.{listed_legal}
+use Rattle.chess_reference.proofs.tests.plainly.are_all_told.Goals as goal
+
+pub play-requires : goal.play-requires
+play-requires c =
+    listed_legal c.args.board.now c.as_slice-m-items.result.now c.legal.result.items c.loop-m.m-index c.m-item.result c.legal.ensures.sound
+    c.as_slice-m-items.ensures.value c.loop-m-test.true c.m-item.is

@@ -1,0 +1,91 @@
+//! What stands on the squares, and what attacks what.
+ghost use Rattle.std.specs.Prelude.{◌≡◌, ℕ, ◌<◌, ◌↔◌, IsTrue};
+ghost use Rattle.explorer_model.specs.Board.{IsEmpty, IsRankAhead, PawnDiagonal, IsOpen, RoleAttacks, PieceAttacks, Attacks, IsAttacked, InCheck};
+
+use crate::geometry::{
+    files_apart, is_between, is_bishop_line, is_king_step, is_knight_step, is_rook_line,
+};
+use explorer_model::chess::{Color, Piece, Role, is_of_color, is_piece, piece_at};
+use explorer_model::square::rank_of;
+
+pub fn is_empty(occupant: Option<Piece>) -> bool
+    ensures { IsTrue result ↔ IsEmpty occupant }
+{
+    match occupant {
+        None => true,
+        Some(_) => false,
+    }
+}
+
+pub fn is_rank_ahead(color: Color, a: u8, b: u8) -> bool
+    ensures { IsTrue result ↔ IsRankAhead color a b }
+{
+    match color {
+        Color::White => rank_of(b) == rank_of(a) + 1,
+        Color::Black => rank_of(a) == rank_of(b) + 1,
+    }
+}
+
+pub fn is_pawn_diagonal(color: Color, a: u8, b: u8) -> bool
+    ensures { IsTrue result ↔ PawnDiagonal color a b }
+{
+    is_rank_ahead(color, a, b) && files_apart(a, b) == 1
+}
+
+pub fn is_open(squares: &[Option<Piece>; 64], a: u8, b: u8) -> bool
+    ensures { IsTrue result ↔ IsOpen squares.now a b }
+{
+    for s in 0..64u8 {
+        if is_between(a, s, b) && !is_empty(piece_at(squares, s)) {
+            return false;
+        }
+    }
+    true
+}
+
+pub fn role_attacks(squares: &[Option<Piece>; 64], piece: Piece, a: u8, b: u8) -> bool
+    ensures { IsTrue result ↔ RoleAttacks squares.now piece.color piece.role a b }
+{
+    match piece.role {
+        Role::Pawn => is_pawn_diagonal(piece.color, a, b),
+        Role::Knight => is_knight_step(a, b),
+        Role::Bishop => is_bishop_line(a, b) && is_open(squares, a, b),
+        Role::Rook => is_rook_line(a, b) && is_open(squares, a, b),
+        Role::Queen => (is_rook_line(a, b) || is_bishop_line(a, b)) && is_open(squares, a, b),
+        Role::King => is_king_step(a, b),
+    }
+}
+
+pub fn attacks(squares: &[Option<Piece>; 64], a: u8, b: u8) -> bool
+    requires { a < 64 }
+    ensures { IsTrue result ↔ Attacks squares.now a b }
+{
+    match piece_at(squares, a) {
+        None => false,
+        Some(piece) => role_attacks(squares, piece, a, b),
+    }
+}
+
+pub fn is_attacked(squares: &[Option<Piece>; 64], color: Color, s: u8) -> bool
+    ensures { IsTrue result ↔ IsAttacked squares.now color s }
+{
+    for a in 0..64u8 {
+        if is_of_color(color, piece_at(squares, a)) && attacks(squares, a, s) {
+            return true;
+        }
+    }
+    false
+}
+
+pub fn in_check(squares: &[Option<Piece>; 64], color: Color) -> bool
+    ensures { IsTrue result ↔ InCheck squares.now color }
+{
+    for k in 0..64u8 {
+        if is_piece(color, Role::King, piece_at(squares, k))
+            && is_attacked(squares, color.opponent(), k)
+        {
+            return true;
+        }
+    }
+    false
+}

@@ -1,0 +1,286 @@
+-- A count over a told input has one ending, where no call fails.
+use Rattle.std.proofs.Common.{◌≡◌, ℕ, ◌-◌, ◌^◌, ◌<◌, ◌≤◌, ◌⊎◌, inl, inr, List, [], ◌∷◌, ◌++◌, Option, None, Some, Result, Ok, Err, length, drop, refl, sym, ap, ap₂, subst, ◌∙◌, append_assoc, length-append, arith, codes}
+use Rattle.std.specs.Prelude.{IsSome}
+use Rattle.std.specs.Io.KnownBytes.{Appends, Consumes, IsAtEnd, append_known}
+use Rattle.std.specs.List.{AllByRecursion, cons_option}
+use Rattle.std.proofs.lemmas.List.{append-nil, take-append-drop}
+use Rattle.std.proofs.lemmas.Grind.{flat_map-append}
+use Rattle.outside.specs.Stream.{Stream, Rises, Writes}
+use Rattle.explorer_model.specs.declared.answer.Found.{Found}
+use Rattle.explorer_model.specs.declared.archive.Batch.{Batch}
+use Rattle.explorer_model.specs.declared.fault.Refusal.{Refusal}
+use Rattle.explorer_model.specs.declared.query.BadParameter.{BadParameter}
+use Rattle.explorer_model.specs.declared.query.Query.{Query}
+use Rattle.explorer_model.specs.Answer.{answer_body}
+use Rattle.explorer_model.specs.Cuts.{Cut, cuts}
+use Rattle.explorer_model.specs.Imports.{AccountedApart, batch_of, candidates, groups, refusals, verdicts}
+use Rattle.explorer_model.specs.Journal.{byte_count, game_count}
+use Rattle.explorer_model.specs.Query.{QueryReads}
+use Rattle.explorer.specs.declared.fault.Fault.TheVariants as faults
+use Rattle.explorer.specs.Count.{Answers, Counts, CountsBy}
+use Rattle.explorer.specs.Early.{AreAllGroups, AreGroupsSoFar, AreInGroups, AreStored, IsFullAt, IsFullIn, IsWhole, ended_cuts}
+use Rattle.explorer.specs.Lines.{Ending, Done, Stopped}
+use Rattle.explorer.specs.Report.{report}
+use Rattle.explorer.specs.Laws.{IsTold, WroteAlike}
+use Rattle.explorer.specs.World.{World, IsFaultless}
+use Rattle.explorer.proofs.AccountLemmas.{accounted_more, accounted_one, ends_accounted, none_or_some, unread_examinations}
+use Rattle.explorer.proofs.EarlyLemmas.{each-append, in_groups, in_groups_behind}
+use Rattle.explorer.proofs.GroupLemmas.{all_cuts, groups_closed, texts_in}
+use Rattle.explorer.proofs.ImportLemmas.{candidate_bytes}
+use Rattle.explorer.proofs.LawLemmas.{OneAccount, OneAnswer, bytes-append, bytes_of_one, games-append, games_of_one, no_room_no_store, one_answer, one_full, over_limit, same_groups}
+use Rattle.explorer.proofs.PrefixLemmas.{ended_stay}
+
+-- ---- told streams
+
+told_rest : (left left' : Option (List ℕ)) (stream read : List ℕ) → left ≡ Some stream → Consumes left left' read → (rest : List ℕ) × (stream ≡ read ++ rest) × (left' ≡ Some rest)
+told_rest None left' stream read is reads = cc
+told_rest (Some bytes) None stream read is reads = absurd reads
+told_rest (Some bytes) (Some rest) stream read is reads = let same : bytes ≡ stream = cc in (rest, sym same ∙ reads, refl)
+
+told_some : (left : Option (List ℕ)) (stream : List ℕ) → left ≡ Some stream → IsSome left
+told_some None stream is = cc
+told_some (Some bytes) stream is = refl
+
+end_is : (left : Option (List ℕ)) (rest : List ℕ) → left ≡ Some rest → IsAtEnd left → rest ≡ []
+end_is None rest is ended = cc
+end_is (Some bytes) rest is ended = let same : bytes ≡ rest = cc in sym same ∙ ended
+
+-- ---- groups of a stream and of a front of it
+
+more_groups : (front more : List Cut) (whole others : List (List Cut)) (hand other : List Cut) → AreInGroups front whole hand → AreInGroups (front ++ more) others other → (rest : List (List Cut)) × (others ≡ whole ++ rest)
+more_groups front more whole others hand other first second =
+    let later = in_groups_behind hand more first.few in
+    let all : AreInGroups (front ++ more) (whole ++ later.whole) later.hand = record {
+      all =
+          ap (λ (l : List Cut). l ++ more) first.all ∙ append_assoc (all_cuts whole) hand more ∙ ap (λ (l : List Cut). all_cuts whole ++ l) later.are.all
+          ∙ sym (append_assoc (all_cuts whole) (all_cuts later.whole) later.hand) ∙ ap (λ (l : List Cut). l ++ later.hand) (sym (flat_map-append (λ (group : List Cut). group) whole later.whole));
+      each = each-append whole later.whole first.each later.are.each;
+      few = later.are.few;
+    } in
+    (later.whole, (same_groups (front ++ more) others (whole ++ later.whole) other later.hand second all).0)
+
+full_more : (games bytes : ℕ) (so_far more all : List (List Cut)) (refused : List Refusal) → all ≡ so_far ++ more → IsFullIn games bytes so_far refused → IsFullIn games bytes all refused
+full_more games bytes so_far more all refused is full = record {
+  done = full.done;
+  next = full.next;
+  rest = full.rest ++ more;
+  so_far_is = is ∙ ap (λ (l : List (List Cut)). l ++ more) full.so_far_is ∙ append_assoc full.done (full.next ∷ full.rest) more;
+  batches = full.batches;
+  earlier = full.earlier;
+  stored = full.stored;
+  last = full.last;
+  no_room = full.no_room;
+  games_are = full.games_are;
+  bytes_are = full.bytes_are;
+  refused_are = full.refused_are;
+}
+
+same_all : (ended : List Cut) (all others : List (List Cut)) → AreAllGroups ended all → AreAllGroups ended others → all ≡ others
+same_all ended all others first second =
+    let same = same_groups ended first.whole second.whole first.hand second.hand first.in_groups second.in_groups in
+    first.all_are ∙ ap₂ (λ (w : List (List Cut)) (h : List Cut). w ++ h ∷ []) same.0 same.1 ∙ sym second.all_are
+
+-- a group that finds no room in a front of a stream is the one of the whole stream
+full_in_all : (games bytes : ℕ) (stream read rest : List ℕ) (left : Option (List ℕ)) (refused : List Refusal) (all : List (List Cut)) → stream ≡ read ++ rest → left ≡ Some rest → IsFullAt games bytes left read refused
+    → AreAllGroups (cuts stream) all → IsFullIn games bytes all refused
+full_in_all games bytes stream read rest left refused all stream_is left_is full groups_are = by_so_far full.are_so_far
+  where
+    by_so_far : AreGroupsSoFar read left full.so_far → IsFullIn games bytes all refused
+    by_so_far (inr (at_end, so_far)) =
+        let none = end_is left rest left_is at_end in
+        let same : read ≡ stream = sym (stream_is ∙ ap (λ (l : List ℕ). read ++ l) none ∙ append-nil read) in
+        full_more games bytes full.so_far [] all refused (same_all (cuts stream) all full.so_far groups_are (subst (λ (l : List ℕ). AreAllGroups (cuts l) full.so_far) same so_far) ∙ sym (append-nil full.so_far)) full.full
+    by_so_far (inl (hand, so_far)) =
+        let stay = ended_stay read rest in
+        let last = drop (length (cuts stream) - 1) (cuts stream) in
+        let split : cuts stream ≡ ended_cuts read ++ (stay.0 ++ last) =
+        sym (take-append-drop (length (cuts stream) - 1) (cuts stream)) ∙ ap (λ (l : List Cut). l ++ drop (length (cuts stream) - 1) (cuts stream)) (ap ended_cuts stream_is ∙ stay.1)
+        ∙ append_assoc (ended_cuts read) stay.0 (drop (length (cuts stream) - 1) (cuts stream)) in
+        let later = more_groups (ended_cuts read) (stay.0 ++ last) full.so_far groups_are.whole hand groups_are.hand so_far (subst (λ (l : List Cut). AreInGroups l groups_are.whole groups_are.hand) split groups_are.in_groups) in
+        full_more games bytes full.so_far (later.0 ++ groups_are.hand ∷ []) all refused
+        (groups_are.all_are ∙ ap (λ (l : List (List Cut)). l ++ groups_are.hand ∷ []) later.1 ∙ append_assoc full.so_far later.0 (groups_are.hand ∷ [])) full.full
+
+-- ---- a stream that is stored whole has no group that finds no room
+
+abbrev LastOrWithin : List (List Cut) → List Cut → List (List Cut) → List (List Cut) → List Cut → Type 0
+LastOrWithin done next rest whole hand = ((done ≡ whole) × (next ≡ hand)) ⊎ ((more : List (List Cut)) × (whole ≡ done ++ next ∷ more))
+
+last_or_within : (done rest whole : List (List Cut)) (next hand : List Cut) → done ++ next ∷ rest ≡ whole ++ hand ∷ [] → LastOrWithin done next rest whole hand
+last_or_within [] rest [] next hand all = inl (refl, cc)
+last_or_within [] rest (group ∷ whole) next hand all = let head : group ≡ next = cc in inr (whole, ap (λ (g : List Cut). g ∷ whole) head)
+last_or_within (group ∷ done) rest [] next hand all = absurd (let long = ap (λ (l : List (List Cut)). length l) all in omega (arith, long, length-append done (next ∷ rest)))
+last_or_within (group ∷ done) rest (other ∷ whole) next hand all = by_tail (last_or_within done rest whole next hand cc)
+  where
+    head : group ≡ other
+    head = cc
+
+    by_tail : LastOrWithin done next rest whole hand → LastOrWithin (group ∷ done) next rest (other ∷ whole) hand
+    by_tail (inl (same, last)) = inl (ap₂ (λ (g : List Cut) (l : List (List Cut)). g ∷ l) head same, last)
+    by_tail (inr (more, is)) = inr (more, ap₂ (λ (g : List Cut) (l : List (List Cut)). g ∷ l) (sym head) is)
+
+each_front : (done more : List (List Cut)) (next : List Cut) → AllByRecursion IsWhole (done ++ next ∷ more) → AllByRecursion IsWhole (done ++ next ∷ [])
+each_front [] more next each = (each.0, tt)
+each_front (group ∷ done) more next each = (each.0, each_front done more next each.1)
+
+done_or_full : (stream : List ℕ) (all : List (List Cut)) (games bytes : ℕ) (refused other : List Refusal) (batches : List Batch) → OneAccount → AreStored (groups (cuts stream)) batches other
+    → AreAllGroups (cuts stream) all → IsFullIn games bytes all refused → ⊥
+done_or_full stream all games bytes refused other batches one stored groups_are full =
+    by_place (last_or_within full.done full.rest groups_are.whole full.next groups_are.hand (sym full.so_far_is ∙ groups_are.all_are))
+  where
+    alone : AccountedApart (full.next ∷ []) (cons_option (batch_of (candidates (verdicts full.no_room.examinations))) []) (refusals (verdicts full.no_room.examinations))
+    alone = accounted_one full.next full.no_room.examinations (cons_option (batch_of (candidates (verdicts full.no_room.examinations))) []) (refusals (verdicts full.no_room.examinations)) full.no_room.are_examinations refl refl
+
+    over : (last : List Batch) → batches ≡ (full.batches ++ cons_option (batch_of (candidates (verdicts full.no_room.examinations))) []) ++ last → ⊥
+    over last is =
+        let texts = candidates (verdicts full.no_room.examinations) in
+        let front = full.batches ++ cons_option (batch_of (candidates (verdicts full.no_room.examinations))) [] in
+        let games_all = ap game_count is ∙ games-append front last in
+        let bytes_all = ap byte_count is ∙ bytes-append front last in
+        let games_front = games-append full.batches (cons_option (batch_of (candidates (verdicts full.no_room.examinations))) []) in
+        let bytes_front = bytes-append full.batches (cons_option (batch_of (candidates (verdicts full.no_room.examinations))) []) in
+        let games_one = games_of_one (candidates (verdicts full.no_room.examinations)) in
+        let bytes_one = bytes_of_one (candidates (verdicts full.no_room.examinations)) in
+        over_limit (game_count full.batches) (byte_count full.batches) (length texts) (candidate_bytes texts) (game_count last) (byte_count last) batches
+        (omega (arith, games_all, games_front, games_one)) (omega (arith, bytes_all, bytes_front, bytes_one)) full.no_room.passes stored.within
+
+    by_place : LastOrWithin full.done full.next full.rest groups_are.whole groups_are.hand → ⊥
+    by_place (inl (same, last)) =
+        let cuts_are : cuts stream ≡ all_cuts full.done ++ full.next = groups_are.in_groups.all ∙ ap₂ (λ (w : List (List Cut)) (h : List Cut). all_cuts w ++ h) (sym same) (sym last) in
+        let few : texts_in full.next ≤ 512 = omega (arith, groups_are.in_groups.few, ap texts_in last) in
+        let ended = ends_accounted full.done full.next full.batches (cons_option (batch_of (candidates (verdicts full.no_room.examinations))) []) full.earlier (refusals (verdicts full.no_room.examinations)) (subst (λ (w : List (List Cut)). AllByRecursion IsWhole w) (sym same) groups_are.in_groups.each) few full.stored.accounted alone in
+        over [] (one.batches (groups (cuts stream)) batches (full.batches ++ cons_option (batch_of (candidates (verdicts full.no_room.examinations))) []) other (full.earlier ++ refusals (verdicts full.no_room.examinations)) stored.accounted
+        (subst (λ (l : List Cut). AccountedApart (groups l) (full.batches ++ cons_option (batch_of (candidates (verdicts full.no_room.examinations))) []) (full.earlier ++ refusals (verdicts full.no_room.examinations))) (sym cuts_are) ended) ∙ sym (append-nil (full.batches ++ cons_option (batch_of (candidates (verdicts full.no_room.examinations))) [])))
+    by_place (inr (more, is)) =
+        let closed = full.done ++ full.next ∷ [] in
+        let rest = all_cuts more ++ groups_are.hand in
+        let cuts_are : cuts stream ≡ all_cuts (full.done ++ full.next ∷ []) ++ (all_cuts more ++ groups_are.hand) =
+        groups_are.in_groups.all ∙ ap (λ (w : List (List Cut)). all_cuts w ++ groups_are.hand) (is ∙ sym (append_assoc full.done (full.next ∷ []) more))
+        ∙ ap (λ (l : List Cut). l ++ groups_are.hand) (flat_map-append (λ (group : List Cut). group) (full.done ++ full.next ∷ []) more) ∙ append_assoc (all_cuts (full.done ++ full.next ∷ [])) (all_cuts more) groups_are.hand in
+        let each = each_front full.done more full.next (subst (λ (w : List (List Cut)). AllByRecursion IsWhole w) is groups_are.in_groups.each) in
+        by_texts more rest cuts_are each (none_or_some (texts_in rest))
+      where
+        by_texts : (more : List (List Cut)) (rest : List Cut) → cuts stream ≡ all_cuts (full.done ++ full.next ∷ []) ++ rest → AllByRecursion IsWhole (full.done ++ full.next ∷ []) → (texts_in rest ≡ 0) ⊎ (0 < texts_in rest) → ⊥
+        by_texts more rest cuts_are each (inl none) =
+            let examined = unread_examinations rest none in
+            let last_batches : List Batch = cons_option (batch_of (candidates (verdicts examined.0))) [] in
+            let last_refused : List Refusal = refusals (verdicts examined.0) in
+            let last : AccountedApart (rest ∷ []) last_batches last_refused = accounted_one rest examined.0 last_batches last_refused examined.1 refl refl in
+            let front = accounted_more full.done (full.next ∷ []) full.batches (cons_option (batch_of (candidates (verdicts full.no_room.examinations))) []) full.earlier (refusals (verdicts full.no_room.examinations)) full.stored.accounted alone in
+            let ended = ends_accounted (full.done ++ full.next ∷ []) rest (full.batches ++ cons_option (batch_of (candidates (verdicts full.no_room.examinations))) []) last_batches (full.earlier ++ refusals (verdicts full.no_room.examinations)) last_refused each (omega (arith, none)) front last in
+            over last_batches (one.batches (groups (cuts stream)) batches ((full.batches ++ cons_option (batch_of (candidates (verdicts full.no_room.examinations))) []) ++ last_batches) other ((full.earlier ++ refusals (verdicts full.no_room.examinations)) ++ last_refused) stored.accounted
+            (subst (λ (l : List Cut). AccountedApart (groups l) ((full.batches ++ cons_option (batch_of (candidates (verdicts full.no_room.examinations))) []) ++ last_batches) ((full.earlier ++ refusals (verdicts full.no_room.examinations)) ++ last_refused)) (sym cuts_are) ended))
+        by_texts more rest cuts_are each (inr some) =
+            let split : groups (cuts stream) ≡ full.done ++ full.next ∷ groups rest = ap groups cuts_are ∙ groups_closed (full.done ++ full.next ∷ []) rest each some ∙ append_assoc full.done (full.next ∷ []) (groups rest) in
+            no_room_no_store full.done (groups rest) full.next full.batches batches full.earlier other full.last one full.stored.accounted full.no_room
+            (subst (λ (l : List (List Cut)). AccountedApart l batches other) split stored.accounted) stored.within
+
+-- ---- what is written
+
+no_rise : (old new : ℕ) → new ≡ old → old < 2 ^ 64 - 1 → Rises old new → ⊥
+no_rise old new same low rises = by_rise rises.rose
+  where
+    by_rise : (old < new) ⊎ (new ≡ 2 ^ 64 - 1) → ⊥
+    by_rise (inl less) = omega (arith, same, less)
+    by_rise (inr most) = omega (arith, same, low, most)
+
+appended : (old new : Option (List ℕ)) (chunk : List ℕ) → IsSome old → Appends old new chunk → new ≡ append_known old chunk
+appended None new chunk told appends = cc
+appended (Some bytes) None chunk told appends = absurd appends
+appended (Some bytes) (Some more) chunk told appends = ap Some appends
+
+pub wrote : (chunk : List ℕ) (old new : Stream) → IsSome old.written → old.write_faults < 2 ^ 64 - 1 → new.write_faults ≡ old.write_faults → Writes (chunk ∷ []) old new → new.written ≡ append_known old.written chunk
+wrote chunk old new told low same (middle, inl takes, is) = ap (λ (s : Stream). s.written) is ∙ appended old.written middle.written chunk told takes.appended
+wrote chunk old new told low same (middle, inr fails, is) = absurd (no_rise old.write_faults middle.write_faults (sym (ap (λ (s : Stream). s.write_faults) is) ∙ same) low fails.rises)
+
+-- ---- endings
+
+-- a count that ends as an answer, or at a group that finds no room
+abbrev Comes : List ℕ → List (List Cut) → Query → World → World → Ending → Type 0
+Comes stream all query before after ending = ((ending ≡ Done) × Answers query before after)
+    ⊎ ((games : ℕ) × (bytes : ℕ) × (refused : List Refusal) × (ending ≡ Stopped (faults.Full games bytes)) × IsFullIn games bytes all refused
+    × (after.output ≡ before.output) × Writes (report refused ∷ []) before.errors after.errors)
+
+comes : (stream : List ℕ) (all : List (List Cut)) (query : Query) (before after : World) (ending : Ending) → IsTold stream before → AreAllGroups (cuts stream) all → IsFaultless before after
+    → CountsBy (Ok query) before after ending → Comes stream all query before after ending
+comes stream all query before after Done told groups_are faultless counts = inl (refl, counts.0)
+comes stream all query before after (Stopped faults.WriteFault) told groups_are faultless counts = by_rise counts.1.rises
+  where
+    by_rise : Rises before.output.write_faults after.output.write_faults ⊎ Rises before.errors.write_faults after.errors.write_faults → Comes stream all query before after (Stopped faults.WriteFault)
+    by_rise (inl rises) = absurd (no_rise before.output.write_faults after.output.write_faults faultless.output told.writes rises)
+    by_rise (inr rises) = absurd (no_rise before.errors.write_faults after.errors.write_faults faultless.errors told.reports rises)
+comes stream all query before after (Stopped faults.ReadFault) told groups_are faultless counts = absurd (no_rise before.input.read_faults after.input.read_faults faultless.reads told.reads counts.1)
+comes stream all query before after (Stopped faults.TooMuchInput) told groups_are faultless counts =
+    let rest = told_rest before.input.left after.input.left stream counts.0.stream told.input counts.0.reads.next in
+    let long = ap (λ (l : List ℕ). length l) rest.1 in
+    absurd (omega (arith, told.below, counts.0.stands.at, long, length-append counts.0.stream rest.0))
+comes stream all query before after (Stopped (faults.Full games bytes)) told groups_are faultless counts =
+    let rest = told_rest before.input.left after.input.left stream counts.0.stream told.input counts.0.reads.next in
+    inr (games, bytes, counts.0.refused, refl, full_in_all games bytes stream counts.0.stream rest.0 after.input.left counts.0.refused all rest.1 rest.2 counts.0.stands groups_are, counts.0.output, counts.0.errors)
+comes stream all query before after (Stopped faults.Usage) told groups_are faultless counts = absurd counts
+comes stream all query before after (Stopped (faults.BadParameter name)) told groups_are faultless counts = absurd counts
+comes stream all query before after (Stopped faults.OutOfMemory) told groups_are faultless counts = absurd counts
+
+-- an answer is one over the groups of the whole stream
+whole_stored : (stream : List ℕ) (query : Query) (before after : World) → IsTold stream before → (answers : Answers query before after) → AreStored (groups (cuts stream)) answers.batches answers.refused
+whole_stored stream query before after told answers =
+    let rest = told_rest before.input.left after.input.left stream answers.stream told.input answers.reads.next in
+    let same : answers.stream ≡ stream = sym (rest.1 ∙ ap (λ (l : List ℕ). answers.stream ++ l) (end_is after.input.left rest.0 rest.2 answers.at_end) ∙ append-nil answers.stream) in
+    subst (λ (l : List ℕ). AreStored (groups (cuts l)) answers.batches answers.refused) same answers.stored
+
+abbrev Alike : World → World → Ending → Ending → Type 0
+Alike after other ending ending' = (ending ≡ ending') × WroteAlike after other
+
+one_of_two : (stream : List ℕ) (all : List (List Cut)) (query : Query) (before after other : World) (ending ending' : Ending) → OneAccount → OneAnswer → IsTold stream before → AreAllGroups (cuts stream) all
+    → IsFaultless before after → IsFaultless before other → Comes stream all query before after ending → Comes stream all query before other ending' → Alike after other ending ending'
+one_of_two stream all query before after other ending ending' one answer told groups_are fine fine' (inl (is, first)) (inl (is', second)) =
+    let same = one_answer query before after other one answer (told_some before.input.left stream told.input) first second in (
+      is ∙ sym is',
+      record {
+        output =
+            wrote _ before.output after.output told.output told.writes fine.output first.output ∙ ap (λ (f : Found). append_known before.output.written (answer_body f ++ codes "\n")) same.0
+            ∙ sym (wrote _ before.output other.output told.output told.writes fine'.output second.output);
+        errors =
+            wrote _ before.errors after.errors told.errors told.reports fine.errors first.errors ∙ ap (λ (l : List Refusal). append_known before.errors.written (report l)) same.1
+            ∙ sym (wrote _ before.errors other.errors told.errors told.reports fine'.errors second.errors);
+      },
+    )
+one_of_two stream all query before after other ending ending' one answer told groups_are fine fine' (inl (is, first)) (inr (games, bytes, refused, is', full, output, errors)) =
+    absurd (done_or_full stream all games bytes refused first.refused first.batches one (whole_stored stream query before after told first) groups_are full)
+one_of_two stream all query before after other ending ending' one answer told groups_are fine fine' (inr (games, bytes, refused, is, full, output, errors)) (inl (is', second)) =
+    absurd (done_or_full stream all games bytes refused second.refused second.batches one (whole_stored stream query before other told second) groups_are full)
+one_of_two stream all query before after other ending ending' one answer told groups_are fine fine' (inr (games, bytes, refused, is, full, output, errors)) (inr (games', bytes', refused', is', full', output', errors')) =
+    let same = one_full games bytes games' bytes' all refused refused' one full full' in (
+      is ∙ ap₂ (λ (g : ℕ) (b : ℕ). Stopped (faults.Full g b)) same.0 same.1 ∙ sym is',
+      record {
+        output = ap (λ (s : Stream). s.written) (output ∙ sym output');
+        errors =
+            wrote _ before.errors after.errors told.errors told.reports fine.errors errors ∙ ap (λ (l : List Refusal). append_known before.errors.written (report l)) same.2
+            ∙ sym (wrote _ before.errors other.errors told.errors told.reports fine'.errors errors');
+      },
+    )
+
+abbrev pub OneQuery : Type 0
+OneQuery = (text : List ℕ) (r s : Result Query BadParameter) → QueryReads text r → QueryReads text s → r ≡ s
+
+pub one_ending : (text stream : List ℕ) (before after other : World) (ending ending' : Ending) → OneAccount → OneAnswer → OneQuery → IsTold stream before → IsFaultless before after → IsFaultless before other
+    → Counts text before after ending → Counts text before other ending' → (ending ≡ ending') × WroteAlike after other
+one_ending text stream before after other ending ending' one answer query told fine fine' first second = by_query first.0 second.0 (query text first.0 second.0 first.1 second.1) first.2 second.2
+  where
+    by_query : (r s : Result Query BadParameter) → r ≡ s → CountsBy r before after ending → CountsBy s before other ending' → (ending ≡ ending') × WroteAlike after other
+    by_query (Err bad) (Ok asked) is counts counts' = cc
+    by_query (Ok asked) (Err bad) is counts counts' = cc
+    by_query (Err bad) (Err worse) is counts counts' =
+        let same : bad ≡ worse = cc in (
+          counts.0 ∙ ap (λ (b : BadParameter). Stopped (faults.BadParameter b.name)) same ∙ sym counts'.0,
+          record {
+            output = ap (λ (w : World). w.output.written) (counts.1 ∙ sym counts'.1);
+            errors = ap (λ (w : World). w.errors.written) (counts.1 ∙ sym counts'.1);
+          },
+        )
+    by_query (Ok asked) (Ok also) is counts counts' =
+        let same : asked ≡ also = cc in
+        let all = in_groups (cuts stream) in
+        let groups_are : AreAllGroups (cuts stream) (all.whole ++ all.hand ∷ []) = record { whole = all.whole; hand = all.hand; in_groups = all.are; all_are = refl } in
+        one_of_two stream (all.whole ++ all.hand ∷ []) also before after other ending ending' one answer told groups_are fine fine'
+        (comes stream (all.whole ++ all.hand ∷ []) also before after ending told groups_are fine (subst (λ (q : Query). CountsBy (Ok q) before after ending) same counts))
+        (comes stream (all.whole ++ all.hand ∷ []) also before other ending' told groups_are fine' counts')

@@ -1,0 +1,19 @@
+-- Words of laws: runs that can be told apart by nothing.
+use Rattle.std.specs.Prelude.{◌≡◌, ◌<◌, ◌-◌, ◌^◌, ℕ, List, Some, IsSome, length}
+use Rattle.explorer_model.specs.Journal.{input_limit}
+use Rattle.explorer.specs.World.{World}
+
+-- all bytes are told, of an input below the bound, and no count stands at its greatest number
+pub record IsTold (stream : List ℕ) (world : World) : Type 0 where
+  pub input : world.input.left ≡ Some stream
+  pub below : length stream < input_limit
+  pub output : IsSome world.output.written
+  pub errors : IsSome world.errors.written
+  pub reads : world.input.read_faults < 2 ^ 64 - 1
+  pub writes : world.output.write_faults < 2 ^ 64 - 1
+  pub reports : world.errors.write_faults < 2 ^ 64 - 1
+
+-- the same was written
+pub record WroteAlike (after other : World) : Type 0 where
+  pub output : after.output.written ≡ other.output.written
+  pub errors : after.errors.written ≡ other.errors.written

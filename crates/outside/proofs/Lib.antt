@@ -1,0 +1,4 @@
+mod ByteLemmas
+mod DeterminedLemmas
+pub mod DoorLemmas
+pub mod StreamLemmas

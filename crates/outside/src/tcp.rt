@@ -1,0 +1,144 @@
+ghost use Rattle.std.specs.Prelude.{◌≡◌, None};
+ghost use Rattle.outside.specs.Stream.{source_alone, sink_alone, link_of};
+
+use crate::door::Door;
+use crate::faults::Faults;
+use crate::standard::{StdSource, write_whole};
+use crate::stream::{Failed, Link, Sink, Source};
+use std::marker::Model;
+use std::net::{TcpListener, TcpStream};
+
+/// A connection over TCP. It tells none of its bytes, and counts each error of the socket.
+#[derive(Drop)]
+pub struct TcpLink {
+    source: StdSource<TcpStream>,
+    write_faults: Faults,
+}
+
+impl Model for TcpLink {
+    ghost use Rattle.std.specs.Prelude.{None};
+    ghost use Rattle.outside.specs.Stream.{Stream, sink_alone, link_of};
+
+    ghost Value = { Stream };
+
+    ghost view = { λ l. link_of l.source (sink_alone None l.write_faults) };
+}
+
+impl TcpLink {
+    pub fn new(stream: TcpStream) -> Self
+        ensures { result ≡ link_of (source_alone None 0 0) (sink_alone None 0) }
+    {
+        TcpLink {
+            source: StdSource::new(stream),
+            write_faults: Faults::new(),
+        }
+    }
+}
+
+impl Source for TcpLink {
+    ghost source = { λ stream. stream };
+
+    fn read(&mut self, into: &mut [u8]) -> Result<usize, Failed> {
+        self.source.read(into)
+    }
+
+    fn read_faults(&self) -> u64 {
+        self.source.read_faults()
+    }
+}
+
+impl Sink for TcpLink {
+    ghost sink = { λ stream. stream };
+
+    fn write(&mut self, chunk: &[u8]) -> Result<(), Failed> {
+        if !write_whole(&mut self.source.reader, chunk) {
+            return Err(self.write_faults.raise());
+        }
+        Ok(())
+    }
+}
+
+impl Link for TcpLink {
+    ghost use Rattle.std.specs.Prelude.{refl};
+
+    ghost one_stream = { λ _. refl };
+}
+
+/// A door over a listening socket. Doors that share the socket, each with a handle that
+/// `TcpListener::try_clone` gave, accept whichever connection comes while they wait.
+#[derive(Drop)]
+pub struct TcpDoor {
+    listener: TcpListener,
+    left: u32,
+    out: u32,
+    faults: Faults,
+}
+
+impl Model for TcpDoor {
+    ghost use Rattle.std.specs.Prelude.{◌+◌, ◌<◌, ◌^◌, None};
+    ghost use Rattle.outside.specs.Doors.{Connections};
+
+    ghost Value = { Connections };
+
+    ghost view = { λ d. record {
+      left = d.left;
+      out = d.out;
+      to_come = None;
+      taken_back = None;
+      faults = d.faults;
+    } };
+
+    ghost invariant = { λ d. d.left + d.out < 2 ^ 32 };
+}
+
+impl TcpDoor {
+    /// A door that accepts up to `connections` of those that come to the listener.
+    pub fn new(listener: TcpListener, connections: u32) -> Self
+        ensures { result ≡ record {
+          left = connections;
+          out = 0;
+          to_come = None;
+          taken_back = None;
+          faults = 0;
+        } }
+    {
+        TcpDoor {
+            listener,
+            left: connections,
+            out: 0,
+            faults: Faults::new(),
+        }
+    }
+
+    /// How many accepts have failed; `u64::MAX` stands for that number and every greater one.
+    pub fn faults(&self) -> u64
+        ensures { result ≡ self.now.faults }
+    {
+        self.faults.count()
+    }
+}
+
+impl Door for TcpDoor {
+    type Link = TcpLink;
+
+    ghost door = { λ connections. connections };
+
+    fn accept(&mut self) -> Result<Option<TcpLink>, Failed> {
+        if self.left == 0 {
+            return Ok(None);
+        }
+        match self.listener.accept() {
+            Ok((stream, _)) => {
+                self.left -= 1;
+                self.out += 1;
+                Ok(Some(TcpLink::new(stream)))
+            }
+            Err(_) => Err(self.faults.raise()),
+        }
+    }
+
+    /// Closes the connection.
+    fn finish(&mut self, _link: TcpLink) {
+        self.out -= 1;
+    }
+}

@@ -1,6 +1,0 @@
-use Rattle.std.proofs.Common.{ℕ, ◌<◌}
-use Rattle.explorer_model.specs.Board.{man_at, IsEmpty, IsBetween}
-use Rattle.plain_chess.proofs.board.is_open.Given as goal
-
-abbrev pub invariant-loop-s : goal.invariant-loop-s
-invariant-loop-s l = (k : ℕ) → k < l.s → IsBetween l.a k l.b → IsEmpty (man_at l.squares k)

@@ -1,0 +1,7 @@
+use Rattle.legal_moves.proofs.Lists.{lists-same}
+use Rattle.san_codec.proofs.tests.read_on.Goals as goal
+
+pub read-requires-clause-each : goal.read-requires-clause-each
+read-requires-clause-each c =
+    lists-same c.args.board.now c.position.result c.legal.result.items c.as_slice.result.now
+    c.position.ensures.same c.as_slice.ensures.value c.legal.ensures.each
