@@ -1,0 +1,2 @@
+mod MemoryCalls
+pub mod Moments

@@ -1,0 +1,18 @@
+//! Disks that a crash may cut short at any moment: what their calls promise, and their forms.
+#![tactic(auto)]
+
+mod call;
+mod disk;
+mod file;
+mod memory;
+mod plan;
+mod unkept;
+
+pub use call::DiskCall;
+pub use disk::Disk;
+pub use file::FileDisk;
+pub use memory::MemDisk;
+pub use unkept::Unkept;
+
+#[cfg(test)]
+mod tests;

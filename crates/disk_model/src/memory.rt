@@ -1,0 +1,229 @@
+ghost use Rattle.std.specs.Prelude.{◌≡◌, ◌≤◌, ◌+◌, ◌<◌, false, [], ◌∷◌, max, length, reverse, vec_len, vec_capacity, IfOk, OnOk, OnErr};
+ghost use Rattle.disk_model.specs.Disk.{written};
+ghost use Rattle.disk_model.specs.Memory.{content_of, IsImage, is_synced, IsLeft};
+ghost use Rattle.disk_model.specs.declared.call.DiskCall.TheVariants.{Wrote, Synced};
+
+use crate::call::DiskCall;
+use crate::disk::Disk;
+use crate::plan::{FailurePlan, raise};
+use outside::Failed;
+use std::alloc::{AllocError, Global};
+use std::marker::Model;
+
+/// A disk in memory, some of whose calls fail. It remembers its writes and syncs, and with them
+/// what a crash may leave.
+#[derive(Drop)]
+pub struct MemDisk {
+    alloc: Global,
+    bytes: Vec<u8>,
+    calls: Vec<DiskCall>,
+    room: usize,
+    plan: FailurePlan,
+    faults: u64,
+}
+
+impl Model for MemDisk {
+    ghost use Rattle.std.specs.Prelude.{◌≡◌, ◌≤◌, ◌<◌, false, reverse, vec_len, vec_capacity};
+    ghost use Rattle.disk_model.specs.Memory.{MemoryDisk, content_of, is_synced};
+
+    ghost Value = { MemoryDisk };
+
+    ghost view = { λ d. record {
+      calls = reverse d.calls.items;
+      room = d.room;
+      plan = d.plan;
+      faults = d.faults;
+    } };
+
+    ghost invariant = { λ d. (content_of (reverse d.calls.items) ≡ d.bytes.items)
+        × (vec_len d.bytes ≤ d.room) × (d.room ≤ vec_capacity d.bytes)
+        × (is_synced (reverse d.calls.items) ≡ false → vec_len d.calls < vec_capacity d.calls) };
+}
+
+impl MemDisk {
+    /// An empty disk with room for `room` bytes. A write past it fails and writes nothing. The
+    /// calls whose numbers are in `failing` fail too, counted from 0; a write of them is cut short
+    /// where a crash follows.
+    pub fn new(alloc: Global, room: usize, failing: Vec<u64>) -> Result<Self, AllocError>
+        ensures { IfOk result (λ disk. disk ≡ record {
+          calls = [];
+          room = room;
+          plan = record { failing = failing.items; calls = 0 };
+          faults = 0;
+        }) }
+    {
+        Ok(MemDisk {
+            alloc,
+            bytes: Vec::with_capacity(alloc, room)?,
+            calls: Vec::with_capacity(alloc, 1)?,
+            room,
+            plan: FailurePlan::new(failing),
+            faults: 0,
+        })
+    }
+
+    /// The disk as a crash at this moment may leave it, with no calls that are to fail. Where the
+    /// newest call is a write the choice tears it: bit `index % 3` says which of its bytes are
+    /// others, and the bits above the lowest what they are. Choice 0 tears nothing.
+    pub fn crashed(self, choice: u64) -> MemDisk
+        ensures { IsLeft self result }
+    {
+        let MemDisk {
+            alloc,
+            mut bytes,
+            mut calls,
+            room,
+            mut plan,
+            ..
+        } = self;
+        plan.clear();
+        tear_last(&mut calls, &mut bytes, room, choice);
+        calls.push_reserved(DiskCall::Synced);
+        MemDisk {
+            alloc,
+            bytes,
+            calls,
+            room,
+            plan,
+            faults: 0,
+        }
+    }
+}
+
+impl Disk for MemDisk {
+    ghost use Rattle.disk_model.specs.Memory as memory;
+    ghost use Rattle.disk_model.specs.Images as images;
+
+    ghost disk = { memory.state_of };
+
+    ghost left_since = { memory.left_since };
+
+    fn size(&mut self) -> Result<u64, Failed> {
+        if self.plan.next_fails() {
+            return Err(raise(&mut self.faults));
+        }
+        Ok(self.bytes.len() as u64)
+    }
+
+    fn read_at(&mut self, at: u64, into: &mut [u8]) -> Result<(), Failed> {
+        if self.plan.next_fails() {
+            return Err(raise(&mut self.faults));
+        }
+        let at = at as usize;
+        into.copy_from_slice(&self.bytes[at..at + into.len()]);
+        Ok(())
+    }
+
+    fn write_at(&mut self, at: u64, piece: &[u8]) -> Result<(), Failed> {
+        let fails = self.plan.next_fails();
+        if piece.len() > self.room - at as usize {
+            return Err(raise(&mut self.faults));
+        }
+        let Ok(()) = note_write(&mut self.calls, self.alloc, at, piece, !fails) else {
+            return Err(raise(&mut self.faults));
+        };
+        if fails {
+            return Err(raise(&mut self.faults));
+        }
+        overwrite(&mut self.bytes, at as usize, piece);
+        Ok(())
+    }
+
+    fn sync(&mut self) -> Result<(), Failed> {
+        if self.plan.next_fails() || self.calls.reserve(1).is_err() {
+            return Err(raise(&mut self.faults));
+        }
+        self.calls.push_reserved(DiskCall::Synced);
+        Ok(())
+    }
+
+    fn faults(&self) -> u64 {
+        self.faults
+    }
+
+    ghost told_size = { images.told_size };
+
+    ghost told_left = { images.told_left };
+
+    ghost counts_now = { images.counts_now };
+}
+
+/// Notes a write. Without memory for it nothing changes.
+fn note_write(
+    calls: &mut Vec<DiskCall>,
+    alloc: Global,
+    at: u64,
+    piece: &[u8],
+    done: bool,
+) -> Result<(), AllocError>
+    ensures noted { OnOk result ((copy : _) × (copy.items ≡ piece.now)
+        × (reverse calls.new.items ≡ Wrote at copy done ∷ reverse calls.old.items)) }
+    ensures unchanged { OnErr result (calls.new.items ≡ calls.old.items) }
+    ensures spare { OnOk result (vec_len calls.new < vec_capacity calls.new) }
+    ensures capacity { vec_capacity calls.old ≤ vec_capacity calls.new }
+{
+    let copy = piece.to_vec(alloc)?;
+    // One place more than this call needs, so that a crash can note its sync.
+    calls.reserve(2)?;
+    calls.push_reserved(DiskCall::Wrote {
+        at,
+        piece: copy,
+        done,
+    });
+    Ok(())
+}
+
+/// Writes a piece over bytes, and past their end.
+fn overwrite(bytes: &mut Vec<u8>, at: usize, piece: &[u8])
+    requires no_gap { at ≤ vec_len bytes.old }
+    requires room { max (vec_len bytes.old) (at + length piece.now) ≤ vec_capacity bytes.old }
+    ensures written { bytes.new.items ≡ written at piece.now bytes.old.items }
+    ensures size { vec_len bytes.new ≡ max (vec_len bytes.old) (at + length piece.now) }
+    ensures capacity { vec_capacity bytes.old ≤ vec_capacity bytes.new }
+{
+    let inside = piece.len().min(bytes.len() - at);
+    bytes[at..at + inside].copy_from_slice(&piece[..inside]);
+    let _ = bytes.extend_from_slice(&piece[inside..]);
+}
+
+/// Takes the newest call where it is a sync, and tears it where it is a write.
+fn tear_last(calls: &mut Vec<DiskCall>, bytes: &mut Vec<u8>, room: usize, choice: u64)
+    requires content { content_of (reverse calls.old.items) ≡ bytes.old.items }
+    requires fits { (vec_len bytes.old ≤ room) × (room ≤ vec_capacity bytes.old) }
+    requires spare { is_synced (reverse calls.old.items) ≡ false
+        → vec_len calls.old < vec_capacity calls.old }
+    ensures content { content_of (reverse calls.new.items) ≡ bytes.new.items }
+    ensures left { IsImage (reverse calls.old.items) bytes.new.items }
+    ensures fits { (vec_len bytes.new ≤ room) × (room ≤ vec_capacity bytes.new) }
+    ensures spare { vec_len calls.new < vec_capacity calls.new }
+{
+    match calls.pop() {
+        Some(DiskCall::Wrote { at, piece, done }) => {
+            if at > bytes.len() as u64 || piece.len() > room - at as usize {
+                calls.push_reserved(DiskCall::Wrote { at, piece, done });
+                return;
+            }
+            let torn = tear(piece, choice);
+            overwrite(bytes, at as usize, &torn);
+            calls.push_reserved(DiskCall::Wrote {
+                at,
+                piece: torn,
+                done: true,
+            });
+        }
+        // The caller notes a sync again.
+        Some(DiskCall::Synced) => {}
+        None => {}
+    }
+}
+
+fn tear(mut piece: Vec<u8>, choice: u64) -> Vec<u8>
+    ensures { length result.items ≡ length piece.items }
+{
+    for (index, byte) in piece.iter_mut().enumerate() {
+        if (choice >> (index % 3)) % 2 == 1 {
+            *byte = (choice / 2 % 256) as u8;
+        }
+    }
+    piece
+}

@@ -1,0 +1,6 @@
+mod Appending
+mod Creation
+pub mod Gates
+mod Records
+mod Told
+mod SyncedWrites

@@ -1,0 +1,273 @@
+use super::*;
+use disk_model::{Disk, FileDisk, MemDisk};
+use explorer_model::archive::Bytes;
+use explorer_model::store::LogFault;
+use outside::Failed;
+use std::alloc::Global;
+use std::fs;
+use std::fs::OpenOptions;
+use std::test::Fail;
+
+const FIRST: Format = Format {
+    number: 1,
+    most: 1000,
+};
+
+/// A log of the format 1 with the payload `01 00 01 00 00 00 78`, byte by byte.
+const ONE: [u8; 25] = *b"OPENEXP1\x01\x00\x00\x00\x01\x07\x00\x00\x00\x01\x00\x01\x00\x00\x00x\x00";
+
+const TEXT: [u8; 7] = *b"\x01\x00\x01\x00\x00\x00x";
+
+/// A disk with these bytes, synced. Its calls are counted from 2.
+fn disk_with(alloc: Global, bytes: &[u8], failing: Vec<u64>) -> Result<MemDisk, Fail> {
+    let mut disk = MemDisk::new(alloc, 4096, failing)?;
+    if bytes.len() > 4096 {
+        return Err(Fail::from("too long"));
+    }
+    disk.write_at(0, bytes)?;
+    disk.sync()?;
+    Ok(disk)
+}
+
+/// The bytes of a disk.
+fn bytes_of<D: Disk>(alloc: Global, disk: &mut D) -> Result<Vec<u8>, Fail> {
+    let size = disk.size()?;
+    let mut bytes = vec![in alloc; 0; size as usize]?;
+    disk.read_at(0, &mut bytes)?;
+    Ok(bytes)
+}
+
+/// Adds a payload that the log has room for.
+fn add<D: Disk>(alloc: Global, log: &mut RecordLog<D>, payload: &[u8]) -> Result<(), AppendFault> {
+    let most = log.format().most as usize;
+    if payload.is_empty() || payload.len() > most || payload.len() > 4096 || log.gate() > 4096 {
+        return Err(AppendFault::OutOfMemory);
+    }
+    log.append(alloc, payload)
+}
+
+/// How many payloads a disk has, or why it is no log.
+fn count_of<D: Disk + Drop>(alloc: Global, disk: D) -> Result<usize, OpenFault> {
+    match open(alloc, disk, FIRST) {
+        Ok(opened) => Ok(opened.payloads.len()),
+        Err(back) => Err(back.fault),
+    }
+}
+
+#[test]
+fn log_is_written_byte_by_byte(rt: HostRuntime) -> Result<(), Fail> {
+    let alloc: Global = rt.alloc();
+    let Ok(mut log) = create(MemDisk::new(alloc, 100, Vec::new(alloc))?, FIRST) else {
+        return Err(Fail::from("not created"));
+    };
+    assert_eq!(rt; log.gate(), 12);
+    assert_eq!(rt; add(alloc, &mut log, &TEXT), Ok(()));
+    assert_eq!(rt; log.gate(), 24);
+    let mut disk = log.into_disk();
+    assert_eq!(rt; bytes_of(alloc, &mut disk)?.as_slice(), ONE.as_slice());
+    let Err(back) = create(disk, FIRST) else {
+        return Err(Fail::from("created"));
+    };
+    assert_eq!(rt; back.fault, CreateFault::NotEmpty { size: 25 });
+    let Ok(opened) = open(alloc, back.disk, FIRST) else {
+        return Err(Fail::from("not opened"));
+    };
+    assert_eq!(rt; opened.payloads.len(), 1);
+    assert_eq!(rt; opened.payloads[0].as_slice(), TEXT.as_slice());
+    assert_eq!(rt; opened.log.gate(), 24);
+    Ok(())
+}
+
+#[test]
+fn bytes_that_are_no_log_are_refused(rt: HostRuntime) -> Result<(), Fail> {
+    let alloc: Global = rt.alloc();
+    let damaged = Err(OpenFault::Log(LogFault::Damaged { at: 12 }));
+    let table = [
+        (
+            b"OPENEXP2\x01\x00\x00\x00\x00".as_slice(),
+            Err(OpenFault::Log(LogFault::NotALog)),
+        ),
+        (
+            b"OPENEXP1\x01\x00\x00\x00".as_slice(),
+            Err(OpenFault::Log(LogFault::NotALog)),
+        ),
+        (
+            b"OPENEXP1\x02\x01\x00\x00\x00".as_slice(),
+            Err(OpenFault::Log(LogFault::OtherFormat { number: 258 })),
+        ),
+        (b"OPENEXP1\x01\x00\x00\x00\x02".as_slice(), Ok(0)),
+        (
+            b"OPENEXP1\x01\x00\x00\x00\x01\x00\x00\x00\x00\x00".as_slice(),
+            damaged,
+        ),
+        (
+            b"OPENEXP1\x01\x00\x00\x00\x01\xff\xff\xff\xff\x00".as_slice(),
+            damaged,
+        ),
+        (
+            b"OPENEXP1\x01\x00\x00\x00\x01\x01\x00\x00\x00x".as_slice(),
+            damaged,
+        ),
+        (
+            b"OPENEXP1\x01\x00\x00\x00\x01\x01\x00\x00\x00x\x03".as_slice(),
+            Ok(1),
+        ),
+        (
+            b"OPENEXP1\x01\x00\x00\x00\x01\xe9\x03\x00\x00".as_slice(),
+            damaged,
+        ),
+    ];
+    for (bytes, answer) in table {
+        assert_eq!(rt;
+            count_of(alloc, disk_with(alloc, bytes, Vec::new(alloc))?),
+            answer
+        );
+    }
+    Ok(())
+}
+
+#[test]
+fn log_is_cut_at_every_byte(rt: HostRuntime) -> Result<(), Fail> {
+    let alloc: Global = rt.alloc();
+    let Ok(mut log) = create(MemDisk::new(alloc, 2047, Vec::new(alloc))?, FIRST) else {
+        return Err(Fail::from("not created"));
+    };
+    let gates = [12, 24, 30, 1035, 2040];
+    for size in [7, 1, 1000, 1000] {
+        let payload = vec![in alloc; 1; size]?;
+        assert_eq!(rt; add(alloc, &mut log, &payload), Ok(()));
+    }
+    assert_eq!(rt; log.gate(), 2040);
+    let bytes = bytes_of(alloc, &mut log.into_disk())?;
+    for size in 0..bytes.len() {
+        let fault = match gates.iter().rev().find(|gate| **gate < size) {
+            Some(gate) if size > 12 => LogFault::Damaged { at: *gate as u64 },
+            _ => LogFault::NotALog,
+        };
+        let disk = disk_with(alloc, &bytes[..size], Vec::new(alloc))?;
+        assert_eq!(rt; count_of(alloc, disk), Err(OpenFault::Log(fault)));
+    }
+    assert_eq!(rt;
+        count_of(alloc, disk_with(alloc, &bytes, Vec::new(alloc))?),
+        Ok(4)
+    );
+    Ok(())
+}
+
+/// What an append to the log `ONE` answers whose disk call of this number fails, what a second one
+/// does, and how many payloads a crash leaves then. The opening makes the calls 2 to 9, and the
+/// append 10 to 13.
+#[derive(Drop)]
+struct Stopped {
+    added: Result<(), AppendFault>,
+    again: Result<(), AppendFault>,
+    count: usize,
+}
+
+fn stop_at(alloc: Global, call: u64, choice: u64) -> Result<Stopped, Fail> {
+    let disk = disk_with(alloc, &ONE, vec![in alloc; call]?)?;
+    let Ok(opened) = open(alloc, disk, FIRST) else {
+        return Err(Fail::from("not opened"));
+    };
+    let mut log = opened.log;
+    let added = add(alloc, &mut log, b"abc");
+    let again = if added.is_ok() {
+        Ok(())
+    } else {
+        add(alloc, &mut log, b"abc")
+    };
+    let count = count_of(alloc, log.into_disk().crashed(choice))?;
+    Ok(Stopped {
+        added,
+        again,
+        count,
+    })
+}
+
+#[test]
+fn crash_leaves_the_payload_or_not(rt: HostRuntime) -> Result<(), Fail> {
+    let alloc: Global = rt.alloc();
+    // The gate's write is torn to 1, 0, 1, 1, 1, 2, 1 and 3.
+    let torn = [2, 1, 2, 2, 2, 1, 2, 1];
+    let table = [
+        (10, [1; 8]),
+        (11, [1; 8]),
+        (12, torn),
+        (13, torn),
+        (14, [2; 8]),
+    ];
+    let before = 0;
+    let after = 1;
+    for (call, counts) in table {
+        for (choice, count) in counts.iter().enumerate() {
+            let stopped = stop_at(alloc, call, choice as u64)?;
+            assert_eq!(rt; stopped.count, *count);
+            if call == 14 {
+                assert_eq!(rt; stopped.added, Ok(()));
+            } else {
+                assert_eq!(rt;
+                    stopped.added,
+                    Err(AppendFault::DiskFault { before, after })
+                );
+                assert_eq!(rt; stopped.again, Err(AppendFault::Closed { before, after }));
+            }
+        }
+    }
+    Ok(())
+}
+
+#[test]
+fn each_call_of_an_opening_may_fail(rt: HostRuntime) -> Result<(), Fail> {
+    let alloc: Global = rt.alloc();
+    let before = 0;
+    let after = 1;
+    for call in 2..10 {
+        for choice in 0..8 {
+            let disk = disk_with(alloc, &ONE, vec![in alloc; call]?)?;
+            let Err(back) = open(alloc, disk, FIRST) else {
+                return Err(Fail::from("opened"));
+            };
+            assert_eq!(rt; back.fault, OpenFault::DiskFault { before, after });
+            assert_eq!(rt; count_of(alloc, back.disk.crashed(choice)), Ok(1));
+        }
+    }
+    let disk = disk_with(alloc, &ONE, vec![in alloc; 10]?)?;
+    assert_eq!(rt; count_of(alloc, disk), Ok(1));
+    Ok(())
+}
+
+#[test]
+fn each_call_of_a_creation_may_fail(rt: HostRuntime) -> Result<(), Fail> {
+    let alloc: Global = rt.alloc();
+    let before = 0;
+    let after = 1;
+    for call in 0..3 {
+        let disk = MemDisk::new(alloc, 100, vec![in alloc; call]?)?;
+        let Err(back) = create(disk, FIRST) else {
+            return Err(Fail::from("created"));
+        };
+        assert_eq!(rt; back.fault, CreateFault::DiskFault { before, after });
+    }
+    Ok(())
+}
+
+#[test]
+fn log_on_a_file_is_opened_again(rt: HostRuntime) -> Result<(), Fail> {
+    let alloc: Global = rt.alloc();
+    let path = "record_log_test";
+    let mut how = OpenOptions::new();
+    how.read(true).write(true).create(true);
+    let _ = fs::remove_file(&rt, path);
+    let Ok(mut log) = create(FileDisk::new(how.open(&rt, path)?)?, FIRST) else {
+        return Err(Fail::from("not created"));
+    };
+    assert_eq!(rt; add(alloc, &mut log, &TEXT), Ok(()));
+    drop(log);
+    assert_eq!(rt; fs::read(&rt, path)?.as_slice(), ONE.as_slice());
+    assert_eq!(rt;
+        count_of(alloc, FileDisk::new(how.open(&rt, path)?)?),
+        Ok(1)
+    );
+    fs::remove_file(&rt, path)?;
+    Ok(())
+}
