@@ -1,0 +1,9 @@
+pub mod AppendLemmas
+pub mod BlockLemmas
+pub mod EncodedLemmas
+pub mod HalvingLemmas
+pub mod HeldLemmas
+pub mod KeyLemmas
+pub mod OrderLemmas
+pub mod PackedLemmas
+pub mod SegmentLemmas

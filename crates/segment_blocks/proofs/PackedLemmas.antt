@@ -1,0 +1,79 @@
+-- A row behind the rows of blocks.
+use Rattle.std.proofs.Common.{◌≡◌, ℕ, zero, suc, ◌⊎◌, inl, inr, Result, Ok, Err, List, [], ◌∷◌, ◌++◌, length, get_or, set, sym, ap, subst, ◌∙◌, arith, append_assoc, append-nil}
+use Rattle.std.specs.Result.{OnOk, OnErr}
+use Rattle.std.proofs.lemmas.List.{set-get_or, get_or_default}
+use Rattle.std.proofs.lemmas.List.Concat.{flat_map-append}
+use Rattle.tally_rows.specs.declared.row.Row.{Row}
+use Rattle.segment_blocks.specs.Walk.{rows_in}
+use Rattle.segment_blocks.specs.PackedRows.{AreInOrder, AreSome, ArePacked}
+
+pub pushed_or_not : {X E : Type 0} (r : Result X E) (old new : List Row) (row : Row) → OnOk r (new ≡ old ++ row ∷ []) → OnErr r (new ≡ old)
+    → (new ≡ old ++ row ∷ []) ⊎ (new ≡ old)
+pushed_or_not (Ok x) old new row ok err = inl ok
+pushed_or_not (Err e) old new row ok err = inr err
+
+-- the last block with a row more
+pub rows_in-last : (blocks : List (List Row)) (n : ℕ) (row : Row) → suc n ≡ length blocks
+    → rows_in (set blocks n (get_or blocks n [] ++ row ∷ [])) ≡ rows_in blocks ++ row ∷ []
+rows_in-last [] n row e = absurd (omega arith)
+rows_in-last (b ∷ []) zero row e = append-nil (b ++ row ∷ []) ∙ ap (λ l. l ++ row ∷ []) (sym (append-nil b))
+rows_in-last (b ∷ d ∷ blocks) zero row e = absurd (omega arith)
+rows_in-last (b ∷ blocks) (suc n) row e =
+    ap (λ l. b ++ l) (rows_in-last blocks n row (omega arith)) ∙ sym (append_assoc b (rows_in blocks) (row ∷ []))
+
+some-set : (blocks : List (List Row)) (n : ℕ) (row : Row) → AreSome blocks → AreSome (set blocks n (get_or blocks n [] ++ row ∷ []))
+some-set [] n row h = tt
+some-set ([] ∷ blocks) n row h = absurd h
+some-set ((r ∷ rows) ∷ blocks) zero row h = h
+some-set ((r ∷ rows) ∷ blocks) (suc n) row h = some-set blocks n row h
+
+some-push : (blocks : List (List Row)) (row : Row) → AreSome blocks → AreSome (blocks ++ (row ∷ []) ∷ [])
+some-push [] row h = tt
+some-push ([] ∷ blocks) row h = absurd h
+some-push ((r ∷ rows) ∷ blocks) row h = some-push blocks row h
+
+module _ (blocks : List (List Row)) (row : Row) (h : ArePacked blocks) (ordered : AreInOrder (rows_in blocks ++ row ∷ [])) where
+  pub ArePacked-last : (n : ℕ) → suc n ≡ length blocks → ArePacked (set blocks n (get_or blocks n [] ++ row ∷ []))
+  ArePacked-last n e = record {
+    some = some-set blocks n row h.some;
+    ordered = subst AreInOrder (sym (rows_in-last blocks n row e)) ordered;
+  }
+
+  pub rows_in-push : rows_in (blocks ++ (row ∷ []) ∷ []) ≡ rows_in blocks ++ row ∷ []
+  rows_in-push = flat_map-append (λ b. b) blocks ((row ∷ []) ∷ [])
+
+  pub ArePacked-push : ArePacked (blocks ++ (row ∷ []) ∷ [])
+  ArePacked-push = record {
+    some = some-push blocks row h.some;
+    ordered = subst AreInOrder (sym rows_in-push) ordered;
+  }
+
+module _ (blocks : List (List Row)) (row : Row) (n : ℕ) (e : suc n ≡ length blocks) (old new : List Row) (is : old ≡ get_or blocks n old) where
+  last_is : old ≡ get_or blocks n []
+  last_is = is ∙ get_or_default blocks n old [] (omega (arith, e))
+
+  pushed_is : new ≡ old ++ row ∷ [] → set blocks n new ≡ set blocks n (get_or blocks n [] ++ row ∷ [])
+  pushed_is pushed = ap (set blocks n) (pushed ∙ ap (λ l. l ++ row ∷ []) last_is)
+
+  pub rows_in-after : new ≡ old ++ row ∷ [] → rows_in (set blocks n new) ≡ rows_in blocks ++ row ∷ []
+  rows_in-after pushed = ap rows_in (pushed_is pushed) ∙ rows_in-last blocks n row e
+
+  pub ArePacked-after : ArePacked blocks → AreInOrder (rows_in blocks ++ row ∷ [])
+      → (new ≡ old ++ row ∷ []) ⊎ (new ≡ old) → ArePacked (set blocks n new)
+  ArePacked-after h ordered (inl pushed) = subst ArePacked (sym (pushed_is pushed)) (ArePacked-last blocks row h ordered n e)
+  ArePacked-after h ordered (inr same) = subst ArePacked (sym (ap (set blocks n) (same ∙ is) ∙ set-get_or blocks n old)) h
+
+some-append : (xs ys : List (List Row)) → AreSome xs → AreSome ys → AreSome (xs ++ ys)
+some-append [] ys a b = b
+some-append ([] ∷ xs) ys a b = absurd a
+some-append ((r ∷ rows) ∷ xs) ys a b = some-append xs ys a b
+
+pub rows_in-append : (xs ys : List (List Row)) → rows_in (xs ++ ys) ≡ rows_in xs ++ rows_in ys
+rows_in-append xs ys = flat_map-append (λ b. b) xs ys
+
+pub ArePacked-append : (xs ys : List (List Row)) → ArePacked xs → ArePacked ys → AreInOrder (rows_in xs ++ rows_in ys)
+    → ArePacked (xs ++ ys)
+ArePacked-append xs ys a b ordered = record {
+  some = some-append xs ys a.some b.some;
+  ordered = subst AreInOrder (sym (rows_in-append xs ys)) ordered;
+}

@@ -1,0 +1,11 @@
+use Rattle.std.proofs.Common.{◌<◌, length, ap, arith}
+use Rattle.segment_blocks.specs.Encoded.{rows_of}
+use Rattle.segment_blocks.proofs.AppendLemmas.{IsBlock-push}
+use Rattle.segment_blocks.proofs.block.Block.push.Goals as goal
+
+pub invariant_of-self-2 : goal.invariant_of-self-2
+invariant_of-self-2 c =
+    let b = c.self.inside in
+    let room : length (rows_of b.rows b.first) < 128 = omega (arith, c.requires, ap length c.self.view_is) in
+    IsBlock-push b.first b.last c.args.row.now (rows_of b.rows b.first) (rows_of c.push.new.self b.first) c.self.invariant room
+    (c.in_ok-push.ensures.ok b.first c.self.invariant.ends)

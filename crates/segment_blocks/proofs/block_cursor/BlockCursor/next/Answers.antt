@@ -1,0 +1,35 @@
+use Rattle.std.proofs.Common.{◌≡◌, [], ◌∷◌, ◌++◌, ◌-◌, take, drop, sym, ap, ◌∙◌}
+use Rattle.tally_rows.specs.Row.{row_of}
+use Rattle.segment_blocks.specs.Encoded.{own_len, key_behind, single_of, rows_behind}
+use Rattle.segment_blocks.proofs.EncodedLemmas.{rows_behind-nil, rows_behind-game, rows_behind-whole}
+use Rattle.segment_blocks.proofs.block_cursor.BlockCursor.next.Goals as goal
+
+pub returns-in_err-mark : goal.returns-in_err-mark
+returns-in_err-mark c =
+    let none : c.args.self.now ≡ [] = sym c.self.view_is ∙ rows_behind-nil _ _ _ _ c.in_err-mark.ensures.cases in
+    rw c.from_residual.ensures (none, none)
+
+pub returns-in-Some : goal.returns-in-Some
+returns-in-Some c =
+    let p = c.self.inside in
+    let mark = c.in_ok-mark.mark.now in
+    let key : key_behind p.before mark p.tails.now ≡ c.key_of-key.result =
+    sym (c.key_of-key.ensures ∙ ap (λ l. take mark.shared p.before ++ l) (c.split_at.ensures.front ∙ ap (λ n. take (34 - n) p.tails.now) c.from.ensures)) in
+    let rest : drop (own_len mark) p.tails.now ≡ c.split_at.result.1.now =
+    sym (c.split_at.ensures.back ∙ ap (λ n. drop (34 - n) p.tails.now) c.from.ensures) in
+    let row = c.of.ensures.row ∙ ap row_of c.single_of.ensures in
+    sym c.self.view_is
+    ∙ rows_behind-game mark p.marks.now c.in_ok-mark.marks.now p.before p.tails.now p.whole.now c.in_ok-mark.ensures.cases.0 c.in-Some.outcome c.in-Some.is
+    ∙ (λ i. row_of (single_of (key i) mark c.in-Some.outcome) ∷ rows_behind c.in_ok-mark.marks.now (key i) (rest i) p.whole.now)
+    ∙ ap (λ r. r ∷ rows_behind c.in_ok-mark.marks.now c.key_of-key.result c.split_at.result.1.now p.whole.now) (sym row)
+
+pub returns-in_ok-row : goal.returns-in_ok-row
+returns-in_ok-row c =
+    let p = c.self.inside in
+    let mark = c.in_ok-mark.mark.now in
+    let row = c.in_ok-row.row.now in
+    let rest : drop (own_len mark) p.tails.now ≡ c.split_at.result.1.now =
+    sym (c.split_at.ensures.back ∙ ap (λ n. drop (34 - n) p.tails.now) c.from.ensures) in
+    sym c.self.view_is
+    ∙ rows_behind-whole mark p.marks.now c.in_ok-mark.marks.now p.before p.tails.now p.whole.now c.in_ok-mark.ensures.cases.0 row c.in_ok-row.whole.now c.in_default.is c.in_ok-row.ensures.cases.0
+    ∙ (λ i. sym c.copy_of.ensures i ∷ rows_behind c.in_ok-mark.marks.now row.key (rest i) c.in_ok-row.whole.now)

@@ -1,0 +1,6 @@
+pub mod Encoded
+pub mod Block
+pub mod Walk
+pub mod PackedRows
+pub mod Segment
+pub mod HeldBatches

@@ -1,0 +1,41 @@
+-- Rows in blocks.
+use Rattle.std.specs.Prelude.{ℕ, Bool, List, [], ◌∷◌, map}
+use Rattle.std.specs.List.{flat_map}
+use Rattle.std.specs.List.Sorted.{IsStrictlySortedBy}
+use Rattle.std.specs.Ordering.{nat_cmp, is_lt}
+use Rattle.std.specs.Cmp.Lexicographic.{slice_cmp}
+use Rattle.tally_rows.specs.declared.row.Row.{Row}
+use Rattle.tally_rows.specs.RowKey.{row_order}
+use Rattle.tally_rows.specs.Row.{row_key_of}
+use Rattle.segment_blocks.specs.Encoded.{key_first}
+use Rattle.segment_blocks.specs.Walk.{rows_in}
+
+-- rows, and how many blocks they take
+pub record Packed : Type 0 where
+  pub rows : List Row
+  pub blocks : ℕ
+
+-- each row stands before those behind it in the order of rows, so no two have one row key
+abbrev pub AreInOrder : List Row → Type 0
+AreInOrder rows = IsStrictlySortedBy row_order (map row_key_of rows)
+
+-- the rows of parts, one part after another
+abbrev pub rows_of_parts : List Packed → List Row
+rows_of_parts parts = flat_map (λ part. part.rows) parts
+
+-- ---- how the rows are held
+
+-- blocks of some rows each
+abbrev pub AreSome : List (List Row) → Type 0
+AreSome [] = Unit {0}
+AreSome ([] ∷ blocks) = ⊥
+AreSome ((row ∷ rows) ∷ blocks) = AreSome blocks
+
+-- blocks of some rows each, and all their rows in order
+pub record ArePacked (blocks : List (List Row)) : Type 0 where
+  pub some : AreSome blocks
+  pub ordered : AreInOrder (rows_in blocks)
+
+-- whether the block begins with a key below this one
+abbrev pub is_first_below : List ℕ → List Row → Bool
+is_first_below key block = is_lt (slice_cmp nat_cmp (key_first [] block) key)

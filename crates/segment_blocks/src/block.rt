@@ -1,0 +1,94 @@
+//! A block of rows.
+ghost use Rattle.std.specs.Prelude.{◌≡◌, ℕ, List, ◌<◌, ◌≤◌, ◌++◌, ◌∷◌, [], IfOk, OnOk, OnErr, length};
+ghost use Rattle.segment_blocks.specs.Block.{block_limit};
+ghost use Rattle.segment_blocks.specs.Encoded.{key_first};
+
+use crate::block_cursor::BlockCursor;
+use crate::encoded_rows::EncodedRows;
+use std::alloc::{AllocError, Global};
+use std::marker::Model;
+use tally_rows::Row;
+
+/// The most rows of a block.
+pub const BLOCK_LIMIT: usize = 128;
+
+/// 1 to 128 rows that stand one after another.
+#[derive(Drop)]
+pub struct Block {
+    /// The key of the first row.
+    first: [u8; 34],
+    /// The key of the last row.
+    last: [u8; 34],
+    rows: EncodedRows,
+}
+
+impl Model for Block {
+    ghost use Rattle.std.specs.Prelude.{List};
+    ghost use Rattle.tally_rows.specs.declared.row.Row.{Row};
+
+    ghost Value = { List Row };
+
+    ghost use Rattle.segment_blocks.specs.Encoded.{rows_of};
+    ghost use Rattle.segment_blocks.specs.Block.{IsBlock};
+
+    ghost view = { λ b. rows_of b.rows b.first };
+
+    ghost invariant = { λ b. IsBlock b.first b.last (rows_of b.rows b.first) };
+}
+
+impl Block {
+    /// A block with its first row.
+    pub fn of(alloc: Global, row: &Row) -> Result<Block, AllocError>
+        ensures { IfOk result (λ block. block ≡ row.now ∷ []) }
+    {
+        let mut rows = EncodedRows::new(alloc);
+        rows.push(&row.key, row)?;
+        Ok(Block {
+            first: row.key,
+            last: row.key,
+            rows,
+        })
+    }
+
+    /// How many rows there are.
+    pub fn len(&self) -> usize
+        ensures len { result ≡ length self.now }
+        ensures some { 0 < length self.now }
+        ensures few { length self.now ≤ block_limit }
+    {
+        self.rows.len()
+    }
+
+    /// The key of the first row.
+    pub fn first(&self) -> &[u8; 34]
+        ensures { (key : List ℕ) → result.now ≡ key_first key self.now }
+    {
+        &self.first
+    }
+
+    /// Puts a row behind the others. After a refusal the block is as before.
+    pub fn push(&mut self, row: &Row) -> Result<(), AllocError>
+        requires { length self.old < block_limit }
+        ensures ok { OnOk result (self.new ≡ self.old ++ row.now ∷ []) }
+        ensures err { OnErr result (self.new ≡ self.old) }
+    {
+        self.rows.push(&self.last, row)?;
+        self.last = row.key;
+        Ok(())
+    }
+
+    /// Gives back the room that no row takes.
+    pub fn shrink_to_fit(&mut self)
+        ensures { self.new ≡ self.old }
+    {
+        self.rows.shrink_to_fit();
+    }
+
+    /// The place before the first row.
+    pub fn cursor(&self) -> BlockCursor<'_>
+        ensures rows { result ≡ self.now }
+        ensures few { length self.now ≤ block_limit }
+    {
+        self.rows.cursor(self.first)
+    }
+}

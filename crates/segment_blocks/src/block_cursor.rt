@@ -1,0 +1,119 @@
+//! A place in a block.
+ghost use Rattle.std.specs.Prelude.{◌≡◌, [], ◌∷◌, ◌++◌, take, drop, length, MatchOption};
+ghost use Rattle.segment_blocks.specs.Encoded.{own_len, key_behind, single_of};
+
+use crate::mark::Mark;
+use best_lists::Best4;
+use explorer_model::archive::Outcome;
+use std::marker::Model;
+use tally_rows::{Row, RowKey, Single};
+
+/// What is left of a block: its rows from a place on.
+#[derive(Drop)]
+pub struct BlockCursor<'a> {
+    pub before: [u8; 34],
+    pub marks: &'a [Mark],
+    pub tails: &'a [u8],
+    pub whole: &'a [Row],
+}
+
+impl<'a> Model for BlockCursor<'a> {
+    ghost use Rattle.std.specs.Prelude.{List};
+    ghost use Rattle.tally_rows.specs.declared.row.Row.{Row};
+
+    ghost Value = { List Row };
+
+    ghost use Rattle.segment_blocks.specs.Encoded.{rows_behind, IsFilled};
+
+    ghost view = { λ p. rows_behind p.marks.now p.before p.tails.now p.whole.now };
+
+    ghost invariant = { λ p. IsFilled p.marks.now p.tails.now p.whole.now };
+}
+
+impl<'a> BlockCursor<'a> {
+    /// No row.
+    pub fn empty() -> BlockCursor<'a>
+        ensures { result ≡ [] }
+    {
+        BlockCursor {
+            before: [0; 34],
+            marks: &[],
+            tails: &[],
+            whole: &[],
+        }
+    }
+
+    /// The next row, or None at the end.
+    pub fn next(&mut self) -> Option<Row>
+        ensures { MatchOption result ((self.old ≡ []) × (self.new ≡ []))
+            (λ row. self.old ≡ row ∷ self.new) }
+    {
+        let (mark, marks) = self.marks.split_first()?;
+        let (own, tails) = self.tails.split_at(34 - usize::from(mark.shared));
+        if let Some(outcome) = mark.outcome {
+            let key = key_of(&self.before, mark, own);
+            self.before = key;
+            self.marks = marks;
+            self.tails = tails;
+            Some(Row::of(&single_of(key, mark, outcome)))
+        } else {
+            let (row, whole) = self.whole.split_first()?;
+            self.before = row.key;
+            self.marks = marks;
+            self.tails = tails;
+            self.whole = whole;
+            Some(copy_of(row))
+        }
+    }
+}
+
+/// The key of a mark, from the key before it and the bytes of its own.
+fn key_of(before: &[u8; 34], mark: &Mark, own: &[u8]) -> [u8; 34]
+    requires { length own.now ≡ own_len mark.now }
+    ensures { result ≡ take mark.now.shared before.now ++ own.now }
+{
+    let mut key = *before;
+    key[usize::from(mark.shared)..].copy_from_slice(own);
+    key
+}
+
+/// The game of a mark in the position of a key.
+fn single_of(key: [u8; 34], mark: &Mark, outcome: Outcome) -> Single
+    ensures { result ≡ single_of key mark.now outcome }
+{
+    Single {
+        row_key: RowKey {
+            key,
+            next: mark.next,
+            month: mark.month,
+            speed: mark.speed,
+            group: mark.group,
+        },
+        number: mark.number,
+        outcome,
+        rating: mark.rating,
+        sum: u32::from(mark.sum),
+    }
+}
+
+/// The same row.
+pub fn copy_of(row: &Row) -> Row
+    ensures { result ≡ row.now }
+{
+    // Each list is its own best four, as its entries say.
+    let _top = row.top.entries();
+    let _recent = row.recent.entries();
+    Row {
+        key: row.key,
+        next: row.next,
+        month: row.month,
+        speed: row.speed,
+        group: row.group,
+        white: row.white,
+        draws: row.draws,
+        black: row.black,
+        ratings: row.ratings,
+        top: row.top.join(&Best4::empty()),
+        recent: row.recent.join(&Best4::empty()),
+    }
+}

@@ -1,0 +1,148 @@
+//! Rows in few bytes.
+ghost use Rattle.std.specs.Prelude.{◌≡◌, ◌≤◌, [], ℕ, List, IfSome, OnOk, OnErr, length, take};
+ghost use Rattle.segment_blocks.specs.Encoded.{IsMarkOf, IsAppended, rows_of};
+
+use crate::block_cursor::{BlockCursor, copy_of};
+use crate::mark::Mark;
+use crate::single_game::single_in;
+use explorer_model::archive::{Group, Month, Speed};
+use std::alloc::{AllocError, Global};
+use std::marker::Model;
+use tally_rows::Row;
+
+/// Rows that stand one after another. A row of one game is a mark and those bytes of its key in
+/// which it differs from the key before it, from the first on. Each other row stands whole.
+#[derive(Drop)]
+pub struct EncodedRows {
+    marks: Vec<Mark>,
+    tails: Vec<u8>,
+    whole: Vec<Row>,
+}
+
+impl Model for EncodedRows {
+    ghost use Rattle.segment_blocks.specs.Encoded.{Encoded, IsFilled};
+
+    ghost Value = { Encoded };
+
+    ghost view = { λ e. record {
+      marks = e.marks.items;
+      tails = e.tails.items;
+      whole = e.whole.items;
+    } };
+
+    ghost invariant = { λ e. IsFilled e.marks.items e.tails.items e.whole.items };
+}
+
+impl EncodedRows {
+    /// No row.
+    pub fn new(alloc: Global) -> EncodedRows
+        ensures { (first : List ℕ) → rows_of result first ≡ [] }
+    {
+        EncodedRows {
+            marks: Vec::new(alloc),
+            tails: Vec::new(alloc),
+            whole: Vec::new(alloc),
+        }
+    }
+
+    /// How many rows there are.
+    pub fn len(&self) -> usize
+        ensures { (first : List ℕ) → result ≡ length (rows_of self.now first) }
+    {
+        self.marks.len()
+    }
+
+    /// Puts a row behind the others, the last of which has the key `before`. After a refusal they
+    /// are as before.
+    pub fn push(&mut self, before: &[u8; 34], row: &Row) -> Result<(), AllocError>
+        ensures ok { OnOk result (IsAppended before.now row.now self.old self.new) }
+        ensures err { OnErr result (self.new ≡ self.old) }
+    {
+        self.marks.reserve(1)?;
+        let shared = shared_len(before, &row.key);
+        if let Some(mark) = mark_of(row, shared) {
+            self.tails
+                .extend_from_slice(&row.key[usize::from(shared)..])?;
+            self.marks.push_reserved(mark);
+        } else {
+            self.whole.push(copy_of(row))?;
+            self.marks.push_reserved(whole_mark());
+        }
+        Ok(())
+    }
+
+    /// Gives back the room that no row takes.
+    pub fn shrink_to_fit(&mut self)
+        ensures { self.new ≡ self.old }
+    {
+        self.marks.shrink_to_fit();
+        self.tails.shrink_to_fit();
+        self.whole.shrink_to_fit();
+    }
+
+    /// The place before the first row, which stands behind the key `before`.
+    pub fn cursor(&self, before: [u8; 34]) -> BlockCursor<'_>
+        ensures { result ≡ rows_of self.now before }
+    {
+        BlockCursor {
+            before,
+            marks: self.marks.as_slice(),
+            tails: self.tails.as_slice(),
+            whole: self.whole.as_slice(),
+        }
+    }
+}
+
+/// How many bytes both keys begin with alike.
+fn shared_len(a: &[u8; 34], b: &[u8; 34]) -> u8
+    ensures within { result ≤ 34 }
+    ensures same { take result a.now ≡ take result b.now }
+    ensures long { length b.now ≡ 34 }
+{
+    for at in 0..34u8 {
+        if a[usize::from(at)] != b[usize::from(at)] {
+            return at;
+        }
+    }
+    34
+}
+
+/// The mark of a row of one game, or None where the row has to stand whole.
+fn mark_of(row: &Row, shared: u8) -> Option<Mark>
+    requires { shared ≤ 34 }
+    ensures { IfSome result (λ mark. IsMarkOf row.now shared mark) }
+{
+    let single = single_in(row)?;
+    let Ok(sum) = u16::try_from(single.sum) else {
+        return None;
+    };
+    Some(Mark {
+        number: single.number,
+        rating: single.rating,
+        sum,
+        month: single.row_key.month,
+        group: single.row_key.group,
+        next: single.row_key.next,
+        speed: single.row_key.speed,
+        outcome: Some(single.outcome),
+        shared,
+    })
+}
+
+/// The mark of a row that stands whole.
+fn whole_mark() -> Mark
+    ensures outcome { result.outcome ≡ None }
+    ensures shared { result.shared ≡ 34 }
+{
+    Mark {
+        number: 0,
+        rating: 0,
+        sum: 0,
+        month: Month { year: 0, month: 0 },
+        group: Group { value: 0 },
+        next: None,
+        speed: Speed::Bullet,
+        outcome: None,
+        shared: 34,
+    }
+}

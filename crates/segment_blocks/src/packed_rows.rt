@@ -1,0 +1,200 @@
+//! Rows in little room.
+ghost use Rattle.std.specs.Prelude.{◌≡◌, ℕ, ◌+◌, ◌≤◌, ◌<◌, ◌^◌, ◌++◌, ◌∷◌, [], filter, not, true, false, length, slice_index_or, IfOk, OnOk, OnErr};
+ghost use Rattle.segment_blocks.specs.Block.{block_limit};
+ghost use Rattle.segment_blocks.specs.PackedRows.{AreInOrder, ArePacked, is_first_below, rows_of_parts};
+ghost use Rattle.segment_blocks.specs.Walk.{is_below, has_key, from_key, rows_in, front_rows};
+
+use crate::block::{BLOCK_LIMIT, Block};
+use crate::block_cursor::BlockCursor;
+use crate::row_walk::RowWalk;
+use crate::rows_cursor::RowsCursor;
+use crate::steps::Steps;
+use crate::until::Until;
+use std::alloc::{AllocError, Global};
+use std::marker::Model;
+use std::sync::ledger::Ledger;
+use tally_rows::Row;
+
+/// Rows in their order, in blocks of at most 128. The first keys of the blocks are their index.
+#[derive(Drop)]
+pub struct PackedRows {
+    blocks: Vec<Block>,
+}
+
+impl Model for PackedRows {
+    ghost use Rattle.segment_blocks.specs.Walk.{rows_in};
+    ghost use Rattle.segment_blocks.specs.PackedRows.{Packed, ArePacked};
+    ghost use Rattle.std.specs.Prelude.{length};
+
+    ghost Value = { Packed };
+
+    ghost view = { λ p. record { rows = rows_in p.blocks.items; blocks = length p.blocks.items } };
+
+    ghost invariant = { λ p. ArePacked p.blocks.items };
+}
+
+impl PackedRows {
+    /// No row.
+    pub fn new(alloc: Global) -> PackedRows
+        ensures { result.rows ≡ [] }
+    {
+        PackedRows {
+            blocks: Vec::new(alloc),
+        }
+    }
+
+    /// Rows that stand in their order.
+    pub(crate) fn of(alloc: Global, rows: &[Row]) -> Result<PackedRows, AllocError>
+        requires in_order { AreInOrder rows.now }
+        ensures { IfOk result (λ packed. packed.rows ≡ rows.now) }
+    {
+        let mut packed = PackedRows::new(alloc);
+        for row in rows {
+            packed.push(alloc, row)?;
+        }
+        Ok(packed)
+    }
+
+    /// The rows of parts, one part after another. Their blocks stay as they are.
+    pub(crate) fn of_parts(alloc: Global, parts: Vec<PackedRows>) -> Result<PackedRows, AllocError>
+        requires in_order { AreInOrder (rows_of_parts parts.items) }
+        ensures { IfOk result (λ packed. packed.rows ≡ rows_of_parts parts.items) }
+    {
+        let mut parts = parts;
+        let mut all = PackedRows::new(alloc);
+        while !parts.is_empty() {
+            let part = parts.remove(0);
+            all.append(part)?;
+        }
+        Ok(all)
+    }
+
+    /// Puts a row behind the others. After a refusal they are as before.
+    pub fn push(&mut self, alloc: Global, row: &Row) -> Result<(), AllocError>
+        requires in_order { AreInOrder (self.old.rows ++ row.now ∷ []) }
+        ensures ok { OnOk result (self.new.rows ≡ self.old.rows ++ row.now ∷ []) }
+        ensures err { OnErr result (self.new ≡ self.old) }
+    {
+        let count = self.blocks.as_slice().len();
+        if count > 0 && self.blocks[count - 1].len() < BLOCK_LIMIT {
+            return self.blocks[count - 1].push(row);
+        }
+        let block = Block::of(alloc, row)?;
+        self.blocks.push(block)?;
+        if count > 0 {
+            self.blocks[count - 1].shrink_to_fit();
+        }
+        Ok(())
+    }
+
+    /// A walk over the rows of the key, in their order. A step is a first key compared or a row
+    /// passed.
+    pub fn rows_at<L: Ledger>(&self, key: &[u8; 34], steps: &mut Steps<L>) -> RowWalk<'_>
+        ensures rows { result ≡ filter (has_key key.now) self.now.rows }
+        ensures cost { (digits : ℕ) → self.now.blocks < 2 ^ digits
+            → steps.new ≤ steps.old + block_limit + digits }
+    {
+        RowWalk {
+            rest: seek(self.blocks.as_slice(), key, steps),
+            until: Until::Key(*key),
+        }
+    }
+
+    /// A walk over the rows whose key is not below the key, in their order. It takes the steps of
+    /// `rows_at`.
+    pub fn rows_from<L: Ledger>(&self, key: &[u8; 34], steps: &mut Steps<L>) -> RowWalk<'_>
+        ensures rows { result ≡ filter (λ row. not (is_below key.now row)) self.now.rows }
+        ensures cost { (digits : ℕ) → self.now.blocks < 2 ^ digits
+            → steps.new ≤ steps.old + block_limit + digits }
+    {
+        RowWalk {
+            rest: seek(self.blocks.as_slice(), key, steps),
+            until: Until::End,
+        }
+    }
+
+    /// Puts other rows behind these. After a refusal these are as before, and the others are lost.
+    fn append(&mut self, other: PackedRows) -> Result<(), AllocError>
+        requires in_order { AreInOrder (self.old.rows ++ other.rows) }
+        ensures ok { OnOk result (self.new.rows ≡ self.old.rows ++ other.rows) }
+        ensures err { OnErr result (self.new ≡ self.old) }
+    {
+        let PackedRows { blocks } = other;
+        let mut blocks = blocks;
+        self.blocks.append(&mut blocks)
+    }
+}
+
+/// The rows from the first one on whose key is not below the key.
+fn seek<'a, L: Ledger>(blocks: &'a [Block], key: &[u8; 34], steps: &mut Steps<L>) -> RowsCursor<'a>
+    requires { ArePacked blocks.now }
+    ensures rows { result ≡ from_key key.now (rows_in blocks.now) }
+    ensures cost { (digits : ℕ) → length blocks.now < 2 ^ digits
+        → steps.new ≤ steps.old + block_limit + digits }
+{
+    let below = count_below(blocks, key, steps);
+    if below == 0 {
+        return RowsCursor {
+            front: None,
+            place: BlockCursor::empty(),
+            blocks,
+        };
+    }
+    let (front, place) = pass_below(blocks[below - 1].cursor(), key, steps);
+    RowsCursor {
+        front,
+        place,
+        blocks: &blocks[below..],
+    }
+}
+
+/// How many blocks begin with a lesser key.
+fn count_below<L: Ledger>(blocks: &[Block], key: &[u8; 34], steps: &mut Steps<L>) -> usize
+    requires { ArePacked blocks.now }
+    ensures within { result ≤ length blocks.now }
+    ensures below { (k : ℕ) → k < result
+        → is_first_below key.now (slice_index_or blocks.now k []) ≡ true }
+    ensures above { (k : ℕ) → result ≤ k → k < length blocks.now
+        → is_first_below key.now (slice_index_or blocks.now k []) ≡ false }
+    ensures cost { (digits : ℕ) → length blocks.now < 2 ^ digits → steps.new ≤ steps.old + digits }
+{
+    let mut first = 0;
+    let mut size = blocks.len();
+    while size > 0 {
+        let half = size / 2;
+        steps.tick();
+        if begins_below(&blocks[first + half], key) {
+            first += half + 1;
+            size -= half + 1;
+        } else {
+            size = half;
+        }
+    }
+    first
+}
+
+/// Whether the block begins with a lesser key.
+fn begins_below(block: &Block, key: &[u8; 34]) -> bool
+    ensures { result ≡ is_first_below key.now block.now }
+{
+    block.first().cmp(key).is_lt()
+}
+
+/// The first row whose key is not below the key, and what stands behind it.
+fn pass_below<'a, L: Ledger>(
+    place: BlockCursor<'a>,
+    key: &[u8; 34],
+    steps: &mut Steps<L>,
+) -> (Option<Row>, BlockCursor<'a>)
+    ensures rows { front_rows result.0 ++ result.1 ≡ from_key key.now place.entry }
+    ensures cost { steps.new ≤ steps.old + length place.entry }
+{
+    let mut place = place;
+    while let Some(row) = place.next() {
+        if row.key.cmp(key).is_ge() {
+            return (Some(row), place);
+        }
+        steps.tick();
+    }
+    (None, place)
+}

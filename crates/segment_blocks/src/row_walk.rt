@@ -1,0 +1,59 @@
+//! Walks over rows.
+ghost use Rattle.std.specs.Prelude.{◌≡◌, ◌+◌, [], ◌∷◌, MatchOption};
+
+use crate::rows_cursor::RowsCursor;
+use crate::steps::Steps;
+use crate::until::Until;
+use std::marker::Model;
+use std::sync::ledger::Ledger;
+use tally_rows::Row;
+
+/// The rows that a walk has still to come to.
+#[derive(Drop)]
+pub struct RowWalk<'a> {
+    pub(crate) rest: RowsCursor<'a>,
+    pub(crate) until: Until,
+}
+
+impl<'a> Model for RowWalk<'a> {
+    ghost use Rattle.std.specs.Prelude.{List};
+    ghost use Rattle.tally_rows.specs.declared.row.Row.{Row};
+
+    ghost Value = { List Row };
+
+    ghost use Rattle.segment_blocks.specs.Walk.{rows_until};
+
+    ghost view = { λ w. rows_until w.until w.rest };
+}
+
+impl<'a> RowWalk<'a> {
+    /// The next row, or None exactly at the end.
+    pub fn next<L: Ledger>(&mut self, steps: &mut Steps<L>) -> Option<Row>
+        ensures rows { MatchOption result ((self.old ≡ []) × (self.new ≡ []))
+            (λ row. self.old ≡ row ∷ self.new) }
+        ensures cost { steps.new ≡ steps.old + 1 }
+    {
+        steps.tick();
+        self.advance()
+    }
+
+    /// The next row, where no steps are counted.
+    fn advance(&mut self) -> Option<Row>
+        ensures { MatchOption result ((self.old ≡ []) × (self.new ≡ []))
+            (λ row. self.old ≡ row ∷ self.new) }
+    {
+        match self.until {
+            Until::End => self.rest.next(),
+            Until::Key(key) => {
+                if let Some(row) = self.rest.next() {
+                    if row.key == key {
+                        return Some(row);
+                    }
+                }
+                self.until = Until::Done;
+                None
+            }
+            Until::Done => None,
+        }
+    }
+}
