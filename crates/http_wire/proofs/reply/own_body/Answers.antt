@@ -1,0 +1,44 @@
+use Rattle.std.proofs.Common.{◌∙◌, append_assoc}
+use Rattle.serde_json.proofs.OnLiterals.{serde_json_on_literals}
+use Rattle.explorer_model.specs.Replies.{reply_body}
+use Rattle.http_wire.proofs.reply.own_body.Goals as goal
+
+pub returns-in-BadRequest : goal.returns-in-BadRequest
+unfolding reply_body serde_json_on_literals
+returns-in-BadRequest c = rw c.in-BadRequest.is c.body_from.ensures
+
+pub returns-in-NotFound : goal.returns-in-NotFound
+unfolding reply_body serde_json_on_literals
+returns-in-NotFound c = rw c.in-NotFound.is c.body_from-in-NotFound.ensures
+
+pub returns-in-NotAllowed : goal.returns-in-NotAllowed
+unfolding reply_body serde_json_on_literals
+returns-in-NotAllowed c = rw c.in-NotAllowed.is c.body_from-in-NotAllowed.ensures
+
+pub returns-in-TooLarge : goal.returns-in-TooLarge
+unfolding reply_body serde_json_on_literals
+returns-in-TooLarge c = rw c.in-TooLarge.is c.body_from-in-TooLarge.ensures
+
+pub returns-in-HeadTooLarge : goal.returns-in-HeadTooLarge
+unfolding reply_body serde_json_on_literals
+returns-in-HeadTooLarge c = rw c.in-HeadTooLarge.is c.body_from-in-HeadTooLarge.ensures
+
+pub returns-in-DiskFault : goal.returns-in-DiskFault
+unfolding reply_body serde_json_on_literals
+returns-in-DiskFault c = rw c.in-DiskFault.is c.counted.ensures
+
+pub returns-in-Closed : goal.returns-in-Closed
+unfolding reply_body serde_json_on_literals
+returns-in-Closed c = rw c.in-Closed.is c.counted-in-Closed.ensures
+
+pub returns-in-NoMemory : goal.returns-in-NoMemory
+unfolding reply_body serde_json_on_literals
+returns-in-NoMemory c = rw c.in-NoMemory.is c.body_from-in-NoMemory.ensures
+
+pub returns-in-Unread : goal.returns-in-Unread
+unfolding reply_body serde_json_on_literals
+returns-in-Unread c = rw c.in-Unread.is c.body_from-in-Unread.ensures
+
+pub returns-in-Full : goal.returns-in-Full
+unfolding reply_body serde_json_on_literals
+returns-in-Full c = rw c.in-Full.is (c.full_body.ensures ∙ simp append_assoc)

@@ -1,0 +1,6 @@
+pub mod Asking
+pub mod Fields
+pub mod Judging
+pub mod Replying
+pub mod Scanning
+pub mod Steps
