@@ -89,7 +89,7 @@ crossed_on_board White Long = lit< tt
 crossed_on_board Black Short = lit< tt
 crossed_on_board Black Long = lit< tt
 
-side_of_target : (color : Color) (side : Side) → (if file_of (king_target color side) == 6 then Short else Long) ≡ side
+pub side_of_target : (color : Color) (side : Side) → (if file_of (king_target color side) == 6 then Short else Long) ≡ side
 side_of_target White Short = refl
 side_of_target White Long = refl
 side_of_target Black Short = refl

@@ -11,7 +11,6 @@ pub mod MoveSpans
 pub mod StartIsValid
 pub mod BitboardFacts
 pub mod PieceSetLemmas
-pub mod PlayedPieceSets
 pub mod AttackSets
 pub mod WrittenSets
 pub mod OneKing
@@ -21,4 +20,5 @@ pub mod Caps
 pub mod DestinationLemmas
 pub mod EnPassantCaptures
 pub mod Lists
+pub mod SourceLemmas
 pub mod CheckLemmas

@@ -128,7 +128,7 @@ pawn_becomes color m (inr h) = pawn_plain m.to.index (promotion_place m.promotio
 zero_is : (c : ℕ) → c ≡ 0 → (c == 0) ≡ true
 zero_is c e = grind (arith, nat_tests)
 
-castles_files : (color : Color) (side : Side) (from to : ℕ) → from ≡ king_home color → to ≡ king_target color side → files_apart from to ≡ 2
+pub castles_files : (color : Color) (side : Side) (from to : ℕ) → from ≡ king_home color → to ≡ king_target color side → files_apart from to ≡ 2
 castles_files White Short from to f t = omega arith
 castles_files White Long from to f t = omega arith
 castles_files Black Short from to f t = omega arith

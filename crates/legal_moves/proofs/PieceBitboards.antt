@@ -9,6 +9,7 @@ use Rattle.explorer_model.specs.declared.chess.Role.TheVariants.{Pawn, Knight, B
 use Rattle.explorer_model.specs.declared.chess.Piece.{Piece}
 use Rattle.explorer_model.specs.Board.{piece_at, IsOfColor, IsPiece}
 use Rattle.explorer_model.specs.Chess.{is_color, is_of_color}
+use Rattle.explorer_model.specs.San.{IsRole}
 use Rattle.legal_moves.specs.declared.piece_sets.PieceSets.{PieceSets}
 use Rattle.legal_moves.specs.EnemySets.{IsOccupied, IsBitboardOf, Describes}
 use Rattle.legal_moves.specs.PieceSets.{is_role, is_of, set_of, sets_in}
@@ -24,11 +25,7 @@ piece_of-says color (Some piece) = (
   λ e. let P : Color → Type 0 = λ c. is_color piece.color c ≡ true in subst P e (color_self piece.color),
 )
 
-abbrev pub IsOf : Role → Option Piece → Type 0
-IsOf role None = ⊥
-IsOf role (Some piece) = piece.role ≡ role
-
-of-says : (role : Role) (occupant : Option Piece) → IsTrue (is_of role occupant) ↔ IsOf role occupant
+of-says : (role : Role) (occupant : Option Piece) → IsTrue (is_of role occupant) ↔ IsRole role occupant
 of-says role None = (λ (no_way : false ≡ true). cc, λ h. absurd h)
 of-says role (Some piece) = (
   λ e. sym (role_same role piece.role e),
@@ -47,18 +44,18 @@ tells_such test IsSuch squares bitboard none says told s on =
 of_color : (color : Color) (squares : List (Option Piece)) (bitboard : ℕ) → bitboard ≡ set_of (is_of_color color) squares → IsBitboardOf (IsOfColor color) squares bitboard
 of_color color squares bitboard told = tells_such (is_of_color color) (IsOfColor color) squares bitboard refl (piece_of-says color) told
 
-of_role : (role : Role) (squares : List (Option Piece)) (bitboard : ℕ) → bitboard ≡ set_of (is_of role) squares → IsBitboardOf (IsOf role) squares bitboard
-of_role role squares bitboard told = tells_such (is_of role) (IsOf role) squares bitboard refl (of-says role) told
+of_role : (role : Role) (squares : List (Option Piece)) (bitboard : ℕ) → bitboard ≡ set_of (is_of role) squares → IsBitboardOf (IsRole role) squares bitboard
+of_role role squares bitboard told = tells_such (is_of role) (IsRole role) squares bitboard refl (of-says role) told
 
 pub record Places (squares : List (Option Piece)) (sets : PieceSets) : Type 0 where
   pub white : IsBitboardOf (IsOfColor White) squares sets.white
   pub black : IsBitboardOf (IsOfColor Black) squares sets.black
-  pub pawns : IsBitboardOf (IsOf Pawn) squares sets.pawns
-  pub knights : IsBitboardOf (IsOf Knight) squares sets.knights
-  pub bishops : IsBitboardOf (IsOf Bishop) squares sets.bishops
-  pub rooks : IsBitboardOf (IsOf Rook) squares sets.rooks
-  pub queens : IsBitboardOf (IsOf Queen) squares sets.queens
-  pub kings : IsBitboardOf (IsOf King) squares sets.kings
+  pub pawns : IsBitboardOf (IsRole Pawn) squares sets.pawns
+  pub knights : IsBitboardOf (IsRole Knight) squares sets.knights
+  pub bishops : IsBitboardOf (IsRole Bishop) squares sets.bishops
+  pub rooks : IsBitboardOf (IsRole Rook) squares sets.rooks
+  pub queens : IsBitboardOf (IsRole Queen) squares sets.queens
+  pub kings : IsBitboardOf (IsRole King) squares sets.kings
 
 pub sets-place : (squares : List (Option Piece)) (sets : PieceSets) → sets ≡ sets_in squares → Places squares sets
 unfolding sets_in
@@ -76,14 +73,14 @@ sets-place squares sets told = record {
 -- Sets that are made of two.
 
 both : (color : Color) (role : Role) (squares : List (Option Piece)) (theirs such : ℕ) → IsBitboardOf (IsOfColor color) squares theirs
-    → IsBitboardOf (IsOf role) squares such → IsBitboardOf (IsPiece color role) squares (bit_and theirs such)
+    → IsBitboardOf (IsRole role) squares such → IsBitboardOf (IsPiece color role) squares (bit_and theirs such)
 both color role squares theirs such is_theirs is_such s on = (
   λ bit. let h : Holds theirs s × Holds such s = (Holds-and theirs such s).0 bit in
       occupant (piece_at squares s) ((is_theirs s on).0 h.0) ((is_such s on).0 h.1),
   λ h. (Holds-and theirs such s).1 ((is_theirs s on).1 (colored (piece_at squares s) h), (is_such s on).1 (roled (piece_at squares s) h)),
 )
   where
-    occupant : (o : Option Piece) → IsOfColor color o → IsOf role o → IsPiece color role o
+    occupant : (o : Option Piece) → IsOfColor color o → IsRole role o → IsPiece color role o
     occupant None c r = absurd c
     occupant (Some piece) c r = (c, r)
 
@@ -91,12 +88,12 @@ both color role squares theirs such is_theirs is_such s on = (
     colored None h = absurd h
     colored (Some piece) h = h.0
 
-    roled : (o : Option Piece) → IsPiece color role o → IsOf role o
+    roled : (o : Option Piece) → IsPiece color role o → IsRole role o
     roled None h = absurd h
     roled (Some piece) h = h.1
 
 either : (color : Color) (role other : Role) (squares : List (Option Piece)) (theirs such more : ℕ) → IsBitboardOf (IsOfColor color) squares theirs
-    → IsBitboardOf (IsOf role) squares such → IsBitboardOf (IsOf other) squares more
+    → IsBitboardOf (IsRole role) squares such → IsBitboardOf (IsRole other) squares more
     → IsBitboardOf (λ occupant. IsPiece color role occupant ⊎ IsPiece color other occupant) squares (bit_and theirs (bit_or such more))
 either color role other squares theirs such more is_theirs is_such is_more s on = (
   λ bit.

@@ -2,3 +2,4 @@ pub mod Tidy
 pub mod Listing
 pub mod EnemySets
 pub mod PieceSets
+pub mod Sources

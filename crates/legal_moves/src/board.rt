@@ -1,20 +1,39 @@
 //! A board, seen as its position, which is valid.
-ghost use Rattle.std.specs.Prelude.{◌≡◌, ◌≢◌, ◌≤◌, ◌↔◌, IsTrue, IfSome, IsSome, length};
+ghost use Rattle.std.specs.Prelude.{◌≡◌, ◌≢◌, ◌≤◌, ◌↔◌, true, Some, IsTrue, IfSome, IsSome, length};
 ghost use Rattle.std.specs.List.{All, AllPairs, Contains};
 ghost use Rattle.explorer_model.specs.declared.chess.Move.{Move};
-ghost use Rattle.explorer_model.specs.Board.{InCheck};
-ghost use Rattle.explorer_model.specs.Chess.{IsValid, Legal, after, start};
+ghost use Rattle.explorer_model.specs.declared.square.Square.{Square};
+ghost use Rattle.explorer_model.specs.Board.{piece_at, InCheck};
+ghost use Rattle.explorer_model.specs.Chess.{IsValid, Legal, after, is_castling, castling_side, start};
+ghost use Rattle.explorer_model.specs.San.{IsRole, captures};
+ghost use Rattle.step_tables.specs.Bitboard.{Holds};
+ghost use Rattle.legal_moves.specs.Sources.{IsSource, takes_on};
 ghost use Rattle.legal_moves.specs.Tidy.{IsTidied};
 
 use crate::check_info::CheckInfo;
 use crate::generate;
 use crate::piece_sets::PieceSets;
-use crate::play::{en_passant_after, rights_after, sets_played, squares_played};
+use crate::play::play_on;
+use crate::sources::{castling, sources, takes};
 use crate::tidy::legal_en_passant;
 use crate::valid::{is_valid, start};
 use arrayvec::ArrayVec;
-use explorer_model::chess::{Move, Position};
+use explorer_model::chess::{Move, Position, Role, Side};
+use explorer_model::square::Square;
 use std::marker::Model;
+use step_tables::Bitboard;
+
+/// The pieces of the starting position.
+const START: PieceSets = PieceSets {
+    white: 0xFFFF,
+    black: 0xFFFF_0000_0000_0000,
+    pawns: 0x00FF_0000_0000_FF00,
+    knights: 0x4200_0000_0000_0042,
+    bishops: 0x2400_0000_0000_0024,
+    rooks: 0x8100_0000_0000_0081,
+    queens: 0x0800_0000_0000_0008,
+    kings: 0x1000_0000_0000_0010,
+};
 
 /// A valid position, ready to be asked for its moves.
 #[derive(Clone, Copy, Debug)]
@@ -45,7 +64,10 @@ impl Board {
     pub fn start() -> Board
         ensures { result ≡ start }
     {
-        Board::of_valid(start())
+        Board {
+            position: start(),
+            sets: START,
+        }
     }
 
     /// The board of a position; `None` exactly where the position is not valid.
@@ -96,6 +118,40 @@ impl Board {
         generate::legal(&self.position, &self.sets)
     }
 
+    /// The squares of `among` from which a piece of this role can legally go to a square and
+    /// become what is named there, castling aside.
+    pub fn sources(
+        &self,
+        role: Role,
+        to: Square,
+        promotion: Option<Role>,
+        among: Bitboard,
+    ) -> Bitboard
+        ensures { (from : Square) → Holds result from.index
+            ↔ (Holds among from.index × IsSource self.now role to promotion from) }
+    {
+        sources(&self.position, &self.sets, role, to, promotion, among)
+    }
+
+    /// The castling move toward this side, where it is legal.
+    pub fn castling(&self, side: Side) -> Option<Move>
+        ensures some { IfSome result (λ m. Legal self.now m
+            × (is_castling self.now m ≡ true) × (castling_side m ≡ side)) }
+        ensures only { (m : Move) → Legal self.now m → is_castling self.now m ≡ true
+            → castling_side m ≡ side → result ≡ Some m }
+    {
+        castling(&self.position, &self.sets, side)
+    }
+
+    /// Does a piece of this role take something where it goes to the square, en passant included?
+    pub fn takes(&self, role: Role, to: Square) -> bool
+        ensures value { result ≡ takes_on self.now role to.index }
+        ensures captures { (m : Move) → m.to.index ≡ to.index
+            → IsRole role (piece_at self.now.squares m.from.index) → result ≡ captures self.now m }
+    {
+        takes(&self.position, role, to)
+    }
+
     /// Is there a legal move? This stops at the first square from which there is one.
     pub fn has_move(&self) -> bool
         ensures { IsTrue result ↔ ((m : Move) × Legal self.now m) }
@@ -108,16 +164,17 @@ impl Board {
         requires { Legal self.now step }
         ensures { result ≡ after self.now step }
     {
-        let position = &self.position;
-        Board {
-            position: Position {
-                squares: squares_played(position, step),
-                turn: position.turn.opponent(),
-                rights: rights_after(position, step),
-                en_passant: en_passant_after(position, step),
-            },
-            sets: sets_played(position, &self.sets, step),
-        }
+        let mut board = *self;
+        board.play_on(step);
+        board
+    }
+
+    /// Plays a legal move on this board.
+    pub fn play_on(&mut self, step: Move)
+        requires { Legal self.old step }
+        ensures { self.new ≡ after self.old step }
+    {
+        play_on(&mut self.position, &mut self.sets, step);
     }
 
     /// The board whose en passant square stays only where a pawn can legally be taken there. Two

@@ -72,7 +72,8 @@ impl CheckInfo {
         is_clear(self.enemy_sets.occupied, a, b)
     }
 
-    fn castles_to(&self, side: Side, position: &Position, m: Move) -> bool
+    /// Is it castling toward this side, as far as pieces and rights tell?
+    pub fn castles_to(&self, side: Side, position: &Position, m: Move) -> bool
         requires { IsInfoOf position.now self.now }
         ensures { IsTrue result ↔ CastlesTo side position.now m }
     {

@@ -55,7 +55,7 @@ pub fn pawn_diagonals(color: Color, from: u8) -> Bitboard
 }
 
 /// Where a pawn may go straight ahead.
-fn pawn_advances(position: &Position, info: &CheckInfo, from: u8) -> Bitboard
+pub fn pawn_advances(position: &Position, info: &CheckInfo, from: u8) -> Bitboard
     requires informed { IsInfoOf position.now info.now }
     requires on_board { from < 64 }
     requires pawn { IsPiece position.now.turn Pawn (piece_at position.now.squares from) }
@@ -91,7 +91,7 @@ fn ahead(color: Color, square: u8) -> u8
 }
 
 /// Where a pawn may capture.
-fn pawn_captures(position: &Position, info: &CheckInfo, from: u8) -> Bitboard
+pub fn pawn_captures(position: &Position, info: &CheckInfo, from: u8) -> Bitboard
     requires informed { IsInfoOf position.now info.now }
     requires on_board { from < 64 }
     ensures { (m : Move) → m.from.index ≡ from

@@ -10,6 +10,7 @@ mod generate;
 pub mod laws;
 mod piece_sets;
 mod play;
+mod sources;
 #[cfg(test)]
 mod tests;
 mod tidy;

@@ -3,6 +3,7 @@ ghost use Rattle.std.specs.Prelude.{◌≡◌, ◌<◌, List, Option};
 ghost use Rattle.explorer_model.specs.declared.chess.Piece.{Piece};
 ghost use Rattle.explorer_model.specs.Board.{IsOfColor};
 ghost use Rattle.explorer_model.specs.Chess.{is_of_color};
+ghost use Rattle.explorer_model.specs.San.{IsRole};
 ghost use Rattle.legal_moves.specs.EnemySets.{IsBitboardOf};
 ghost use Rattle.legal_moves.specs.PieceSets.{is_of, set_of, sets_in, IsSetWritten, AreWritten};
 
@@ -46,6 +47,21 @@ impl PieceSets {
         match color {
             Color::White => self.white,
             Color::Black => self.black,
+        }
+    }
+
+    /// The squares of the pieces of this role.
+    pub fn of_role(&self, role: Role) -> Bitboard
+        ensures { (squares : List (Option Piece)) → self.now ≡ sets_in squares
+            → IsBitboardOf (IsRole role) squares result }
+    {
+        match role {
+            Role::Pawn => self.pawns,
+            Role::Knight => self.knights,
+            Role::Bishop => self.bishops,
+            Role::Rook => self.rooks,
+            Role::Queen => self.queens,
+            Role::King => self.kings,
         }
     }
 

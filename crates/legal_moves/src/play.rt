@@ -1,58 +1,59 @@
 //! Playing a move: what leaves, what goes and what arrives.
-ghost use Rattle.std.specs.Prelude.{◌≡◌};
-ghost use Rattle.explorer_model.specs.Chess.{IsValid, squares_after, is_double_step, keeps_right, rights_after, halfway_square, en_passant_after};
+ghost use Rattle.std.specs.Prelude.{◌≡◌, ◌<◌, length, slice_set};
+ghost use Rattle.explorer_model.specs.Chess.{after, is_double_step, keeps_right, rights_after, halfway_square, en_passant_after};
 ghost use Rattle.legal_moves.specs.PieceSets.{IsKept, sets_in};
 
 use crate::piece_sets::PieceSets;
 use explorer_model::chess::{Color, Move, Piece, Position, Rights, Role, Side, arriving, piece_of};
 use explorer_model::square::{Square, halfway};
 
-/// The squares after a move, in at most four writes: a rook that castles goes first, or a pawn
-/// that is taken en passant.
-pub fn squares_played(position: &Position, m: Move) -> [Option<Piece>; 64]
-    requires { IsValid position.now }
-    ensures { result ≡ squares_after position.now m }
+/// Plays a move in place, in at most four writes: a rook that castles goes first, or a pawn that
+/// is taken en passant.
+pub fn play_on(position: &mut Position, sets: &mut PieceSets, m: Move)
+    requires { IsKept position.old sets.old }
+    ensures position { position.new ≡ after position.old m }
+    ensures told { sets.new ≡ sets_in position.new.squares }
 {
     let (from, to) = (m.from.index, m.to.index);
-    let mut squares = position.squares;
-    if position.takes_en_passant(m) {
-        squares[m.captured_en_passant() as usize] = None;
-    } else if position.is_castling(m) {
-        squares[halfway(from, to) as usize] = piece_of(position.turn, Role::Rook);
-        squares[position.turn.rook_home(m.castling_side()) as usize] = None;
+    let taking = position.takes_en_passant(m);
+    let castles = position.is_castling(m);
+    let turn = position.turn;
+    let rights = rights_after(position, m);
+    let en_passant = en_passant_after(position, m);
+    let arrives = arriving(position.squares[from as usize], m.promotion);
+    let squares = &mut position.squares;
+    if taking {
+        write(squares, sets, m.captured_en_passant(), None);
+    } else if castles {
+        write(squares, sets, halfway(from, to), piece_of(turn, Role::Rook));
+        write(squares, sets, turn.rook_home(m.castling_side()), None);
     }
-    squares[from as usize] = None;
-    squares[to as usize] = arriving(position.squares[from as usize], m.promotion);
-    squares
+    write(squares, sets, from, None);
+    write(squares, sets, to, arrives);
+    position.turn = turn.opponent();
+    position.rights = rights;
+    position.en_passant = en_passant;
 }
 
-/// The pieces after a move, in the same writes.
-pub fn sets_played(position: &Position, sets: &PieceSets, m: Move) -> PieceSets
-    requires { IsKept position.now sets.now }
-    ensures { result ≡ sets_in (squares_after position.now m) }
+/// Puts a piece, or none, on a square.
+fn write(
+    squares: &mut [Option<Piece>; 64],
+    sets: &mut PieceSets,
+    square: u8,
+    occupant: Option<Piece>,
+)
+    requires on_board { square < 64 }
+    requires whole { length squares.old ≡ 64 }
+    requires told { sets.old ≡ sets_in squares.old }
+    ensures squares { squares.new ≡ slice_set squares.old square occupant }
+    ensures told { sets.new ≡ sets_in squares.new }
 {
-    let (from, to) = (m.from.index, m.to.index);
-    let arrives = arriving(position.squares[from as usize], m.promotion);
-    if position.takes_en_passant(m) {
-        return sets
-            .written(m.captured_en_passant(), None)
-            .written(from, None)
-            .written(to, arrives);
-    }
-    if position.is_castling(m) {
-        let rook = piece_of(position.turn, Role::Rook);
-        let home = position.turn.rook_home(m.castling_side());
-        return sets
-            .written(halfway(from, to), rook)
-            .written(home, None)
-            .written(from, None)
-            .written(to, arrives);
-    }
-    sets.written(from, None).written(to, arrives)
+    *sets = sets.written(square, occupant);
+    squares[square as usize] = occupant;
 }
 
 /// The rights that are left after a move.
-pub fn rights_after(position: &Position, m: Move) -> Rights
+fn rights_after(position: &Position, m: Move) -> Rights
     ensures { result ≡ rights_after position.now m }
 {
     Rights {
@@ -64,7 +65,7 @@ pub fn rights_after(position: &Position, m: Move) -> Rights
 }
 
 /// The square that a pawn crosses, if the move is a pawn's step of two.
-pub fn en_passant_after(position: &Position, m: Move) -> Option<Square>
+fn en_passant_after(position: &Position, m: Move) -> Option<Square>
     ensures { result ≡ en_passant_after position.now m }
 {
     if is_double_step(position, m) {

@@ -5,4 +5,5 @@ pub mod Reading
 pub mod Rivals
 pub mod Room
 pub mod Single
+pub mod Sources
 pub mod Spelling

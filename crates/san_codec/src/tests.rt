@@ -4,7 +4,7 @@ ghost use Rattle.explorer_model.specs.declared.chess.Move.{Move as AMove};
 ghost use Rattle.explorer_model.specs.Chess.{Legal};
 ghost use Rattle.explorer_model.specs.San.{IsMarked};
 
-use crate::{read, write};
+use crate::{read, read_on, write};
 use arrayvec::ArrayVec;
 use explorer_model::chess::{Color, Move, Piece, Position, Rights, Role};
 use explorer_model::fault::SanFault;
@@ -104,11 +104,12 @@ fn check_readings(rt: &impl Abort, at: &Position, rows: &[Reading]) {
         panic!(rt; "the position is not valid");
     };
     for (text, wanted) in rows {
-        assert_eq!(rt; read_on(&board, text), *wanted, "{text}");
+        assert_eq!(rt; read_among_legal(&board, text), *wanted, "{text}");
+        assert_eq!(rt; read_on(text.as_bytes(), &board), *wanted, "{text}");
     }
 }
 
-fn read_on(board: &Board, text: &str) -> Result<Move, SanFault> {
+fn read_among_legal(board: &Board, text: &str) -> Result<Move, SanFault> {
     read(text.as_bytes(), &board.position(), board.legal().as_slice())
 }
 
@@ -270,4 +271,48 @@ fn starts_are_named_where_they_must_be(rt: HostRuntime) {
     );
     let mate = position("6k1/5ppp/8/8/8/8/8/R5K1", Color::White, NO_RIGHTS);
     check_texts(&rt, &mate, &[(by_name(b"a1a8", None), "Ra8#")]);
+}
+
+#[test]
+fn rivals_promotions_and_captures_are_told_apart(rt: HostRuntime) {
+    // The rook of e4 is pinned by that of e8.
+    let rooks = position("4r2k/8/8/8/R3R3/8/8/4K3", Color::White, NO_RIGHTS);
+    check_readings(
+        &rt,
+        &rooks,
+        &[
+            ("Rd4", Ok(by_name(b"a4d4", None))),
+            ("Red4", Err(SanFault::NoSuchMove)),
+            ("Re6", Ok(by_name(b"e4e6", None))),
+            ("Rxe8+", Ok(by_name(b"e4e8", None))),
+            ("Re8", Err(SanFault::NoSuchMove)),
+            ("Rxd4", Err(SanFault::NoSuchMove)),
+        ],
+    );
+    let pawns = position("3r3k/2P1P3/8/8/8/8/8/4K3", Color::White, NO_RIGHTS);
+    check_readings(
+        &rt,
+        &pawns,
+        &[
+            ("cxd8=Q", Ok(by_name(b"c7d8", Some(Role::Queen)))),
+            ("exd8=N", Ok(by_name(b"e7d8", Some(Role::Knight)))),
+            ("xd8=Q", Err(SanFault::Ambiguous)),
+            ("cd8=Q", Err(SanFault::NoSuchMove)),
+            ("cxd8", Err(SanFault::NoSuchMove)),
+        ],
+    );
+    let crossed = Position {
+        en_passant: Some(square(b'd', b'6')),
+        ..position("4k3/8/8/3pP3/1B6/8/8/4K3", Color::White, NO_RIGHTS)
+    };
+    check_readings(
+        &rt,
+        &crossed,
+        &[
+            ("exd6", Ok(by_name(b"e5d6", None))),
+            ("ed6", Err(SanFault::NoSuchMove)),
+            ("Bd6", Ok(by_name(b"b4d6", None))),
+            ("Bxd6", Err(SanFault::NoSuchMove)),
+        ],
+    );
 }
