@@ -1,5 +1,5 @@
 -- One token after another.
-use Rattle.std.proofs.Common.{arith, ◌≡◌, ◌∙◌, ◌↔◌, sym, ap, subst, refl, inl, inr, ℕ, suc, ◌+◌, ◌<◌, ◌≤◌, List, [], ◌∷◌, ◌++◌, length, drop, Option, Some, None, Result, Ok, Err, IfOk, Contains, MatchResult, Bool, true, if◌then◌else◌}
+use Rattle.std.proofs.Common.{arith, ◌≡◌, ◌∙◌, sym, ap, subst, refl, inl, inr, ℕ, suc, ◌+◌, ◌<◌, ◌≤◌, List, [], ◌∷◌, ◌++◌, length, drop, Result, Ok, Err, Bool, true, if◌then◌else◌}
 use Rattle.std.proofs.Math.Seq.{drop-cons}
 use Rattle.std.proofs.lemmas.List.{append_assoc, append-nil, drop_all}
 use Rattle.std.specs.List.{slice_index_or}
@@ -8,35 +8,10 @@ use Rattle.explorer_model.specs.declared.chess.Move.{Move}
 use Rattle.explorer_model.specs.declared.chess.Position.{Position}
 use Rattle.explorer_model.specs.declared.fault.GameFault.{GameFault}
 use Rattle.explorer_model.specs.declared.fault.SanFault.{SanFault}
-use Rattle.explorer_model.specs.declared.notation.SanForm.{SanForm}
-use Rattle.explorer_model.specs.Chess.{Legal, start, after}
+use Rattle.explorer_model.specs.Chess.{start, after}
 use Rattle.explorer_model.specs.Games.{Plays, move_fault, onto_moves}
-use Rattle.explorer_model.specs.San.{SanReads, AnswersAs, san_form}
+use Rattle.explorer_model.specs.San.{SanReads}
 use Rattle.game_replay.specs.Replay.{onto_front, Playing}
-
--- ---- one token on a board
-
-pub lists-same : (p q : Position) (items moves : List Move) → q ≡ p → moves ≡ items
-    → ((m : Move) → Contains items m ↔ Legal p m) → (m : Move) → Contains moves m ↔ Legal q m
-lists-same p q items moves same listed each m =
-    let P : Position → Type 0 = λ r. Contains items m ↔ Legal r m in
-    let Q : List Move → Type 0 = λ list. Contains list m ↔ Legal q m in
-    subst Q (sym listed) (subst P (sym same) (each m))
-
-answers-legal : (p : Position) (form : Option SanForm) (m : Move) → AnswersAs p form (Ok m) → Legal p m
-answers-legal p None m e =
-    let P : Result Move SanFault → Type 0 = λ r. MatchResult r (λ _. Unit {0}) (λ _. ⊥) in
-    absurd (subst P e tt)
-answers-legal p (Some form) m answer = answer.0
-
-pub reads-legal : (p : Position) (text : List ℕ) (r : Result Move SanFault) → SanReads p text r → IfOk r (λ m. Legal p m)
-reads-legal p text (Ok m) reads = answers-legal p (san_form text) m reads
-reads-legal p text (Err fault) reads = tt
-
-pub reads-legal-on : (p q : Position) (text : List ℕ) (r : Result Move SanFault) → q ≡ p → SanReads q text r → IfOk r (λ m. Legal p m)
-reads-legal-on p q text r same reads =
-    let P : Position → Type 0 = λ s. IfOk r (λ m. Legal s m) in
-    subst P same (reads-legal q text r reads)
 
 -- ---- a game
 

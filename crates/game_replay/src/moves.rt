@@ -27,7 +27,7 @@ pub fn moves_of(alloc: Global, tokens: &[Token]) -> Result<Moves, Stop<GameFault
         if moves.push(step).is_err() {
             return Err(Stop::OutOfMemory);
         }
-        board = board.play(step);
+        board.play_on(step);
         ply += 1;
     }
     Ok(Moves::from_vec(moves))
@@ -38,8 +38,7 @@ fn step_of(board: &Board, token: &Token) -> Result<Move, SanFault>
     ensures reads { SanReads board.now token.now.text result }
     ensures legal { IfOk result (λ step. Legal board.now step) }
 {
-    let legal = board.legal();
-    san_codec::read(token.text.as_slice(), &board.position(), legal.as_slice())
+    san_codec::read_on(token.text.as_slice(), board)
 }
 
 fn move_fault(fault: SanFault, ply: u32, place: u32) -> GameFault

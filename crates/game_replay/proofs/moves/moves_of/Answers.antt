@@ -16,10 +16,10 @@ overflow_add-ply c = let counted = c.loop-token.invariant.counted in search (rul
 
 pub loop-token-preserved : goal.loop-token-preserved
 loop-token-preserved c =
-    goes_on c.args.tokens.now c.loop-token.board c.play-board.result c.loop-token.moves.items c.push.new.self.items c.loop-token.ply c.loop-token.token-index
+    goes_on c.args.tokens.now c.loop-token.board c.play_on.new.self c.loop-token.moves.items c.push.new.self.items c.loop-token.ply c.loop-token.token-index
     c.token-item.result c.in-Ok.step c.loop-token.invariant
     (here c.args.tokens.now c.loop-token.token-index c.token-item.result c.loop-token-test.true c.token-item.is)
-    c.in-Ok.ensures.reads c.play-board.ensures
+    c.in-Ok.ensures.reads c.play_on.ensures
     (pushed c.loop-token.moves.items c.push.new.self.items c.in-Ok.step _ c.push.ensures.items c.if-is_err.ensures.negation)
 
 pub returns : goal.returns
