@@ -1,5 +1,5 @@
 -- Groups of cuts have one accounting.
-use Rattle.std.proofs.Common.{◌≡◌, ℕ, List, Result, refl, sym, ap, ◌∙◌}
+use Rattle.std.proofs.Common.{◌≡◌, ℕ, List, Result, sym, ap, ◌∙◌}
 use Rattle.std.specs.Prelude.{filter_map}
 use Rattle.std.specs.List.{AllZip, flat_map}
 use Rattle.explorer_model.specs.declared.archive.Batch.{Batch}

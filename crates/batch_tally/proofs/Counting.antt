@@ -12,7 +12,7 @@ use Rattle.tally_rows.specs.Tally.{IsStepOf, IsTrackOf}
 use Rattle.tally_rows.specs.Track as tracks
 use Rattle.tally_rows.specs.Track.{Track}
 use Rattle.batch_tally.specs.declared.accepting.Accepted.{Accepted}
-use Rattle.batch_tally.specs.declared.steps.Step.{Step}
+use Rattle.batch_tally.specs.declared.step.Step.{Step}
 use Rattle.batch_tally.specs.Singles.{IsCountOf}
 use Rattle.batch_tally.specs.Steps.{step_as, IsStepAt, stages_within}
 use Rattle.batch_tally.proofs.Stages.{next-place}

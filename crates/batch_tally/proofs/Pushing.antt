@@ -1,5 +1,5 @@
 -- The singles of a game, one after another.
-use Rattle.std.proofs.Common.{◌≡◌, ◌++◌, ◌+◌, ◌<◌, ◌≤◌, ℕ, suc, Bool, true, false, if◌then◌else◌, List, [], ◌∷◌, map, take, drop, length, get_or, sym, ap, ◌∙◌, refl, arith}
+use Rattle.std.proofs.Common.{◌≡◌, ◌++◌, ◌+◌, ◌<◌, ◌≤◌, ℕ, suc, Bool, true, false, if◌then◌else◌, List, [], ◌∷◌, map, take, drop, length, get_or, sym, ap, ◌∙◌, refl}
 use Rattle.std.specs.List.{list_any}
 use Rattle.std.proofs.lemmas.List.{append_assoc, append-nil, map_push}
 use Rattle.std.proofs.Math.Seq.{drop-cons, take-suc}
@@ -8,7 +8,7 @@ use Rattle.explorer_model.specs.declared.archive.Classes.{Classes}
 use Rattle.tally_rows.specs.declared.single.Single.{Single}
 use Rattle.tally_rows.specs.Games.{has_key, first_steps, single_at}
 use Rattle.tally_rows.specs.Track as tracks
-use Rattle.batch_tally.specs.declared.steps.Step.{Step}
+use Rattle.batch_tally.specs.declared.step.Step.{Step}
 use Rattle.batch_tally.specs.Steps.{step_as}
 use Rattle.batch_tally.proofs.Stages.{next-place}
 

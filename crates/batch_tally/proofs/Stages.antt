@@ -13,7 +13,7 @@ use Rattle.explorer_model.specs.Chess.{start, after, Legal}
 use Rattle.explorer_model.specs.Keys.{key}
 use Rattle.explorer_model.specs.Tidy.{IsTidied}
 use Rattle.explorer_model.specs.Visits.{AreLegalFrom, Stage, stages, stage_limit}
-use Rattle.batch_tally.specs.declared.steps.Step.{Step}
+use Rattle.batch_tally.specs.declared.step.Step.{Step}
 use Rattle.batch_tally.specs.Steps.{IsStepAt, stages_within, Stepping}
 
 pub next-place : (i : ℕ) → suc i ≡ i + 1

@@ -2,4 +2,5 @@ pub mod Accepting
 pub mod Reading
 pub mod Singles
 pub mod Steps
+pub mod Tag
 pub mod Tallying

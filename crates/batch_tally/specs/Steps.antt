@@ -7,7 +7,7 @@ use Rattle.explorer_model.specs.Chess.{start}
 use Rattle.explorer_model.specs.Visits.{AreLegalFrom, Stage, stages, stage_limit}
 use Rattle.tally_rows.specs.Track as tracks
 use Rattle.tally_rows.specs.Tally.{IsStepOf}
-use Rattle.batch_tally.specs.declared.steps.Step.{Step}
+use Rattle.batch_tally.specs.declared.step.Step.{Step}
 
 abbrev pub step_as : Step → tracks.Step
 step_as step = record { key = step.key; next = step.next }

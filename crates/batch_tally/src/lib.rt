@@ -5,6 +5,7 @@ mod accepting;
 pub mod laws;
 mod reading;
 mod singles;
+mod step;
 mod steps;
 mod tallying;
 #[cfg(test)]

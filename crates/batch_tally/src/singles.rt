@@ -11,7 +11,8 @@ ghost use Rattle.batch_tally.specs.Singles.{IsCountOf};
 ghost use Rattle.batch_tally.specs.Steps.{step_as};
 
 use crate::accepting::Accepted;
-use crate::steps::{Step, steps_of};
+use crate::step::Step;
+use crate::steps::steps_of;
 use explorer_model::archive::Classes;
 use std::alloc::{AllocError, Global};
 use tally_rows::{RowKey, Single};
@@ -50,23 +51,33 @@ fn push_singles(
 {
     for place in 0..steps.len() {
         let step = &steps[place];
-        if !has_key(&steps[..place], &step.key) {
+        if !has_key(&steps[..place], step) {
             singles.push(single_of(classes, step, number))?;
         }
     }
     Ok(())
 }
 
-/// One of the steps has the key.
-fn has_key(steps: &[Step], key: &[u8; 34]) -> bool
-    ensures { result ≡ list_any (has_key key.now) (map step_as steps.now) }
+/// One of the steps has the key of the one that is sought.
+fn has_key(steps: &[Step], sought: &Step) -> bool
+    ensures { result ≡ list_any (has_key sought.now.key) (map step_as steps.now) }
 {
     for step in steps {
-        if step.key == *key {
+        if is_at(step, sought) {
             return true;
         }
     }
     false
+}
+
+/// Have the two steps one key? Most that differ are told apart by their tags.
+fn is_at(step: &Step, sought: &Step) -> bool
+    ensures { result ≡ has_key sought.now.key (step_as step.now) }
+{
+    if step.tag != sought.tag {
+        return false;
+    }
+    step.key == sought.key
 }
 
 /// What the game counts for at a step.

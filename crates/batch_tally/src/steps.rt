@@ -5,6 +5,7 @@ ghost use Rattle.explorer_model.specs.Chess.{start};
 ghost use Rattle.explorer_model.specs.Visits.{AreLegalFrom, stage_limit};
 ghost use Rattle.batch_tally.specs.Steps.{IsStepAt, stages_within};
 
+use crate::step::{Step, tag_of};
 use explorer_model::chess::Move;
 use legal_moves::board::Board;
 use packed_keys::pack;
@@ -12,13 +13,6 @@ use std::alloc::{AllocError, Global};
 
 /// The number of positions in which a game is looked for: those of plies 0 to 50.
 const STAGE_LIMIT: usize = 51;
-
-/// A position by the key of its tidy form, and the move that follows there, if the game goes on.
-#[derive(Clone, Copy, Debug)]
-pub struct Step {
-    pub key: [u8; 34],
-    pub next: Option<Move>,
-}
 
 /// The first 51 positions of the moves, from the starting position.
 pub fn steps_of(alloc: Global, moves: &[Move]) -> Result<Vec<Step>, AllocError>
@@ -31,12 +25,11 @@ pub fn steps_of(alloc: Global, moves: &[Move]) -> Result<Vec<Step>, AllocError>
     for ply in 0..STAGE_LIMIT {
         let next = move_at(moves, ply);
         let tidy = board.tidy();
-        steps.push(Step {
-            key: pack(&tidy.position()),
-            next,
-        })?;
+        let key = pack(&tidy.position());
+        let tag = tag_of(&key);
+        steps.push(Step { key, next, tag })?;
         match next {
-            Some(step) => board = board.play(step),
+            Some(step) => board.play_on(step),
             None => break,
         }
     }

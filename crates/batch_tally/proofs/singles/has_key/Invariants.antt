@@ -6,4 +6,4 @@ use Rattle.batch_tally.proofs.singles.has_key.Given as goal
 
 abbrev pub invariant-loop-step : goal.invariant-loop-step
 invariant-loop-step l =
-    list_any (has_key l.key) (map step_as l.steps) ≡ list_any (has_key l.key) (map step_as (drop l.step-index l.steps))
+    list_any (has_key l.sought.key) (map step_as l.steps) ≡ list_any (has_key l.sought.key) (map step_as (drop l.step-index l.steps))
