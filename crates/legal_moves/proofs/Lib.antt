@@ -21,4 +21,8 @@ pub mod DestinationLemmas
 pub mod EnPassantCaptures
 pub mod Lists
 pub mod SourceLemmas
+pub mod PinsDecide
+pub mod Rays
+pub mod PinLemmas
+pub mod EvasionLemmas
 pub mod CheckLemmas

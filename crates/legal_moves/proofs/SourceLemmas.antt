@@ -17,8 +17,8 @@ use Rattle.explorer_model.specs.declared.square.Square.{Square}
 use Rattle.explorer_model.proofs.Squares.{square_eq}
 use Rattle.explorer_model.specs.Board.{file_of, rank_of, files_apart, ranks_apart, opponent, piece_of, piece_at, IsOfColor, IsPiece, IsRankAhead, PawnDiagonal, IsOpen, RookLine, RoleAttacks, PieceAttacks, Attacks}
 use Rattle.explorer_model.specs.Chess.{IsValid, has_right, king_home, king_target, rook_home, castling_side, is_king, is_king_at, is_pawn, is_pawn_at, is_square, Castles, CastlesTo, PseudoLegal, RoleMoves, PieceMoves, Legal, is_castling}
-use Rattle.legal_moves.specs.EnemySets.{IsBitboardOf, IsWithout}
 use Rattle.explorer_model.specs.San.{IsRole, captures}
+use Rattle.legal_moves.specs.EnemySets.{IsBitboardOf, IsWithout}
 use Rattle.legal_moves.specs.Sources.{IsSource, Lands, BecomesAs, AreSifted, takes_on}
 use Rattle.legal_moves.proofs.EnPassantCaptures.{pawn_back}
 use Rattle.legal_moves.proofs.Facts.{Mover, mover, Castling, castling, castles_to_empty, side_of_target, piece_is, is_own, no_piece}

@@ -2,4 +2,5 @@ pub mod Tidy
 pub mod Listing
 pub mod EnemySets
 pub mod PieceSets
+pub mod Pins
 pub mod Sources

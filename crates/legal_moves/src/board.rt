@@ -1,5 +1,5 @@
 //! A board, seen as its position, which is valid.
-ghost use Rattle.std.specs.Prelude.{◌≡◌, ◌≢◌, ◌≤◌, ◌↔◌, true, Some, IsTrue, IfSome, IsSome, length};
+ghost use Rattle.std.specs.Prelude.{◌≡◌, ◌≢◌, ◌<◌, ◌≤◌, ◌↔◌, ℕ, true, Some, IsTrue, IfSome, IsSome, length};
 ghost use Rattle.std.specs.List.{All, AllPairs, Contains};
 ghost use Rattle.explorer_model.specs.declared.chess.Move.{Move};
 ghost use Rattle.explorer_model.specs.declared.square.Square.{Square};
@@ -7,12 +7,14 @@ ghost use Rattle.explorer_model.specs.Board.{piece_at, InCheck};
 ghost use Rattle.explorer_model.specs.Chess.{IsValid, Legal, after, is_castling, castling_side, start};
 ghost use Rattle.explorer_model.specs.San.{IsRole, captures};
 ghost use Rattle.step_tables.specs.Bitboard.{Holds};
+ghost use Rattle.legal_moves.specs.Pins.{IsPinned, IsEvasion};
 ghost use Rattle.legal_moves.specs.Sources.{IsSource, takes_on};
 ghost use Rattle.legal_moves.specs.Tidy.{IsTidied};
 
 use crate::check_info::CheckInfo;
 use crate::generate;
 use crate::piece_sets::PieceSets;
+use crate::pins::{evasions, pinned};
 use crate::play::play_on;
 use crate::sources::{castling, sources, takes};
 use crate::tidy::legal_en_passant;
@@ -175,6 +177,21 @@ impl Board {
         ensures { self.new ≡ after self.old step }
     {
         play_on(&mut self.position, &mut self.sets, step);
+    }
+
+    /// The own pieces that stand alone between their king and an enemy bishop, rook or queen whose
+    /// line it is.
+    pub fn pinned(&self) -> Bitboard
+        ensures { (s : ℕ) → s < 64 → Holds result s ↔ IsPinned self.now s }
+    {
+        pinned(&self.position, &self.sets)
+    }
+
+    /// Where a piece other than the king meets each check: all squares without one, none with two.
+    pub fn evasions(&self) -> Bitboard
+        ensures { (s : ℕ) → s < 64 → Holds result s ↔ IsEvasion self.now s }
+    {
+        evasions(&self.position, &self.sets)
     }
 
     /// The board whose en passant square stays only where a pawn can legally be taken there. Two

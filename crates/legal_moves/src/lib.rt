@@ -9,6 +9,7 @@ mod enemy_sets;
 mod generate;
 pub mod laws;
 mod piece_sets;
+mod pins;
 mod play;
 mod sources;
 #[cfg(test)]

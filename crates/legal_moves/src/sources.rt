@@ -106,7 +106,7 @@ fn reach_back(color: Color, role: Role, to: u8) -> Bitboard
     }
 }
 
-/// May the piece, which has this role, legally make the move, which is not castling?
+/// May the piece, which has this role, legally make the move, and not by castling?
 fn is_source(position: &Position, info: &CheckInfo, role: Role, m: Move) -> bool
     requires informed { IsInfoOf position.now info.now }
     requires piece { IsPiece position.now.turn role (piece_at position.now.squares m.from.index) }

@@ -1,6 +1,7 @@
 //! Boards against what the Laws of Chess say of a few moves.
 mod legal;
 mod perft;
+mod pins;
 
 use crate::board::Board;
 use crate::valid::{is_valid, start};

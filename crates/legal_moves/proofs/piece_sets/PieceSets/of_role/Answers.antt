@@ -1,7 +1,7 @@
 use Rattle.std.proofs.Common.{sym, subst}
 use Rattle.explorer_model.specs.declared.chess.Role.{Role}
-use Rattle.legal_moves.specs.EnemySets.{IsBitboardOf}
 use Rattle.explorer_model.specs.San.{IsRole}
+use Rattle.legal_moves.specs.EnemySets.{IsBitboardOf}
 use Rattle.legal_moves.proofs.PieceBitboards.{sets-place}
 use Rattle.legal_moves.proofs.piece_sets.PieceSets.of_role.Goals as goal
 
