@@ -44,6 +44,13 @@ impl<D: Disk> RecordLog<D> {
         self.format
     }
 
+    /// The disk's counts of faults before and after the append that closed the log, if one did.
+    pub fn fault(&self) -> Option<(u64, u64)>
+        ensures { result ≡ self.now.fault }
+    {
+        self.fault
+    }
+
     pub fn into_disk(self) -> D
         ensures { result ≡ self.disk }
     {
