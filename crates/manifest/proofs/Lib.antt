@@ -1,0 +1,4 @@
+pub mod JournalLemmas
+pub mod OpeningLemmas
+pub mod PayloadLemmas
+pub mod ReadingLemmas

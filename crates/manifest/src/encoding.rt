@@ -1,0 +1,52 @@
+//! The payload of a batch.
+ghost use Rattle.std.specs.Prelude.{◌≡◌, ◌≤◌, ◌<◌, ◌+◌, ◌^◌, ◌++◌, length, sum_by, IfOk, OnOk};
+ghost use Rattle.std.specs.List.{flat_map};
+ghost use Rattle.explorer_model.specs.Imports.{group_limit};
+ghost use Rattle.explorer_model.specs.StoreFile.{text_field, payload_of, IsStorable};
+
+use byteorder::{ByteOrder, LittleEndian};
+use explorer_model::archive::{Batch, Bytes};
+use std::alloc::{AllocError, Global};
+
+/// Encodes a batch, in as much room as its payload takes.
+pub(crate) fn encode(alloc: Global, batch: &Batch) -> Result<Vec<u8>, AllocError>
+    requires { IsStorable batch.now }
+    ensures { IfOk result (λ payload. payload.items ≡ payload_of batch.now) }
+{
+    let texts = batch.texts.as_slice();
+    let mut payload = Vec::with_capacity(alloc, payload_size(texts))?;
+    let mut count = [0; 2];
+    LittleEndian::write_u16(&mut count, texts.len() as u16);
+    payload.extend_from_slice(&count)?;
+    for text in texts {
+        push_text(&mut payload, text)?;
+    }
+    Ok(payload)
+}
+
+/// How many bytes the payload of these texts has.
+fn payload_size(texts: &[Bytes]) -> usize
+    requires few { length texts.now ≤ group_limit }
+    requires short { sum_by (λ text. length text) texts.now < 2 ^ 32 }
+    ensures { result ≡ 2 + length (flat_map text_field texts.now) }
+{
+    2 + 4 * texts.len() + size_of_all(texts)
+}
+
+fn size_of_all(texts: &[Bytes]) -> usize
+    requires { sum_by (λ text. length text) texts.now < 2 ^ 32 }
+    ensures { result ≡ sum_by (λ text. length text) texts.now }
+{
+    texts.iter().map(|text| text.len()).sum()
+}
+
+/// Puts a text behind its length.
+fn push_text(payload: &mut Vec<u8>, text: &Bytes) -> Result<(), AllocError>
+    requires { length text.now < 2 ^ 32 }
+    ensures { OnOk result (payload.new.items ≡ payload.old.items ++ text_field text.now) }
+{
+    let mut size = [0; 4];
+    LittleEndian::write_u32(&mut size, text.len() as u32);
+    payload.extend_from_slice(&size)?;
+    payload.extend_from_slice(text.as_slice())
+}

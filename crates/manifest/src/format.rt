@@ -1,0 +1,13 @@
+use record_log::Format;
+
+/// The most texts of a batch.
+pub(crate) const TEXTS_LIMIT: usize = 512;
+
+/// The most bytes of a text.
+pub(crate) const TEXT_LIMIT: usize = 65_536;
+
+/// The format of a log of batches. The longest payload has 512 texts of 65,536 bytes.
+pub(crate) const BATCH_FORMAT: Format = Format {
+    number: 1,
+    most: 33_556_482,
+};
