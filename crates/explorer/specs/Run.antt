@@ -3,6 +3,7 @@ use Rattle.std.specs.Prelude.{◌≡◌, ◌⊎◌, ◌≤◌, ℕ, List, length
 use Rattle.clap.specs.Walk.{Text}
 use Rattle.outside.specs.Stream.{Reads}
 use Rattle.explorer_model.specs.Journal.{input_limit}
+use Rattle.explorer.specs.declared.fault.Fault.{Fault}
 use Rattle.explorer.specs.declared.fault.Fault.TheVariants.{Usage, OutOfMemory}
 use Rattle.explorer.specs.Count.{Counts}
 use Rattle.explorer.specs.Lines.{Ending, Stopped, Tells, status_of}
@@ -36,8 +37,7 @@ pub record Runs (words : List Text) (before after : World) (status : ℕ) : Type
   pub meets : Starves before ended ending ⊎ Meets (task_of words) before ended ending
   pub tells : Tells ending ended after
 
--- A process ends with the status of a run of its words; where those cannot be had, with 2 or 9.
-abbrev pub Exits : ℕ → Type 0
-Exits status =
-    ((words : List Text) × (before : World) × (after : World) × Runs words before after status)
-    ⊎ (status ≡ status_of (Stopped Usage)) ⊎ (status ≡ status_of (Stopped OutOfMemory))
+-- The words of a command line cannot be had: that is told, and nothing else is done.
+pub record IsWordless (fault : Fault) (before after : World) (status : ℕ) : Type 0 where
+  pub status_is : status ≡ status_of (Stopped fault)
+  pub tells : Tells (Stopped fault) before after

@@ -2,8 +2,6 @@
 #![tactic(auto)]
 
 ghost use Rattle.std.specs.Prelude.{◌≡◌, ◌⊎◌, IfErr};
-ghost use Rattle.std.specs.Process.{exit_status};
-ghost use Rattle.explorer.specs.Run.{Exits};
 ghost use Rattle.explorer.specs.declared.fault.Fault.{Fault as AFault};
 
 mod answer;
@@ -23,36 +21,25 @@ mod text_group;
 use fault::Fault;
 use host::RealHost;
 use outside::{StdSink, StdSource};
-use program::{report_fault, run};
+use program::start;
 use std::env;
 use std::io::ErrorKind;
 use std::process::ExitCode;
 
+/// Hands the standard streams and the words of the command line to `start`, whose contract says
+/// what the process does and with which status it ends.
 fn main(rt: HostRuntime) -> ExitCode {
-    start(&rt)
-}
-
-/// Runs on the words of the command line and the standard streams.
-fn start(rt: &HostRuntime) -> ExitCode
-    ensures { Exits (exit_status result) }
-{
     let mut input = StdSource::new(rt.stdin());
     let mut output = StdSink::new(rt.stdout());
     let mut errors = StdSink::new(rt.stderr());
-    match words_of(rt) {
-        Ok(words) => {
-            let status = run(
-                rt,
-                words.as_slice(),
-                &mut input,
-                &mut output,
-                &mut errors,
-                &mut RealHost,
-            );
-            ExitCode::from(status.number)
-        }
-        Err(fault) => ExitCode::from(report_fault(fault, &mut errors).number),
-    }
+    start(
+        &rt,
+        words_of(&rt),
+        &mut input,
+        &mut output,
+        &mut errors,
+        &mut RealHost,
+    )
 }
 
 /// The words of the command line. A word that is not text is a faulty one.
