@@ -1,4 +1,4 @@
--- A manifest: the journal of batches on a disk. It is a log whose payloads are those of the batches.
+-- A manifest: the journal of batches on a disk, in a log whose payloads are those of the batches.
 use Rattle.std.specs.Prelude.{◌≡◌, ◌⊎◌, ℕ, List, [], ◌∷◌, ◌++◌, length, map, All, None, IfSome, Ok, Err}
 use Rattle.disk_model.specs.Disk.{DiskState}
 use Rattle.explorer_model.specs.declared.archive.Batch.{Batch}

@@ -20,8 +20,8 @@ pub fn journal_is_determined<D: Disk>()
 /// Where a disk tells its content, an opening of it has one answer, unless a call of the disk fails
 /// or memory is wanting: this journal behind this gate, or this fault.
 pub fn opening_is_determined<D: Disk>()
-    ensures opened { (disk : D) (file : List ℕ) (journal other : List Batch) (manifest after : Log D)
-        → (D.disk disk).content ≡ Some file
+    ensures opened { (disk : D) (file : List ℕ) (journal other : List Batch)
+        (manifest after : Log D) → (D.disk disk).content ≡ Some file
         → IsOpened D.disk D.left_since journal disk manifest
         → IsOpened D.disk D.left_since other disk after
         → (journal ≡ other) × (manifest.gate ≡ after.gate) }

@@ -142,7 +142,7 @@ fn payload_off_the_form_is_damaged_at_its_gate(rt: HostRuntime) -> Result<(), Fa
 }
 
 /// What a store to `ONE` answers whose disk call of this number fails, what a second one does, and
-/// how many batches a crash leaves then. The opening makes the calls 2 to 9, and the store 10 to 13.
+/// how many batches a crash leaves then. The opening makes the calls 2 to 9, the store 10 to 13.
 #[derive(Drop)]
 struct Stopped {
     stored: Result<(), AppendFault>,
