@@ -1,14 +1,14 @@
 -- The rows of singles are tallied for the games whose singles these are.
-use Rattle.std.proofs.Common.{◌≡◌, ℕ, ◌+◌, ◌<◌, Bool, true, false, ◌&&◌, cond, is_some, List, [], ◌∷◌, ◌++◌, map, length, get_or, refl, sym, ap, ◌∙◌, arith}
-use Rattle.std.specs.List.{AllByRecursion, sum_by, flat_map, filter, enumerate_from}
+use Rattle.std.proofs.Common.{◌≡◌, ℕ, ◌+◌, ◌<◌, Bool, true, false, ◌&&◌, cond, is_some, List, [], ◌∷◌, ◌++◌, map, length, get_or, None, refl, sym, ap, subst, ◌∙◌, arith}
+use Rattle.std.specs.List.{All, AllByRecursion, sum_by, flat_map, filter, enumerate_from}
 use Rattle.std.specs.List.Sorted.{IsPermutation, IsSorted}
 use Rattle.std.specs.declared.cmp.Ordering.{Ordering}
 use Rattle.std.specs.declared.cmp.Ordering.TheVariants.{Less, Equal, Greater}
 use Rattle.std.specs.Ordering.{is_lt, nat_cmp, ordering_then}
 use Rattle.std.proofs.lemmas.List.{get_or-map, length-map}
-use Rattle.std.proofs.lemmas.List.Elements.{All-from_recursion}
+use Rattle.std.proofs.lemmas.List.Elements.{All-from_recursion, All-get_or, All-weaker}
 use Rattle.std.proofs.lemmas.List.Sums.{sum_by-cons}
-use Rattle.std.proofs.lemmas.List.Sorted.{IsPermutation-map, sum_by-IsPermutation}
+use Rattle.std.proofs.lemmas.List.Sorted.{IsPermutation-map, sum_by-IsPermutation, All-permutation, length_permutation}
 use Rattle.explorer_model.specs.Best.{best, IsStrictTotalOrder}
 use Rattle.best_lists.specs.Ranking.{before_by_rating, before_by_month, by_rating_is_order, by_month_is_order}
 use Rattle.best_lists.specs.declared.entry.Entry.{Entry}
@@ -19,7 +19,12 @@ use Rattle.tally_rows.specs.declared.single.Single.{Single}
 use Rattle.tally_rows.specs.Adding.{sum_at, listed_at, SameAt, IsSound}
 use Rattle.tally_rows.specs.RowKey.{row_order, same_row_key}
 use Rattle.tally_rows.specs.Row.{row_key_of, row_of, is_white, is_draw, is_black, month_rank, combined_rows}
-use Rattle.tally_rows.specs.Single.{single_order, single_of, AreSingles}
+use Rattle.tally_rows.specs.Single.{single_of, AreSingles}
+use Rattle.tally_rows.specs.declared.sort_entry.SortEntry.{SortEntry}
+use Rattle.tally_rows.specs.SortEntry.{picked, IsEntryIn}
+use Rattle.tally_rows.proofs.EntryOrder.{entry_order, entry_cmp}
+use Rattle.explorer_model.specs.declared.archive.Outcome.TheVariants as outcomes
+use Rattle.explorer_model.specs.declared.archive.Speed.TheVariants.{Blitz}
 use Rattle.tally_rows.specs.Tallied.{entries, has_move, mover_rating, rating_sum, track_month, Tallied}
 use Rattle.tally_rows.specs.Track.{Track, has}
 use Rattle.tally_rows.proofs.AddsUp.{AddsUp, AddsUp-same, tallied_from}
@@ -159,21 +164,41 @@ first_order Less q e = e
 first_order Equal q e = refl
 first_order Greater q e = refl
 
-row_keys_sorted : (singles : List Single) → IsSorted single_order singles → IsSorted row_order (map row_key_of (map row_of singles))
-row_keys_sorted [] h = λ k d low high. absurd (omega arith)
-row_keys_sorted (s ∷ ss) h = λ k d low high.
-    let singles = s ∷ ss in
-    let rows = map row_of singles in
-    let long = length-map singles row_of in
+row_keys_sorted : (singles : List Single) (other : Single) (entries : List SortEntry) → All (IsEntryIn singles other) entries
+    → IsSorted entry_order entries → IsSorted row_order (map row_key_of (map row_of (picked singles entries other)))
+row_keys_sorted singles other [] told h = λ k d low high. absurd (omega arith)
+row_keys_sorted singles other (e ∷ es) told h = λ k d low high.
+    let entries : List SortEntry = e ∷ es in
+    let chosen : SortEntry → Single = λ x. get_or singles x.at other in
+    let sorted : List Single = map chosen entries in
+    let rows : List Row = map row_of sorted in
+    let many = length-map entries chosen in
+    let long = length-map sorted row_of in
     let longer = length-map rows row_key_of in
-    let at = λ (j : ℕ) (below : j < length singles).
-    get_or-map row_key_of rows j (row_of s) d (omega arith) ∙ ap row_key_of (get_or-map row_of singles j s (row_of s) below) ∙ row_of-row_key (get_or singles j s) in
-    let tested : is_lt (row_order (get_or singles (k + 1) s).row_key (get_or singles k s).row_key) ≡ false =
-    first_order _ (nat_cmp (get_or singles (k + 1) s).number (get_or singles k s).number) (h k s low (omega arith)) in
+    let at = λ (j : ℕ) (below : j < length entries).
+    get_or-map row_key_of rows j (row_of other) d (omega arith) ∙ ap row_key_of (get_or-map row_of sorted j other (row_of other) (omega arith))
+    ∙ row_of-row_key (get_or sorted j other) ∙ ap (λ (s : Single). s.row_key) (get_or-map chosen entries j e other below) in
+    let tells = λ (j : ℕ) (below : j < length entries). (All-get_or (IsEntryIn singles other) entries j e below told).1 in
+    let later : SortEntry = get_or entries (k + 1) e in
+    let sooner : SortEntry = get_or entries k e in
+    let apart : entry_order later sooner ≡ ordering_then (row_order (chosen later).row_key (chosen sooner).row_key) (nat_cmp later.at sooner.at) =
+    entry_cmp later sooner (chosen later).row_key (chosen sooner).row_key (tells (k + 1) (omega arith)) (tells k (omega arith)) in
+    let tested : is_lt (row_order (chosen later).row_key (chosen sooner).row_key) ≡ false =
+    first_order _ (nat_cmp later.at sooner.at) (ap is_lt (sym apart) ∙ h k e low (omega arith)) in
     rw (at (k + 1) (omega arith), at k (omega arith)) tested
 
-pub Tallied-singles : (tracks : List Track) (singles sorted : List Single) → AreSingles tracks singles → IsPermutation singles sorted
-    → IsSorted single_order sorted → Tallied tracks (combined_rows (map row_of sorted))
+-- any single
+some : Single
+some = record {
+  row_key = record { key = []; next = None; month = record { year = 0; month = 0 }; speed = Blitz; group = record { value = 0 } };
+  number = 0;
+  outcome = outcomes.Draw;
+  rating = 0;
+  sum = 0;
+}
+
+Tallied-singles : (tracks : List Track) (singles sorted : List Single) → AreSingles tracks singles → IsPermutation singles sorted
+    → IsSorted row_order (map row_key_of (map row_of sorted)) → Tallied tracks (combined_rows (map row_of sorted))
 Tallied-singles tracks singles sorted given moved order =
     let rows = map row_of sorted in
     let adds = λ (c : RowKey).
@@ -182,8 +207,35 @@ Tallied-singles tracks singles sorted given moved order =
     (AddsUp-singles tracks singles given c)) in
     tallied_from tracks (combined_rows rows) adds
     (All-from_recursion IsSound (combined_rows rows) (IsSound-combined_rows rows (each sorted)))
-    (combined_rows-ordered rows (row_keys_sorted sorted order))
+    (combined_rows-ordered rows order)
   where
     each : (ss : List Single) → AllByRecursion IsSound (map row_of ss)
     each [] = tt
     each (s ∷ ss) = (IsSound-row_of s, each ss)
+
+-- the singles are picked in the order of entries that stand for all of them
+pub Tallied-picked : (tracks : List Track) (singles sorted : List Single) (entries moved : List SortEntry) → AreSingles tracks singles
+    → ((other : Single) → picked singles entries other ≡ singles) → ((other : Single) → All (IsEntryIn singles other) entries)
+    → IsPermutation entries moved → IsSorted entry_order moved
+    → ((other : Single) → sorted ≡ picked singles moved other)
+    → Tallied tracks (combined_rows (map row_of sorted))
+Tallied-picked tracks singles sorted entries moved given all told places order is =
+    let chosen : SortEntry → Single = λ x. get_or singles x.at some in
+    let same : IsPermutation singles (map chosen moved) =
+    subst (λ (l : List Single). IsPermutation l (map chosen moved)) (all some) (IsPermutation-map chosen entries moved places) in
+    let stand : All (IsEntryIn singles some) moved = All-permutation (IsEntryIn singles some) entries moved places (told some) in
+    subst (λ (l : List Single). Tallied tracks (combined_rows (map row_of l))) (sym (is some))
+    (Tallied-singles tracks singles (picked singles moved some) given same (row_keys_sorted singles some moved stand order))
+
+-- entries that stand for singles do so in each order
+pub places_within : (singles : List Single) (entries moved : List SortEntry) → ((other : Single) → All (IsEntryIn singles other) entries)
+    → IsPermutation entries moved → All (λ (entry : SortEntry). entry.at < length singles) moved
+places_within singles entries moved told places =
+    All-weaker (IsEntryIn singles some) (λ (entry : SortEntry). entry.at < length singles) (λ entry stands. stands.0) moved
+    (All-permutation (IsEntryIn singles some) entries moved places (told some))
+
+pub length-picked : (singles sorted : List Single) (entries moved : List SortEntry) → ((other : Single) → picked singles entries other ≡ singles)
+    → IsPermutation entries moved → ((other : Single) → sorted ≡ picked singles moved other) → length sorted ≡ length singles
+length-picked singles sorted entries moved all places is =
+    let chosen : SortEntry → Single = λ x. get_or singles x.at some in
+    ap length (is some) ∙ length-map moved chosen ∙ length_permutation entries moved places ∙ sym (length-map entries chosen) ∙ ap length (all some)

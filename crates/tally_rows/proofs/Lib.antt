@@ -2,6 +2,8 @@ pub mod Sums
 pub mod Members
 pub mod Bests
 pub mod RowOrder
+pub mod EntryOrder
+pub mod Entries
 pub mod At
 pub mod EntryLists
 pub mod AddsUp

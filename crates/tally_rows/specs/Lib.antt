@@ -3,6 +3,7 @@ pub mod Track
 pub mod Row
 pub mod Tallied
 pub mod Single
+pub mod SortEntry
 pub mod Adding
 pub mod Grid
 pub mod Tally

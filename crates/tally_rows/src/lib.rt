@@ -7,6 +7,7 @@ mod row;
 mod row_key;
 mod rows;
 mod single;
+mod sort_entry;
 mod tally;
 #[cfg(test)]
 mod tests;
