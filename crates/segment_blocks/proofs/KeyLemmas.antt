@@ -1,5 +1,5 @@
 -- Rows in the order of their keys, and where a key stands among them.
-use Rattle.std.proofs.Common.{◌≡◌, ℕ, Bool, true, false, cond, not, List, [], ◌∷◌, ◌++◌, map, filter, bytes_eq, refl, sym, ap, ◌∙◌, true≢false}
+use Rattle.std.proofs.Common.{◌≡◌, ℕ, Bool, true, false, cond, not, ◌&&◌, Option, None, Some, List, [], ◌∷◌, ◌++◌, map, filter, bytes_eq, refl, sym, ap, subst, ◌∙◌, true≢false}
 use Rattle.std.specs.List.{AllByRecursion}
 use Rattle.std.specs.List.Sorted.{IsStrictlySortedBy}
 use Rattle.std.specs.declared.cmp.Ordering.{Ordering}
@@ -13,7 +13,7 @@ use Rattle.tally_rows.specs.declared.row.Row.{Row}
 use Rattle.tally_rows.specs.RowKey.{row_order}
 use Rattle.tally_rows.specs.Row.{row_key_of}
 use Rattle.segment_blocks.specs.PackedRows.{AreInOrder}
-use Rattle.segment_blocks.specs.Walk.{is_below, has_key, from_key, at_key}
+use Rattle.segment_blocks.specs.Walk.{is_below, is_from, is_before, is_within, has_key, from_key, until_key, from_bound, until_bound, at_key}
 
 abbrev pub key_order : List ℕ → List ℕ → Ordering
 key_order = slice_cmp nat_cmp
@@ -207,3 +207,81 @@ module _ (key : List ℕ) where
           → at_key key (from_key key (row ∷ rows)) ≡ filter (has_key key) (row ∷ rows)
       by true e next = ap (at_key key) (from_key-below row rows e) ∙ next ∙ ap kept (sym (below-not_here row e))
       by false e next = ap (at_key key) (from_key-not row rows e) ∙ taken-filter (row ∷ rows) h (not_below-behind row rows h e)
+
+-- ---- the rows of a range
+
+module _ (key : List ℕ) where
+  pub until_key-below : (row : Row) (rows : List Row) → is_below key row ≡ true → until_key key (row ∷ rows) ≡ row ∷ until_key key rows
+  unfolding until_key
+  until_key-below row rows e = ap (λ b. cond b (row ∷ until_key key rows) []) e
+
+  pub until_key-not : (row : Row) (rows : List Row) → is_below key row ≡ false → until_key key (row ∷ rows) ≡ []
+  unfolding until_key
+  until_key-not row rows e = ap (λ b. cond b (row ∷ until_key key rows) []) e
+
+  pub until_key-nil : until_key key [] ≡ []
+  unfolding until_key
+  until_key-nil = refl
+
+  none-below : (ys : List Row) → AreNotBelow key ys → filter (is_below key) ys ≡ []
+  none-below [] h = refl
+  none-below (y ∷ ys) h = ap (λ b. cond b (y ∷ filter (is_below key) ys) (filter (is_below key) ys)) h.0 ∙ none-below ys h.1
+
+  pub until_key-filter : (rows : List Row) → Rise rows → until_key key rows ≡ filter (is_below key) rows
+  until_key-filter [] h = until_key-nil
+  until_key-filter (row ∷ rows) h = by (is_below key row) refl (until_key-filter rows h.1)
+    where
+      kept : Bool → List Row
+      kept b = cond b (row ∷ filter (is_below key) rows) (filter (is_below key) rows)
+
+      by : (b : Bool) → is_below key row ≡ b → until_key key rows ≡ filter (is_below key) rows
+          → until_key key (row ∷ rows) ≡ filter (is_below key) (row ∷ rows)
+      by true e next = until_key-below row rows e ∙ ap (λ l. row ∷ l) next ∙ ap kept (sym e)
+      by false e next = until_key-not row rows e ∙ sym (none-below (row ∷ rows) (not_below-behind key row rows h e))
+
+  All-from_key : (P : Row → Type 0) (rows : List Row) → AllByRecursion P rows → AllByRecursion P (from_key key rows)
+  All-from_key P [] h = subst (AllByRecursion P) (sym (from_key-nil key)) tt
+  All-from_key P (row ∷ rows) h = by (is_below key row) refl (All-from_key P rows h.1)
+    where
+      by : (b : Bool) → is_below key row ≡ b → AllByRecursion P (from_key key rows) → AllByRecursion P (from_key key (row ∷ rows))
+      by true e next = subst (AllByRecursion P) (sym (from_key-below key row rows e)) next
+      by false e next = subst (AllByRecursion P) (sym (from_key-not key row rows e)) h
+
+  Rise-from_key : (rows : List Row) → Rise rows → Rise (from_key key rows)
+  Rise-from_key [] h = subst Rise (sym (from_key-nil key)) tt
+  Rise-from_key (row ∷ rows) h = by (is_below key row) refl (Rise-from_key rows h.1)
+    where
+      by : (b : Bool) → is_below key row ≡ b → Rise (from_key key rows) → Rise (from_key key (row ∷ rows))
+      by true e next = subst Rise (sym (from_key-below key row rows e)) next
+      by false e next = subst Rise (sym (from_key-not key row rows e)) h
+
+filter-all : (rows : List Row) → filter (λ row. true) rows ≡ rows
+filter-all [] = refl
+filter-all (row ∷ rows) = ap (λ l. row ∷ l) (filter-all rows)
+
+filter-both : (p q : Row → Bool) (rows : List Row) → filter q (filter p rows) ≡ filter (λ row. p row && q row) rows
+filter-both p q [] = refl
+filter-both p q (row ∷ rows) = by (p row) (filter-both p q rows)
+  where
+    by : (b : Bool) → filter q (filter p rows) ≡ filter (λ r. p r && q r) rows
+        → filter q (cond b (row ∷ filter p rows) (filter p rows)) ≡ cond (b && q row) (row ∷ filter (λ r. p r && q r) rows) (filter (λ r. p r && q r) rows)
+    by true next = ap (λ l. cond (q row) (row ∷ l) l) next
+    by false next = next
+
+pub from_bound-filter : (from : Option (List ℕ)) (rows : List Row) → Rise rows → from_bound from rows ≡ filter (is_from from) rows
+from_bound-filter None rows h = sym (filter-all rows)
+from_bound-filter (Some key) rows h = from_key-filter key rows h
+
+until_bound-filter : (below : Option (List ℕ)) (rows : List Row) → Rise rows → until_bound below rows ≡ filter (is_before below) rows
+until_bound-filter None rows h = sym (filter-all rows)
+until_bound-filter (Some key) rows h = until_key-filter key rows h
+
+Rise-from_bound : (from : Option (List ℕ)) (rows : List Row) → Rise rows → Rise (from_bound from rows)
+Rise-from_bound None rows h = h
+Rise-from_bound (Some key) rows h = Rise-from_key key rows h
+
+pub within-filter : (from below : Option (List ℕ)) (rows : List Row) → Rise rows
+    → until_bound below (from_bound from rows) ≡ filter (is_within from below) rows
+within-filter from below rows h =
+    until_bound-filter below (from_bound from rows) (Rise-from_bound from rows h)
+    ∙ ap (filter (is_before below)) (from_bound-filter from rows h) ∙ filter-both (is_from from) (is_before below) rows

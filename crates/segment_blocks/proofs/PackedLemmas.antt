@@ -1,5 +1,5 @@
 -- A row behind the rows of blocks.
-use Rattle.std.proofs.Common.{◌≡◌, ℕ, zero, suc, ◌⊎◌, inl, inr, Result, Ok, Err, List, [], ◌∷◌, ◌++◌, length, get_or, set, sym, ap, subst, ◌∙◌, arith, append_assoc, append-nil}
+use Rattle.std.proofs.Common.{◌≡◌, ℕ, zero, suc, ◌-◌, ◌<◌, ◌≤◌, Option, map, slice_get, refl, ◌⊎◌, inl, inr, Result, Ok, Err, List, [], ◌∷◌, ◌++◌, length, get_or, set, sym, ap, subst, ◌∙◌, arith, append_assoc, append-nil}
 use Rattle.std.specs.Result.{OnOk, OnErr}
 use Rattle.std.proofs.lemmas.List.{set-get_or, get_or_default}
 use Rattle.std.proofs.lemmas.List.Concat.{flat_map-append}
@@ -77,3 +77,24 @@ ArePacked-append xs ys a b ordered = record {
   some = some-append xs ys a.some b.some;
   ordered = subst AreInOrder (sym (rows_in-append xs ys)) ordered;
 }
+
+-- ---- the key of a row by its place
+
+abbrev pub key_in : List Row → ℕ → Option (List ℕ)
+key_in rows n = slice_get (map (λ row. row.key) rows) n
+
+pub key_in-next : (row : Row) (rows : List Row) (n : ℕ) → 0 < n → key_in (row ∷ rows) n ≡ key_in rows (n - 1)
+key_in-next row rows zero some = absurd (omega arith)
+key_in-next row rows (suc n) some = let e : n ≡ suc n - 1 = omega arith in ap (key_in rows) e
+
+pub key_in-left : (xs ys : List Row) (n : ℕ) → n < length xs → key_in (xs ++ ys) n ≡ key_in xs n
+key_in-left [] ys n below = absurd (omega arith)
+key_in-left (x ∷ xs) ys zero below = refl
+key_in-left (x ∷ xs) ys (suc n) below = key_in-left xs ys n (omega arith)
+
+pub key_in-right : (xs ys : List Row) (n : ℕ) → length xs ≤ n → key_in (xs ++ ys) n ≡ key_in ys (n - length xs)
+key_in-right [] ys n le = let e : n ≡ n - 0 = omega arith in ap (key_in ys) e
+key_in-right (x ∷ xs) ys zero le = absurd (omega arith)
+key_in-right (x ∷ xs) ys (suc n) le =
+    let e : n - length xs ≡ suc n - suc (length xs) = omega arith in
+    key_in-right xs ys n (omega arith) ∙ ap (key_in ys) e

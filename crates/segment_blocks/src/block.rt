@@ -1,5 +1,5 @@
 //! A block of rows.
-ghost use Rattle.std.specs.Prelude.{◌≡◌, ℕ, List, ◌<◌, ◌≤◌, ◌++◌, ◌∷◌, [], IfOk, OnOk, OnErr, length};
+ghost use Rattle.std.specs.Prelude.{◌≡◌, ℕ, List, ◌<◌, ◌≤◌, ◌++◌, ◌∷◌, [], IfOk, OnOk, OnErr, length, map, slice_get};
 ghost use Rattle.segment_blocks.specs.Block.{block_limit};
 ghost use Rattle.segment_blocks.specs.Encoded.{key_first};
 
@@ -64,6 +64,21 @@ impl Block {
         ensures { (key : List ℕ) → result.now ≡ key_first key self.now }
     {
         &self.first
+    }
+
+    /// The key of row `n`, from 0, or None where there are not so many rows.
+    pub fn key_at(&self, n: usize) -> Option<[u8; 34]>
+        ensures { result ≡ slice_get (map (λ row. row.key) self.now) n }
+    {
+        let mut rows = self.cursor();
+        let mut before = n;
+        while let Some(row) = rows.next() {
+            if before == 0 {
+                return Some(row.key);
+            }
+            before -= 1;
+        }
+        None
     }
 
     /// Puts a row behind the others. After a refusal the block is as before.

@@ -1,8 +1,9 @@
 //! Rows in little room.
-ghost use Rattle.std.specs.Prelude.{◌≡◌, ℕ, ◌+◌, ◌≤◌, ◌<◌, ◌^◌, ◌++◌, ◌∷◌, [], filter, not, true, false, length, slice_index_or, IfOk, OnOk, OnErr};
+ghost use Rattle.std.specs.Prelude.{◌≡◌, ℕ, List, ◌+◌, ◌≤◌, ◌<◌, ◌^◌, ◌++◌, ◌∷◌, [], filter, map, not, true, false, length, slice_get, slice_index_or, IfOk, OnOk, OnErr};
 ghost use Rattle.segment_blocks.specs.Block.{block_limit};
 ghost use Rattle.segment_blocks.specs.PackedRows.{AreInOrder, ArePacked, is_first_below, rows_of_parts};
-ghost use Rattle.segment_blocks.specs.Walk.{is_below, has_key, from_key, rows_in, front_rows};
+ghost use Rattle.segment_blocks.specs.Walk.{is_below, is_within, has_key, from_key, from_bound, until_bound, rows_in, rows_until, front_rows};
+ghost use Rattle.tally_rows.specs.declared.row.Row.{Row};
 
 use crate::block::{BLOCK_LIMIT, Block};
 use crate::block_cursor::BlockCursor;
@@ -11,8 +12,8 @@ use crate::rows_cursor::RowsCursor;
 use crate::steps::Steps;
 use crate::until::Until;
 use std::alloc::{AllocError, Global};
-use std::marker::Model;
-use std::sync::ledger::Ledger;
+use std::marker::{Brand, Model};
+use std::sync::ledger::{Blank, Ledger};
 use tally_rows::Row;
 
 /// Rows in their order, in blocks of at most 128. The first keys of the blocks are their index.
@@ -113,6 +114,31 @@ impl PackedRows {
         }
     }
 
+    /// A walk over the rows whose key is not below `from` and is below `below`, in their order. An
+    /// absent bound is none. Its steps are not counted.
+    pub fn rows_within(&self, from: Option<[u8; 34]>, below: Option<[u8; 34]>) -> RowWalk<'_>
+        ensures { result ≡ filter (is_within from below) self.now.rows }
+    {
+        RowWalk {
+            rest: rows_behind(self.blocks.as_slice(), from),
+            until: until_bound(below),
+        }
+    }
+
+    /// How many blocks there are.
+    pub fn block_count(&self) -> usize
+        ensures { result ≡ self.now.blocks }
+    {
+        self.blocks.len()
+    }
+
+    /// The key of row `n`, from 0, or None where there are not so many rows.
+    pub fn key_at(&self, n: usize) -> Option<[u8; 34]>
+        ensures { result ≡ slice_get (map (λ row. row.key) self.now.rows) n }
+    {
+        key_of(self.blocks.as_slice(), n)
+    }
+
     /// Puts other rows behind these. After a refusal these are as before, and the others are lost.
     fn append(&mut self, other: PackedRows) -> Result<(), AllocError>
         requires in_order { AreInOrder (self.old.rows ++ other.rows) }
@@ -134,17 +160,75 @@ fn seek<'a, L: Ledger>(blocks: &'a [Block], key: &[u8; 34], steps: &mut Steps<L>
 {
     let below = count_below(blocks, key, steps);
     if below == 0 {
-        return RowsCursor {
-            front: None,
-            place: BlockCursor::empty(),
-            blocks,
-        };
+        return all_of(blocks);
     }
     let (front, place) = pass_below(blocks[below - 1].cursor(), key, steps);
     RowsCursor {
         front,
         place,
         blocks: &blocks[below..],
+    }
+}
+
+/// The rows from a bound on, or all.
+fn rows_behind(blocks: &[Block], from: Option<[u8; 34]>) -> RowsCursor<'_>
+    requires { ArePacked blocks.now }
+    ensures { result ≡ from_bound from (rows_in blocks.now) }
+{
+    match from {
+        Some(key) => seek_uncounted::<Brand>(blocks, &key, Blank::new(1)),
+        None => all_of(blocks),
+    }
+}
+
+/// Where a walk ends that goes to the rows below a bound, or over all.
+fn until_bound(below: Option<[u8; 34]>) -> Until
+    ensures { (rows : List Row) → rows_until result rows ≡ until_bound below rows }
+{
+    match below {
+        Some(key) => Until::Below(key),
+        None => Until::End,
+    }
+}
+
+/// The key of row `n` of the blocks.
+fn key_of(blocks: &[Block], n: usize) -> Option<[u8; 34]>
+    ensures { result ≡ slice_get (map (λ row. row.key) (rows_in blocks.now)) n }
+{
+    let mut before = n;
+    for block in blocks {
+        if before < block.len() {
+            return block.key_at(before);
+        }
+        before -= block.len();
+    }
+    None
+}
+
+/// The rows from the first one on whose key is not below the key, where no steps are counted.
+fn seek_uncounted<'a, L: Ledger>(
+    blocks: &'a [Block],
+    key: &[u8; 34],
+    blank: Blank,
+) -> RowsCursor<'a>
+    requires packed { ArePacked blocks.now }
+    requires name { blank.name ≡ L.name }
+    requires parts { blank.parts ≡ L.parts }
+    requires some { 0 < L.parts }
+    ensures { result ≡ from_key key.now (rows_in blocks.now) }
+{
+    let mut steps = Steps::<L>::new(blank);
+    seek(blocks, key, &mut steps)
+}
+
+/// All rows of the blocks.
+fn all_of(blocks: &[Block]) -> RowsCursor<'_>
+    ensures { result ≡ rows_in blocks.now }
+{
+    RowsCursor {
+        front: None,
+        place: BlockCursor::empty(),
+        blocks,
     }
 }
 

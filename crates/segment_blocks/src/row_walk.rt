@@ -37,8 +37,9 @@ impl<'a> RowWalk<'a> {
         self.advance()
     }
 
-    /// The next row, where no steps are counted.
-    fn advance(&mut self) -> Option<Row>
+    /// The next row, or None exactly at the end, where no steps are counted.
+    #[tactic(auto, unfolding(crate::specs::Walk::until_key))]
+    pub fn advance(&mut self) -> Option<Row>
         ensures { MatchOption result ((self.old ≡ []) × (self.new ≡ []))
             (λ row. self.old ≡ row ∷ self.new) }
     {
@@ -47,6 +48,15 @@ impl<'a> RowWalk<'a> {
             Until::Key(key) => {
                 if let Some(row) = self.rest.next() {
                     if row.key == key {
+                        return Some(row);
+                    }
+                }
+                self.until = Until::Done;
+                None
+            }
+            Until::Below(key) => {
+                if let Some(row) = self.rest.next() {
+                    if row.key.cmp(&key).is_lt() {
                         return Some(row);
                     }
                 }

@@ -1,10 +1,10 @@
 //! Segments.
-ghost use Rattle.std.specs.Prelude.{◌≡◌, ℕ, ◌+◌, ◌<◌, ◌≤◌, ◌^◌, [], ◌∷◌, ◌++◌, Some, IfOk, length, filter, not, slice_get};
+ghost use Rattle.std.specs.Prelude.{◌≡◌, ℕ, ◌+◌, ◌<◌, ◌≤◌, ◌^◌, [], ◌∷◌, ◌++◌, Some, IfOk, length, filter, map, not, slice_get};
 ghost use Rattle.explorer_model.specs.Visits.{texts_of};
 ghost use Rattle.segment_blocks.specs.Segment.{IsSegment, CanJoin, IsTallyOfBoth, span_of_both};
 ghost use Rattle.segment_blocks.specs.Block.{block_limit};
 ghost use Rattle.segment_blocks.specs.PackedRows.{rows_of_parts};
-ghost use Rattle.segment_blocks.specs.Walk.{has_key, is_below};
+ghost use Rattle.segment_blocks.specs.Walk.{has_key, is_below, is_within};
 
 use crate::held_batch::{HeldBatch, game_at, share_all};
 use crate::packed_rows::PackedRows;
@@ -164,5 +164,28 @@ impl Segment {
             → steps.new ≤ steps.old + block_limit + digits }
     {
         self.rows.rows_from(key, steps)
+    }
+
+    /// A walk over the rows whose key is not below `from` and is below `below`, in their order. An
+    /// absent bound is none. Its steps are not counted.
+    pub fn rows_within(&self, from: Option<[u8; 34]>, below: Option<[u8; 34]>) -> RowWalk<'_>
+        ensures { result ≡ filter (is_within from below) self.now.rows }
+    {
+        self.rows.rows_within(from, below)
+    }
+
+    /// How many blocks the rows take.
+    pub fn block_count(&self) -> usize
+        ensures { result ≡ self.now.blocks }
+    {
+        self.rows.block_count()
+    }
+
+    /// The key of row `n`, from 0, or None where there are not so many rows. It passes the blocks
+    /// before the row.
+    pub fn key_at(&self, n: usize) -> Option<[u8; 34]>
+        ensures { result ≡ slice_get (map (λ row. row.key) self.now.rows) n }
+    {
+        self.rows.key_at(n)
     }
 }

@@ -8,7 +8,7 @@ use Rattle.segment_blocks.proofs.packed_rows.seek.Goals as goal
 pub returns-then-below-eq0-clause-rows : goal.returns-then-below-eq0-clause-rows
 returns-then-below-eq0-clause-rows g c =
     let blocks = c.args.blocks.now in
-    ap (λ p. p ++ rows_in blocks) c.empty.ensures
+    c.all_of.ensures
     ∙ sym (from_key-first c.args.key.now blocks c.requires.some (Rise-from_sorted _ c.requires.ordered)
     (λ m. c.count_below-below.ensures.above 0 (omega (arith, c.if-below-eq0.true)) m))
 

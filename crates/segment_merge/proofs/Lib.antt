@@ -1,0 +1,4 @@
+pub mod MergedLemmas
+pub mod RangeLemmas
+pub mod RisingLemmas
+pub mod RoomLemmas

@@ -1,0 +1,171 @@
+-- Rows of segments: their room, and what is merged of two of them.
+use Rattle.std.proofs.Common.{◌≡◌, ℕ, ◌+◌, ◌*◌, ◌<◌, ◌≤◌, ◌^◌, Bool, true, false, cond, List, [], ◌∷◌, ◌++◌, map, filter, length, refl, sym, ap, subst, ◌∙◌, add-zero, arith}
+use Rattle.std.specs.List.{All, AllByRecursion, AllZip, sum_by, enumerate_from}
+use Rattle.std.proofs.lemmas.List.{map-append, map-id, length-map}
+use Rattle.std.proofs.lemmas.List.Concat.{flat_map-append}
+use Rattle.std.proofs.lemmas.List.Elements.{All-nil, All-cons, All-map, All-filter, All-weaker}
+use Rattle.std.proofs.lemmas.List.Sums.{sum_by-cons, count_by-le-length}
+use Rattle.best_lists.proofs.BestLaws.{All-best}
+use Rattle.explorer_model.specs.Best.{best}
+use Rattle.best_lists.specs.Ranking.{before_by_rating, before_by_month}
+use Rattle.best_lists.specs.declared.entry.Entry.{Entry}
+use Rattle.best_lists.specs.Entry.{moved_by}
+use Rattle.explorer_model.specs.declared.archive.Classes.{Classes}
+use Rattle.explorer_model.specs.declared.archive.Game.{Game}
+use Rattle.explorer_model.specs.SoundClasses.{AreSoundClasses}
+use Rattle.explorer_model.specs.Visits.{IsTextOf, texts_of}
+use Rattle.explorer_model.proofs.SoundClasses.{game-sound}
+use Rattle.tally_rows.specs.declared.row_key.RowKey.{RowKey}
+use Rattle.tally_rows.specs.declared.row.Row.{Row}
+use Rattle.tally_rows.specs.Row.{row_key_of, shifted_row}
+use Rattle.tally_rows.specs.Tallied.{is_black_to_move, mover_rating, rating_sum, track_month, entries, has_move, IsTally, Tallied}
+use Rattle.tally_rows.specs.Tally.{IsTallyOf, IsTrackOf}
+use Rattle.tally_rows.specs.Track.{Track, has}
+use Rattle.tally_rows.proofs.AddsUp.{count-outcomes}
+use Rattle.tally_rows.proofs.Members.{IsIn, All-IsIn, recursion-from_IsIn}
+use Rattle.segment_blocks.specs.Segment.{CountedSpan, IsSegment, CanJoin, IsTallyOfBoth, segment_limit}
+use Rattle.segment_merge.specs.Merged.{merged}
+use Rattle.segment_merge.specs.Merging.{rows_of_both}
+use Rattle.segment_merge.specs.Room.{HasRoom}
+use Rattle.segment_merge.proofs.MergedLemmas.{Tallied-merged}
+
+-- ---- ratings
+
+-- both ratings are at most 4000
+abbrev HasRatings : Track → Type 0
+HasRatings track = AreSoundClasses track.classes
+
+mover-bound : (key : List ℕ) (classes : Classes) → AreSoundClasses classes → mover_rating key classes ≤ 65535
+mover-bound key classes are = by (is_black_to_move key)
+  where
+    by : (b : Bool) → cond b classes.black.rating classes.white.rating ≤ 65535
+    by true = omega (arith, are.black)
+    by false = omega (arith, are.white)
+
+ratings-bound : (key : List ℕ) (row_key : RowKey) (tracks : List Track) → AllByRecursion HasRatings tracks
+    → sum_by (λ t. cond (has_move row_key t) (mover_rating key t.classes) 0) tracks ≤ 65535 * length tracks
+ratings-bound key row_key [] are = omega arith
+ratings-bound key row_key (t ∷ tracks) are =
+    omega (
+      arith,
+      sum_by-cons (λ s. cond (has_move row_key s) (mover_rating key s.classes) 0) t tracks,
+      one (has_move row_key t) (mover-bound key t.classes are.0),
+      ratings-bound key row_key tracks are.1,
+    )
+  where
+    one : (b : Bool) → mover_rating key t.classes ≤ 65535 → cond b (mover_rating key t.classes) 0 ≤ 65535
+    one true le = le
+    one false le = omega arith
+
+track-ratings : (texts : List (List ℕ)) (games : List Game) (tracks : List Track) → AllZip IsTextOf texts games → AllZip IsTrackOf games tracks
+    → AllByRecursion HasRatings tracks
+track-ratings [] [] [] of tracked = tt
+track-ratings [] [] (t ∷ tracks) of tracked = absurd tracked
+track-ratings [] (g ∷ games) tracks of tracked = absurd of
+track-ratings (x ∷ texts) [] tracks of tracked = absurd of
+track-ratings (x ∷ texts) (g ∷ games) [] of tracked = absurd tracked
+track-ratings (x ∷ texts) (g ∷ games) (t ∷ tracks) of tracked =
+    (subst AreSoundClasses (sym tracked.0.classes) (game-sound x g of.0), track-ratings texts games tracks of.1 tracked.1)
+
+-- ---- numbers
+
+module _ (rank : Track → ℕ) (test : Track → Bool) where
+  entries-below : (n m : ℕ) (tracks : List Track) → n + length tracks ≤ m → All (λ entry. entry.number < m) (entries rank test n tracks)
+  unfolding entries
+  entries-below n m tracks le =
+      All-map (λ (entry : Entry). entry.number < m) (λ (p : ℕ × Track). record { rank = rank p.1; number = p.0 })
+      (filter (λ p. test p.1) (enumerate_from n tracks))
+      (All-filter (λ p. test p.1) (λ p. p.0 < m) (enumerate_from n tracks) (numbers n tracks le))
+    where
+      numbers : (n : ℕ) (ts : List Track) → n + length ts ≤ m → All (λ (p : ℕ × Track). p.0 < m) (enumerate_from n ts)
+      numbers n [] le = All-nil (λ (p : ℕ × Track). p.0 < m)
+      numbers n (t ∷ ts) le = All-cons (λ (p : ℕ × Track). p.0 < m) (n, t) (enumerate_from (n + 1) ts) (omega arith) (numbers (n + 1) ts (omega arith))
+
+  best-fit : (before : Entry → Entry → Bool) (by : ℕ) (tracks : List Track) → by + length tracks ≤ segment_limit
+      → All (λ entry. entry.number + by < 2 ^ 32) (best before 4 (entries rank test 0 tracks))
+  best-fit before by tracks le =
+      All-best before (λ (entry : Entry). entry.number + by < 2 ^ 32) 4 (entries rank test 0 tracks)
+      (All-weaker (λ (entry : Entry). entry.number < length tracks) (λ entry. entry.number + by < 2 ^ 32) (λ entry below. omega arith)
+      (entries rank test 0 tracks) (entries-below 0 (length tracks) tracks (omega arith)))
+
+-- ---- lists of the same length
+
+zip-length : {X Y : Type 0} (P : X → Y → Type 0) (xs : List X) (ys : List Y) → AllZip P xs ys → length xs ≡ length ys
+zip-length P [] [] h = refl
+zip-length P [] (y ∷ ys) h = absurd h
+zip-length P (x ∷ xs) [] h = absurd h
+zip-length P (x ∷ xs) (y ∷ ys) h = omega (arith, zip-length P xs ys h.1)
+
+zip-append : {X Y : Type 0} (P : X → Y → Type 0) (xs : List X) (ys : List Y) (us : List X) (vs : List Y) → AllZip P xs ys → AllZip P us vs → AllZip P (xs ++ us) (ys ++ vs)
+zip-append P [] [] us vs h k = k
+zip-append P [] (y ∷ ys) us vs h k = absurd h
+zip-append P (x ∷ xs) [] us vs h k = absurd h
+zip-append P (x ∷ xs) (y ∷ ys) us vs h k = (h.0, zip-append P xs ys us vs h.1 k)
+
+module _ (texts : List (List ℕ)) (classes : List Classes) (rows : List Row) (tally : IsTallyOf texts classes rows) where
+  pub tracks-length : length tally.tracks ≡ length classes
+  tracks-length =
+      sym (zip-length IsTrackOf tally.games tally.tracks tally.are_tracks) ∙ sym (length-map tally.games (λ g. g.classes)) ∙ ap length (sym tally.classes_are)
+
+  -- the rows of a span can be shifted behind so many games
+  pub rooms : (by : ℕ) → by + length classes ≤ segment_limit → AllByRecursion (HasRoom by) rows
+  rooms by le = recursion-from_IsIn (HasRoom by) rows each
+    where
+      each : (row : Row) → IsIn row rows → HasRoom by row
+      each row m =
+          let tracks = tally.tracks in
+          let counts = All-IsIn (IsTally tracks) rows tally.tallied.each row m in
+          let long = tracks-length in
+          let within : by + length tracks ≤ segment_limit = omega (arith, long) in
+          let all = count_by-le-length (has (row_key_of row)) tracks in
+          let outcomes = count-outcomes (has (row_key_of row)) tracks in
+          let fits = λ (list : List Entry). All (λ entry. entry.number + by < 2 ^ 32) list in
+          record {
+            small = record {
+              white = omega (arith, counts.white, outcomes, all, within);
+              draws = omega (arith, counts.draws, outcomes, all, within);
+              black = omega (arith, counts.black, outcomes, all, within);
+              ratings = omega (arith, within, counts.ratings, ratings-bound row.key (row_key_of row) tracks (track-ratings texts tally.games tracks tally.are_games tally.are_tracks));
+            };
+            top = subst fits (sym counts.top) (best-fit rating_sum (has_move (row_key_of row)) before_by_rating by tracks within);
+            recent = subst fits (sym counts.recent) (best-fit track_month (has_move (row_key_of row)) before_by_month by tracks within);
+          }
+
+pub IsTallyOf-both : (left_texts right_texts : List (List ℕ)) (left_classes right_classes : List Classes) (ls rs : List Row)
+    → IsTallyOf left_texts left_classes ls → IsTallyOf right_texts right_classes rs
+    → IsTallyOf (left_texts ++ right_texts) (left_classes ++ right_classes) (merged ls (map (shifted_row (length left_classes)) rs))
+IsTallyOf-both left_texts right_texts left_classes right_classes ls rs a b = record {
+  games = a.games ++ b.games;
+  are_games = zip-append IsTextOf left_texts a.games right_texts b.games a.are_games b.are_games;
+  classes_are = (λ i. a.classes_are i ++ b.classes_are i) ∙ sym (map-append (λ g. g.classes) a.games b.games);
+  tracks = a.tracks ++ b.tracks;
+  are_tracks = zip-append IsTrackOf a.games a.tracks b.games b.tracks a.are_tracks b.are_tracks;
+  tallied = subst (λ n. Tallied (a.tracks ++ b.tracks) (merged ls (map (shifted_row n) rs))) (tracks-length left_texts left_classes ls a)
+      (Tallied-merged a.tracks b.tracks ls rs a.tallied b.tallied);
+}
+
+-- ---- segments
+
+pub room : (segment : CountedSpan) → IsSegment segment → (by : ℕ) → by + length segment.classes ≤ segment_limit
+    → AllByRecursion (HasRoom by) segment.rows
+room segment h by le = rooms (texts_of segment.span.batches) segment.classes segment.rows h.tally by le
+
+pub tally-both : (left right : CountedSpan) → IsSegment left → IsSegment right → IsTallyOfBoth left right (rows_of_both left right)
+tally-both left right a b =
+    rw (flat_map-append (λ b. b.texts) left.span.batches right.span.batches)
+    (IsTallyOf-both (texts_of left.span.batches) (texts_of right.span.batches) left.classes right.classes left.rows right.rows a.tally b.tally)
+
+-- ---- rows that are not shifted
+
+moved-zero : moved_by 0 ≡ (λ (e : Entry). e)
+moved-zero = λ i e. record { rank = e.rank; number = add-zero e.number i }
+
+shifted-zero : shifted_row 0 ≡ (λ (row : Row). row)
+unfolding shifted_row
+shifted-zero = λ i row. record row { top = all row.top i; recent = all row.recent i }
+  where
+    all : (entries : List Entry) → map (moved_by 0) entries ≡ entries
+    all entries = ap (λ f. map f entries) moved-zero ∙ map-id entries
+
+pub rows-shifted-zero : (rows : List Row) → map (shifted_row 0) rows ≡ rows
+rows-shifted-zero rows = ap (λ f. map f rows) shifted-zero ∙ map-id rows

@@ -1,0 +1,4 @@
+pub mod Merged
+pub mod Merging
+pub mod Ranges
+pub mod Room
