@@ -1,4 +1,5 @@
 pub mod MergedLemmas
+pub mod PartsLemmas
 pub mod RangeLemmas
 pub mod RisingLemmas
 pub mod RoomLemmas

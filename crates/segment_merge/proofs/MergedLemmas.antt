@@ -1,14 +1,14 @@
 -- Merged rows add up to both lists, and stand in order.
-use Rattle.std.proofs.Common.{◌≡◌, ℕ, ◌+◌, ◌<◌, Bool, true, false, cond, Option, None, Some, MatchOption, List, [], ◌∷◌, ◌++◌, map, length, refl, sym, ap, subst, ◌∙◌, append-nil, append_assoc, arith}
+use Rattle.std.proofs.Common.{◌≡◌, ℕ, ◌+◌, Bool, true, false, cond, Option, None, Some, MatchOption, List, [], ◌∷◌, ◌++◌, map, length, refl, sym, ap, subst, ◌∙◌, append-nil, append_assoc, arith}
 use Rattle.std.specs.declared.cmp.Ordering.{Ordering}
 use Rattle.std.specs.declared.cmp.Ordering.TheVariants.{Less, Equal, Greater}
-use Rattle.std.specs.List.{All, AllByRecursion, sum_by, count_by, flat_map}
+use Rattle.std.specs.List.{AllByRecursion, count_by}
 use Rattle.std.specs.List.Sorted.{IsStrictlySortedBy}
 use Rattle.std.specs.Ordering.{ordering_reverse}
 use Rattle.std.proofs.lemmas.List.Sums.{sum_by-append}
 use Rattle.std.proofs.lemmas.List.Elements.{All-from_recursion, recursion_from_All}
 use Rattle.explorer_model.specs.Best.{best, IsStrictTotalOrder}
-use Rattle.best_lists.proofs.BestLaws.{best-append, best-best, best-nil}
+use Rattle.best_lists.proofs.BestLaws.{best-best}
 use Rattle.best_lists.proofs.Same.{ties, best-same}
 use Rattle.best_lists.specs.Ranking.{before_by_rating, before_by_month, by_rating_is_order, by_month_is_order, by_rating_keeps, by_month_keeps}
 use Rattle.best_lists.specs.declared.entry.Entry.{Entry}
@@ -69,18 +69,18 @@ module _ (P : List Row → List Row → List Row → Type 0)
     (equal : (l : Row) (ls : List Row) (r : Row) (rs : List Row) → row_order (row_key_of l) (row_key_of r) ≡ Equal → (m : List Row) → P ls rs m → P (l ∷ ls) (r ∷ rs) (combined l r ∷ m))
     (greater : (l : Row) (ls : List Row) (r : Row) (rs : List Row) → row_order (row_key_of l) (row_key_of r) ≡ Greater → (m : List Row) → P (l ∷ ls) rs m → P (l ∷ ls) (r ∷ rs) (r ∷ m))
   where
-  pub merged-ind : (ls rs : List Row) → P ls rs (merged ls rs)
-  merged-ind [] rs = subst (P [] rs) (sym (merged-nil_left rs)) (at_left rs)
-  merged-ind (l ∷ ls) rs = among (merged-ind ls) rs
-    where
-      among : ((rs : List Row) → P ls rs (merged ls rs)) → (rs : List Row) → P (l ∷ ls) rs (merged (l ∷ ls) rs)
-      among next [] = subst (P (l ∷ ls) []) (sym (merged-nil_right (l ∷ ls))) (at_right l ls)
-      among next (r ∷ rs) = by (row_order (row_key_of l) (row_key_of r)) refl (among next rs)
-        where
-          by : (o : Ordering) → row_order (row_key_of l) (row_key_of r) ≡ o → P (l ∷ ls) rs (merged (l ∷ ls) rs) → P (l ∷ ls) (r ∷ rs) (merged (l ∷ ls) (r ∷ rs))
-          by Less e there = subst (P (l ∷ ls) (r ∷ rs)) (sym (merged-less l ls r rs e)) (less l ls r rs e (merged ls (r ∷ rs)) (next (r ∷ rs)))
-          by Equal e there = subst (P (l ∷ ls) (r ∷ rs)) (sym (merged-equal l ls r rs e)) (equal l ls r rs e (merged ls rs) (next rs))
-          by Greater e there = subst (P (l ∷ ls) (r ∷ rs)) (sym (merged-greater l ls r rs e)) (greater l ls r rs e (merged (l ∷ ls) rs) there)
+    pub merged-ind : (ls rs : List Row) → P ls rs (merged ls rs)
+    merged-ind [] rs = subst (P [] rs) (sym (merged-nil_left rs)) (at_left rs)
+    merged-ind (l ∷ ls) rs = among (merged-ind ls) rs
+      where
+        among : ((rs : List Row) → P ls rs (merged ls rs)) → (rs : List Row) → P (l ∷ ls) rs (merged (l ∷ ls) rs)
+        among next [] = subst (P (l ∷ ls) []) (sym (merged-nil_right (l ∷ ls))) (at_right l ls)
+        among next (r ∷ rs) = by (row_order (row_key_of l) (row_key_of r)) refl (among next rs)
+          where
+            by : (o : Ordering) → row_order (row_key_of l) (row_key_of r) ≡ o → P (l ∷ ls) rs (merged (l ∷ ls) rs) → P (l ∷ ls) (r ∷ rs) (merged (l ∷ ls) (r ∷ rs))
+            by Less e there = subst (P (l ∷ ls) (r ∷ rs)) (sym (merged-less l ls r rs e)) (less l ls r rs e (merged ls (r ∷ rs)) (next (r ∷ rs)))
+            by Equal e there = subst (P (l ∷ ls) (r ∷ rs)) (sym (merged-equal l ls r rs e)) (equal l ls r rs e (merged ls rs) (next rs))
+            by Greater e there = subst (P (l ∷ ls) (r ∷ rs)) (sym (merged-greater l ls r rs e)) (greater l ls r rs e (merged (l ∷ ls) rs) there)
 
 -- ---- what merged rows add up to
 
@@ -169,7 +169,7 @@ combined-recent a b = refl
 
 IsSound-combined : (a b : Row) → IsSound a → IsSound (combined a b)
 IsSound-combined a b h = record {
-  seen = omega (arith, h.seen, combined-white a b, combined-draws a b, combined-black a b);
+  some = omega (arith, h.some, combined-white a b, combined-draws a b, combined-black a b);
   top = rw (combined-top a b) (best-best by_rating_is_order 4 (a.top ++ b.top));
   recent = rw (combined-recent a b) (best-best by_month_is_order 4 (a.recent ++ b.recent));
 }
@@ -198,18 +198,18 @@ in_order-merged-with =
     (λ rs. (λ a b. b, λ x a b. b))
     (λ l ls. (λ a b. a, λ x a b. a))
     (λ l ls r rs e m h. (
-    λ a b. (h.1 (row_key_of l) a.0 (e, Above-less (row_key_of l) (row_key_of r) rs e b.0), h.0 a.1 b),
-    λ x a b. (a.0, h.1 x a.1 b)
+      λ a b. (h.1 (row_key_of l) a.0 (e, Above-less (row_key_of l) (row_key_of r) rs e b.0), h.0 a.1 b),
+      λ x a b. (a.0, h.1 x a.1 b),
     ))
     (λ l ls r rs e m h. (
-    λ a b. (subst (λ p. Above p m) (sym (combined-row_key l r)) (h.1 (row_key_of l) a.0 (subst (λ p. Above p rs) (sym (same l r e)) b.0)), h.0 a.1 b.1),
-    λ x a b. (subst (λ p. row_order x p ≡ Less) (sym (combined-row_key l r)) a.0, h.1 x a.1 b.1)
+      λ a b. (subst (λ p. Above p m) (sym (combined-row_key l r)) (h.1 (row_key_of l) a.0 (subst (λ p. Above p rs) (sym (same l r e)) b.0)), h.0 a.1 b.1),
+      λ x a b. (subst (λ p. row_order x p ≡ Less) (sym (combined-row_key l r)) a.0, h.1 x a.1 b.1),
     ))
     (λ l ls r rs e m h. (
-    λ a b.
-    let back = reversed l r e in
-    (h.1 (row_key_of r) (back, Above-less (row_key_of r) (row_key_of l) ls back a.0) b.0, h.0 a b.1),
-    λ x a b. (b.0, h.1 x a b.1)
+      λ a b.
+          let back = reversed l r e in
+          (h.1 (row_key_of r) (back, Above-less (row_key_of r) (row_key_of l) ls back a.0) b.0, h.0 a b.1),
+      λ x a b. (b.0, h.1 x a b.1),
     ))
   where
     same : (l r : Row) → row_order (row_key_of l) (row_key_of r) ≡ Equal → row_key_of l ≡ row_key_of r
@@ -237,7 +237,7 @@ in_order-shifted by rows h = subst (IsStrictlySortedBy row_order) (sym (row_keys
 IsSound-shifted : (by : ℕ) (row : Row) → IsSound row → IsSound (shifted_row by row)
 unfolding shifted_row
 IsSound-shifted by row h = record {
-  seen = h.seen;
+  some = h.some;
   top = best-moved by_rating_keeps by 4 row.top ∙ ap (map (moved_by by)) h.top;
   recent = best-moved by_month_keeps by 4 row.recent ∙ ap (map (moved_by by)) h.recent;
 }

@@ -1,5 +1,5 @@
 -- What is merged of ranges of keys, one range after another, is what is merged of all rows.
-use Rattle.std.proofs.Common.{◌≡◌, ℕ, zero, suc, ◌+◌, ◌≤◌, Bool, true, false, cond, not, ◌&&◌, Option, None, Some, List, [], ◌∷◌, ◌++◌, map, filter, length, get_or, slice_get, refl, sym, ap, subst, ◌∙◌, true≢false, append-nil, arith}
+use Rattle.std.proofs.Common.{◌≡◌, ℕ, zero, suc, ◌+◌, ◌≤◌, Bool, true, false, cond, not, ◌&&◌, Option, None, Some, List, [], ◌∷◌, ◌++◌, map, filter, length, get_or, slice_get, refl, sym, ap, ◌∙◌, true≢false, append-nil, arith}
 use Rattle.std.specs.List.{AllByRecursion}
 use Rattle.std.specs.List.Sorted.{IsStrictlySortedBy}
 use Rattle.std.specs.declared.cmp.Ordering.{Ordering}
@@ -19,7 +19,7 @@ use Rattle.segment_merge.proofs.MergedLemmas.{merged-nil_left, merged-nil_right,
 
 -- ---- rows that pass a test
 
-kept_by : (test : Row → Bool) → Row → List Row → Bool → List Row
+abbrev kept_by : (test : Row → Bool) → Row → List Row → Bool → List Row
 kept_by test row rows b = cond b (row ∷ filter test rows) (filter test rows)
 
 pub filter-all : (rows : List Row) → filter (λ row. true) rows ≡ rows
@@ -90,7 +90,7 @@ then-less : (p q : Ordering) → p ≡ Less → ordering_then p q ≡ Less
 then-less p q e = ap (λ o. ordering_then o q) e
 
 module _ (key : List ℕ) where
-  is_above : Row → Bool
+  abbrev is_above : Row → Bool
   is_above row = not (is_below key row)
 
   below-kept : (rows : List Row) → AreBelow key (filter (is_below key) rows)
@@ -199,7 +199,7 @@ lt_le r a b = by (key_order r a) (key_order a b) refl refl
     by Greater q p s h k = absurd (true≢false (sym h))
 
 -- a range that may begin at a key begins at none above another key
-Before : Option (List ℕ) → List ℕ → Type 0
+abbrev Before : Option (List ℕ) → List ℕ → Type 0
 Before None key = Unit {0}
 Before (Some first) key = is_gt (key_order first key) ≡ false
 
@@ -213,7 +213,7 @@ from-above (Some first) key before row = by (is_below first row) (is_below key r
     by false c e f = refl
 
 module _ (ls rs : List Row) (left : AreInOrder ls) (right : AreInOrder rs) where
-  kept : Option (List ℕ) → List Row
+  abbrev kept : Option (List ℕ) → List Row
   kept from = merged (filter (is_from from) ls) (filter (is_from from) rs)
 
   last : (from : Option (List ℕ)) → rows_of_ranges (merged_ranges from [] ls rs) ≡ kept from
@@ -228,11 +228,11 @@ module _ (ls rs : List Row) (left : AreInOrder ls) (right : AreInOrder rs) where
   next : (from : Option (List ℕ)) (key : List ℕ) → Before from key → merged_within from (Some key) ls rs ++ kept (Some key) ≡ kept from
   next from key before =
       sym (
-        merged-cut key (filter (is_from from) ls) (filter (is_from from) rs)
-        (Rise-from_sorted (filter (is_from from) ls) (in_order-filter (is_from from) ls left))
-        (Rise-from_sorted (filter (is_from from) rs) (in_order-filter (is_from from) rs right))
-        ∙ (λ i. merged (filter-both (is_from from) (is_below key) ls i) (filter-both (is_from from) (is_below key) rs i)
-        ++ merged (above ls i) (above rs i))
+      merged-cut key (filter (is_from from) ls) (filter (is_from from) rs)
+      (Rise-from_sorted (filter (is_from from) ls) (in_order-filter (is_from from) ls left))
+      (Rise-from_sorted (filter (is_from from) rs) (in_order-filter (is_from from) rs right))
+      ∙ (λ i. merged (filter-both (is_from from) (is_below key) ls i) (filter-both (is_from from) (is_below key) rs i)
+      ++ merged (above ls i) (above rs i))
       )
     where
       above : (rows : List Row) → filter (λ row. not (is_below key row)) (filter (is_from from) rows) ≡ filter (is_from (Some key)) rows

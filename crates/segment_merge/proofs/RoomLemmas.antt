@@ -23,7 +23,7 @@ use Rattle.tally_rows.specs.Tally.{IsTallyOf, IsTrackOf}
 use Rattle.tally_rows.specs.Track.{Track, has}
 use Rattle.tally_rows.proofs.AddsUp.{count-outcomes}
 use Rattle.tally_rows.proofs.Members.{IsIn, All-IsIn, recursion-from_IsIn}
-use Rattle.segment_blocks.specs.Segment.{CountedSpan, IsSegment, CanJoin, IsTallyOfBoth, segment_limit}
+use Rattle.segment_blocks.specs.Segment.{CountedSpan, IsSegment, IsTallyOfBoth, segment_limit}
 use Rattle.segment_merge.specs.Merged.{merged}
 use Rattle.segment_merge.specs.Merging.{rows_of_both}
 use Rattle.segment_merge.specs.Room.{HasRoom}

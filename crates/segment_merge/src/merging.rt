@@ -10,11 +10,7 @@ use std::cmp::Ordering;
 use tally_rows::Row;
 
 /// The rows of both sides in their order, those with the same five parts put together.
-pub fn merge_rows(
-    alloc: Global,
-    left: Side<'_>,
-    right: Side<'_>,
-) -> Result<PackedRows, AllocError>
+pub fn merge_rows(alloc: Global, left: Side<'_>, right: Side<'_>) -> Result<PackedRows, AllocError>
     requires left_in_order { AreInOrder left }
     requires right_in_order { AreInOrder right }
     ensures { IfOk result (λ packed. packed.rows ≡ merged left.entry right.entry) }

@@ -1,5 +1,5 @@
 //! Ranges of keys, merged side by side.
-ghost use Rattle.std.specs.Prelude.{◌≡◌, ℕ, ◌+◌, ◌<◌, ◌≤◌, ◌^◌, [], Ok, Result, IfOk, length, map, slice_index_or};
+ghost use Rattle.std.specs.Prelude.{◌≡◌, ℕ, ◌+◌, ◌<◌, ◌≤◌, ◌^◌, [], Ok, Result, IfOk, length, map, slice_get, slice_index_or};
 ghost use Rattle.std.specs.declared.alloc.AllocError.{AllocError};
 ghost use Rattle.segment_blocks.specs.Segment.{CanJoin};
 ghost use Rattle.segment_blocks.specs.declared.packed_rows.PackedRows.{PackedRows};
@@ -63,8 +63,9 @@ fn cut_keys(
     let mut last = [0u8; 34];
     for part in 1..workers {
         let key = larger.key_at((rows / workers).saturating_mul(part));
-        last = later_key(last, key.unwrap_or([255; 34]));
-        keys.push(last)?;
+        let next = later_key(last, key.unwrap_or([255; 34]));
+        keys.push(next)?;
+        last = next;
     }
     Ok(keys)
 }
@@ -73,7 +74,11 @@ fn cut_keys(
 fn later_key(before: [u8; 34], key: [u8; 34]) -> [u8; 34]
     ensures { IsNotAbove before result }
 {
-    if key.cmp(&before).is_gt() { key } else { before }
+    if key.cmp(&before).is_gt() {
+        key
+    } else {
+        before
+    }
 }
 
 /// What is merged of each range between the keys, side by side, each in a leaf of its own.
@@ -122,7 +127,7 @@ fn merge_range(
     let _left = left.span();
     let _right = right.span();
     let from = begin_of(keys, n);
-    let below = keys.get(n).copied();
+    let below = end_of(keys, n);
     merge_rows(
         alloc,
         Side::new(left.rows_within(from, below), 0),
@@ -134,7 +139,18 @@ fn merge_range(
 fn begin_of(keys: &[[u8; 34]], n: usize) -> Option<[u8; 34]>
     ensures { result ≡ begin_of keys.now n }
 {
-    if n > 0 { keys.get(n - 1).copied() } else { None }
+    if n > 0 {
+        keys.get(n - 1).copied()
+    } else {
+        None
+    }
+}
+
+/// The key before which range `n` ends.
+fn end_of(keys: &[[u8; 34]], n: usize) -> Option<[u8; 34]>
+    ensures { result ≡ slice_get keys.now n }
+{
+    keys.get(n).copied()
 }
 
 /// The parts, where each was made.

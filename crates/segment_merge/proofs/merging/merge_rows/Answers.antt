@@ -1,4 +1,4 @@
-use Rattle.std.proofs.Common.{◌≡◌, [], ◌∷◌, ◌++◌, append-nil, sym, ap, subst, ◌∙◌}
+use Rattle.std.proofs.Common.{◌≡◌, [], ◌++◌, append-nil, sym, ap, subst, ◌∙◌}
 use Rattle.segment_blocks.specs.PackedRows.{AreInOrder}
 use Rattle.segment_merge.specs.Merged.{merged}
 use Rattle.segment_merge.proofs.MergedLemmas.{merged-nil_left, in_order-merged, in_order-front}

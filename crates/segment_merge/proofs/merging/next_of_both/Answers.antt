@@ -1,4 +1,4 @@
-use Rattle.std.proofs.Common.{◌≡◌, ◌∷◌, [], sym, ap, ◌∙◌}
+use Rattle.std.proofs.Common.{◌∷◌, sym, ap, ◌∙◌}
 use Rattle.tally_rows.proofs.RowOrder.{row_order-IsAntisymmetric}
 use Rattle.segment_merge.specs.Merged.{merged}
 use Rattle.segment_merge.proofs.MergedLemmas.{next-less, next-greater, next-equal, same-row_key}

@@ -1,4 +1,4 @@
-use Rattle.std.proofs.Common.{◌≡◌, sym, ap, ◌∙◌}
+use Rattle.std.proofs.Common.{sym, ◌∙◌}
 use Rattle.tally_rows.specs.RowKey.{row_order}
 use Rattle.segment_merge.specs.Merged.{sides_order}
 use Rattle.segment_merge.proofs.merging.order_of.Goals as goal

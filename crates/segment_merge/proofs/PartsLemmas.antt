@@ -1,0 +1,47 @@
+-- The rows of parts that were made of ranges of keys.
+use Rattle.std.proofs.Common.{◌≡◌, ℕ, zero, suc, ◌+◌, ◌<◌, None, Ok, Result, IfOk, List, [], ◌∷◌, ◌++◌, map, length, get_or, refl, sym, ap, subst, ◌∙◌, arith}
+use Rattle.std.specs.declared.alloc.AllocError.{AllocError}
+use Rattle.std.proofs.lemmas.List.{length-map}
+use Rattle.tally_rows.specs.declared.row.Row.{Row}
+use Rattle.tally_rows.specs.Row.{shifted_row}
+use Rattle.segment_blocks.specs.PackedRows.{Packed, rows_of_parts}
+use Rattle.segment_blocks.specs.Segment.{CountedSpan, IsSegment}
+use Rattle.segment_merge.specs.Merging.{rows_of_both, ranges_of_both}
+use Rattle.segment_merge.specs.Ranges.{AreRising, rows_of_ranges}
+use Rattle.segment_merge.proofs.MergedLemmas.{in_order-shifted}
+use Rattle.segment_merge.proofs.RangeLemmas.{ranges-all, length-ranges}
+
+abbrev ok_part : Packed → Result Packed AllocError
+ok_part part = Ok part
+
+ok-at : (P : Packed → Type 0) (made : List Packed) (n : ℕ) (d : Packed) → n < length made → IfOk (get_or (map ok_part made) n (ok_part d)) P → P (get_or made n d)
+ok-at P [] n d below h = absurd (omega arith)
+ok-at P (part ∷ made) zero d below h = h
+ok-at P (part ∷ made) (suc n) d below h = ok-at P made n d (omega arith) h
+
+made-rows : (made : List Packed) (ranges : List (List Row)) → length made ≡ length ranges
+    → ((n : ℕ) (d : Packed) → n < length made → (get_or made n d).rows ≡ get_or ranges n [])
+    → rows_of_parts made ≡ rows_of_ranges ranges
+made-rows [] [] long each = refl
+made-rows [] (range ∷ ranges) long each = absurd (omega (arith, long))
+made-rows (part ∷ made) [] long each = absurd (omega (arith, long))
+made-rows (part ∷ made) (range ∷ ranges) long each =
+    let rest = made-rows made ranges (omega (arith, long)) (λ n d below. each (suc n) d (omega (arith, below))) in
+    let here = each 0 part (omega arith) in
+    λ i. here i ++ rest i
+
+module _ (keys : List (List ℕ)) (left right : CountedSpan) (a : IsSegment left) (b : IsSegment right) where
+  pub parts-rows : (results : List (Result Packed AllocError)) (made : List Packed) → map ok_part made ≡ results
+      → length results ≡ length keys + 1 → AreRising keys
+      → ((n : ℕ) (d : Result Packed AllocError) → n < length keys + 1
+      → IfOk (get_or results n d) (λ packed. packed.rows ≡ get_or (ranges_of_both keys left right) n []))
+      → rows_of_parts made ≡ rows_of_both left right
+  parts-rows results made ok count rising each =
+      let shifted = map (shifted_row (length left.classes)) right.rows in
+      let long : length made ≡ length keys + 1 = sym (length-map made ok_part) ∙ ap length ok ∙ count in
+      made-rows made (ranges_of_both keys left right) (omega (arith, long, length-ranges None keys left.rows shifted))
+      (λ n d below.
+      ok-at (λ packed. packed.rows ≡ get_or (ranges_of_both keys left right) n []) made n d below
+      (subst (λ rs. IfOk (get_or rs n (ok_part d)) (λ packed. packed.rows ≡ get_or (ranges_of_both keys left right) n [])) (sym ok)
+      (each n (ok_part d) (omega (arith, long, below)))))
+      ∙ ranges-all left.rows shifted a.tally.tallied.ordered (in_order-shifted (length left.classes) right.rows b.tally.tallied.ordered) keys rising
