@@ -4,8 +4,10 @@ use Rattle.std.specs.List.{flat_map}
 use Rattle.std.specs.Ordering.{nat_cmp, is_lt}
 use Rattle.std.specs.Cmp.Lexicographic.{slice_cmp}
 use Rattle.tally_rows.specs.declared.row.Row.{Row}
+use Rattle.segment_blocks.specs.declared.held_row.HeldRow.{HeldRow}
 use Rattle.segment_blocks.specs.declared.until.Until.{Until}
 use Rattle.segment_blocks.specs.declared.until.Until.TheVariants.{End, Key, Below, Done}
+use Rattle.segment_blocks.specs.HeldRow.{row_in}
 
 -- the row's key stands before this key
 abbrev pub is_below : List ℕ → Row → Bool
@@ -64,6 +66,6 @@ rows_until (Below key) rows = until_key key rows
 rows_until Done rows = []
 
 -- no row or one
-abbrev pub front_rows : Option Row → List Row
+abbrev pub front_rows : Option HeldRow → List Row
 front_rows None = []
-front_rows (Some row) = row ∷ []
+front_rows (Some held) = row_in held ∷ []

@@ -2,12 +2,13 @@
 ghost use Rattle.std.specs.Prelude.{◌≡◌, ℕ, List, ◌<◌, ◌≤◌, ◌++◌, ◌∷◌, [], IfOk, OnOk, OnErr, length, map, slice_get};
 ghost use Rattle.segment_blocks.specs.Block.{block_limit};
 ghost use Rattle.segment_blocks.specs.Encoded.{key_first};
+ghost use Rattle.segment_blocks.specs.HeldRow.{row_in};
 
 use crate::block_cursor::BlockCursor;
 use crate::encoded_rows::EncodedRows;
+use crate::held_row::HeldRow;
 use std::alloc::{AllocError, Global};
 use std::marker::Model;
-use tally_rows::Row;
 
 /// The most rows of a block.
 pub const BLOCK_LIMIT: usize = 128;
@@ -38,14 +39,15 @@ impl Model for Block {
 
 impl Block {
     /// A block with its first row.
-    pub fn of(alloc: Global, row: &Row) -> Result<Block, AllocError>
-        ensures { IfOk result (λ block. block ≡ row.now ∷ []) }
+    pub fn of(alloc: Global, held: &HeldRow<'_>) -> Result<Block, AllocError>
+        ensures { IfOk result (λ block. block ≡ row_in held.now ∷ []) }
     {
+        let key = held.key();
         let mut rows = EncodedRows::new(alloc);
-        rows.push(&row.key, row)?;
+        rows.push(key, held)?;
         Ok(Block {
-            first: row.key,
-            last: row.key,
+            first: *key,
+            last: *key,
             rows,
         })
     }
@@ -72,9 +74,9 @@ impl Block {
     {
         let mut rows = self.cursor();
         let mut before = n;
-        while let Some(row) = rows.next() {
+        while let Some(held) = rows.next() {
             if before == 0 {
-                return Some(row.key);
+                return Some(*held.key());
             }
             before -= 1;
         }
@@ -82,13 +84,13 @@ impl Block {
     }
 
     /// Puts a row behind the others. After a refusal the block is as before.
-    pub fn push(&mut self, row: &Row) -> Result<(), AllocError>
+    pub fn push(&mut self, held: &HeldRow<'_>) -> Result<(), AllocError>
         requires { length self.old < block_limit }
-        ensures ok { OnOk result (self.new ≡ self.old ++ row.now ∷ []) }
+        ensures ok { OnOk result (self.new ≡ self.old ++ row_in held.now ∷ []) }
         ensures err { OnErr result (self.new ≡ self.old) }
     {
-        self.rows.push(&self.last, row)?;
-        self.last = row.key;
+        self.rows.push(&self.last, held)?;
+        self.last = *held.key();
         Ok(())
     }
 

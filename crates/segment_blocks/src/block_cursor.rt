@@ -1,9 +1,10 @@
 //! A place in a block.
 ghost use Rattle.std.specs.Prelude.{◌≡◌, [], ◌∷◌, ◌++◌, take, drop, length, MatchOption};
 ghost use Rattle.segment_blocks.specs.Encoded.{own_len, key_behind, single_of};
+ghost use Rattle.segment_blocks.specs.HeldRow.{row_in};
 
+use crate::held_row::HeldRow;
 use crate::mark::Mark;
-use best_lists::Best4;
 use explorer_model::archive::Outcome;
 use std::marker::Model;
 use tally_rows::{Row, RowKey, Single};
@@ -44,9 +45,9 @@ impl<'a> BlockCursor<'a> {
     }
 
     /// The next row, or None at the end.
-    pub fn next(&mut self) -> Option<Row>
+    pub fn next(&mut self) -> Option<HeldRow<'a>>
         ensures { MatchOption result ((self.old ≡ []) × (self.new ≡ []))
-            (λ row. self.old ≡ row ∷ self.new) }
+            (λ held. self.old ≡ row_in held ∷ self.new) }
     {
         let (mark, marks) = self.marks.split_first()?;
         let (own, tails) = self.tails.split_at(34 - usize::from(mark.shared));
@@ -55,14 +56,14 @@ impl<'a> BlockCursor<'a> {
             self.before = key;
             self.marks = marks;
             self.tails = tails;
-            Some(Row::of(&single_of(key, mark, outcome)))
+            Some(HeldRow::Game(single_of(key, mark, outcome)))
         } else {
             let (row, whole) = self.whole.split_first()?;
             self.before = row.key;
             self.marks = marks;
             self.tails = tails;
             self.whole = whole;
-            Some(copy_of(row))
+            Some(HeldRow::Whole(row))
         }
     }
 }
@@ -93,27 +94,5 @@ fn single_of(key: [u8; 34], mark: &Mark, outcome: Outcome) -> Single
         outcome,
         rating: mark.rating,
         sum: u32::from(mark.sum),
-    }
-}
-
-/// The same row.
-pub fn copy_of(row: &Row) -> Row
-    ensures { result ≡ row.now }
-{
-    // Each list is its own best four, as its entries say.
-    let _top = row.top.entries();
-    let _recent = row.recent.entries();
-    Row {
-        key: row.key,
-        next: row.next,
-        month: row.month,
-        speed: row.speed,
-        group: row.group,
-        white: row.white,
-        draws: row.draws,
-        black: row.black,
-        ratings: row.ratings,
-        top: row.top.join(&Best4::empty()),
-        recent: row.recent.join(&Best4::empty()),
     }
 }

@@ -1,10 +1,11 @@
 //! Rows in few bytes.
 ghost use Rattle.std.specs.Prelude.{◌≡◌, ◌≤◌, [], ℕ, List, IfSome, OnOk, OnErr, length, take};
 ghost use Rattle.segment_blocks.specs.Encoded.{IsMarkOf, IsAppended, rows_of};
+ghost use Rattle.segment_blocks.specs.HeldRow.{row_in};
 
-use crate::block_cursor::{BlockCursor, copy_of};
+use crate::block_cursor::BlockCursor;
+use crate::held_row::HeldRow;
 use crate::mark::Mark;
-use crate::single_game::single_in;
 use explorer_model::archive::{Group, Month, Speed};
 use std::alloc::{AllocError, Global};
 use std::marker::Model;
@@ -54,18 +55,18 @@ impl EncodedRows {
 
     /// Puts a row behind the others, the last of which has the key `before`. After a refusal they
     /// are as before.
-    pub fn push(&mut self, before: &[u8; 34], row: &Row) -> Result<(), AllocError>
-        ensures ok { OnOk result (IsAppended before.now row.now self.old self.new) }
+    pub fn push(&mut self, before: &[u8; 34], held: &HeldRow<'_>) -> Result<(), AllocError>
+        ensures ok { OnOk result (IsAppended before.now (row_in held.now) self.old self.new) }
         ensures err { OnErr result (self.new ≡ self.old) }
     {
         self.marks.reserve(1)?;
-        let shared = shared_len(before, &row.key);
-        if let Some(mark) = mark_of(row, shared) {
-            self.tails
-                .extend_from_slice(&row.key[usize::from(shared)..])?;
+        let key = held.key();
+        let shared = shared_len(before, key);
+        if let Some(mark) = mark_of(held, shared) {
+            self.tails.extend_from_slice(&key[usize::from(shared)..])?;
             self.marks.push_reserved(mark);
         } else {
-            self.whole.push(copy_of(row))?;
+            self.whole.push(held.to_row())?;
             self.marks.push_reserved(whole_mark());
         }
         Ok(())
@@ -108,11 +109,11 @@ fn shared_len(a: &[u8; 34], b: &[u8; 34]) -> u8
 }
 
 /// The mark of a row of one game, or None where the row has to stand whole.
-fn mark_of(row: &Row, shared: u8) -> Option<Mark>
+fn mark_of(held: &HeldRow<'_>, shared: u8) -> Option<Mark>
     requires { shared ≤ 34 }
-    ensures { IfSome result (λ mark. IsMarkOf row.now shared mark) }
+    ensures { IfSome result (λ mark. IsMarkOf (row_in held.now) shared mark) }
 {
-    let single = single_in(row)?;
+    let single = held.game()?;
     let Ok(sum) = u16::try_from(single.sum) else {
         return None;
     };

@@ -6,6 +6,7 @@ mod block;
 mod block_cursor;
 mod encoded_rows;
 mod held_batch;
+mod held_row;
 mod mark;
 mod packed_rows;
 mod row_walk;
@@ -17,6 +18,7 @@ mod steps;
 mod tests;
 mod until;
 
+pub use held_row::HeldRow;
 pub use packed_rows::PackedRows;
 pub use row_walk::RowWalk;
 pub use segment::{Segment, Span};

@@ -1,12 +1,14 @@
 //! Rows in little room.
 ghost use Rattle.std.specs.Prelude.{◌≡◌, ℕ, List, ◌+◌, ◌≤◌, ◌<◌, ◌^◌, ◌++◌, ◌∷◌, [], filter, map, not, true, false, length, slice_get, slice_index_or, IfOk, OnOk, OnErr};
 ghost use Rattle.segment_blocks.specs.Block.{block_limit};
+ghost use Rattle.segment_blocks.specs.HeldRow.{row_in};
 ghost use Rattle.segment_blocks.specs.PackedRows.{AreInOrder, ArePacked, is_first_below, rows_of_parts};
 ghost use Rattle.segment_blocks.specs.Walk.{is_below, is_within, has_key, from_key, from_bound, until_bound, rows_in, rows_until, front_rows};
 ghost use Rattle.tally_rows.specs.declared.row.Row.{Row};
 
 use crate::block::{BLOCK_LIMIT, Block};
 use crate::block_cursor::BlockCursor;
+use crate::held_row::HeldRow;
 use crate::row_walk::RowWalk;
 use crate::rows_cursor::RowsCursor;
 use crate::steps::Steps;
@@ -76,11 +78,20 @@ impl PackedRows {
         ensures ok { OnOk result (self.new.rows ≡ self.old.rows ++ row.now ∷ []) }
         ensures err { OnErr result (self.new ≡ self.old) }
     {
+        self.push_held(alloc, &HeldRow::Whole(row))
+    }
+
+    /// Puts a row that is held so behind the others. After a refusal they are as before.
+    pub fn push_held(&mut self, alloc: Global, held: &HeldRow<'_>) -> Result<(), AllocError>
+        requires in_order { AreInOrder (self.old.rows ++ row_in held.now ∷ []) }
+        ensures ok { OnOk result (self.new.rows ≡ self.old.rows ++ row_in held.now ∷ []) }
+        ensures err { OnErr result (self.new ≡ self.old) }
+    {
         let count = self.blocks.as_slice().len();
         if count > 0 && self.blocks[count - 1].len() < BLOCK_LIMIT {
-            return self.blocks[count - 1].push(row);
+            return self.blocks[count - 1].push(held);
         }
-        let block = Block::of(alloc, row)?;
+        let block = Block::of(alloc, held)?;
         self.blocks.push(block)?;
         if count > 0 {
             self.blocks[count - 1].shrink_to_fit();
@@ -269,14 +280,14 @@ fn pass_below<'a, L: Ledger>(
     place: BlockCursor<'a>,
     key: &[u8; 34],
     steps: &mut Steps<L>,
-) -> (Option<Row>, BlockCursor<'a>)
+) -> (Option<HeldRow<'a>>, BlockCursor<'a>)
     ensures rows { front_rows result.0 ++ result.1 ≡ from_key key.now place.entry }
     ensures cost { steps.new ≤ steps.old + length place.entry }
 {
     let mut place = place;
-    while let Some(row) = place.next() {
-        if row.key.cmp(key).is_ge() {
-            return (Some(row), place);
+    while let Some(held) = place.next() {
+        if held.key().cmp(key).is_ge() {
+            return (Some(held), place);
         }
         steps.tick();
     }

@@ -1,6 +1,8 @@
 //! Walks over rows.
 ghost use Rattle.std.specs.Prelude.{◌≡◌, ◌+◌, [], ◌∷◌, MatchOption};
+ghost use Rattle.segment_blocks.specs.HeldRow.{row_in};
 
+use crate::held_row::HeldRow;
 use crate::rows_cursor::RowsCursor;
 use crate::steps::Steps;
 use crate::until::Until;
@@ -34,30 +36,30 @@ impl<'a> RowWalk<'a> {
         ensures cost { steps.new ≡ steps.old + 1 }
     {
         steps.tick();
-        self.advance()
+        Some(self.advance()?.to_row())
     }
 
-    /// The next row, or None exactly at the end, where no steps are counted.
+    /// The next row as its block holds it, or None exactly at the end, where no steps are counted.
     #[tactic(auto, unfolding(crate::specs::Walk::until_key))]
-    pub fn advance(&mut self) -> Option<Row>
+    pub fn advance(&mut self) -> Option<HeldRow<'a>>
         ensures { MatchOption result ((self.old ≡ []) × (self.new ≡ []))
-            (λ row. self.old ≡ row ∷ self.new) }
+            (λ held. self.old ≡ row_in held ∷ self.new) }
     {
         match self.until {
             Until::End => self.rest.next(),
             Until::Key(key) => {
-                if let Some(row) = self.rest.next() {
-                    if row.key == key {
-                        return Some(row);
+                if let Some(held) = self.rest.next() {
+                    if *held.key() == key {
+                        return Some(held);
                     }
                 }
                 self.until = Until::Done;
                 None
             }
             Until::Below(key) => {
-                if let Some(row) = self.rest.next() {
-                    if row.key.cmp(&key).is_lt() {
-                        return Some(row);
+                if let Some(held) = self.rest.next() {
+                    if held.key().cmp(&key).is_lt() {
+                        return Some(held);
                     }
                 }
                 self.until = Until::Done;

@@ -1,16 +1,17 @@
 //! Rows over several blocks.
 ghost use Rattle.std.specs.Prelude.{◌≡◌, [], ◌∷◌, MatchOption};
+ghost use Rattle.segment_blocks.specs.HeldRow.{row_in};
 
 use crate::block::Block;
 use crate::block_cursor::BlockCursor;
+use crate::held_row::HeldRow;
 use std::marker::Model;
-use tally_rows::Row;
 
 /// What is left of blocks: perhaps a row that was looked at, the place in a block, and the blocks
 /// behind it.
 #[derive(Drop)]
 pub struct RowsCursor<'a> {
-    pub front: Option<Row>,
+    pub front: Option<HeldRow<'a>>,
     pub place: BlockCursor<'a>,
     pub blocks: &'a [Block],
 }
@@ -28,15 +29,15 @@ impl<'a> Model for RowsCursor<'a> {
 
 impl<'a> RowsCursor<'a> {
     /// The next row, or None at the end.
-    pub fn next(&mut self) -> Option<Row>
+    pub fn next(&mut self) -> Option<HeldRow<'a>>
         ensures { MatchOption result ((self.old ≡ []) × (self.new ≡ []))
-            (λ row. self.old ≡ row ∷ self.new) }
+            (λ held. self.old ≡ row_in held ∷ self.new) }
     {
-        if let Some(row) = self.front.take() {
-            return Some(row);
+        if let Some(held) = self.front.take() {
+            return Some(held);
         }
-        if let Some(row) = self.place.next() {
-            return Some(row);
+        if let Some(held) = self.place.next() {
+            return Some(held);
         }
         let (block, blocks) = self.blocks.split_first()?;
         // A block has some row, as its length says.

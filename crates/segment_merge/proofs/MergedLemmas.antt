@@ -1,10 +1,12 @@
 -- Merged rows add up to both lists, and stand in order.
-use Rattle.std.proofs.Common.{◌≡◌, ℕ, ◌+◌, Bool, true, false, cond, Option, None, Some, MatchOption, List, [], ◌∷◌, ◌++◌, map, length, refl, sym, ap, subst, ◌∙◌, append-nil, append_assoc, arith}
+use Rattle.std.proofs.Common.{◌≡◌, ℕ, ◌+◌, ◌<◌, Bool, true, false, cond, Option, None, Some, unwrap_or, Result, Ok, Err, OnOk, List, [], ◌∷◌, ◌++◌, map, take, drop, length, refl, sym, ap, subst, ◌∙◌, append-nil, append_assoc, arith}
 use Rattle.std.specs.declared.cmp.Ordering.{Ordering}
 use Rattle.std.specs.declared.cmp.Ordering.TheVariants.{Less, Equal, Greater}
 use Rattle.std.specs.List.{AllByRecursion, count_by}
 use Rattle.std.specs.List.Sorted.{IsStrictlySortedBy}
 use Rattle.std.specs.Ordering.{ordering_reverse}
+use Rattle.std.proofs.lemmas.List.{length-drop}
+use Rattle.std.proofs.lemmas.Result.{on_ok_weaker}
 use Rattle.std.proofs.lemmas.List.Sums.{sum_by-append}
 use Rattle.std.proofs.lemmas.List.Elements.{All-from_recursion, recursion_from_All}
 use Rattle.explorer_model.specs.Best.{best, IsStrictTotalOrder}
@@ -28,9 +30,9 @@ use Rattle.tally_rows.specs.Track.{Track}
 use Rattle.tally_rows.proofs.AddsUp.{IsSound-tallied}
 use Rattle.tally_rows.proofs.Both.{Tallied-both}
 use Rattle.std.proofs.lemmas.List.Concat.{flat_map-append}
-use Rattle.segment_merge.specs.Room.{IsSmall}
 use Rattle.segment_blocks.specs.PackedRows.{AreInOrder}
-use Rattle.segment_merge.specs.Merged.{first_by, put_among, merged, sides_order}
+use Rattle.segment_blocks.proofs.OrderLemmas.{in_order-front}
+use Rattle.segment_merge.specs.Merged.{first_by, put_among, merged, next_order, next_row_key}
 
 -- ---- one step
 
@@ -280,46 +282,114 @@ Tallied-merged left right ls rs a b =
 
 -- ---- the next row of both
 
-abbrev pub Taken : Option Row → List Row → List Row → Type 0
-Taken row old new = MatchOption row ((old ≡ []) × (new ≡ [])) (λ r. (old ≡ r ∷ new) × IsSmall r)
+on_ok_both : {X E A B C : Type 0} (result : Result X E) → (A → B → C) → OnOk result A → OnOk result B → OnOk result C
+on_ok_both (Ok x) f a b = f a b
+on_ok_both (Err e) f a b = tt
 
-abbrev pub Next : Option Row → List Row → List Row → List Row → List Row → Type 0
-Next row ls rs new_ls new_rs = MatchOption row ((ls ≡ []) × (rs ≡ [])) (λ r. merged ls rs ≡ r ∷ merged new_ls new_rs)
+some-is : (o p : Ordering) → Some o ≡ Some p → o ≡ p
+some-is o p e = ap (λ q. unwrap_or q o) e
 
-not_less : {P : Type 0} → Greater ≡ Less → P
+none-some : {P : Type 0} (o : Ordering) → None ≡ Some o → P
+none-some o e = cc
+
+not_less : {P : Type 0} → Some Greater ≡ Some Less → P
 not_less e = cc
 
-not_greater : {P : Type 0} → Less ≡ Greater → P
+not_greater : {P : Type 0} → Some Less ≡ Some Greater → P
 not_greater e = cc
 
-pub next-less : (row : Option Row) (ls new rs : List Row) → sides_order ls rs ≡ Less → Taken row ls new → Next row ls rs new rs
-next-less None ls new rs e t = not_less (sym (ap (λ l. sides_order l rs) t.0) ∙ e)
-next-less (Some r) ls new [] e t = ap (λ l. merged l []) t.0 ∙ merged-nil_right (r ∷ new) ∙ ap (λ l. r ∷ l) (sym (merged-nil_right new))
-next-less (Some r) ls new (s ∷ rs) e t =
-    ap (λ l. merged l (s ∷ rs)) t.0 ∙ merged-less r new s rs (sym (ap (λ l. sides_order l (s ∷ rs)) t.0) ∙ e)
+less-some : (ls rs : List Row) → next_order ls rs ≡ Some Less → 0 < length ls
+less-some [] [] e = none-some Less e
+less-some [] (r ∷ rs) e = not_less e
+less-some (l ∷ ls) rs e = omega arith
 
-pub next-greater : (row : Option Row) (ls rs new : List Row) → sides_order ls rs ≡ Greater → Taken row rs new → Next row ls rs ls new
-next-greater None [] rs new e t = (refl, t.0)
-next-greater None (l ∷ ls) rs new e t = not_greater (sym (ap (λ r. sides_order (l ∷ ls) r) t.0) ∙ e)
-next-greater (Some r) [] rs new e t = merged-nil_left rs ∙ t.0 ∙ ap (λ l. r ∷ l) (sym (merged-nil_left new))
-next-greater (Some r) (l ∷ ls) rs new e t =
-    ap (merged (l ∷ ls)) t.0 ∙ merged-greater l ls r new (sym (ap (λ r. sides_order (l ∷ ls) r) t.0) ∙ e)
+greater-some : (ls rs : List Row) → next_order ls rs ≡ Some Greater → 0 < length rs
+greater-some [] [] e = none-some Greater e
+greater-some (l ∷ ls) [] e = not_greater e
+greater-some [] (r ∷ rs) e = omega arith
+greater-some (l ∷ ls) (r ∷ rs) e = omega arith
 
-pub same-row_key : (l r : Row) (ls rs new_ls new_rs : List Row) → sides_order ls rs ≡ Equal → ls ≡ l ∷ new_ls → rs ≡ r ∷ new_rs
-    → row_order (row_key_of l) (row_key_of r) ≡ Equal
-same-row_key l r ls rs new_ls new_rs e at_l at_r = sym (λ i. sides_order (at_l i) (at_r i)) ∙ e
+step-less : (ls rs : List Row) → next_order ls rs ≡ Some Less → merged ls rs ≡ take 1 ls ++ merged (drop 1 ls) rs
+step-less [] [] e = none-some Less e
+step-less [] (r ∷ rs) e = not_less e
+step-less (l ∷ ls) [] e = merged-nil_right (l ∷ ls) ∙ ap (λ k. l ∷ k) (sym (merged-nil_right ls))
+step-less (l ∷ ls) (r ∷ rs) e = merged-less l ls r rs (some-is _ Less e)
 
-pub next-equal : (l r : Row) (ls rs new_ls new_rs : List Row) → sides_order ls rs ≡ Equal → ls ≡ l ∷ new_ls → rs ≡ r ∷ new_rs
-    → merged ls rs ≡ combined l r ∷ merged new_ls new_rs
-next-equal l r ls rs new_ls new_rs e at_l at_r =
-    (λ i. merged (at_l i) (at_r i)) ∙ merged-equal l new_ls r new_rs (same-row_key l r ls rs new_ls new_rs e at_l at_r)
+step-greater : (ls rs : List Row) → next_order ls rs ≡ Some Greater → merged ls rs ≡ take 1 rs ++ merged ls (drop 1 rs)
+step-greater [] [] e = none-some Greater e
+step-greater (l ∷ ls) [] e = not_greater e
+step-greater [] (r ∷ rs) e = merged-nil_left (r ∷ rs) ∙ ap (λ k. r ∷ k) (sym (merged-nil_left rs))
+step-greater (l ∷ ls) (r ∷ rs) e = merged-greater l ls r rs (some-is _ Greater e)
 
--- rows before others stand in order
-pub in_order-front : (xs : List Row) (row : Row) (ys : List Row) → AreInOrder (xs ++ row ∷ ys) → AreInOrder (xs ++ row ∷ [])
-unfolding IsStrictlySortedBy
-in_order-front [] row ys h = (tt, tt)
-in_order-front (x ∷ xs) row ys h = (front xs h.0, in_order-front xs row ys h.1)
-  where
-    front : (zs : List Row) → Above (row_key_of x) (zs ++ row ∷ ys) → Above (row_key_of x) (zs ++ row ∷ [])
-    front [] h = (h.0, tt)
-    front (z ∷ zs) h = (h.0, front zs h.1)
+module _ (rows ls rs : List Row) where
+  pub before-less : next_order ls rs ≡ Some Less → AreInOrder (rows ++ merged ls rs) → AreInOrder (rows ++ take 1 ls)
+  before-less e h =
+      in_order-front (rows ++ take 1 ls) (merged (drop 1 ls) rs)
+      (subst AreInOrder (ap (λ l. rows ++ l) (step-less ls rs e) ∙ sym (append_assoc rows (take 1 ls) (merged (drop 1 ls) rs))) h)
+
+  pub before-greater : next_order ls rs ≡ Some Greater → AreInOrder (rows ++ merged ls rs) → AreInOrder (rows ++ take 1 rs)
+  before-greater e h =
+      in_order-front (rows ++ take 1 rs) (merged ls (drop 1 rs))
+      (subst AreInOrder (ap (λ l. rows ++ l) (step-greater ls rs e) ∙ sym (append_assoc rows (take 1 rs) (merged ls (drop 1 rs)))) h)
+
+  module _ {X E : Type 0} (result : Result X E) (new new_rows : List Row) where
+    pub after-less : next_order ls rs ≡ Some Less → OnOk result (new_rows ≡ rows ++ take 1 ls) → OnOk result (new ≡ drop 1 ls)
+        → OnOk result (new_rows ++ merged new rs ≡ rows ++ merged ls rs)
+    after-less e moved rest =
+        on_ok_both result (λ a b. (λ i. a i ++ merged (b i) rs) ∙ append_assoc rows (take 1 ls) (merged (drop 1 ls) rs)
+        ∙ ap (λ l. rows ++ l) (sym (step-less ls rs e))) moved rest
+
+    pub after-greater : next_order ls rs ≡ Some Greater → OnOk result (new_rows ≡ rows ++ take 1 rs) → OnOk result (new ≡ drop 1 rs)
+        → OnOk result (new_rows ++ merged ls new ≡ rows ++ merged ls rs)
+    after-greater e moved rest =
+        on_ok_both result (λ a b. (λ i. a i ++ merged ls (b i)) ∙ append_assoc rows (take 1 rs) (merged ls (drop 1 rs))
+        ∙ ap (λ l. rows ++ l) (sym (step-greater ls rs e))) moved rest
+
+    pub fewer-less : next_order ls rs ≡ Some Less → OnOk result (new ≡ drop 1 ls) → OnOk result (length new + length rs < length ls + length rs)
+    fewer-less e rest = on_ok_weaker result (λ b. omega (arith, ap length b, length-drop 1 ls, less-some ls rs e)) rest
+
+    pub fewer-greater : next_order ls rs ≡ Some Greater → OnOk result (new ≡ drop 1 rs) → OnOk result (length ls + length new < length ls + length rs)
+    fewer-greater e rest = on_ok_weaker result (λ b. omega (arith, ap length b, length-drop 1 rs, greater-some ls rs e)) rest
+
+-- both next rows have the same parts
+module _ (l r : Row) (ls rs new_ls new_rs : List Row) (e : next_order ls rs ≡ Some Equal) (at_l : ls ≡ l ∷ new_ls) (at_r : rs ≡ r ∷ new_rs) where
+  pub same-row_key : row_order (row_key_of l) (row_key_of r) ≡ Equal
+  same-row_key = some-is _ Equal (sym (λ i. next_order (at_l i) (at_r i)) ∙ e)
+
+  next-equal : merged ls rs ≡ combined l r ∷ merged new_ls new_rs
+  next-equal = (λ i. merged (at_l i) (at_r i)) ∙ merged-equal l new_ls r new_rs same-row_key
+
+  pub before-equal : (rows : List Row) → AreInOrder (rows ++ merged ls rs) → AreInOrder (rows ++ combined l r ∷ [])
+  before-equal rows h =
+      in_order-front (rows ++ combined l r ∷ []) (merged new_ls new_rs)
+      (subst AreInOrder (ap (λ k. rows ++ k) next-equal ∙ sym (append_assoc rows (combined l r ∷ []) (merged new_ls new_rs))) h)
+
+  pub after-equal : (rows new_rows : List Row) → new_rows ≡ rows ++ combined l r ∷ [] → new_rows ++ merged new_ls new_rs ≡ rows ++ merged ls rs
+  after-equal rows new_rows moved =
+      ap (λ k. k ++ merged new_ls new_rs) moved ∙ append_assoc rows (combined l r ∷ []) (merged new_ls new_rs) ∙ ap (λ k. rows ++ k) (sym next-equal)
+
+  pub fewer-equal : length new_ls + length new_rs < length ls + length rs
+  fewer-equal = omega (arith, ap length at_l, ap length at_r)
+
+pub equal-some : (ls rs : List Row) → next_order ls rs ≡ Some Equal → (0 < length ls) × (0 < length rs)
+equal-some [] [] e = none-some Equal e
+equal-some [] (r ∷ rs) e = cc
+equal-some (l ∷ ls) [] e = cc
+equal-some (l ∷ ls) (r ∷ rs) e = (omega arith, omega arith)
+
+pub both-ended : (ls rs : List Row) → next_order ls rs ≡ None → merged ls rs ≡ []
+both-ended [] [] e = merged-nil_left []
+both-ended [] (r ∷ rs) e = cc
+both-ended (l ∷ ls) [] e = cc
+both-ended (l ∷ ls) (r ∷ rs) e = cc
+
+key-is : (o p : RowKey) → Some o ≡ Some p → o ≡ p
+key-is o p e = ap (λ q. unwrap_or q o) e
+
+pub order-of-keys : (ls rs : List Row) (a b : RowKey) → next_row_key ls ≡ Some a → next_row_key rs ≡ Some b → next_order ls rs ≡ Some (row_order a b)
+order-of-keys [] rs a b e f = cc
+order-of-keys (l ∷ ls) [] a b e f = cc
+order-of-keys (l ∷ ls) (r ∷ rs) a b e f = λ i. Some (row_order (key-is _ a e i) (key-is _ b f i))
+
+pub key-of-shifted : (by : ℕ) (row : Row) (rows : List Row) → next_row_key (map (shifted_row by) (row ∷ rows)) ≡ Some (row_key_of row)
+key-of-shifted by row rows = ap Some (shifted-row_key by row)

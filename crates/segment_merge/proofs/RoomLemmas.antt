@@ -1,9 +1,9 @@
 -- Rows of segments: their room, and what is merged of two of them.
-use Rattle.std.proofs.Common.{◌≡◌, ℕ, ◌+◌, ◌*◌, ◌<◌, ◌≤◌, ◌^◌, Bool, true, false, cond, List, [], ◌∷◌, ◌++◌, map, filter, length, refl, sym, ap, subst, ◌∙◌, add-zero, arith}
+use Rattle.std.proofs.Common.{◌≡◌, ℕ, ◌+◌, ◌*◌, ◌<◌, ◌≤◌, ◌^◌, Bool, true, false, cond, List, [], ◌∷◌, ◌++◌, map, filter, length, refl, sym, ap, subst, ◌∙◌, add-zero, arith, Option, None, Some, MatchOption, is_some, not, true≢false}
 use Rattle.std.specs.List.{All, AllByRecursion, AllZip, sum_by, enumerate_from}
 use Rattle.std.proofs.lemmas.List.{map-append, map-id, length-map}
 use Rattle.std.proofs.lemmas.List.Concat.{flat_map-append}
-use Rattle.std.proofs.lemmas.List.Elements.{All-nil, All-cons, All-map, All-filter, All-weaker}
+use Rattle.std.proofs.lemmas.List.Elements.{recursion_from_All, All-nil, All-cons, All-map, All-filter, All-weaker}
 use Rattle.std.proofs.lemmas.List.Sums.{sum_by-cons, count_by-le-length}
 use Rattle.best_lists.proofs.BestLaws.{All-best}
 use Rattle.explorer_model.specs.Best.{best}
@@ -17,7 +17,9 @@ use Rattle.explorer_model.specs.Visits.{IsTextOf, texts_of}
 use Rattle.explorer_model.proofs.SoundClasses.{game-sound}
 use Rattle.tally_rows.specs.declared.row_key.RowKey.{RowKey}
 use Rattle.tally_rows.specs.declared.row.Row.{Row}
-use Rattle.tally_rows.specs.Row.{row_key_of, shifted_row}
+use Rattle.explorer_model.specs.declared.chess.Move.{Move}
+use Rattle.tally_rows.specs.declared.single.Single.{Single}
+use Rattle.tally_rows.specs.Row.{row_key_of, row_of, month_rank, shifted_row}
 use Rattle.tally_rows.specs.Tallied.{is_black_to_move, mover_rating, rating_sum, track_month, entries, has_move, IsTally, Tallied}
 use Rattle.tally_rows.specs.Tally.{IsTallyOf, IsTrackOf}
 use Rattle.tally_rows.specs.Track.{Track, has}
@@ -26,7 +28,9 @@ use Rattle.tally_rows.proofs.Members.{IsIn, All-IsIn, recursion-from_IsIn}
 use Rattle.segment_blocks.specs.Segment.{CountedSpan, IsSegment, IsTallyOfBoth, segment_limit}
 use Rattle.segment_merge.specs.Merged.{merged}
 use Rattle.segment_merge.specs.Merging.{rows_of_both}
-use Rattle.segment_merge.specs.Room.{HasRoom}
+use Rattle.segment_blocks.specs.declared.held_row.HeldRow.{HeldRow}
+use Rattle.segment_blocks.specs.HeldRow.{row_in}
+use Rattle.segment_merge.specs.Room.{HasRoom, IsSmall, IsSide, side_rows}
 use Rattle.segment_merge.proofs.MergedLemmas.{Tallied-merged}
 
 -- ---- ratings
@@ -169,3 +173,59 @@ shifted-zero = λ i row. record row { top = all row.top i; recent = all row.rece
 
 pub rows-shifted-zero : (rows : List Row) → map (shifted_row 0) rows ≡ rows
 rows-shifted-zero rows = ap (λ f. map f rows) shifted-zero ∙ map-id rows
+
+-- ---- one side
+
+-- the next row of a walk, before the others
+module _ (by : ℕ) (front : Option HeldRow) (old new : List Row)
+    (told : MatchOption front ((old ≡ []) × (new ≡ [])) (λ held. old ≡ row_in held ∷ new)) (all : AllByRecursion (HasRoom by) old) where
+  side-with : (front : Option HeldRow) → MatchOption front ((old ≡ []) × (new ≡ [])) (λ held. old ≡ row_in held ∷ new)
+      → IsSide by front new × (side_rows by front new ≡ map (shifted_row by) old)
+  side-with None t = (t.1, sym (ap (map (shifted_row by)) t.0))
+  side-with (Some held) t = (subst (AllByRecursion (HasRoom by)) t all, sym (ap (map (shifted_row by)) t))
+
+  pub is_side : IsSide by front new
+  is_side = (side-with front told).0
+
+  pub rows-of-side : side_rows by front new ≡ map (shifted_row by) old
+  rows-of-side = (side-with front told).1
+
+-- a game with room is listed with a number that fits
+module _ (by : ℕ) (game : Single) (h : HasRoom by (row_of game)) where
+  pub number-fits : is_some game.row_key.next ≡ true → game.number + by < 2 ^ 32
+  unfolding row_of
+  number-fits e = by_next game.row_key.next refl
+    where
+      by_next : (next : Option Move) → game.row_key.next ≡ next → game.number + by < 2 ^ 32
+      by_next None d = absurd (true≢false (sym e ∙ ap is_some d))
+      by_next (Some m) d =
+          let fits = λ (e : Entry). e.number + by < 2 ^ 32 in
+          let listed : Bool → List Entry = λ b. cond b (record { rank = game.sum; number = game.number } ∷ []) [] in
+          let one : AllByRecursion fits (listed true) = recursion_from_All fits (listed true) (subst (λ b. All fits (listed b)) (ap is_some d) h.top) in
+          one.0
+
+cond-moved : (by : ℕ) (b : Bool) (e : Entry) → cond b (moved_by by e ∷ []) [] ≡ map (moved_by by) (cond b (e ∷ []) [])
+cond-moved by true e = refl
+cond-moved by false e = refl
+
+pub game-shifted : (by : ℕ) (game : Single) → row_of (record game { number = game.number + by }) ≡ shifted_row by (row_of game)
+unfolding row_of shifted_row
+game-shifted by game = λ i. record (row_of game) {
+  top = cond-moved by (is_some game.row_key.next) (record { rank = game.sum; number = game.number }) i;
+  recent = cond-moved by (is_some game.row_key.next) (record { rank = month_rank game.row_key.month; number = game.number }) i;
+}
+
+unlisted : (by : ℕ) (b : Bool) (e : Entry) → b ≡ false → cond b (e ∷ []) [] ≡ map (moved_by by) (cond b (e ∷ []) [])
+unlisted by true e d = absurd (true≢false d)
+unlisted by false e d = refl
+
+pub ended-game-shifted : (by : ℕ) (game : Single) → is_some game.row_key.next ≡ false → row_of game ≡ shifted_row by (row_of game)
+unfolding row_of shifted_row
+ended-game-shifted by game d = λ i. record (row_of game) {
+  top = unlisted by (is_some game.row_key.next) (record { rank = game.sum; number = game.number }) d i;
+  recent = unlisted by (is_some game.row_key.next) (record { rank = month_rank game.row_key.month; number = game.number }) d i;
+}
+
+pub small-shifted : (by : ℕ) (row : Row) → HasRoom by row → IsSmall (shifted_row by row)
+unfolding shifted_row
+small-shifted by row h = record { white = h.small.white; draws = h.small.draws; black = h.small.black; ratings = h.small.ratings }

@@ -1,8 +1,9 @@
 -- Rows of two lists in one.
-use Rattle.std.specs.Prelude.{List, [], ◌∷◌}
+use Rattle.std.specs.Prelude.{List, [], ◌∷◌, Option, None, Some}
 use Rattle.std.specs.declared.cmp.Ordering.{Ordering}
 use Rattle.std.specs.declared.cmp.Ordering.TheVariants.{Less, Equal, Greater}
 use Rattle.tally_rows.specs.declared.row.Row.{Row}
+use Rattle.tally_rows.specs.declared.row_key.RowKey.{RowKey}
 use Rattle.tally_rows.specs.RowKey.{row_order}
 use Rattle.tally_rows.specs.Row.{row_key_of, combined}
 
@@ -26,7 +27,13 @@ merged [] rights = rights
 merged (left ∷ lefts) rights = put_among left (merged lefts) rights
 
 -- how the first rows of two lists stand; a list that has ended stands behind the other
-abbrev pub sides_order : List Row → List Row → Ordering
-sides_order [] rights = Greater
-sides_order (left ∷ lefts) [] = Less
-sides_order (left ∷ lefts) (right ∷ rights) = row_order (row_key_of left) (row_key_of right)
+abbrev pub next_order : List Row → List Row → Option Ordering
+next_order [] [] = None
+next_order [] (right ∷ rights) = Some Greater
+next_order (left ∷ lefts) [] = Some Less
+next_order (left ∷ lefts) (right ∷ rights) = Some (row_order (row_key_of left) (row_key_of right))
+
+-- what the games of the first row have in common
+abbrev pub next_row_key : List Row → Option RowKey
+next_row_key [] = None
+next_row_key (row ∷ rows) = Some (row_key_of row)

@@ -1,13 +1,12 @@
 //! Rows of two sides in one.
-ghost use Rattle.std.specs.Prelude.{◌≡◌, [], ◌∷◌, MatchOption, IfOk};
+ghost use Rattle.std.specs.Prelude.{◌≡◌, ◌+◌, ◌<◌, ◌++◌, Some, IfOk, OnOk, length};
 ghost use Rattle.segment_blocks.specs.PackedRows.{AreInOrder};
-ghost use Rattle.segment_merge.specs.Merged.{merged, sides_order};
+ghost use Rattle.segment_merge.specs.Merged.{merged, next_order};
 
 use crate::side::Side;
 use segment_blocks::PackedRows;
 use std::alloc::{AllocError, Global};
 use std::cmp::Ordering;
-use tally_rows::Row;
 
 /// The rows of both sides in their order, those with the same five parts put together.
 pub fn merge_rows(alloc: Global, left: Side<'_>, right: Side<'_>) -> Result<PackedRows, AllocError>
@@ -18,36 +17,49 @@ pub fn merge_rows(alloc: Global, left: Side<'_>, right: Side<'_>) -> Result<Pack
     let mut left = left;
     let mut right = right;
     let mut packed = PackedRows::new(alloc);
-    while let Some(row) = next_of_both(&mut left, &mut right) {
-        packed.push(alloc, &row)?;
+    while let Some(order) = order_of(&left, &right) {
+        push_next(alloc, order, &mut left, &mut right, &mut packed)?;
     }
     Ok(packed)
 }
 
-/// The next row of both sides, which is then past: the lesser one, or both put together where they
+/// Moves the next row of both sides, which stand so: the lesser one, or both put together where they
 /// have the same five parts.
-fn next_of_both(left: &mut Side<'_>, right: &mut Side<'_>) -> Option<Row>
-    ensures { MatchOption result ((left.old ≡ []) × (right.old ≡ []))
-        (λ row. merged left.old right.old ≡ row ∷ merged left.new right.new) }
+fn push_next(
+    alloc: Global,
+    order: Ordering,
+    left: &mut Side<'_>,
+    right: &mut Side<'_>,
+    packed: &mut PackedRows,
+) -> Result<(), AllocError>
+    requires order { next_order left.old right.old ≡ Some order }
+    requires in_order { AreInOrder (packed.old.rows ++ merged left.old right.old) }
+    ensures whole { OnOk result (packed.new.rows ++ merged left.new right.new
+        ≡ packed.old.rows ++ merged left.old right.old) }
+    ensures fewer { OnOk result (length left.new + length right.new
+        < length left.old + length right.old) }
 {
-    match order_of(left, right) {
-        Ordering::Less => left.take(),
-        Ordering::Greater => right.take(),
+    match order {
+        Ordering::Less => left.push_next(alloc, packed),
+        Ordering::Greater => right.push_next(alloc, packed),
         Ordering::Equal => {
-            let first = left.take()?;
-            let second = right.take()?;
-            Some(first.combine(&second))
+            let (Some(first), Some(second)) = (left.take(), right.take()) else {
+                return Ok(());
+            };
+            packed.push(alloc, &first.combine(&second))
         }
     }
 }
 
-/// How the next rows of both sides stand; a side that has ended stands behind the other.
-fn order_of(left: &Side<'_>, right: &Side<'_>) -> Ordering
-    ensures { result ≡ sides_order left.now right.now }
+/// How the next rows of both sides stand, or None where both sides have ended; a side that has ended
+/// stands behind the other.
+fn order_of(left: &Side<'_>, right: &Side<'_>) -> Option<Ordering>
+    ensures { result ≡ next_order left.now right.now }
 {
-    match (left.front(), right.front()) {
-        (Some(first), Some(second)) => first.row_key().cmp(&second.row_key()),
-        (Some(_), None) => Ordering::Less,
-        (None, _) => Ordering::Greater,
+    match (left.row_key(), right.row_key()) {
+        (Some(first), Some(second)) => Some(first.cmp(&second)),
+        (Some(_), None) => Some(Ordering::Less),
+        (None, Some(_)) => Some(Ordering::Greater),
+        (None, None) => None,
     }
 }

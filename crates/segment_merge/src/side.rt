@@ -1,21 +1,22 @@
 //! One side of a merge.
-ghost use Rattle.std.specs.Prelude.{◌≡◌, [], ◌∷◌, MatchOption, map, List};
+ghost use Rattle.std.specs.Prelude.{◌≡◌, [], ◌∷◌, ◌++◌, MatchOption, OnOk, map, take, drop};
 ghost use Rattle.std.specs.List.{AllByRecursion};
+ghost use Rattle.segment_blocks.specs.PackedRows.{AreInOrder};
+ghost use Rattle.segment_merge.specs.Merged.{next_row_key};
 ghost use Rattle.segment_merge.specs.Room.{HasRoom, IsSmall};
-ghost use Rattle.tally_rows.specs.declared.row.Row.{Row};
 ghost use Rattle.tally_rows.specs.Row.{shifted_row};
 
-use crate::shifting::shifted;
-use segment_blocks::RowWalk;
+use crate::shifting::{push_shifted, shifted};
+use segment_blocks::{HeldRow, PackedRows, RowWalk};
+use std::alloc::{AllocError, Global};
 use std::marker::Model;
-use std::mem;
-use tally_rows::Row;
+use tally_rows::{Row, RowKey};
 
 /// The rows of one side that are still to come, with the numbers that their games have among those
 /// of both sides.
 #[derive(Drop)]
 pub struct Side<'a> {
-    front: Option<Row>,
+    front: Option<HeldRow<'a>>,
     rest: RowWalk<'a>,
     by: u32,
 }
@@ -40,36 +41,42 @@ impl<'a> Side<'a> {
         ensures { result ≡ map (shifted_row by) rest.entry }
     {
         let mut rest = rest;
-        let front = next_shifted(&mut rest, by);
+        let front = rest.advance();
         Side { front, rest, by }
     }
 
-    /// The next row.
-    pub fn front(&self) -> Option<&Row>
-        ensures { MatchOption result (self.now ≡ [])
-            (λ row. (rest : List Row) × (self.now ≡ row.now ∷ rest)) }
+    /// What the games of the next row have in common.
+    pub fn row_key(&self) -> Option<RowKey>
+        ensures { result ≡ next_row_key self.now }
     {
-        self.front.as_ref()
+        match &self.front {
+            Some(held) => Some(held.row_key()),
+            None => None,
+        }
     }
 
-    /// The next row, which is then past.
+    /// Moves the next row, where there is one, to the rows of a merge.
+    pub fn push_next(&mut self, alloc: Global, packed: &mut PackedRows) -> Result<(), AllocError>
+        requires in_order { AreInOrder (packed.old.rows ++ take 1 self.old) }
+        ensures rows { OnOk result (packed.new.rows ≡ packed.old.rows ++ take 1 self.old) }
+        ensures rest { OnOk result (self.new ≡ drop 1 self.old) }
+    {
+        let Some(held) = self.front else {
+            return Ok(());
+        };
+        push_shifted(alloc, packed, &held, self.by)?;
+        self.front = self.rest.advance();
+        Ok(())
+    }
+
+    /// The next row by itself, which is then past.
     pub fn take(&mut self) -> Option<Row>
         ensures { MatchOption result ((self.old ≡ []) × (self.new ≡ []))
             (λ row. (self.old ≡ row ∷ self.new) × IsSmall row) }
     {
-        let behind = next_shifted(&mut self.rest, self.by);
-        mem::replace(&mut self.front, behind)
+        let held = self.front?;
+        let row = shifted(&held.to_row(), self.by);
+        self.front = self.rest.advance();
+        Some(row)
     }
-}
-
-/// The next row, shifted.
-fn next_shifted(rest: &mut RowWalk<'_>, by: u32) -> Option<Row>
-    requires { AllByRecursion (HasRoom by) rest.old }
-    ensures rows { MatchOption result ((rest.old ≡ []) × (rest.new ≡ []))
-        (λ row. (map (shifted_row by) rest.old ≡ row ∷ map (shifted_row by) rest.new)
-        × IsSmall row) }
-    ensures room { AllByRecursion (HasRoom by) rest.new }
-{
-    let row = rest.advance()?;
-    Some(shifted(&row, by))
 }

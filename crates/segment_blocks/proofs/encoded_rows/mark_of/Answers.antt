@@ -2,6 +2,7 @@ use Rattle.std.proofs.Common.{◌≡◌, refl, sym, ap, ◌∙◌}
 use Rattle.tally_rows.specs.declared.row.Row.{Row}
 use Rattle.tally_rows.specs.declared.single.Single.{Single}
 use Rattle.tally_rows.specs.Row.{row_of}
+use Rattle.segment_blocks.specs.HeldRow.{row_in}
 use Rattle.segment_blocks.proofs.encoded_rows.mark_of.Goals as goal
 
 row_of-key : (s : Single) → (row_of s).key ≡ s.row_key.key
@@ -13,7 +14,7 @@ returns c =
     let s = c.in_ok-single.single in
     let is = c.in_ok-single.ensures in
     let sum : s.sum ≡ c.in-Ok.sum = sym c.in-Ok.ensures.1 in
-    let key : s.row_key.key ≡ c.args.row.now.key = sym (ap (λ (r : Row). r.key) is ∙ row_of-key s) in
+    let key : s.row_key.key ≡ (row_in c.args.held.now).key = sym (ap (λ (r : Row). r.key) is ∙ row_of-key s) in
     record {
       at = refl;
       outcome = s.outcome;

@@ -23,12 +23,12 @@ returns-clause-rows g c =
     let in_all : n < length blocks = omega (arith, f.within, is) in
     let block : get_or blocks n [] ≡ c.cursor.result =
     get_or_default blocks n [] c.index-blocks-below.result in_all ∙ sym c.index-blocks-below.is ∙ sym c.cursor.ensures.rows in
-    ap (λ d. front_rows c.pass_below-front.result.0 ++ c.pass_below-front.result.1 ++ rows_in d) (take_rest blocks below)
-    ∙ ap (λ l. l ++ rows_in (drop below blocks)) (c.pass_below-front.ensures.rows ∙ ap (from_key key) (sym block))
+    ap (λ d. front_rows c.pass_below-place.result.0 ++ c.pass_below-place.result.1 ++ rows_in d) (take_rest blocks below)
+    ∙ ap (λ l. l ++ rows_in (drop below blocks)) (c.pass_below-place.ensures.rows ∙ ap (from_key key) (sym block))
     ∙ ap (λ m. from_key key (get_or blocks n []) ++ rows_in (drop m blocks)) (sym is)
     ∙ sym (from_key-blocks key blocks n c.requires.some (Rise-from_sorted _ c.requires.ordered) in_all (f.below n (omega (arith, is)))
     (λ m. f.above (suc n) (omega (arith, is)) m))
 
 pub returns-clause-cost : goal.returns-clause-cost
 returns-clause-cost g c digits fits =
-    omega (arith, c.count_below-below.ensures.cost digits fits, c.pass_below-front.ensures.cost, ap length c.cursor.ensures.rows, c.cursor.ensures.few)
+    omega (arith, c.count_below-below.ensures.cost digits fits, c.pass_below-place.ensures.cost, ap length c.cursor.ensures.rows, c.cursor.ensures.few)

@@ -1,11 +1,11 @@
-use Rattle.std.proofs.Common.{sym, ◌∙◌}
+use Rattle.std.proofs.Common.{Some, sym, ap, ◌∙◌}
 use Rattle.tally_rows.specs.RowKey.{row_order}
-use Rattle.segment_merge.specs.Merged.{sides_order}
+use Rattle.segment_merge.proofs.MergedLemmas.{order-of-keys}
 use Rattle.segment_merge.proofs.merging.order_of.Goals as goal
 
 pub returns-in-Some-Some : goal.returns-in-Some-Some
 unfolding row_order
 returns-in-Some-Some c =
-    let l = c.in-Some-Some.ensures in
-    let r = c.in-Some-Some.ensures' in
-    c.cmp.ensures ∙ (λ i. row_order (c.row_key.ensures i) (c.row_key-in-Some-Some.ensures i)) ∙ sym (λ i. sides_order (l.1 i) (r.1 i))
+    let both = c.in-Some-Some in
+    ap Some c.cmp.ensures
+    ∙ sym (order-of-keys c.args.left.now c.args.right.now both.first both.second (sym c.row_key.ensures ∙ both.is-0) (sym c.row_key-2.ensures ∙ both.is-1))

@@ -2,8 +2,8 @@ use Rattle.std.proofs.Common.{◌≡◌, length}
 use Rattle.segment_blocks.proofs.PackedLemmas.{key_in}
 use Rattle.segment_blocks.proofs.block.Block.key_at.Given as goal
 
-abbrev pub invariant-loop-row : goal.invariant-loop-row
-invariant-loop-row l = key_in l.rows l.before ≡ key_in l.initial.rows l.n
+abbrev pub invariant-loop-held : goal.invariant-loop-held
+invariant-loop-held l = key_in l.rows l.before ≡ key_in l.initial.rows l.n
 
-abbrev pub decreases-loop-row : goal.decreases-loop-row
-decreases-loop-row l = length l.rows
+abbrev pub decreases-loop-held : goal.decreases-loop-held
+decreases-loop-held l = length l.rows

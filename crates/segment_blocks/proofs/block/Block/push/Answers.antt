@@ -1,4 +1,6 @@
-use Rattle.std.proofs.Common.{◌<◌, length, ap, arith}
+use Rattle.std.proofs.Common.{◌<◌, length, sym, ap, subst, arith}
+use Rattle.segment_blocks.specs.HeldRow.{row_in}
+use Rattle.segment_blocks.specs.Block.{IsBlock}
 use Rattle.segment_blocks.specs.Encoded.{rows_of}
 use Rattle.segment_blocks.proofs.AppendLemmas.{IsBlock-push}
 use Rattle.segment_blocks.proofs.block.Block.push.Goals as goal
@@ -7,5 +9,7 @@ pub invariant_of-self-2 : goal.invariant_of-self-2
 invariant_of-self-2 c =
     let b = c.self.inside in
     let room : length (rows_of b.rows b.first) < 128 = omega (arith, c.requires, ap length c.self.view_is) in
-    IsBlock-push b.first b.last c.args.row.now (rows_of b.rows b.first) (rows_of c.push.new.self b.first) c.self.invariant room
-    (c.in_ok-push.ensures.ok b.first c.self.invariant.ends)
+    let new = rows_of c.push.new.self b.first in
+    subst (λ last. IsBlock b.first last new) (sym c.key.ensures)
+    (IsBlock-push b.first b.last (row_in c.args.held.now) (rows_of b.rows b.first) new c.self.invariant room
+    (c.in_ok-push.ensures.ok b.first c.self.invariant.ends))

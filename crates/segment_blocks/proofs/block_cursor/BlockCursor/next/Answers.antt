@@ -17,7 +17,7 @@ returns-in-Some c =
     sym (c.key_of-key.ensures ∙ ap (λ l. take mark.shared p.before ++ l) (c.split_at.ensures.front ∙ ap (λ n. take (34 - n) p.tails.now) c.from.ensures)) in
     let rest : drop (own_len mark) p.tails.now ≡ c.split_at.result.1.now =
     sym (c.split_at.ensures.back ∙ ap (λ n. drop (34 - n) p.tails.now) c.from.ensures) in
-    let row = c.of.ensures.row ∙ ap row_of c.single_of.ensures in
+    let row = ap row_of c.single_of.ensures in
     sym c.self.view_is
     ∙ rows_behind-game mark p.marks.now c.in_ok-mark.marks.now p.before p.tails.now p.whole.now c.in_ok-mark.ensures.cases.0 c.in-Some.outcome c.in-Some.is
     ∙ (λ i. row_of (single_of (key i) mark c.in-Some.outcome) ∷ rows_behind c.in_ok-mark.marks.now (key i) (rest i) p.whole.now)
@@ -32,4 +32,4 @@ returns-in_ok-row c =
     sym (c.split_at.ensures.back ∙ ap (λ n. drop (34 - n) p.tails.now) c.from.ensures) in
     sym c.self.view_is
     ∙ rows_behind-whole mark p.marks.now c.in_ok-mark.marks.now p.before p.tails.now p.whole.now c.in_ok-mark.ensures.cases.0 row c.in_ok-row.whole.now c.in_default.is c.in_ok-row.ensures.cases.0
-    ∙ (λ i. sym c.copy_of.ensures i ∷ rows_behind c.in_ok-mark.marks.now row.key (rest i) c.in_ok-row.whole.now)
+    ∙ (λ i. row ∷ rows_behind c.in_ok-mark.marks.now row.key (rest i) c.in_ok-row.whole.now)

@@ -1,7 +1,7 @@
 use Rattle.std.proofs.Common.{◌≡◌, ◌++◌, ap, ◌∙◌, append-nil}
 use Rattle.explorer_model.specs.Best.{best}
 use Rattle.best_lists.specs.Ranking.{before_by_rating, before_by_month}
-use Rattle.segment_blocks.proofs.block_cursor.copy_of.Goals as goal
+use Rattle.segment_blocks.proofs.held_row.copy_of.Goals as goal
 
 pub returns : goal.returns
 returns c =

@@ -1,0 +1,83 @@
+//! Rows as blocks hold them.
+ghost use Rattle.std.specs.Prelude.{◌≡◌, IfSome};
+ghost use Rattle.segment_blocks.specs.HeldRow.{row_in};
+ghost use Rattle.tally_rows.specs.Row.{row_of, row_key_of};
+
+use crate::single_game::single_in;
+use best_lists::Best4;
+use tally_rows::{Row, RowKey, Single};
+
+/// A row as a block holds it, which is cheap to pass on.
+#[derive(Clone, Copy, Debug)]
+pub enum HeldRow<'a> {
+    /// The row of one game.
+    Game(Single),
+    /// Any row.
+    Whole(&'a Row),
+}
+
+impl<'a> HeldRow<'a> {
+    /// The key of the row's position.
+    #[tactic(auto, unfolding(tally_rows::specs::Row::row_of))]
+    pub fn key(&self) -> &[u8; 34]
+        ensures { result.now ≡ (row_in self.now).key }
+    {
+        match self {
+            HeldRow::Game(game) => &game.row_key.key,
+            HeldRow::Whole(row) => &row.key,
+        }
+    }
+
+    /// What the row's games have in common.
+    #[tactic(auto, unfolding(tally_rows::specs::Row::row_of))]
+    pub fn row_key(&self) -> RowKey
+        ensures { result ≡ row_key_of (row_in self.now) }
+    {
+        match self {
+            HeldRow::Game(game) => game.row_key,
+            HeldRow::Whole(row) => row.row_key(),
+        }
+    }
+
+    /// The row by itself.
+    pub fn to_row(&self) -> Row
+        ensures { result ≡ row_in self.now }
+    {
+        match self {
+            HeldRow::Game(game) => Row::of(game),
+            HeldRow::Whole(row) => copy_of(row),
+        }
+    }
+
+    /// The row's one game, or None where the row has to stand whole.
+    pub fn game(&self) -> Option<Single>
+        ensures { IfSome result (λ game. row_in self.now ≡ row_of game) }
+    {
+        match self {
+            HeldRow::Game(game) => Some(*game),
+            HeldRow::Whole(row) => single_in(row),
+        }
+    }
+}
+
+/// The same row.
+fn copy_of(row: &Row) -> Row
+    ensures { result ≡ row.now }
+{
+    // Each list is its own best four, as its entries say.
+    let _top = row.top.entries();
+    let _recent = row.recent.entries();
+    Row {
+        key: row.key,
+        next: row.next,
+        month: row.month,
+        speed: row.speed,
+        group: row.group,
+        white: row.white,
+        draws: row.draws,
+        black: row.black,
+        ratings: row.ratings,
+        top: row.top.join(&Best4::empty()),
+        recent: row.recent.join(&Best4::empty()),
+    }
+}
