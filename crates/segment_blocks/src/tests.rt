@@ -153,6 +153,45 @@ fn a_walk_gives_what_a_plain_filter_gives(rt: HostRuntime) -> Result<(), Fail> {
     Ok(())
 }
 
+/// Whether a walk within the keys gives the rows whose key is not below the first one and is below
+/// the second, and then none.
+fn are_within(packed: &PackedRows, rows: &[Row], from: &[u8; 34], below: &[u8; 34]) -> bool {
+    let mut walk = packed.rows_within(Some(*from), Some(*below));
+    for row in rows {
+        if row.key.cmp(from).is_ge() && row.key.cmp(below).is_lt() {
+            match walk.advance() {
+                Some(held) if held.to_row() == *row => {}
+                _ => return false,
+            }
+        }
+    }
+    walk.advance().is_none()
+}
+
+#[test]
+fn a_walk_within_keys_gives_what_a_plain_filter_gives(rt: HostRuntime) -> Result<(), Fail> {
+    let rows = rows_of_512(rt.alloc())?;
+    let Some(packed) = packed(rt.alloc(), rows.as_slice())? else {
+        panic!(rt; "rows are out of order");
+    };
+    let bounds = [[0; 34], key(1, 200), key(2, 50), key(7, 7), [255; 34]];
+    for from in bounds {
+        for below in bounds {
+            assert!(rt;
+                are_within(&packed, rows.as_slice(), &from, &below),
+                "from {from:?} below {below:?}"
+            );
+        }
+    }
+    // 662 rows take five full blocks and one of 22 rows.
+    assert_eq!(rt; packed.block_count(), 6);
+    for at in [0, 127, 128, 661] {
+        assert_eq!(rt; packed.key_at(at), rows.get(at).map(|row| row.key));
+    }
+    assert_eq!(rt; packed.key_at(662), None);
+    Ok(())
+}
+
 /// 1,024 has eleven binary digits.
 fn rows_at_in_1024_blocks<'a, L: Ledger>(
     packed: &'a PackedRows,
