@@ -6,5 +6,7 @@ mod merging;
 mod ranges;
 mod shifting;
 mod side;
+#[cfg(test)]
+mod tests;
 
 pub use ranges::merge;
