@@ -1,5 +1,5 @@
 -- Rows of segments: their room, and what is merged of two of them.
-use Rattle.std.proofs.Common.{◌≡◌, ℕ, ◌+◌, ◌*◌, ◌<◌, ◌≤◌, ◌^◌, Bool, true, false, cond, List, [], ◌∷◌, ◌++◌, map, filter, length, refl, sym, ap, subst, ◌∙◌, add-zero, arith, Option, None, Some, MatchOption, is_some, not, true≢false}
+use Rattle.std.proofs.Common.{◌≡◌, ℕ, ◌+◌, ◌*◌, ◌<◌, ◌≤◌, ◌^◌, Bool, true, false, cond, List, [], ◌∷◌, ◌++◌, map, filter, length, refl, sym, ap, subst, ◌∙◌, add-zero, arith, Option, None, Some, MatchOption, is_some, true≢false}
 use Rattle.std.specs.List.{All, AllByRecursion, AllZip, sum_by, enumerate_from}
 use Rattle.std.proofs.lemmas.List.{map-append, map-id, length-map}
 use Rattle.std.proofs.lemmas.List.Concat.{flat_map-append}

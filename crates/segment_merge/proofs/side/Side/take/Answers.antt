@@ -1,4 +1,4 @@
-use Rattle.std.proofs.Common.{◌≡◌, ◌∷◌, Some, map, sym, ap, subst, ◌∙◌}
+use Rattle.std.proofs.Common.{◌∷◌, Some, sym, ap, subst, ◌∙◌}
 use Rattle.tally_rows.specs.Row.{shifted_row}
 use Rattle.segment_blocks.specs.HeldRow.{row_in}
 use Rattle.segment_merge.specs.Room.{IsSmall, IsSide, side_rows}
