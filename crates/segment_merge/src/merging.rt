@@ -23,8 +23,8 @@ pub fn merge_rows(alloc: Global, left: Side<'_>, right: Side<'_>) -> Result<Pack
     Ok(packed)
 }
 
-/// Moves the next row of both sides, which stand so: the lesser one, or both put together where they
-/// have the same five parts.
+/// Moves the next row of both sides, which stand so: the lesser one, or both put together where
+/// they have the same five parts.
 fn push_next(
     alloc: Global,
     order: Ordering,
@@ -51,8 +51,8 @@ fn push_next(
     }
 }
 
-/// How the next rows of both sides stand, or None where both sides have ended; a side that has ended
-/// stands behind the other.
+/// How the next rows of both sides stand, or None where both sides have ended. A side that has
+/// ended stands behind the other.
 fn order_of(left: &Side<'_>, right: &Side<'_>) -> Option<Ordering>
     ensures { result ≡ next_order left.now right.now }
 {

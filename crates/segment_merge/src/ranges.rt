@@ -32,7 +32,7 @@ pub fn merge<R: Threads + Sync, G: Gate>(
     requires few_workers { workers ≤ 16 }
     ensures { IfOk result (λ segment. IsMergeOf left.now right.now segment) }
 {
-    // What is known of each side's rows, its call tells.
+    // That each side is a segment, its span tells.
     let _left = left.span();
     let _right = right.span();
     let keys = cut_keys(alloc, left, right, workers)?;
@@ -41,8 +41,8 @@ pub fn merge<R: Threads + Sync, G: Gate>(
     Segment::of_both(alloc, left, right, parts)
 }
 
-/// Keys that part the rows of the side with more rows in as many ranges as there are workers, of
-/// about one length.
+/// Keys that part the rows of the side with more blocks in as many ranges as there are workers, of
+/// about one length. Any rising keys serve.
 fn cut_keys(
     alloc: Global,
     left: &Segment,

@@ -49,8 +49,8 @@ pub fn shifted(row: &Row, by: u32) -> Row
     }
 }
 
-/// The game, with a number that is greater by `by`. A game that ends here is listed nowhere, so that
-/// its number may stay.
+/// The game, with a number that is greater by `by`. A game that ends here is listed nowhere, so
+/// that its number may stay.
 fn shifted_game(game: &Single, by: u32) -> Single
     requires { HasRoom by (row_of game.now) }
     ensures { row_of result ≡ shifted_row by (row_of game.now) }
