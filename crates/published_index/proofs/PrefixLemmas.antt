@@ -1,0 +1,52 @@
+-- Beginnings of one list.
+use Rattle.std.proofs.Common.{◌≡◌, ℕ, ◌≤◌, Bool, true, false, List, [], ◌∷◌, ◌++◌, length, refl, sym, ap, ◌∙◌, arith, append-nil, append_assoc, length-append}
+use Rattle.std.proofs.lemmas.Bool.Decides.{nat_tests}
+use Rattle.std.specs.Bool.{OnTrue}
+use Rattle.std.proofs.Common.{leb}
+use mathlib.Core.List.{IsPrefix as Begins}
+use Rattle.explorer_model.specs.Timeline.{IsPrefix}
+
+pub prefix-self : {A : Type 0} (xs : List A) → IsPrefix xs xs
+prefix-self xs = record { rest = []; is = sym (append-nil xs) }
+
+pub prefix-append : {A : Type 0} (xs more : List A) → IsPrefix xs (xs ++ more)
+prefix-append xs more = record { rest = more; is = refl }
+
+pub prefix-trans : {A : Type 0} (xs ys zs : List A) → IsPrefix xs ys → IsPrefix ys zs → IsPrefix xs zs
+prefix-trans {A} xs ys zs h k =
+    let behind : List A → List A = λ front. front ++ k.rest in
+    record { rest = h.rest ++ k.rest; is = k.is ∙ ap behind h.is ∙ append_assoc xs h.rest k.rest }
+
+-- a list that begins another one is a prefix of it
+pub prefix-begins : {A : Type 0} (xs ys : List A) → Begins xs ys → IsPrefix xs ys
+prefix-begins xs ys h = record { rest = h.0; is = sym h.1 }
+
+pub prefix-length : {A : Type 0} (xs ys : List A) → IsPrefix xs ys → length xs ≤ length ys
+prefix-length xs ys h = omega (arith, ap length h.is, length-append xs h.rest)
+
+-- of two beginnings of one list the shorter begins the longer
+pub prefix-shorter : {A : Type 0} (xs ys zs : List A) → Begins xs zs → Begins ys zs → length xs ≤ length ys → IsPrefix xs ys
+prefix-shorter [] ys zs p q le = record { rest = ys; is = refl }
+prefix-shorter (x ∷ xs) [] zs p q le = absurd (omega arith)
+prefix-shorter (x ∷ xs) (y ∷ ys) [] p q le = absurd (cc (p.1))
+prefix-shorter (x ∷ xs) (y ∷ ys) (z ∷ zs) p q le =
+    let heads : x ≡ y = cc (p.1, q.1) in
+    let rest = prefix-shorter xs ys zs (p.0, cc (p.1)) (q.0, cc (q.1)) (omega arith) in
+    record { rest = rest.rest; is = cc (heads, rest.is) }
+
+-- a beginning as long as the whole is the whole
+pub begins-whole : {A : Type 0} (xs ys : List A) → Begins xs ys → length ys ≤ length xs → xs ≡ ys
+begins-whole [] [] p le = refl
+begins-whole [] (y ∷ ys) p le = absurd (omega arith)
+begins-whole (x ∷ xs) [] p le = absurd (cc (p.1))
+begins-whole (x ∷ xs) (y ∷ ys) p le =
+    let rest = begins-whole xs ys (p.0, cc (p.1)) (omega arith) in cc (p.1, rest)
+
+-- where one count is tested to be no more than the other
+pub where-shorter : {A : Type 0} (m n : ℕ) (xs ys zs : List A) → Begins xs zs → Begins ys zs → m ≡ length xs → n ≡ length ys
+    → OnTrue (leb m n) (IsPrefix xs ys)
+where-shorter m n xs ys zs p q m-is n-is = by (leb m n) refl
+  where
+    by : (test : Bool) → leb m n ≡ test → OnTrue test (IsPrefix xs ys)
+    by true is = prefix-shorter xs ys zs p q (grind (arith, nat_tests))
+    by false is = tt

@@ -1,0 +1,5 @@
+use Rattle.published_index.proofs.tests.empty_list_is_entered_by_two_threads.Given as goal
+
+-- the index that was just opened
+abbrev pub ghosts-enters : goal.ghosts-enters
+ghosts-enters g a = record { name = a.unnamed.name }

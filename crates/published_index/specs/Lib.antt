@@ -1,0 +1,10 @@
+pub mod Cover
+pub mod Changes
+pub mod States
+pub mod Calls
+pub mod History
+pub mod Held
+pub mod Operations
+pub mod Rule
+pub mod Seated
+pub mod Events

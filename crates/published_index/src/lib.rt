@@ -1,0 +1,31 @@
+//! A list of segments that one publisher changes and that passes read without waiting. No pass ever
+//! sees less than it saw.
+#![tactic(auto)]
+
+mod fault;
+mod front;
+mod held;
+mod history;
+mod index;
+pub mod laws;
+mod list;
+mod list_writer;
+mod note;
+mod pass;
+mod published;
+mod publisher;
+mod rule;
+mod seat;
+mod snapshot;
+#[cfg(test)]
+mod tests;
+mod unnamed;
+
+pub use fault::EnterFault;
+pub use index::Index;
+pub use list::{List, SharedSegment};
+pub use note::Note;
+pub use pass::Pass;
+pub use publisher::Publisher;
+pub use snapshot::Snapshot;
+pub use unnamed::{Unnamed, open_list};

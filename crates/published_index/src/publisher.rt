@@ -1,0 +1,116 @@
+//! The publisher of an index.
+ghost use Rattle.std.specs.Prelude.{◌≡◌, IfOk, IfSome, IsSome, None};
+ghost use Rattle.std.specs.Arc.{arc_value};
+ghost use Rattle.published_index.specs.Cover.{IsList, journal_of};
+ghost use Rattle.published_index.specs.Changes.{AddOf, JoinAt, CanAdd, CanJoin};
+ghost use Rattle.published_index.specs.States.{IsPublishing};
+ghost use Rattle.published_index.specs.Calls.{Makes, Retries};
+ghost use Rattle.published_index.specs.Held.{Remakes};
+
+use crate::held::Held;
+use crate::index::Index;
+use crate::list::{List, SharedSegment};
+use crate::list_writer::ListWriter;
+use crate::note::Note;
+use crate::snapshot::Snapshot;
+use std::alloc::{AllocError, Global};
+use std::marker::{Model, PhantomData};
+use std::sync::Wait;
+
+/// The one that changes the list of an index. It is not `Drop`: end it by `close`.
+pub struct Publisher<J: Index> {
+    pub(crate) writer: ListWriter,
+    pub(crate) of: PhantomData<J>,
+}
+
+impl<J: Index> Model for Publisher<J> {
+    ghost use Rattle.std.specs.Prelude.{◌≡◌};
+    ghost use Rattle.published_index.specs.States.{Publishing};
+
+    ghost Value = { Publishing };
+
+    ghost view = { λ publisher. publisher.writer.publishing };
+
+    ghost invariant = { λ publisher. publisher.writer.book ≡ J.name };
+}
+
+impl<J: Index> Publisher<J> {
+    /// Publishes the segment of the next batch. It waits for the readers that are inside.
+    pub fn put<R: Wait>(&mut self, rt: &R, segment: SharedSegment) -> Result<Note<J>, AllocError>
+        requires none_held { self.old.held ≡ None }
+        requires next { CanAdd self.old.list (arc_value segment) }
+        ensures { Makes self.old self.new (AddOf (arc_value segment)) result }
+    {
+        self.writer.hold(Held::Add(segment));
+        self.publish(rt)
+    }
+
+    /// Publishes a segment in place of the two at `at` and `at + 1`. It waits for the readers that are
+    /// inside.
+    pub fn replace<R: Wait>(
+        &mut self,
+        rt: &R,
+        at: usize,
+        segment: SharedSegment,
+    ) -> Result<Note<J>, AllocError>
+        requires none_held { self.old.held ≡ None }
+        requires both { CanJoin self.old.list at (arc_value segment) }
+        ensures { Makes self.old self.new (JoinAt at (arc_value segment)) result }
+    {
+        self.writer.hold(Held::Join(at, segment));
+        self.publish(rt)
+    }
+
+    /// Publishes the change that is held, if one is. It waits for the readers that are inside.
+    pub fn retry<R: Wait>(&mut self, rt: &R) -> Result<Option<Note<J>>, AllocError>
+        ensures { Retries self.old self.new self.old.held result }
+    {
+        if self.writer.flush(rt)? {
+            return Ok(Some(self.tell()));
+        }
+        Ok(None)
+    }
+
+    /// The published list.
+    pub fn list(&self) -> &List
+        ensures list { result.now ≡ self.now.list }
+        ensures sound { IsPublishing self.now }
+    {
+        self.writer.list()
+    }
+
+    /// A note of the whole published journal. It takes no memory.
+    pub fn tell(&mut self) -> Note<J>
+        ensures note { result ≡ journal_of self.old.list }
+        ensures same { self.new ≡ self.old }
+    {
+        Note {
+            front: self.writer.front(),
+            of: PhantomData,
+        }
+    }
+
+    /// A snapshot of the published list.
+    pub fn snapshot(&self, alloc: Global) -> Result<Snapshot, AllocError>
+        ensures { IfOk result (λ snapshot. snapshot ≡ self.now.list) }
+    {
+        self.writer.snapshot(alloc)
+    }
+
+    /// Ends the publisher. It waits for the readers that are inside.
+    pub fn close<R: Wait>(self, rt: &R) {
+        let Publisher { writer, of: _ } = self;
+        writer.close(rt);
+    }
+
+    /// Publishes the change that was just taken.
+    fn publish<R: Wait>(&mut self, rt: &R) -> Result<Note<J>, AllocError>
+        requires { IsSome self.old.held }
+        ensures { IfSome self.old.held (λ change. Remakes self.old self.new change result) }
+    {
+        match self.writer.flush(rt)? {
+            true => Ok(self.tell()),
+            false => Err(AllocError),
+        }
+    }
+}
