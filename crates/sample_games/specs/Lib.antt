@@ -1,0 +1,2 @@
+pub mod Movetexts
+pub mod Samples
