@@ -3,11 +3,13 @@ use Rattle.std.specs.Prelude.{◌≡◌, ◌≢◌, ◌↔◌, ◌⊎◌, ℕ, z
 use Rattle.std.specs.Cmp.Lexicographic.{slice_cmp}
 use Rattle.std.specs.Ordering.{nat_cmp}
 use Rattle.std.specs.Str.{byte}
+use Rattle.explorer_model.specs.declared.archive.Game.{Game}
 use Rattle.explorer_model.specs.declared.chess.Move.{Move}
 use Rattle.explorer_model.specs.declared.chess.Position.{Position}
 use Rattle.explorer_model.specs.Chess.{start, after, Legal}
 use Rattle.explorer_model.specs.San.{SanText}
 use Rattle.explorer_model.specs.Uci.{uci_text}
+use Rattle.explorer_model.specs.Visits.{IsTextOf}
 use Rattle.rand_pcg.specs.Lcg.{Lcg}
 use Rattle.rand_pcg.specs.Pcg.{pcg32}
 
@@ -138,3 +140,10 @@ pub record IsSample (index : ℕ) (before : Lcg) (text : List ℕ) (behind : Lcg
   pub text_is : text ≡ header_text index (header_drawn played) ++ codes "\n"
       ++ movetext ++ (header_drawn played).result ++ codes "\n\n"
   pub behind_is : behind ≡ behind_header played
+
+-- the text has a game: the moves, under the id of the number
+pub record HasGame (index : ℕ) (text : List ℕ) (moves : List Move) : Type 0 where
+  pub game : Game
+  pub of_text : IsTextOf text game
+  pub moves_are : game.moves ≡ moves
+  pub id_is : game.classes.id.bytes ≡ id_text index

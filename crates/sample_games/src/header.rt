@@ -22,7 +22,7 @@ impl Header {
     pub fn drawn(draws: &mut Lcg64Xsh32) -> Header
         ensures drawn { header result ≡ header_drawn draws.old }
         ensures behind { draws.new ≡ behind_header draws.old }
-        ensures short { length result.result.now ≤ 7 }
+        ensures short { (length result.result.now ≤ 7) × (length result.time_control.now ≤ 6) }
     {
         Header {
             result: result_text(draw(draws, 3)),
@@ -35,21 +35,21 @@ impl Header {
 
     /// Appends the nine tags of the game of this number, each on a line.
     pub fn write(&self, text: &mut Vec<u8>, index: u32) -> Result<(), AllocError>
-        ensures { OnOk result
+        requires { (length self.now.result.now ≤ 7) × (length self.now.time_control.now ≤ 6) }
+        ensures text { OnOk result
             (text.new.items ≡ text.old.items ++ header_text index (header self.now)) }
+        ensures room { OnOk result (length text.new.items ≤ length text.old.items + 300) }
     {
-        let mut number = Buffer::new();
         push_tag(text, b"Event", b"", b"Rated sample game")?;
         push_tag(text, b"Site", b"https://lichess.org/", &id_text(index))?;
-        push_tag(text, b"White", b"w", number.format(index % 100).as_bytes())?;
-        push_tag(text, b"Black", b"b", number.format(index % 100).as_bytes())?;
+        push_number_tag(text, b"White", b"w", index % 100)?;
+        push_number_tag(text, b"Black", b"b", index % 100)?;
         push_tag(text, b"Result", b"", self.result)?;
         push_tag(text, b"UTCDate", b"", &date_text(self.month))?;
-        let white_rating = number.format(self.white_rating);
-        push_tag(text, b"WhiteElo", b"", white_rating.as_bytes())?;
-        let black_rating = number.format(self.black_rating);
-        push_tag(text, b"BlackElo", b"", black_rating.as_bytes())?;
-        push_tag(text, b"TimeControl", b"", self.time_control)
+        push_number_tag(text, b"WhiteElo", b"", self.white_rating)?;
+        push_number_tag(text, b"BlackElo", b"", self.black_rating)?;
+        push_tag(text, b"TimeControl", b"", self.time_control)?;
+        Ok(())
     }
 }
 
@@ -114,8 +114,10 @@ fn digit(number: u32, unit: u32) -> u8
 
 /// Appends a tag pair on a line of its own; its value comes in two parts.
 fn push_tag(text: &mut Vec<u8>, name: &[u8], front: &[u8], back: &[u8]) -> Result<(), AllocError>
-    ensures { OnOk result
+    ensures text { OnOk result
         (text.new.items ≡ text.old.items ++ tag_line name.now (front.now ++ back.now)) }
+    ensures room { OnOk result (length text.new.items
+        ≡ length text.old.items + length name.now + length front.now + length back.now + 6) }
 {
     text.push(b'[')?;
     text.extend_from_slice(name)?;
@@ -123,4 +125,20 @@ fn push_tag(text: &mut Vec<u8>, name: &[u8], front: &[u8], back: &[u8]) -> Resul
     text.extend_from_slice(front)?;
     text.extend_from_slice(back)?;
     text.extend_from_slice(b"\"]\n")
+}
+
+/// Appends a tag pair whose value ends with a number.
+fn push_number_tag(
+    text: &mut Vec<u8>,
+    name: &[u8],
+    front: &[u8],
+    number: u32,
+) -> Result<(), AllocError>
+    ensures text { OnOk result
+        (text.new.items ≡ text.old.items ++ tag_line name.now (front.now ++ decimal number)) }
+    ensures room { OnOk result (length text.new.items
+        ≤ length text.old.items + length name.now + length front.now + 16) }
+{
+    let mut buffer = Buffer::new();
+    push_tag(text, name, front, buffer.format(number).as_bytes())
 }

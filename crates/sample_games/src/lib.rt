@@ -4,9 +4,10 @@
 
 mod draws;
 mod header;
+pub mod laws;
 mod movetext;
-mod sample;
+mod sampling;
 #[cfg(test)]
 mod tests;
 
-pub use sample::sample;
+pub use sampling::sample;

@@ -57,19 +57,17 @@ fn uci_ordered(board: &Board) -> ArrayVec<Move, 416>
     ensures few { length result.items ≤ 415 }
 {
     let mut moves = board.legal();
-    moves.sort_unstable_by(|a, b|
-        ensures { result ≡ slice_cmp nat_cmp (uci_text a.now) (uci_text b.now) }
-    {
-        write_uci(*a).cmp(&write_uci(*b))
-    });
+    moves.sort_unstable_by(
+        |a, b|
+            ensures { result ≡ slice_cmp nat_cmp (uci_text a.now) (uci_text b.now) }
+        { write_uci(*a).cmp(&write_uci(*b)) },
+    );
     moves
 }
 
 /// Appends the number that stands before a move of White's; the first ply is 0.
 fn push_number(text: &mut Vec<u8>, ply: u32) -> Result<(), AllocError>
-    requires { ply < 60 }
-    ensures text { OnOk result (text.new.items ≡ text.old.items ++ number_text ply) }
-    ensures short { OnOk result (length text.new.items ≤ length text.old.items + 4) }
+    ensures { OnOk result (text.new.items ≡ text.old.items ++ number_text ply) }
 {
     if ply % 2 == 0 {
         let mut number = Buffer::new();
@@ -84,8 +82,9 @@ fn check_mark(board: &Board) -> CheckMark
     ensures { IsMarked board.now result }
 {
     if !board.checked() {
-        CheckMark::Quiet
-    } else if board.has_move() {
+        return CheckMark::Quiet;
+    }
+    if board.has_move() {
         CheckMark::Check
     } else {
         CheckMark::Mate

@@ -1,0 +1,11 @@
+pub mod MovetextLemmas
+pub mod Ordered
+pub mod Drawing
+pub mod Ids
+pub mod HasGame
+pub mod Headers
+pub mod Pairs
+pub mod Symbols
+pub mod Tags
+pub mod Whole
+pub mod Words

@@ -1,0 +1,20 @@
+//! What holds of each sample.
+ghost use Rattle.std.specs.Prelude.{◌≡◌, ◌<◌, ℕ, List};
+ghost use Rattle.rand_pcg.specs.Lcg.{Lcg};
+ghost use Rattle.sample_games.specs.Samples.{id_text, IsSample, HasGame};
+
+/// Each sample has a game, with the moves that were drawn and the id of its number.
+pub fn samples_have_games()
+    ensures { (index : ℕ) (before behind : Lcg) (text : List ℕ)
+        → (sample : IsSample index before text behind) → HasGame index text sample.moves }
+{
+    // laws: what is written is read; a legal move leaves a valid position
+    san_codec::laws::written_is_read();
+    legal_moves::laws::legal_moves_keep_validity();
+}
+
+/// Samples of different numbers have different ids.
+pub fn ids_differ()
+    ensures { (number other : ℕ) → number < 131072 → other < 131072
+        → id_text number ≡ id_text other → number ≡ other }
+{}
