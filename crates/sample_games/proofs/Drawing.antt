@@ -1,5 +1,5 @@
 -- One ply after another: what is drawn from here on completes what is drawn from the start.
-use Rattle.std.proofs.Common.{◌≡◌, ℕ, zero, suc, ◌+◌, ◌-◌, ◌*◌, ◌<◌, ◌≤◌, List, [], ◌∷◌, ◌++◌, length, Option, Some, inl, inr, slice_get, codes, decimal, Bool, true, false, cond, ◌==◌, ◌^◌, ◌/◌, ◌%◌, refl, sym, ap, ◌∙◌, subst, arith}
+use Rattle.std.proofs.Common.{◌≡◌, ℕ, zero, suc, ◌+◌, ◌-◌, ◌<◌, ◌≤◌, List, [], ◌∷◌, ◌++◌, length, Some, inl, inr, slice_get, codes, decimal, Bool, true, false, cond, ◌==◌, ◌/◌, ◌%◌, refl, sym, ap, ◌∙◌, subst, arith}
 use Rattle.std.proofs.lemmas.List.{append_assoc, append-nil, length-append}
 use Rattle.std.proofs.lemmas.Fmt.{length-decimal-le}
 use Rattle.explorer_model.specs.declared.chess.Move.{Move}

@@ -1,5 +1,5 @@
 -- Each sample is read as its game.
-use Rattle.std.proofs.Common.{◌≡◌, ℕ, zero, suc, ◌+◌, ◌*◌, ◌<◌, ◌≤◌, Bool, true, false, nat_le, List, [], ◌∷◌, ◌++◌, length, map, slice_get, slice_index_or, Contains, Option, Some, None, Result, Ok, Err, codes, decimal, refl, sym, ap, ◌∙◌, subst, arith, inl, inr}
+use Rattle.std.proofs.Common.{◌≡◌, ℕ, zero, suc, ◌+◌, ◌≤◌, true, nat_le, List, [], ◌∷◌, ◌++◌, length, map, slice_get, Contains, Option, Some, Result, Ok, codes, decimal, refl, sym, ap, ◌∙◌, subst, arith, inl, inr}
 use Rattle.std.specs.Option.{unwrap_or}
 use Rattle.std.proofs.lemmas.Bool.Decides.{nat_tests}
 use Rattle.std.proofs.lemmas.List.{append_assoc}
@@ -15,14 +15,14 @@ use Rattle.explorer_model.specs.declared.fault.GameFault.{GameFault}
 use Rattle.explorer_model.specs.Chess.{IsValid, Legal, start, after}
 use Rattle.explorer_model.specs.Classes.{classes}
 use Rattle.explorer_model.specs.Games.{Score, score, ends_with, Plays, GameOfScore}
-use Rattle.explorer_model.specs.Items.{items, items_from, name_at}
-use Rattle.explorer_model.specs.Parts.{Section, Heading, Ended, meaning, parts}
-use Rattle.explorer_model.specs.Visits.{AreLegalFrom, IsTextOf}
+use Rattle.explorer_model.specs.Items.{items, name_at}
+use Rattle.explorer_model.specs.Parts.{Section, Heading, parts}
+use Rattle.explorer_model.specs.Visits.{AreLegalFrom}
 use Rattle.legal_moves.proofs.StartIsValid.{start_is_valid}
 use Rattle.rand_pcg.specs.Lcg.{Lcg}
-use Rattle.sample_games.specs.Samples.{Header, drawn, later, InUciOrder, DrawsMoves, WritesMoves, header_drawn, tag_line, header_text, id_text, player_text, date_text, IsSample, HasGame}
+use Rattle.sample_games.specs.Samples.{Header, drawn, later, DrawsMoves, header_drawn, tag_line, header_text, id_text, player_text, date_text, IsSample, HasGame}
 use Rattle.sample_games.proofs.MovetextLemmas.{AreSan, ReadsAs, WrittenIsRead, reads-moves, plays-san}
-use Rattle.sample_games.proofs.Pairs.{IsName, reads-tag}
+use Rattle.sample_games.proofs.Pairs.{reads-tag}
 use Rattle.sample_games.proofs.Symbols.{Parted, Reads, IsOpen, heading-open, reads-ending, reads-line, reads-end}
 use Rattle.sample_games.proofs.Tags.{IsResult, IsSound, HasClasses, sound, classes-are, tags_of, site-plain, player-plain, decimal-plain}
 

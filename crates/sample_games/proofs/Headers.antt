@@ -1,5 +1,5 @@
 -- What is drawn of a header, and how its lines stand one behind another.
-use Rattle.std.proofs.Common.{◌≡◌, ℕ, ◌+◌, List, [], ◌∷◌, ◌++◌, length, slice_index_or, refl, sym, ap, ◌∙◌, append_assoc}
+use Rattle.std.proofs.Common.{◌≡◌, ℕ, ◌+◌, List, [], ◌++◌, slice_index_or, ap, ◌∙◌, append_assoc}
 use Rattle.rand_pcg.specs.Lcg.{Lcg}
 use Rattle.sample_games.specs.Samples.{Header, drawn, later, results, time_controls, header_drawn}
 

@@ -1,6 +1,6 @@
 -- A number by its digits.
-use Rattle.std.proofs.Common.{◌≡◌, ℕ, ◌+◌, ◌*◌, ◌/◌, ◌%◌, ◌<◌, ◌≤◌, List, get_or, refl, sym, ap, ◌∙◌, arith}
-use Rattle.sample_games.specs.Samples.{digit, id_text}
+use Rattle.std.proofs.Common.{◌≡◌, ℕ, ◌/◌, ◌%◌, ◌<◌, List, get_or, ap, arith}
+use Rattle.sample_games.specs.Samples.{id_text}
 
 by-hundred-thousands : (m n : ℕ) → m < 131072 → n < 131072 → m / 100000 % 10 ≡ n / 100000 % 10 → m / 100000 ≡ n / 100000
 by-hundred-thousands m n low high same = omega (arith, low, high, same)

@@ -1,5 +1,5 @@
 -- What is written of moves is read as their words, and these as the moves.
-use Rattle.std.proofs.Common.{◌≡◌, ℕ, zero, suc, ◌+◌, ◌*◌, ◌/◌, ◌%◌, ◌^◌, ◌<◌, ◌≤◌, ◌==◌, Bool, true, false, cond, List, [], ◌∷◌, ◌++◌, length, map, Result, Ok, Option, Some, codes, decimal, refl, sym, ap, ◌∙◌, subst, arith, inl, inr, slice_get}
+use Rattle.std.proofs.Common.{◌≡◌, ℕ, ◌+◌, ◌/◌, ◌%◌, ◌^◌, ◌<◌, ◌≤◌, ◌==◌, Bool, true, false, cond, List, [], ◌∷◌, ◌++◌, length, map, Ok, codes, decimal, refl, sym, ap, ◌∙◌, subst, arith, inl}
 use Rattle.std.specs.Bool.{⊤}
 use Rattle.std.proofs.lemmas.List.{append_assoc, append-nil}
 use Rattle.std.specs.List.{list_all}
@@ -8,8 +8,6 @@ use Rattle.explorer_model.specs.declared.archive.Tag.{Tag}
 use Rattle.explorer_model.specs.declared.archive.Token.{Token}
 use Rattle.explorer_model.specs.declared.chess.Move.{Move}
 use Rattle.explorer_model.specs.declared.chess.Position.{Position}
-use Rattle.explorer_model.specs.declared.fault.GameFault.{GameFault}
-use Rattle.explorer_model.specs.declared.fault.SanFault.{SanFault}
 use Rattle.explorer_model.specs.Chess.{IsValid, Legal, after}
 use Rattle.explorer_model.specs.Games.{Plays}
 use Rattle.explorer_model.specs.Parts.{Section, Moves}

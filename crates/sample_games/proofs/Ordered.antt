@@ -1,5 +1,5 @@
 -- Legal moves that are sorted: in another order they still stand once each.
-use Rattle.std.proofs.Common.{◌≡◌, ◌≢◌, ◌↔◌, ℕ, zero, suc, ◌+◌, ◌<◌, ◌≤◌, List, [], ◌∷◌, length, take, drop, ◌++◌, inl, inr, ◌⊎◌, Option, Some, slice_get, Contains, AllPairs, IsPermutation, IsSortedByKey, refl, sym, ap, ◌∙◌, subst, arith, swap, slice_index_or}
+use Rattle.std.proofs.Common.{◌≡◌, ◌≢◌, ◌↔◌, ℕ, zero, suc, ◌<◌, List, [], ◌∷◌, length, take, ◌++◌, inl, inr, ◌⊎◌, Some, slice_get, Contains, AllPairs, IsPermutation, IsSortedByKey, refl, sym, ap, ◌∙◌, subst, arith, swap, slice_index_or}
 use Rattle.std.specs.Cmp.Lexicographic.{slice_cmp}
 use Rattle.std.specs.Ordering.{nat_cmp}
 use Rattle.std.proofs.lemmas.Bool.{cases_lt}

@@ -1,12 +1,12 @@
 -- A tag pair on its line is read as its tag.
-use Rattle.std.proofs.Common.{◌≡◌, ℕ, zero, suc, ◌+◌, ◌-◌, ◌<◌, ◌≤◌, ◌==◌, Bool, true, false, cond, ◌&&◌, not, List, [], ◌∷◌, ◌++◌, length, take, drop, Option, Some, None, option_map, codes, refl, sym, ap, ◌∙◌, subst, arith}
+use Rattle.std.proofs.Common.{◌≡◌, ℕ, ◌+◌, ◌-◌, ◌==◌, Bool, true, false, ◌&&◌, not, List, [], ◌∷◌, ◌++◌, length, take, drop, Option, Some, None, option_map, codes, refl, sym, ap, ◌∙◌, subst, arith}
 use Rattle.std.specs.List.{list_all}
 use Rattle.std.proofs.lemmas.Bool.{cond-false}
 use Rattle.std.proofs.lemmas.List.{append_assoc, length-append}
 use Rattle.std.proofs.Math.Seq.{drop-append-add}
 use Rattle.explorer_model.specs.declared.archive.Ending.{Ending}
 use Rattle.explorer_model.specs.declared.archive.Tag.{Tag}
-use Rattle.explorer_model.specs.Items.{Kind, Pair, Item, Lead, Bracket, Shape, lead_of, shape_by, shape_of, items_from, name_at, after_white, after_byte, closes_string, ends_line, escapes, keep_unless, string_len, unescaped, pair_of, pair_within, pair_item_of, ◌>>=◌}
+use Rattle.explorer_model.specs.Items.{Pair, Item, Lead, Bracket, Shape, lead_of, shape_by, shape_of, items_from, name_at, after_white, after_byte, closes_string, ends_line, escapes, keep_unless, string_len, unescaped, pair_of, pair_within, pair_item_of, ◌>>=◌}
 use Rattle.explorer_model.specs.Parts.{Heading, meaning}
 use Rattle.sample_games.specs.Samples.{tag_line}
 use Rattle.sample_games.proofs.Symbols.{Reads, Parted, adds-tag, reads-line, take-front, Skipped, skip}

@@ -1,7 +1,6 @@
 -- What stands first in a movetext, and what is read behind it.
-use Rattle.std.proofs.Common.{◌≡◌, ℕ, zero, suc, ◌+◌, ◌-◌, ◌<◌, ◌≤◌, ◌==◌, Bool, true, false, cond, ◌&&◌, not, List, [], ◌∷◌, ◌++◌, length, map, take, drop, Option, Some, None, Result, Ok, Err, ok_or, codes, refl, sym, ap, ◌∙◌, subst, arith, get_or}
+use Rattle.std.proofs.Common.{◌≡◌, ℕ, ◌+◌, ◌==◌, Bool, true, false, ◌&&◌, List, [], ◌∷◌, ◌++◌, length, map, take, Option, Some, Result, Ok, ok_or, refl, sym, ap, ◌∙◌, subst, arith}
 use Rattle.std.specs.List.{list_all, prefix_len}
-use Rattle.std.specs.Char.{is_ascii_digit}
 use Rattle.std.proofs.lemmas.Bool.{cond-true, cond-false}
 use Rattle.explorer_model.specs.declared.archive.Ending.{Ending}
 use Rattle.explorer_model.specs.declared.archive.Parts.{Parts}
@@ -9,7 +8,7 @@ use Rattle.explorer_model.specs.declared.archive.Tag.{Tag}
 use Rattle.explorer_model.specs.declared.archive.Token.{Token}
 use Rattle.explorer_model.specs.declared.fault.LexFault.{LexFault}
 use Rattle.explorer_model.specs.Items.{Kind, Blank, Pair, Terminates, Word, Dropped, Item, Shape, Lead, White, Symbol, lead_of, is_white, begins_symbol, continues_symbol, kind_of_symbol, symbol_of, shape_by, shape_of, items_from}
-use Rattle.explorer_model.specs.Parts.{Section, Heading, Moves, Variation, Ended, after, is_in_variation, with_kind, with_item, meaning}
+use Rattle.explorer_model.specs.Parts.{Section, Heading, Moves, Ended, after, is_in_variation, with_kind, with_item, meaning}
 use Rattle.explorer_model.specs.Stop.{◌>>=◌}
 
 -- what a text is read as, whatever the places of its tokens

@@ -1,9 +1,8 @@
 -- What the tags of a sample say.
-use Rattle.std.proofs.Common.{◌≡◌, ℕ, zero, suc, ◌+◌, ◌*◌, ◌/◌, ◌%◌, ◌^◌, ◌<◌, ◌≤◌, ◌==◌, Bool, true, false, cond, ◌&&◌, not, nat_le, List, [], ◌∷◌, ◌++◌, length, get_or, slice_index_or, Option, Some, None, Result, Ok, Err, codes, decimal, refl, sym, ap, ◌∙◌, subst, arith, inl, inr, if◌then◌else◌}
+use Rattle.std.proofs.Common.{◌≡◌, ℕ, zero, suc, ◌+◌, ◌/◌, ◌%◌, ◌^◌, ◌<◌, ◌≤◌, ◌==◌, Bool, true, false, ◌&&◌, nat_le, List, [], ◌∷◌, ◌++◌, length, get_or, slice_index_or, Some, Ok, codes, decimal, refl, ap, ◌∙◌, arith, inl, inr}
 use Rattle.std.specs.List.{list_all}
 use Rattle.std.specs.Char.{is_ascii_digit, is_ascii_alphanumeric}
-use Rattle.std.specs.Str.{IsAscii, IsUtf8, is_utf8, all_ascii_digits}
-use Rattle.std.specs.Str.Parse.{digits_value}
+use Rattle.std.specs.Str.{IsAscii, all_ascii_digits}
 use Rattle.std.proofs.lemmas.Bool.{cases_lt}
 use Rattle.std.proofs.lemmas.Bool.Decides.{nat_tests}
 use Rattle.std.proofs.lemmas.List.{get_or_past}
@@ -12,15 +11,13 @@ use Rattle.std.proofs.lemmas.Str.{is_utf8-from_IsUtf8, IsUtf8-from_ascii}
 use Rattle.explorer_model.specs.declared.archive.Classes.{Classes}
 use Rattle.explorer_model.specs.declared.archive.Ending.{Ending}
 use Rattle.explorer_model.specs.declared.archive.Ending.TheVariants as endings
-use Rattle.explorer_model.specs.declared.archive.GameId.{GameId}
 use Rattle.explorer_model.specs.declared.archive.Month.{Month}
 use Rattle.explorer_model.specs.declared.archive.Outcome.{Outcome}
 use Rattle.explorer_model.specs.declared.archive.Outcome.TheVariants as outcomes
 use Rattle.explorer_model.specs.declared.archive.Speed.{Speed}
 use Rattle.explorer_model.specs.declared.archive.Speed.TheVariants.{UltraBullet, Bullet, Blitz, Rapid, Classical, Correspondence}
 use Rattle.explorer_model.specs.declared.archive.Tag.{Tag}
-use Rattle.explorer_model.specs.declared.fault.TagFault.{TagFault}
-use Rattle.explorer_model.specs.Classes.{classes, mode_of, id_of, name_of, outcome_of, rating_of, number_of, control_of, clock_of, speed_of, month_of, group_of, is_standard, is_from_start}
+use Rattle.explorer_model.specs.Classes.{classes, mode_of, id_of, name_of, outcome_of, rating_of, control_of, clock_of, speed_of, month_of, group_of, is_standard, is_from_start}
 use Rattle.explorer_model.specs.Games.{ends_with}
 use Rattle.explorer_model.specs.Items.{Terminates, kind_of_symbol, ending_of}
 use Rattle.rand_pcg.specs.Lcg.{Lcg}

@@ -1,5 +1,5 @@
 -- The text of a sample, of what was appended.
-use Rattle.std.proofs.Common.{◌≡◌, ◌∙◌, ℕ, ◌+◌, List, [], ◌∷◌, ◌++◌, codes, ap, sym, subst}
+use Rattle.std.proofs.Common.{◌≡◌, ◌∙◌, ℕ, ◌+◌, List, [], ◌++◌, codes, ap, subst}
 use Rattle.explorer_model.specs.Chess.{start}
 use Rattle.rand_pcg.specs.Lcg.{Lcg}
 use Rattle.sample_games.specs.declared.header.Header as declared

@@ -1,8 +1,7 @@
 -- The words of a movetext: moves in SAN, and numbers.
-use Rattle.std.proofs.Common.{◌≡◌, ℕ, zero, suc, ◌+◌, ◌*◌, ◌/◌, ◌%◌, ◌^◌, ◌<◌, ◌≤◌, ◌==◌, Bool, true, false, cond, ◌&&◌, ◌||◌, List, [], ◌∷◌, ◌++◌, length, Option, Some, None, codes, decimal, refl, sym, ap, ◌∙◌, subst, arith, inl, inr, if◌then◌else◌}
+use Rattle.std.proofs.Common.{◌≡◌, ℕ, ◌+◌, ◌/◌, ◌%◌, ◌^◌, ◌<◌, ◌≤◌, ◌==◌, Bool, true, false, ◌&&◌, List, [], ◌∷◌, ◌++◌, length, Option, Some, None, codes, decimal, refl, sym, ap, ◌∙◌, subst, arith, inl, inr, if◌then◌else◌}
 use Rattle.std.specs.List.{list_all}
 use Rattle.std.specs.Char.{is_ascii_digit, is_ascii_alphabetic}
-use Rattle.std.specs.Int.{is_in_range}
 use Rattle.std.specs.Str.{all_ascii_digits}
 use Rattle.std.specs.Str.Parse.{AllDigits}
 use Rattle.std.proofs.lemmas.Bool.Decides.{nat_tests}
@@ -20,9 +19,9 @@ use Rattle.explorer_model.specs.declared.notation.CheckMark.TheVariants.{Quiet, 
 use Rattle.explorer_model.specs.declared.notation.Start.{Start}
 use Rattle.explorer_model.specs.declared.notation.Start.TheVariants.{Unnamed, File, Rank, Square}
 use Rattle.explorer_model.specs.Chess.{castling_side}
-use Rattle.explorer_model.specs.Items.{Kind, Word, Dropped, is_white, begins_symbol, continues_symbol, kind_of_symbol, ending_of}
-use Rattle.explorer_model.specs.Letters.{file_letter, rank_digit, square_text, letter_of}
-use Rattle.explorer_model.specs.San.{captures, StartOf, role_text, start_text, capture_text, promotion_text, castling_text, mark_text, named_text, MoveText, SanText}
+use Rattle.explorer_model.specs.Items.{Word, Dropped, is_white, begins_symbol, continues_symbol, kind_of_symbol, ending_of}
+use Rattle.explorer_model.specs.Letters.{file_letter, rank_digit, square_text}
+use Rattle.explorer_model.specs.San.{captures, StartOf, start_text, capture_text, promotion_text, castling_text, mark_text, named_text, MoveText, SanText}
 use Rattle.sample_games.proofs.Symbols.{IsSymbol}
 
 all-append : (p : ℕ → Bool) (xs ys : List ℕ) → list_all p xs ≡ true → list_all p ys ≡ true → list_all p (xs ++ ys) ≡ true

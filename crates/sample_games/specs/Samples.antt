@@ -1,5 +1,5 @@
 -- Statement. Sample games: what is drawn of the game of a number, and how it is written as PGN.
-use Rattle.std.specs.Prelude.{◌≡◌, ◌≢◌, ◌↔◌, ◌⊎◌, ℕ, zero, suc, ◌+◌, ◌*◌, ◌/◌, ◌%◌, List, [], ◌∷◌, ◌++◌, length, Some, codes, decimal, slice_get, slice_index_or, ◌==◌, if◌then◌else◌, Contains, AllPairs, IsSortedByKey}
+use Rattle.std.specs.Prelude.{◌≡◌, ◌≢◌, ◌↔◌, ◌⊎◌, ℕ, zero, suc, ◌+◌, ◌/◌, ◌%◌, List, [], ◌∷◌, ◌++◌, length, Some, codes, decimal, slice_get, slice_index_or, ◌==◌, if◌then◌else◌, Contains, AllPairs, IsSortedByKey}
 use Rattle.std.specs.Cmp.Lexicographic.{slice_cmp}
 use Rattle.std.specs.Ordering.{nat_cmp}
 use Rattle.std.specs.Str.{byte}

@@ -1,12 +1,11 @@
-use Rattle.std.proofs.Common.{rules, arith, ◌≡◌, ◌∙◌, ◌+◌, ◌<◌, ◌≤◌, ◌++◌, sym, ap, subst, length, slice_get, Some, slice_index_or, List, ℕ, codes}
+use Rattle.std.proofs.Common.{rules, arith, ◌≡◌, ◌<◌, ◌++◌, sym, ap, subst, length, slice_get, Some, slice_index_or, List, ℕ, codes}
 use Rattle.explorer_model.specs.declared.chess.Move.{Move}
 use Rattle.explorer_model.specs.declared.chess.Position.{Position}
-use Rattle.explorer_model.specs.declared.notation.CheckMark.{CheckMark}
-use Rattle.explorer_model.specs.Chess.{Legal, after}
+use Rattle.explorer_model.specs.Chess.{after}
 use Rattle.explorer_model.specs.San.{SanText, IsMarked}
 use Rattle.sample_games.specs.Samples.{drawn, number_text}
 use Rattle.sample_games.proofs.Ordered.{contained, picked-from, each-same, once-same, none-legal}
-use Rattle.sample_games.proofs.Drawing.{begins, goes_on, ends_stuck, ends, number-short}
+use Rattle.sample_games.proofs.Drawing.{goes_on, ends_stuck, ends, number-short}
 use Rattle.sample_games.proofs.movetext.draw_movetext.Goals as goal
 
 pub returns-then-is_empty-clause-drawn : goal.returns-then-is_empty-clause-drawn

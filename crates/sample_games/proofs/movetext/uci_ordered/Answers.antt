@@ -1,4 +1,4 @@
-use Rattle.std.proofs.Common.{rules, ◌≡◌, ◌∙◌, sym, ap, subst, IsSortedByKey, IsPermutation, All, List}
+use Rattle.std.proofs.Common.{rules, ◌≡◌, sym, ap, subst, IsSortedByKey, IsPermutation, All, List}
 use Rattle.std.specs.Cmp.Lexicographic.{slice_cmp}
 use Rattle.std.specs.Ordering.{nat_cmp, is_lt}
 use Rattle.std.proofs.lemmas.Cmp.{nat_list_cmp_total}

@@ -1,4 +1,4 @@
-use Rattle.std.proofs.Common.{rules, ◌≡◌, ◌++◌, codes, ap, ◌∙◌, List, ℕ}
+use Rattle.std.proofs.Common.{rules}
 use Rattle.sample_games.proofs.Whole.{sample-is}
 use Rattle.sample_games.proofs.sampling.sample.Goals as goal
 
