@@ -18,3 +18,13 @@ pub fn ids_differ()
     ensures { (number other : ℕ) → number < 131072 → other < 131072
         → id_text number ≡ id_text other → number ≡ other }
 {}
+
+/// A number and a generator have one sample, and one state of the generator behind it.
+pub fn samples_are_determined()
+    ensures { (index : ℕ) (before behind other_behind : Lcg) (text other : List ℕ)
+        → IsSample index before text behind → IsSample index before other other_behind
+        → (text ≡ other) × (behind ≡ other_behind) }
+{
+    // law: a move has one written form
+    san_codec::laws::notation_is_determined();
+}
