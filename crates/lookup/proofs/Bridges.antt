@@ -1,4 +1,4 @@
--- What is summed, listed and told apart of hits is what is of the rows of all tallies that pass the filter.
+-- What is summed, listed and told apart of hits is what is of the rows of all parts that pass the filter.
 use Rattle.std.proofs.Common.{◌≡◌, ℕ, ◌+◌, Bool, true, false, ◌&&◌, ◌||◌, ◌==◌, nat_lt, cond, if◌then◌else◌, List, [], ◌∷◌, ◌++◌, map, length, bytes_eq, suc, Option, None, refl, sym, ap, ◌∙◌, zero-add}
 use Rattle.std.specs.List.{AllByRecursion, AllZip, sum_by, flat_map, filter, filter_map, cons_option}
 use Rattle.std.specs.Ordering.{nat_cmp, is_lt}
@@ -21,19 +21,20 @@ use Rattle.tally_rows.specs.declared.row.Row.{Row}
 use Rattle.tally_rows.specs.Cover.{passes_row_key, meets, meets_in, rows_totals, rows_ratings, rows_moves, rows_months, rows_month_line, rows_before}
 use Rattle.tally_rows.specs.Recount.{all_of, picks, picked_sum, picked_lists, cover_lists}
 use Rattle.tally_rows.specs.Row.{row_key_of}
-use Rattle.tally_rows.specs.Tally.{Counted, IsCounted, IsTrackOf}
+use Rattle.tally_rows.specs.Tally.{IsTrackOf}
+use Rattle.lookup.specs.Parts.{Part, IsPart}
 use Rattle.lookup.specs.Hits.{NumberedRow, in_months, in_cells, rows_from}
 use Rattle.lookup.specs.Sums.{sum_where, totals_where, ratings_where, entries_where, is_of_month, top_where, recent_where, moves_in, months_in, before_by_total, history_in}
-use Rattle.lookup.specs.Tallies.{tracks_in}
+use Rattle.lookup.specs.Parts.{tracks_in}
 use Rattle.lookup.proofs.Numbered.{numbered, passes-both}
 
--- the rows of each tally
-abbrev pub rows_in : List Counted → List (List Row)
-rows_in tallies = map (λ tally. tally.rows) tallies
+-- the rows of each part
+abbrev pub rows_in : List Part → List (List Row)
+rows_in parts = map (λ part. part.rows) parts
 
 -- the rows that the filter takes, with their numbers
-abbrev pub hits_of : List ℕ → Filter → List Counted → List NumberedRow
-hits_of key wanted tallies = rows_from key (meets wanted any_next) 0 tallies
+abbrev pub hits_of : List ℕ → Filter → List Part → List NumberedRow
+hits_of key wanted parts = rows_from key (meets wanted any_next) 0 parts
 
 zip-length : {A B : Type 0} (R : A → B → Type 0) (xs : List A) (ys : List B) → AllZip R xs ys → length xs ≡ length ys
 zip-length R [] [] h = refl
@@ -42,8 +43,8 @@ zip-length R (x ∷ xs) [] h = absurd h
 zip-length R (x ∷ xs) (y ∷ ys) h = ap suc (zip-length R xs ys h.1)
 
 -- a batch has a track for each of its classes
-pub tracks-length : (tally : Counted) (counted : IsCounted tally) → length counted.tally.tracks ≡ length tally.classes
-tracks-length tally counted =
+pub tracks-length : (part : Part) (counted : IsPart part) → length counted.tally.tracks ≡ length part.classes
+tracks-length part counted =
     sym (zip-length IsTrackOf counted.tally.games counted.tally.tracks counted.tally.are_tracks)
     ∙ sym (ap (λ l. length l) counted.tally.classes_are ∙ length-map counted.tally.games (λ game. game.classes))
 
@@ -78,7 +79,7 @@ module _ (key : List ℕ) (wanted : Filter) where
       all true b c = refl
       all false b c = refl
 
--- ---- sums and lists, of one tally after another
+-- ---- sums and lists, of one part after another
 
 module _ (key : List ℕ) (pick narrow : RowKey → Bool) (test : Row → Bool) (agree : (row : Row) → picks key narrow row ≡ (picks key pick row && test row)) where
   sum-rows : (count : Row → ℕ) (first : ℕ) (rows : List Row)
@@ -95,21 +96,21 @@ module _ (key : List ℕ) (pick narrow : RowKey → Bool) (test : Row → Bool) 
       ∙ ap (λ b. cond b (count row) 0 + picked_sum key narrow count rows) (sym (agree row))
       ∙ sym (sum_by-cons (λ r. cond (picks key narrow r) (count r) 0) row rows)
 
-  pub sum-picked : (count : Row → ℕ) (first : ℕ) (tallies : List Counted)
-      → sum_by (picked_sum key narrow count) (rows_in tallies) ≡ sum_where (rows_from key pick first tallies) test count
+  pub sum-picked : (count : Row → ℕ) (first : ℕ) (parts : List Part)
+      → sum_by (picked_sum key narrow count) (rows_in parts) ≡ sum_where (rows_from key pick first parts) test count
   unfolding sum_where rows_from
   sum-picked count first [] = refl
-  sum-picked count first (tally ∷ tallies) =
-      sum_by-cons (picked_sum key narrow count) tally.rows (rows_in tallies)
-      ∙ (λ i. sym (sum-rows count first tally.rows) i + sum-picked count (first + length tally.classes) tallies i)
-      ∙ sym (sum_by-append (λ (hit : NumberedRow). cond (test hit.row) (count hit.row) 0) (map (numbered first) (filter (picks key pick) tally.rows))
-      (rows_from key pick (first + length tally.classes) tallies))
+  sum-picked count first (part ∷ parts) =
+      sum_by-cons (picked_sum key narrow count) part.rows (rows_in parts)
+      ∙ (λ i. sym (sum-rows count first part.rows) i + sum-picked count (first + length part.classes) parts i)
+      ∙ sym (sum_by-append (λ (hit : NumberedRow). cond (test hit.row) (count hit.row) 0) (map (numbered first) (filter (picks key pick) part.rows))
+      (rows_from key pick (first + length part.classes) parts))
 
-  pub totals-picked : (first : ℕ) (tallies : List Counted) → rows_totals key (rows_in tallies) narrow ≡ totals_where (rows_from key pick first tallies) test
-  totals-picked first tallies =
-      let white = sum-picked (λ row. row.white) first tallies in
-      let draws = sum-picked (λ row. row.draws) first tallies in
-      let black = sum-picked (λ row. row.black) first tallies in
+  pub totals-picked : (first : ℕ) (parts : List Part) → rows_totals key (rows_in parts) narrow ≡ totals_where (rows_from key pick first parts) test
+  totals-picked first parts =
+      let white = sum-picked (λ row. row.white) first parts in
+      let draws = sum-picked (λ row. row.draws) first parts in
+      let black = sum-picked (λ row. row.black) first parts in
       λ i. record { white = white i; draws = draws i; black = black i }
 
   lists-rows : (list : Row → List Entry) (first : ℕ) (rows : List Row)
@@ -131,17 +132,17 @@ module _ (key : List ℕ) (pick narrow : RowKey → Bool) (test : Row → Bool) 
       moved true = refl
       moved false = refl
 
-  pub lists-picked : (list : Row → List Entry) (first : ℕ) (tallies : List Counted) (each : AllByRecursion IsCounted tallies)
-      → cover_lists key narrow list first (tracks_in tallies each) (rows_in tallies) ≡ entries_where (rows_from key pick first tallies) test list
+  pub lists-picked : (list : Row → List Entry) (first : ℕ) (parts : List Part) (each : AllByRecursion IsPart parts)
+      → cover_lists key narrow list first (tracks_in parts each) (rows_in parts) ≡ entries_where (rows_from key pick first parts) test list
   unfolding cover_lists entries_where rows_from
   lists-picked list first [] each = refl
-  lists-picked list first (tally ∷ tallies) each =
+  lists-picked list first (part ∷ parts) each =
       let f = λ (hit : NumberedRow). cond (test hit.row) (map (moved_by hit.first) (list hit.row)) [] in
-      let here = map (numbered first) (filter (picks key pick) tally.rows) in
-      let rest = rows_from key pick (first + length tally.classes) tallies in
-      ap (λ n. map (moved_by first) (picked_lists key narrow list tally.rows) ++ cover_lists key narrow list (first + n) (tracks_in tallies each.1) (rows_in tallies))
-      (tracks-length tally each.0)
-      ∙ (λ i. sym (lists-rows list first tally.rows) i ++ lists-picked list (first + length tally.classes) tallies each.1 i)
+      let here = map (numbered first) (filter (picks key pick) part.rows) in
+      let rest = rows_from key pick (first + length part.classes) parts in
+      ap (λ n. map (moved_by first) (picked_lists key narrow list part.rows) ++ cover_lists key narrow list (first + n) (tracks_in parts each.1) (rows_in parts))
+      (tracks-length part each.0)
+      ∙ (λ i. sym (lists-rows list first part.rows) i ++ lists-picked list (first + length part.classes) parts each.1 i)
       ∙ sym (flat_map-append f here rest)
 
 -- ---- moves and months
@@ -158,59 +159,59 @@ module _ (key : List ℕ) (pick : RowKey → Bool) where
         | false ↦ moves-rows first rows
       ]
 
-  moves-picked : (first : ℕ) (tallies : List Counted)
-      → filter_map (λ row. if picks key pick row then row.next else None) (all_of (rows_in tallies))
-      ≡ filter_map (λ (hit : NumberedRow). hit.row.next) (rows_from key pick first tallies)
+  moves-picked : (first : ℕ) (parts : List Part)
+      → filter_map (λ row. if picks key pick row then row.next else None) (all_of (rows_in parts))
+      ≡ filter_map (λ (hit : NumberedRow). hit.row.next) (rows_from key pick first parts)
   unfolding rows_from
   moves-picked first [] = refl
-  moves-picked first (tally ∷ tallies) =
-      filter_map-append (λ row. if picks key pick row then row.next else None) tally.rows (all_of (rows_in tallies))
-      ∙ (λ i. moves-rows first tally.rows i ++ moves-picked (first + length tally.classes) tallies i)
-      ∙ sym (filter_map-append (λ (hit : NumberedRow). hit.row.next) (map (numbered first) (filter (picks key pick) tally.rows))
-      (rows_from key pick (first + length tally.classes) tallies))
+  moves-picked first (part ∷ parts) =
+      filter_map-append (λ row. if picks key pick row then row.next else None) part.rows (all_of (rows_in parts))
+      ∙ (λ i. moves-rows first part.rows i ++ moves-picked (first + length part.classes) parts i)
+      ∙ sym (filter_map-append (λ (hit : NumberedRow). hit.row.next) (map (numbered first) (filter (picks key pick) part.rows))
+      (rows_from key pick (first + length part.classes) parts))
 
   months-rows : (first : ℕ) (rows : List Row)
       → map (λ (hit : NumberedRow). hit.row.month) (map (numbered first) rows) ≡ map (λ row. row.month) rows
   months-rows first [] = refl
   months-rows first (row ∷ rows) = ap (λ l. row.month ∷ l) (months-rows first rows)
 
-  months-picked : (first : ℕ) (tallies : List Counted)
-      → map (λ row. row.month) (filter (picks key pick) (all_of (rows_in tallies))) ≡ map (λ (hit : NumberedRow). hit.row.month) (rows_from key pick first tallies)
+  months-picked : (first : ℕ) (parts : List Part)
+      → map (λ row. row.month) (filter (picks key pick) (all_of (rows_in parts))) ≡ map (λ (hit : NumberedRow). hit.row.month) (rows_from key pick first parts)
   unfolding rows_from
   months-picked first [] = refl
-  months-picked first (tally ∷ tallies) =
-      let here = filter (picks key pick) tally.rows in
-      let rest = filter (picks key pick) (all_of (rows_in tallies)) in
-      ap (map (λ row. row.month)) (filter-append (picks key pick) tally.rows (all_of (rows_in tallies)))
+  months-picked first (part ∷ parts) =
+      let here = filter (picks key pick) part.rows in
+      let rest = filter (picks key pick) (all_of (rows_in parts)) in
+      ap (map (λ row. row.month)) (filter-append (picks key pick) part.rows (all_of (rows_in parts)))
       ∙ map-append (λ row. row.month) here rest
-      ∙ (λ i. sym (months-rows first here) i ++ months-picked (first + length tally.classes) tallies i)
-      ∙ sym (map-append (λ (hit : NumberedRow). hit.row.month) (map (numbered first) here) (rows_from key pick (first + length tally.classes) tallies))
+      ∙ (λ i. sym (months-rows first here) i ++ months-picked (first + length part.classes) parts i)
+      ∙ sym (map-append (λ (hit : NumberedRow). hit.row.month) (map (numbered first) here) (rows_from key pick (first + length part.classes) parts))
 
 -- ---- in the words of the answer
 
-module _ (key : List ℕ) (wanted : Filter) (tallies : List Counted) where
-  pub totals-are : (test : Option Move → Bool) → rows_totals key (rows_in tallies) (meets wanted test) ≡ totals_where (hits_of key wanted tallies) (λ row. test row.next)
-  totals-are test = totals-picked key (meets wanted any_next) (meets wanted test) (λ row. test row.next) (picks-test key wanted test) 0 tallies
+module _ (key : List ℕ) (wanted : Filter) (parts : List Part) where
+  pub totals-are : (test : Option Move → Bool) → rows_totals key (rows_in parts) (meets wanted test) ≡ totals_where (hits_of key wanted parts) (λ row. test row.next)
+  totals-are test = totals-picked key (meets wanted any_next) (meets wanted test) (λ row. test row.next) (picks-test key wanted test) 0 parts
 
-  pub ratings-are : (test : Option Move → Bool) → rows_ratings key (rows_in tallies) (meets wanted test) ≡ ratings_where (hits_of key wanted tallies) (λ row. test row.next)
-  ratings-are test = sum-picked key (meets wanted any_next) (meets wanted test) (λ row. test row.next) (picks-test key wanted test) (λ row. row.ratings) 0 tallies
+  pub ratings-are : (test : Option Move → Bool) → rows_ratings key (rows_in parts) (meets wanted test) ≡ ratings_where (hits_of key wanted parts) (λ row. test row.next)
+  ratings-are test = sum-picked key (meets wanted any_next) (meets wanted test) (λ row. test row.next) (picks-test key wanted test) (λ row. row.ratings) 0 parts
 
-  pub month-totals-are : (month : Month) → rows_totals key (rows_in tallies) (meets_in month wanted) ≡ totals_where (hits_of key wanted tallies) (is_of_month month)
-  month-totals-are month = totals-picked key (meets wanted any_next) (meets_in month wanted) (is_of_month month) (picks-month key wanted month) 0 tallies
+  pub month-totals-are : (month : Month) → rows_totals key (rows_in parts) (meets_in month wanted) ≡ totals_where (hits_of key wanted parts) (is_of_month month)
+  month-totals-are month = totals-picked key (meets wanted any_next) (meets_in month wanted) (is_of_month month) (picks-month key wanted month) 0 parts
 
-  pub lists-are : (each : AllByRecursion IsCounted tallies) (test : Option Move → Bool) (list : Row → List Entry)
-      → cover_lists key (meets wanted test) list 0 (tracks_in tallies each) (rows_in tallies) ≡ entries_where (hits_of key wanted tallies) (λ row. test row.next) list
-  lists-are each test list = lists-picked key (meets wanted any_next) (meets wanted test) (λ row. test row.next) (picks-test key wanted test) list 0 tallies each
+  pub lists-are : (each : AllByRecursion IsPart parts) (test : Option Move → Bool) (list : Row → List Entry)
+      → cover_lists key (meets wanted test) list 0 (tracks_in parts each) (rows_in parts) ≡ entries_where (hits_of key wanted parts) (λ row. test row.next) list
+  lists-are each test list = lists-picked key (meets wanted any_next) (meets wanted test) (λ row. test row.next) (picks-test key wanted test) list 0 parts each
 
-  pub moves-are : rows_moves key (rows_in tallies) wanted ≡ moves_in (hits_of key wanted tallies)
+  pub moves-are : rows_moves key (rows_in parts) wanted ≡ moves_in (hits_of key wanted parts)
   unfolding rows_moves moves_in
-  moves-are = ap (distinct is_same_move) (moves-picked key (meets wanted any_next) 0 tallies)
+  moves-are = ap (distinct is_same_move) (moves-picked key (meets wanted any_next) 0 parts)
 
-  pub months-are : rows_months key (rows_in tallies) wanted ≡ months_in (hits_of key wanted tallies)
+  pub months-are : rows_months key (rows_in parts) wanted ≡ months_in (hits_of key wanted parts)
   unfolding rows_months months_in
-  months-are = ap (distinct is_same_month) (months-picked key (meets wanted any_next) 0 tallies)
+  months-are = ap (distinct is_same_month) (months-picked key (meets wanted any_next) 0 parts)
 
-  pub before-is : (a b : Move) → rows_before key (rows_in tallies) wanted a b ≡ before_by_total (hits_of key wanted tallies) a b
+  pub before-is : (a b : Move) → rows_before key (rows_in parts) wanted a b ≡ before_by_total (hits_of key wanted parts) a b
   before-is a b =
       let of_a = totals-are (is_move a) in
       let of_b = totals-are (is_move b) in
@@ -218,25 +219,25 @@ module _ (key : List ℕ) (wanted : Filter) (tallies : List Counted) where
       || ((total (of_a i) == total (of_b i)) && is_lt (slice_cmp nat_cmp (uci_text a) (uci_text b)))
 
   -- the same totals, of the rows of the months of which the filter takes the cells
-  pub cell-totals-are : rows_totals key (rows_in tallies) (meets wanted any_next)
-      ≡ totals_where (rows_from key (in_months wanted) 0 tallies) (λ row. in_cells wanted (row_key_of row))
+  pub cell-totals-are : rows_totals key (rows_in parts) (meets wanted any_next)
+      ≡ totals_where (rows_from key (in_months wanted) 0 parts) (λ row. in_cells wanted (row_key_of row))
   cell-totals-are =
-      totals-picked key (in_months wanted) (meets wanted any_next) (λ row. in_cells wanted (row_key_of row)) (picks-cells key wanted) 0 tallies
+      totals-picked key (in_months wanted) (meets wanted any_next) (λ row. in_cells wanted (row_key_of row)) (picks-cells key wanted) 0 parts
 
-  pub top-is : (each : AllByRecursion IsCounted tallies) (test : Option Move → Bool)
-      → best before_by_rating 4 (cover_lists key (meets wanted test) (λ row. row.top) 0 (tracks_in tallies each) (rows_in tallies))
-      ≡ top_where (hits_of key wanted tallies) (λ row. test row.next)
+  pub top-is : (each : AllByRecursion IsPart parts) (test : Option Move → Bool)
+      → best before_by_rating 4 (cover_lists key (meets wanted test) (λ row. row.top) 0 (tracks_in parts each) (rows_in parts))
+      ≡ top_where (hits_of key wanted parts) (λ row. test row.next)
   top-is each test = ap (best before_by_rating 4) (lists-are each test (λ row. row.top))
 
-  pub recent-is : (each : AllByRecursion IsCounted tallies) (test : Option Move → Bool)
-      → best before_by_month 4 (cover_lists key (meets wanted test) (λ row. row.recent) 0 (tracks_in tallies each) (rows_in tallies))
-      ≡ recent_where (hits_of key wanted tallies) (λ row. test row.next)
+  pub recent-is : (each : AllByRecursion IsPart parts) (test : Option Move → Bool)
+      → best before_by_month 4 (cover_lists key (meets wanted test) (λ row. row.recent) 0 (tracks_in parts each) (rows_in parts))
+      ≡ recent_where (hits_of key wanted parts) (λ row. test row.next)
   recent-is each test = ap (best before_by_month 4) (lists-are each test (λ row. row.recent))
 
-  pub first-moves-are : (most : ℕ) → best (rows_before key (rows_in tallies) wanted) most (rows_moves key (rows_in tallies) wanted)
-      ≡ best (before_by_total (hits_of key wanted tallies)) most (moves_in (hits_of key wanted tallies))
+  pub first-moves-are : (most : ℕ) → best (rows_before key (rows_in parts) wanted) most (rows_moves key (rows_in parts) wanted)
+      ≡ best (before_by_total (hits_of key wanted parts)) most (moves_in (hits_of key wanted parts))
   first-moves-are most = λ i. best (λ a b. before-is a b i) most (moves-are i)
 
-  pub history-is : (let months = rows_months key (rows_in tallies) wanted in map (rows_month_line key (rows_in tallies) wanted) (best before_in_time (length months) months))
-      ≡ history_in (hits_of key wanted tallies)
+  pub history-is : (let months = rows_months key (rows_in parts) wanted in map (rows_month_line key (rows_in parts) wanted) (best before_in_time (length months) months))
+      ≡ history_in (hits_of key wanted parts)
   history-is = λ i. map (λ month. record { month = month; totals = month-totals-are month i }) (best before_in_time (length (months-are i)) (months-are i))

@@ -15,7 +15,7 @@ use Rattle.tally_rows.specs.declared.row.Row.{Row}
 use Rattle.tally_rows.specs.Grid.{IsShaped, no_games, zeros, plus, Fit, cell_of, cell_at, added, chosen, total, HasRoom}
 use Rattle.tally_rows.specs.Row.{row_key_of}
 use Rattle.tally_rows.proofs.Grids.{plus-none_right}
-use Rattle.explorer_model.specs.Journal.{game_limit}
+use Rattle.lookup.specs.Hits.{look_limit}
 use Rattle.lookup.specs.Hits.{NumberedRow, in_cells, games_of, IsSound, AreSound}
 use Rattle.lookup.specs.Sums.{sum_where, totals_where, ratings_where}
 
@@ -211,13 +211,13 @@ ratings-within (hit ∷ hits) sound =
     )
 
 module _ (hits : List NumberedRow) (sound : AreSound hits) where
-  white-few : sum_by (λ hit. hit.row.white) hits ≤ game_limit
+  white-few : sum_by (λ hit. hit.row.white) hits ≤ look_limit
   white-few = omega (arith, sound.few, sum_by-le-sum_by (λ (hit : NumberedRow). hit.row.white) (λ hit. games_of hit.row) hits (λ hit. omega arith))
 
-  draws-few : sum_by (λ hit. hit.row.draws) hits ≤ game_limit
+  draws-few : sum_by (λ hit. hit.row.draws) hits ≤ look_limit
   draws-few = omega (arith, sound.few, sum_by-le-sum_by (λ (hit : NumberedRow). hit.row.draws) (λ hit. games_of hit.row) hits (λ hit. omega arith))
 
-  black-few : sum_by (λ hit. hit.row.black) hits ≤ game_limit
+  black-few : sum_by (λ hit. hit.row.black) hits ≤ look_limit
   black-few = omega (arith, sound.few, sum_by-le-sum_by (λ (hit : NumberedRow). hit.row.black) (λ hit. games_of hit.row) hits (λ hit. omega arith))
 
   ratings-few : sum_by (λ hit. hit.row.ratings) hits < 2 ^ 64

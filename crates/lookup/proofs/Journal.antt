@@ -1,5 +1,5 @@
--- Spans cover the games of a journal, and tallies are spans of one batch.
-use Rattle.std.proofs.Common.{◌≡◌, ℕ, ◌+◌, List, [], ◌∷◌, ◌++◌, map, refl, ap, ◌∙◌, sym, subst, append_assoc}
+-- Spans cover the games of a journal, and parts have spans.
+use Rattle.std.proofs.Common.{◌≡◌, ℕ, ◌+◌, List, [], ◌∷◌, ◌++◌, map, length, refl, ap, ◌∙◌, sym, subst, append_assoc}
 use Rattle.std.specs.List.{AllByRecursion, AllZip}
 use Rattle.explorer_model.specs.declared.archive.Batch.{Batch}
 use Rattle.explorer_model.specs.declared.archive.Game.{Game}
@@ -8,9 +8,10 @@ use Rattle.explorer_model.specs.Visits.{IsTextOf, AreGamesOf, texts_of}
 use Rattle.explorer_model.proofs.Lists.{zip-append}
 use Rattle.tally_rows.specs.Recount.{all_of}
 use Rattle.tally_rows.specs.Tallied.{Tallied}
-use Rattle.tally_rows.specs.Tally.{Counted, IsCounted, IsTrackOf}
+use Rattle.tally_rows.specs.Tally.{Counted, IsCounted, IsTallyOf, IsTrackOf}
+use Rattle.segment_blocks.specs.Segment.{CountedSpan}
+use Rattle.lookup.specs.Parts.{Part, IsPart, games_in, journal_of, segment_part, spans_from, tallied_part, tracks_in}
 use Rattle.lookup.specs.FromRows.{AreTallied, texts_in}
-use Rattle.lookup.specs.Tallies.{games_in, spans_from, tracks_in}
 
 -- ---- the games of spans are those of their batches
 
@@ -30,38 +31,51 @@ span-games (span ∷ spans) (g ∷ games) of =
     subst Z (sym (texts-append span.batches (batches_of spans)))
     (zip-append IsTextOf (texts_of span.batches) (texts_of (batches_of spans)) g (all_of games) of.0 (span-games spans games of.1))
 
--- ---- tallies
+-- ---- parts
+
+games-of : (first : ℕ) (parts : List Part) (each : AllByRecursion IsPart parts)
+    → AllZip (AllZip IsTextOf) (texts_in (spans_from first parts)) (games_in parts each)
+games-of first [] each = tt
+games-of first (part ∷ parts) each = (each.0.tally.are_games, games-of (first + length part.batches) parts each.1)
+
+tracks-of : (parts : List Part) (each : AllByRecursion IsPart parts) → AllZip (AllZip IsTrackOf) (games_in parts each) (tracks_in parts each)
+tracks-of [] each = tt
+tracks-of (part ∷ parts) each = (each.0.tally.are_tracks, tracks-of parts each.1)
+
+rows-of : (parts : List Part) (each : AllByRecursion IsPart parts) → AllZip Tallied (tracks_in parts each) (map (λ part. part.rows) parts)
+rows-of [] each = tt
+rows-of (part ∷ parts) each = (each.0.tally.tallied, rows-of parts each.1)
+
+pub tallied : (parts : List Part) (each : AllByRecursion IsPart parts)
+    → AreTallied (spans_from 0 parts) (games_in parts each) (tracks_in parts each) (map (λ part. part.rows) parts)
+tallied parts each = record { are_games = games-of 0 parts each; are_tracks = tracks-of parts each; tallied = rows-of parts each }
+
+adjoins : (first : ℕ) (parts : List Part) → Adjoin first (spans_from first parts)
+adjoins first [] = tt
+adjoins first (part ∷ parts) = (refl, adjoins (first + length part.batches) parts)
+
+batches-are : (first : ℕ) (parts : List Part) → batches_of (spans_from first parts) ≡ journal_of parts
+batches-are first [] = refl
+batches-are first (part ∷ parts) = ap (λ l. part.batches ++ l) (batches-are (first + length part.batches) parts)
+
+pub covers : (parts : List Part) → Covers (spans_from 0 parts) (journal_of parts)
+covers parts = record { adjoin = adjoins 0 parts; whole = batches-are 0 parts }
+
+-- ---- tallies and segments
 
 append-nil : (texts : List (List ℕ)) → texts ++ [] ≡ texts
 append-nil [] = refl
 append-nil (text ∷ texts) = ap (λ l. text ∷ l) (append-nil texts)
 
-games-of : (first : ℕ) (tallies : List Counted) (each : AllByRecursion IsCounted tallies)
-    → AllZip (AllZip IsTextOf) (texts_in (spans_from first tallies)) (games_in tallies each)
-games-of first [] each = tt
-games-of first (tally ∷ tallies) each =
-    let Z : List (List ℕ) → Type 0 = λ texts. AllZip IsTextOf texts each.0.tally.games in
-    (subst Z (sym (append-nil tally.batch.texts)) each.0.tally.are_games, games-of (first + 1) tallies each.1)
+pub counted-part : (tally : Counted) → IsCounted tally → IsPart (tallied_part tally)
+counted-part tally counted =
+    let T : List (List ℕ) → Type 0 = λ texts. IsTallyOf texts tally.classes tally.rows in
+    record { tally = subst T (sym (append-nil tally.batch.texts)) counted.tally }
 
-tracks-of : (tallies : List Counted) (each : AllByRecursion IsCounted tallies) → AllZip (AllZip IsTrackOf) (games_in tallies each) (tracks_in tallies each)
-tracks-of [] each = tt
-tracks-of (tally ∷ tallies) each = (each.0.tally.are_tracks, tracks-of tallies each.1)
+pub tallies-journal : (tallies : List Counted) → journal_of (map tallied_part tallies) ≡ map (λ tally. tally.batch) tallies
+tallies-journal [] = refl
+tallies-journal (tally ∷ tallies) = ap (λ l. tally.batch ∷ l) (tallies-journal tallies)
 
-rows-of : (tallies : List Counted) (each : AllByRecursion IsCounted tallies) → AllZip Tallied (tracks_in tallies each) (map (λ tally. tally.rows) tallies)
-rows-of [] each = tt
-rows-of (tally ∷ tallies) each = (each.0.tally.tallied, rows-of tallies each.1)
-
-pub tallied : (tallies : List Counted) (each : AllByRecursion IsCounted tallies)
-    → AreTallied (spans_from 0 tallies) (games_in tallies each) (tracks_in tallies each) (map (λ tally. tally.rows) tallies)
-tallied tallies each = record { are_games = games-of 0 tallies each; are_tracks = tracks-of tallies each; tallied = rows-of tallies each }
-
-adjoins : (first : ℕ) (tallies : List Counted) → Adjoin first (spans_from first tallies)
-adjoins first [] = tt
-adjoins first (tally ∷ tallies) = (refl, adjoins (first + 1) tallies)
-
-batches-are : (first : ℕ) (tallies : List Counted) → batches_of (spans_from first tallies) ≡ map (λ tally. tally.batch) tallies
-batches-are first [] = refl
-batches-are first (tally ∷ tallies) = ap (λ l. tally.batch ∷ l) (batches-are (first + 1) tallies)
-
-pub covers : (tallies : List Counted) → Covers (spans_from 0 tallies) (map (λ tally. tally.batch) tallies)
-covers tallies = record { adjoin = adjoins 0 tallies; whole = batches-are 0 tallies }
+pub segments-journal : (segments : List CountedSpan) → journal_of (map segment_part segments) ≡ batches_of (map (λ segment. segment.span) segments)
+segments-journal [] = refl
+segments-journal (segment ∷ segments) = ap (λ l. segment.span.batches ++ l) (segments-journal segments)

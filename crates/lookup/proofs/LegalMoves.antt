@@ -8,12 +8,13 @@ use Rattle.explorer_model.specs.declared.archive.Game.{Game}
 use Rattle.explorer_model.specs.declared.chess.Move.{Move}
 use Rattle.explorer_model.specs.declared.chess.Position.{Position}
 use Rattle.explorer_model.specs.Chess.{Legal}
-use Rattle.explorer_model.specs.Visits.{IsTextOf}
+use Rattle.explorer_model.specs.Visits.{IsTextOf, texts_of}
 use Rattle.tally_rows.specs.declared.row_key.RowKey.{RowKey}
 use Rattle.tally_rows.specs.declared.row.Row.{Row}
 use Rattle.tally_rows.specs.Recount.{picks}
 use Rattle.tally_rows.specs.Row.{row_key_of}
-use Rattle.tally_rows.specs.Tally.{Counted, IsCounted, IsTrackOf}
+use Rattle.tally_rows.specs.Tally.{IsTrackOf}
+use Rattle.lookup.specs.Parts.{Part, IsPart}
 use Rattle.tally_rows.specs.Track.{Track, visit, row_keys_at, has}
 use Rattle.tally_rows.proofs.Members.{IsIn, Found, All-IsIn, Found-from_Any, recursion-IsIn}
 use Rattle.tally_rows.proofs.Visits.{has-row_keys_at}
@@ -59,15 +60,15 @@ module _ (at : Position) (key : List ℕ) where
   abbrev pub PlaysLegal : Row → Type 0
   PlaysLegal row = (m : Move) → row.next ≡ Some m → Legal at m
 
-  row-legal : TracksTell → (tally : Counted) → IsCounted tally → (row : Row) → IsIn row tally.rows → row.key ≡ key → PlaysLegal row
-  row-legal tell tally counted row is_in here m is =
+  row-legal : TracksTell → (part : Part) → IsPart part → (row : Row) → IsIn row part.rows → row.key ≡ key → PlaysLegal row
+  row-legal tell part counted row is_in here m is =
       let tracks = counted.tally.tracks in
-      let some : Found (λ t. has (row_key_of row) t ≡ true) tracks = Found-from_Any _ tracks (All-IsIn (λ x. Any (λ t. has (row_key_of x) t ≡ true) tracks) tally.rows counted.tally.tallied.some row is_in) in
-      let each = tracks-tell tell tally.batch.texts counted.tally.games tracks counted.tally.are_games counted.tally.are_tracks in
+      let some : Found (λ t. has (row_key_of row) t ≡ true) tracks = Found-from_Any _ tracks (All-IsIn (λ x. Any (λ t. has (row_key_of x) t ≡ true) tracks) part.rows counted.tally.tallied.some row is_in) in
+      let each = tracks-tell tell (texts_of part.batches) counted.tally.games tracks counted.tally.are_games counted.tally.are_tracks in
       let K : List ℕ → Type 0 = λ k. visit k some.value ≡ Some (Some m) in
       recursion-IsIn TellsLegal tracks each some.value some.is_in m (subst K here (row-visit row some.value some.holds ∙ ap (λ next. Some next) is))
 
-  -- ---- over all tallies
+  -- ---- over all parts
 
   filter-legal : (test : Row → Bool) (rows : List Row) → ((row : Row) → IsIn row rows → test row ≡ true → PlaysLegal row)
       → AllByRecursion PlaysLegal (filter test rows)
@@ -98,16 +99,16 @@ module _ (at : Position) (key : List ℕ) where
       first true b is = refl
       first false b is = is
 
-  rows-legal : TracksTell → (pick : RowKey → Bool) (first : ℕ) (tallies : List Counted) → AllByRecursion IsCounted tallies
-      → AllByRecursion HitLegal (rows_from key pick first tallies)
+  rows-legal : TracksTell → (pick : RowKey → Bool) (first : ℕ) (parts : List Part) → AllByRecursion IsPart parts
+      → AllByRecursion HitLegal (rows_from key pick first parts)
   unfolding rows_from
   rows-legal tell pick first [] each = tt
-  rows-legal tell pick first (tally ∷ tallies) each =
-      append-legal (map (λ row. record { row = row; first = first }) (filter (picks key pick) tally.rows)) (rows_from key pick (first + length tally.classes) tallies)
-      (numbered-legal first (filter (picks key pick) tally.rows)
-      (filter-legal (picks key pick) tally.rows (λ row is_in is. row-legal tell tally each.0 row is_in (picked-key pick row is))))
-      (rows-legal tell pick (first + length tally.classes) tallies each.1)
+  rows-legal tell pick first (part ∷ parts) each =
+      append-legal (map (λ row. record { row = row; first = first }) (filter (picks key pick) part.rows)) (rows_from key pick (first + length part.classes) parts)
+      (numbered-legal first (filter (picks key pick) part.rows)
+      (filter-legal (picks key pick) part.rows (λ row is_in is. row-legal tell part each.0 row is_in (picked-key pick row is))))
+      (rows-legal tell pick (first + length part.classes) parts each.1)
 
-  pub moves-legal : TracksTell → (pick : RowKey → Bool) (tallies : List Counted) → AllByRecursion IsCounted tallies
-      → AllByRecursion (λ m. Legal at m) (moves_in (rows_from key pick 0 tallies))
-  moves-legal tell pick tallies each = moves-have (λ m. Legal at m) (rows_from key pick 0 tallies) (rows-legal tell pick 0 tallies each)
+  pub moves-legal : TracksTell → (pick : RowKey → Bool) (parts : List Part) → AllByRecursion IsPart parts
+      → AllByRecursion (λ m. Legal at m) (moves_in (rows_from key pick 0 parts))
+  moves-legal tell pick parts each = moves-have (λ m. Legal at m) (rows_from key pick 0 parts) (rows-legal tell pick 0 parts each)

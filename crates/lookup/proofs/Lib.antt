@@ -19,3 +19,6 @@ pub mod Places
 pub mod Listings
 pub mod FromHits
 pub mod Looking
+pub mod PartLoops
+pub mod SegmentRowLemmas
+pub mod OneKey

@@ -21,7 +21,7 @@ use Rattle.explorer_model.specs.declared.query.Filter.{Filter}
 use Rattle.lookup.specs.Hits.{NumberedRow, rows_from}
 use Rattle.lookup.specs.Listing.{lists_number, next_where, all_classes, listed_where, AreEntriesOf, IsListingOf, IsOnlyListingOf}
 use Rattle.lookup.specs.Sums.{entries_where}
-use Rattle.lookup.specs.Tallies.{tracks_in}
+use Rattle.lookup.specs.Parts.{tracks_in}
 use Rattle.lookup.proofs.Places.{get-left, get-right}
 use Rattle.tally_rows.specs.declared.row_key.RowKey.{RowKey}
 use Rattle.tally_rows.specs.declared.row.Row.{Row}
@@ -29,7 +29,8 @@ use Rattle.tally_rows.specs.Cover.{meets, listing, listed_by}
 use Rattle.tally_rows.specs.Recount.{all_of, picks}
 use Rattle.tally_rows.specs.Row.{row_key_of}
 use Rattle.tally_rows.specs.Tallied.{entries, has_move, rating_sum, track_month, IsTally}
-use Rattle.tally_rows.specs.Tally.{Counted, IsCounted, IsTrackOf}
+use Rattle.tally_rows.specs.Tally.{IsTrackOf}
+use Rattle.lookup.specs.Parts.{Part, IsPart}
 use Rattle.tally_rows.specs.Track.{Track, visit, row_keys_at, has}
 use Rattle.tally_rows.proofs.Members.{IsIn, All-from_IsIn, All-IsIn, IsIn-from_Contains, Contains-IsIn, Found-map}
 use Rattle.tally_rows.proofs.Visits.{has-row_keys_at}
@@ -77,10 +78,10 @@ abbrev pub ListsGames : (Row → List Entry) → Type 0
 ListsGames list = (tracks : List Track) (row : Row) → IsTally tracks row → (entry : Entry) → IsIn entry (list row) → IsAt (has_move (row_key_of row)) 0 tracks entry
 
 pub top-lists : ListsGames (λ row. row.top)
-top-lists tracks row tally entry m = best-at rating_sum (has_move (row_key_of row)) before_by_rating tracks row.top entry tally.top m
+top-lists tracks row part entry m = best-at rating_sum (has_move (row_key_of row)) before_by_rating tracks row.top entry part.top m
 
 pub recent-lists : ListsGames (λ row. row.recent)
-recent-lists tracks row tally entry m = best-at track_month (has_move (row_key_of row)) before_by_month tracks row.recent entry tally.recent m
+recent-lists tracks row part entry m = best-at track_month (has_move (row_key_of row)) before_by_month tracks row.recent entry part.recent m
 
 -- the move of a row is what a game plays in the position
 record Plays (key : List ℕ) (track : Track) (row : Row) : Type 0 where
@@ -150,8 +151,8 @@ games-long (g ∷ games) [] zip = absurd zip
 games-long (g ∷ games) (t ∷ tracks) zip =
     ap (λ c. c ∷ map {A = Game} (λ game. game.classes) games) (sym zip.0.classes) ∙ ap (λ l. t.classes ∷ l) (games-long games tracks zip.1)
 
-own-classes : (tally : Counted) → (is : IsCounted tally) → tally.classes ≡ map (λ track. track.classes) is.tally.tracks
-own-classes tally is = is.tally.classes_are ∙ games-long is.tally.games is.tally.tracks is.tally.are_tracks
+own-classes : (part : Part) → (is : IsPart part) → part.classes ≡ map (λ track. track.classes) is.tally.tracks
+own-classes part is = is.tally.classes_are ∙ games-long is.tally.games is.tally.tracks is.tally.are_tracks
 
 left-true : (a b : Bool) → (a && b) ≡ true → a ≡ true
 left-true true b e = refl
@@ -162,12 +163,12 @@ module _ (list : Row → List Entry) (lists : ListsGames list) (key : List ℕ) 
   unfolding picks
   picks-own_key row e = (bytes_eq-Decides row.key key).0 (left-true (bytes_eq row.key key) (pick (row_key_of row)) e)
 
-  tells-here : (tally : Counted) (is : IsCounted tally) (first : ℕ) (rest : List Track) (row : Row) → IsIn row (filter (picks key pick) tally.rows)
+  tells-here : (part : Part) (is : IsPart part) (first : ℕ) (rest : List Track) (row : Row) → IsIn row (filter (picks key pick) part.rows)
       → (entry : Entry) → IsIn entry (list row) → Tells list key first (is.tally.tracks ++ rest) (record { row = row; first = first }) entry
-  tells-here tally is first rest row m entry n =
+  tells-here part is first rest row m entry n =
       let tracks = is.tally.tracks in
-      let k = kept (picks key pick) tally.rows row m in
-      let found = lists tracks row (All-IsIn (IsTally tracks) tally.rows is.tally.tallied.each row k.is_in) entry n in
+      let k = kept (picks key pick) part.rows row m in
+      let found = lists tracks row (All-IsIn (IsTally tracks) part.rows is.tally.tallied.each row k.is_in) entry n in
       record {
         place = found.place;
         is = omega (arith, found.is);
@@ -178,11 +179,11 @@ module _ (list : Row → List Entry) (lists : ListsGames list) (key : List ℕ) 
         };
       }
 
-  tells-later : (tally : Counted) (is : IsCounted tally) (first : ℕ) (rest : List Track) (hit : NumberedRow) (entry : Entry)
-      → Tells list key (first + length tally.classes) rest hit entry → Tells list key first (is.tally.tracks ++ rest) hit entry
-  tells-later tally is first rest hit entry told =
+  tells-later : (part : Part) (is : IsPart part) (first : ℕ) (rest : List Track) (hit : NumberedRow) (entry : Entry)
+      → Tells list key (first + length part.classes) rest hit entry → Tells list key first (is.tally.tracks ++ rest) hit entry
+  tells-later part is first rest hit entry told =
       let tracks = is.tally.tracks in
-      let long : length tally.classes ≡ length tracks = ap length (own-classes tally is) ∙ length-map tracks (λ track. track.classes) in
+      let long : length part.classes ≡ length tracks = ap length (own-classes part is) ∙ length-map tracks (λ track. track.classes) in
       let place = length tracks + told.place in
       let back : place - length tracks ≡ told.place = omega arith in
       record {
@@ -195,30 +196,30 @@ module _ (list : Row → List Entry) (lists : ListsGames list) (key : List ℕ) 
         };
       }
 
-  rows-tell : (tallies : List Counted) (each : AllByRecursion IsCounted tallies) (first : ℕ) (hit : NumberedRow) → IsIn hit (rows_from key pick first tallies)
-      → (entry : Entry) → IsIn entry (list hit.row) → Tells list key first (all_of (tracks_in tallies each)) hit entry
+  rows-tell : (parts : List Part) (each : AllByRecursion IsPart parts) (first : ℕ) (hit : NumberedRow) → IsIn hit (rows_from key pick first parts)
+      → (entry : Entry) → IsIn entry (list hit.row) → Tells list key first (all_of (tracks_in parts each)) hit entry
   unfolding rows_from
   rows-tell [] each first hit m entry n = absurd m
-  rows-tell (tally ∷ tallies) each first hit m entry n =
-      elim (in-either (map {B = NumberedRow} (λ row. record { row = row; first = first }) (filter (picks key pick) tally.rows)) (rows_from key pick (first + length tally.classes) tallies) hit m) [
+  rows-tell (part ∷ parts) each first hit m entry n =
+      elim (in-either (map {B = NumberedRow} (λ row. record { row = row; first = first }) (filter (picks key pick) part.rows)) (rows_from key pick (first + length part.classes) parts) hit m) [
         | inl here ↦ (
-            let found = Found-map {Y = NumberedRow} (λ row. record { row = row; first = first }) (filter (picks key pick) tally.rows) hit here in
+            let found = Found-map {Y = NumberedRow} (λ row. record { row = row; first = first }) (filter (picks key pick) part.rows) hit here in
             let own : IsIn entry (list found.value) = subst (λ h. IsIn entry (list h.row)) (sym found.holds) n in
-            subst (λ h. Tells list key first (each.0.tally.tracks ++ all_of (tracks_in tallies each.1)) h entry) found.holds
-            (tells-here tally each.0 first (all_of (tracks_in tallies each.1)) found.value found.is_in entry own))
+            subst (λ h. Tells list key first (each.0.tally.tracks ++ all_of (tracks_in parts each.1)) h entry) found.holds
+            (tells-here part each.0 first (all_of (tracks_in parts each.1)) found.value found.is_in entry own))
         | inr later ↦
-            tells-later tally each.0 first (all_of (tracks_in tallies each.1)) hit entry
-            (rows-tell tallies each.1 (first + length tally.classes) hit later entry n)
+            tells-later part each.0 first (all_of (tracks_in parts each.1)) hit entry
+            (rows-tell parts each.1 (first + length part.classes) hit later entry n)
       ]
 
 -- what is known of all games
-classes-tracks : (tallies : List Counted) (each : AllByRecursion IsCounted tallies)
-    → all_classes tallies ≡ map (λ track. track.classes) (all_of (tracks_in tallies each))
+classes-tracks : (parts : List Part) (each : AllByRecursion IsPart parts)
+    → all_classes parts ≡ map (λ track. track.classes) (all_of (tracks_in parts each))
 classes-tracks [] each = refl
-classes-tracks (tally ∷ tallies) each =
-    ap (λ l. l ++ all_classes tallies) (own-classes tally each.0)
-    ∙ ap (λ l. map {A = Track} (λ track. track.classes) each.0.tally.tracks ++ l) (classes-tracks tallies each.1)
-    ∙ sym (map-append (λ track. track.classes) each.0.tally.tracks (all_of (tracks_in tallies each.1)))
+classes-tracks (part ∷ parts) each =
+    ap (λ l. l ++ all_classes parts) (own-classes part each.0)
+    ∙ ap (λ l. map {A = Track} (λ track. track.classes) each.0.tally.tracks ++ l) (classes-tracks parts each.1)
+    ∙ sym (map-append (λ track. track.classes) each.0.tally.tracks (all_of (tracks_in parts each.1)))
 
 -- ---- the first row that lists a number
 
@@ -293,32 +294,32 @@ record IsFoundAs (key : List ℕ) (tracks : List Track) (entry : Entry) (found :
   listing_is : listing key tracks entry ≡ Some game
 
 module _ (list : Row → List Entry) (lists : ListsGames list) (key : List ℕ) (pick : RowKey → Bool)
-    (tallies : List Counted) (each : AllByRecursion IsCounted tallies) (entry : Entry) where
+    (parts : List Part) (each : AllByRecursion IsPart parts) (entry : Entry) where
   next-is : (hits : List NumberedRow) (first : IsFirst (lists_number list entry.number) hits) (m : Move) → first.value.row.next ≡ Some m
       → next_where list hits entry.number ≡ Some m
   unfolding next_where
   next-is hits first m is = ap (option_and_then (λ (hit : NumberedRow). hit.row.next)) first.is ∙ is
 
-  entry-found : (hits : List NumberedRow) → hits ≡ rows_from key pick 0 tallies → list_any (lists_number list entry.number) hits ≡ true
-      → IsFoundAs key (all_of (tracks_in tallies each)) entry (listed_where list tallies hits entry.number)
+  entry-found : (hits : List NumberedRow) → hits ≡ rows_from key pick 0 parts → list_any (lists_number list entry.number) hits ≡ true
+      → IsFoundAs key (all_of (tracks_in parts each)) entry (listed_where list parts hits entry.number)
   entry-found hits are listed =
-      let tracks = all_of (tracks_in tallies each) in
+      let tracks = all_of (tracks_in parts each) in
       let first = find-first (lists_number list entry.number) hits listed in
       let hit = first.value in
       let by = find-first (λ e. e.number + hit.first == entry.number) (list hit.row) first.passes in
-      let told = rows-tell list lists key pick tallies each 0 hit (subst (IsIn hit) are first.is_in) by.value by.is_in in
+      let told = rows-tell list lists key pick parts each 0 hit (subst (IsIn hit) are first.is_in) by.value by.is_in in
       let same : by.value.number + hit.first ≡ entry.number = (let passes = by.passes in grind (arith, nat_tests)) in
       let place : told.place ≡ entry.number = omega (arith, told.is, same) in
       let track = told.played.track in
       let plays = told.played.plays in
       let at : slice_get tracks entry.number ≡ Some track = ap (slice_get tracks) (sym place) ∙ told.played.at in
-      let classes : slice_get (all_classes tallies) entry.number ≡ Some track.classes =
-      ap (λ l. slice_get l entry.number) (classes-tracks tallies each) ∙ slice_get-map (λ t. t.classes) tracks entry.number
+      let classes : slice_get (all_classes parts) entry.number ≡ Some track.classes =
+      ap (λ l. slice_get l entry.number) (classes-tracks parts each) ∙ slice_get-map (λ t. t.classes) tracks entry.number
       ∙ ap (option_map (λ (t : Track). t.classes)) at in
       let next = next-is hits first plays.next plays.of_row in
       record {
         game = record { next = plays.next; classes = track.classes };
-        found_is = both-found (next_where list hits entry.number) (slice_get (all_classes tallies) entry.number) plays.next track.classes next classes;
+        found_is = both-found (next_where list hits entry.number) (slice_get (all_classes parts) entry.number) plays.next track.classes next classes;
         listing_is = track-listed key (slice_get tracks entry.number) track plays.next at plays.of_track;
       }
 
@@ -337,21 +338,21 @@ entries-found key tracks h (e ∷ es) each =
     ∙ ap (λ g. g ∷ map (listing key tracks) es) (sym found.listing_is)
 
 -- what is looked up by the numbers of entries are their games
-pub listings : (list : Row → List Entry) → ListsGames list → (tallies : List Counted) (hits : List NumberedRow) (entries : List Entry) (listed : List Listed)
-    → listed ≡ filter_map (λ entry. listed_where list tallies hits entry.number) entries
-    → IsListingOf list tallies hits entries listed
-listings list lists tallies hits entries listed is = λ key wanted test each are.
-    ap (map Some) is ∙ entries-found key (all_of (tracks_in tallies each)) (λ entry. listed_where list tallies hits entry.number) entries
-    (λ entry m. entry-found list lists key (meets wanted any_next) tallies each entry hits are.rows
+pub listings : (list : Row → List Entry) → ListsGames list → (parts : List Part) (hits : List NumberedRow) (entries : List Entry) (listed : List Listed)
+    → listed ≡ filter_map (λ entry. listed_where list parts hits entry.number) entries
+    → IsListingOf list parts hits entries listed
+listings list lists parts hits entries listed is = λ key wanted test each are.
+    ap (map Some) is ∙ entries-found key (all_of (tracks_in parts each)) (λ entry. listed_where list parts hits entry.number) entries
+    (λ entry m. entry-found list lists key (meets wanted any_next) parts each entry hits are.rows
     (stands-listed list test hits entry
     (IsIn-from_Contains (entries_where hits test list) entry
     (All-IsIn (λ e. Contains (entries_where hits test list) e) entries are.stand entry m))))
 
-pub only-listing : (list : Row → List Entry) → ListsGames list → (tallies : List Counted) (hits : List NumberedRow) (entry : Entry) (game : Option Listed)
-    → game ≡ listed_where list tallies hits entry.number
-    → IsOnlyListingOf list tallies hits (entry ∷ []) game
-only-listing list lists tallies hits entry game is = λ key wanted test each are.
-    let found = entry-found list lists key (meets wanted any_next) tallies each entry hits are.rows
+pub only-listing : (list : Row → List Entry) → ListsGames list → (parts : List Part) (hits : List NumberedRow) (entry : Entry) (game : Option Listed)
+    → game ≡ listed_where list parts hits entry.number
+    → IsOnlyListingOf list parts hits (entry ∷ []) game
+only-listing list lists parts hits entry game is = λ key wanted test each are.
+    let found = entry-found list lists key (meets wanted any_next) parts each entry hits are.rows
     (stands-listed list test hits entry
     (IsIn-from_Contains (entries_where hits test list) entry
     (All-head (λ e. Contains (entries_where hits test list) e) entry [] are.stand))) in
@@ -369,19 +370,19 @@ best-stand before n entries =
     (All-from_IsIn (λ entry. Contains entries entry) entries (λ entry m. Contains-IsIn entries entry m))
 
 -- and so do the first few of these
-pub first-entries : (list : Row → List Entry) (key : List ℕ) (wanted : Filter) (tallies : List Counted) (hits : List NumberedRow) (test : Row → Bool)
-    (before : Entry → Entry → Bool) (n most : ℕ) → hits ≡ rows_from key (meets wanted any_next) 0 tallies
-    → AreEntriesOf list key wanted tallies hits test (take most (best before n (entries_where hits test list)))
-first-entries list key wanted tallies hits test before n most are = record {
+pub first-entries : (list : Row → List Entry) (key : List ℕ) (wanted : Filter) (parts : List Part) (hits : List NumberedRow) (test : Row → Bool)
+    (before : Entry → Entry → Bool) (n most : ℕ) → hits ≡ rows_from key (meets wanted any_next) 0 parts
+    → AreEntriesOf list key wanted parts hits test (take most (best before n (entries_where hits test list)))
+first-entries list key wanted parts hits test before n most are = record {
   rows = are;
   stand = All-take (λ entry. Contains (entries_where hits test list) entry) most (best before n (entries_where hits test list))
       (best-stand before n (entries_where hits test list));
 }
 
-pub best-entries : (list : Row → List Entry) (key : List ℕ) (wanted : Filter) (tallies : List Counted) (hits : List NumberedRow) (test : Row → Bool)
-    (before : Entry → Entry → Bool) (n : ℕ) → hits ≡ rows_from key (meets wanted any_next) 0 tallies
-    → AreEntriesOf list key wanted tallies hits test (best before n (entries_where hits test list))
-best-entries list key wanted tallies hits test before n are = record { rows = are; stand = best-stand before n (entries_where hits test list) }
+pub best-entries : (list : Row → List Entry) (key : List ℕ) (wanted : Filter) (parts : List Part) (hits : List NumberedRow) (test : Row → Bool)
+    (before : Entry → Entry → Bool) (n : ℕ) → hits ≡ rows_from key (meets wanted any_next) 0 parts
+    → AreEntriesOf list key wanted parts hits test (best before n (entries_where hits test list))
+best-entries list key wanted parts hits test before n are = record { rows = are; stand = best-stand before n (entries_where hits test list) }
 
 -- where there is a value, what follows from what holds of it
 pub if-ok : {A E : Type 0} (P Q : A → Type 0) (result : Result A E) → ((value : A) → P value → Q value) → IfOk result P → IfOk result Q

@@ -17,13 +17,13 @@ use Rattle.lookup.specs.Lines.{IsLineMade, IsPutTogether}
 use Rattle.lookup.specs.Listing.{AreEntriesOf}
 use Rattle.lookup.specs.MoveSums.{sum_as}
 use Rattle.lookup.specs.Sums.{any_row, totals_where, entries_where, moves_in, before_by_total}
-use Rattle.lookup.specs.Tallies.{tracks_in}
+use Rattle.lookup.specs.Parts.{tracks_in}
 use Rattle.lookup.proofs.Bridges.{rows_in, hits_of}
 use Rattle.lookup.proofs.FromHits.{IsHitsLine, IsFromHits, from-hits}
 use Rattle.lookup.proofs.Listings.{best-stand}
 use Rattle.tally_rows.specs.declared.row.Row.{Row}
 use Rattle.tally_rows.specs.Row.{row_key_of}
-use Rattle.tally_rows.specs.Tally.{Counted, IsCounted}
+use Rattle.lookup.specs.Parts.{Part, IsPart}
 
 -- ---- the sums of moves
 
@@ -45,13 +45,13 @@ sums-are hits (m ∷ moves) = (refl, sums-are hits moves)
 
 -- ---- the answer
 
-module _ (query : Query) (bytes : List ℕ) (tallies : List Counted) (each : AllByRecursion IsCounted tallies) where
+module _ (query : Query) (bytes : List ℕ) (parts : List Part) (each : AllByRecursion IsPart parts) where
   abbrev own_hits : List NumberedRow
-  own_hits = hits_of bytes query.filter tallies
+  own_hits = hits_of bytes query.filter parts
 
   lines-made : (moves : List Move) (lines : List MoveLine)
-      → AllZip (λ (sum : MoveSum) line. IsLineMade query.at tallies own_hits sum.next line) (map (sum_as own_hits) moves) lines
-      → AllZip (IsHitsLine query bytes tallies each) moves lines
+      → AllZip (λ (sum : MoveSum) line. IsLineMade query.at parts own_hits sum.next line) (map (sum_as own_hits) moves) lines
+      → AllZip (IsHitsLine query bytes parts each) moves lines
   lines-made [] [] zip = tt
   lines-made [] (line ∷ lines) zip = absurd zip
   lines-made (m ∷ moves) [] zip = absurd zip
@@ -62,14 +62,14 @@ module _ (query : Query) (bytes : List ℕ) (tallies : List Counted) (each : All
       )
 
   entries-of : (list : Row → List Entry) (before : Entry → Entry → Bool) (n : ℕ)
-      → AreEntriesOf list bytes query.filter tallies own_hits any_row (take n (best before 4 (entries_where own_hits any_row list)))
+      → AreEntriesOf list bytes query.filter parts own_hits any_row (take n (best before 4 (entries_where own_hits any_row list)))
   entries-of list before n = record {
     rows = refl;
     stand = All-take (λ entry. Contains (entries_where own_hits any_row list) entry) n (best before 4 (entries_where own_hits any_row list)) (best-stand before 4 (entries_where own_hits any_row list));
   }
 
-  put-own : (found : Found) → found.totals ≡ totals_where (rows_from bytes (in_months query.filter) 0 tallies) (λ row. in_cells query.filter (row_key_of row))
-      → IsPutTogether query tallies own_hits found → IsFromHits query bytes tallies each found
+  put-own : (found : Found) → found.totals ≡ totals_where (rows_from bytes (in_months query.filter) 0 parts) (λ row. in_cells query.filter (row_key_of row))
+      → IsPutTogether query parts own_hits found → IsFromHits query bytes parts each found
   put-own found totals is = record {
     totals = totals;
     moves = lines-made (best (before_by_total own_hits) query.moves (moves_in own_hits)) found.moves is.lines;
@@ -79,12 +79,12 @@ module _ (query : Query) (bytes : List ℕ) (tallies : List Counted) (each : All
   }
 
   pub put-together : (hits : List NumberedRow) (found : Found) → hits ≡ own_hits
-      → found.totals ≡ totals_where (rows_from bytes (in_months query.filter) 0 tallies) (λ row. in_cells query.filter (row_key_of row))
-      → IsPutTogether query tallies hits found
-      → IsFromRows query bytes (tracks_in tallies each) (rows_in tallies) found
+      → found.totals ≡ totals_where (rows_from bytes (in_months query.filter) 0 parts) (λ row. in_cells query.filter (row_key_of row))
+      → IsPutTogether query parts hits found
+      → IsFromRows query bytes (tracks_in parts each) (rows_in parts) found
   put-together hits found rows totals is =
-      let P : List NumberedRow → Type 0 = λ h. IsPutTogether query tallies h found in
-      from-hits query bytes tallies each found (put-own found totals (subst P rows is))
+      let P : List NumberedRow → Type 0 = λ h. IsPutTogether query parts h found in
+      from-hits query bytes parts each found (put-own found totals (subst P rows is))
 
 -- two facts of what is given
 pub both-ok : {A E : Type 0} (P Q : A → Type 0) (result : Result A E) → IfOk result P → IfOk result Q → IfOk result (λ value. P value × Q value)

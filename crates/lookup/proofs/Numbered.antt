@@ -1,4 +1,4 @@
--- Rows that are picked of tallies, one tally after another.
+-- Rows that are picked of parts, one part after another.
 use Rattle.std.proofs.Common.{◌≡◌, ℕ, ◌+◌, ◌<◌, Bool, true, false, ◌&&◌, cond, List, [], ◌∷◌, ◌++◌, map, filter, take, length, get_or, bytes_eq, refl, sym, ap, subst, ◌∙◌, zero-add, append_assoc, arith}
 use Rattle.std.specs.List.{AllByRecursion}
 use Rattle.std.proofs.lemmas.List.{append-nil, take_more}
@@ -9,7 +9,7 @@ use Rattle.tally_rows.specs.declared.row.Row.{Row}
 use Rattle.tally_rows.specs.Cover.{passes_row_key, meets}
 use Rattle.tally_rows.specs.Recount.{picks}
 use Rattle.tally_rows.specs.Row.{row_key_of}
-use Rattle.tally_rows.specs.Tally.{Counted}
+use Rattle.lookup.specs.Parts.{Part}
 use Rattle.explorer_model.specs.declared.query.Filter.{Filter}
 use Rattle.explorer_model.specs.Counting.{any_next, group_place, is_since, is_until}
 use Rattle.explorer_model.specs.Order.{speed_index}
@@ -39,7 +39,7 @@ module _ {X Y : Type 0} where
         | false ↦ map-filter p f xs
       ]
 
--- ---- the rows of tallies
+-- ---- the rows of parts
 
 module _ (key : List ℕ) (pick : RowKey → Bool) where
   -- the rows of one position whose parts are picked
@@ -51,27 +51,27 @@ module _ (key : List ℕ) (pick : RowKey → Bool) where
   unfolding rows_from
   rows_from-nil first = refl
 
-  rows_from-append : (first : ℕ) (xs ys : List Counted)
+  rows_from-append : (first : ℕ) (xs ys : List Part)
       → rows_from key pick first (xs ++ ys) ≡ rows_from key pick first xs ++ rows_from key pick (first + games_counted xs) ys
   unfolding rows_from
   rows_from-append first [] ys = ap (λ n. rows_from key pick n ys) (omega arith)
   rows_from-append first (x ∷ xs) ys =
       ap (λ l. map (numbered first) (filter (picks key pick) x.rows) ++ l)
       (rows_from-append (first + length x.classes) xs ys
-      ∙ ap (λ n. rows_from key pick (first + length x.classes) xs ++ rows_from key pick n ys) (omega (arith, sum_by-cons (λ (t : Counted). length t.classes) x xs)))
+      ∙ ap (λ n. rows_from key pick (first + length x.classes) xs ++ rows_from key pick n ys) (omega (arith, sum_by-cons (λ (t : Part). length t.classes) x xs)))
       ∙ sym (append_assoc (map (numbered first) (filter (picks key pick) x.rows)) (rows_from key pick (first + length x.classes) xs) _)
 
-  -- with one tally more
-  pub rows_from-more : (tallies : List Counted) (i : ℕ) (d : Counted) → i < length tallies
-      → rows_from key pick 0 (take (i + 1) tallies)
-      ≡ rows_from key pick 0 (take i tallies) ++ map (numbered (games_counted (take i tallies))) (filter (picks key pick) (get_or tallies i d).rows)
+  -- with one part more
+  pub rows_from-more : (parts : List Part) (i : ℕ) (d : Part) → i < length parts
+      → rows_from key pick 0 (take (i + 1) parts)
+      ≡ rows_from key pick 0 (take i parts) ++ map (numbered (games_counted (take i parts))) (filter (picks key pick) (get_or parts i d).rows)
   unfolding rows_from
-  rows_from-more tallies i d below =
-      ap (rows_from key pick 0) (take_more tallies i d below)
-      ∙ rows_from-append 0 (take i tallies) (get_or tallies i d ∷ [])
-      ∙ ap (λ l. rows_from key pick 0 (take i tallies) ++ l)
-      (append-nil (map (numbered (0 + games_counted (take i tallies))) (filter (picks key pick) (get_or tallies i d).rows))
-      ∙ ap (λ n. map (numbered n) (filter (picks key pick) (get_or tallies i d).rows)) (zero-add (games_counted (take i tallies))))
+  rows_from-more parts i d below =
+      ap (rows_from key pick 0) (take_more parts i d below)
+      ∙ rows_from-append 0 (take i parts) (get_or parts i d ∷ [])
+      ∙ ap (λ l. rows_from key pick 0 (take i parts) ++ l)
+      (append-nil (map (numbered (0 + games_counted (take i parts))) (filter (picks key pick) (get_or parts i d).rows))
+      ∙ ap (λ n. map (numbered n) (filter (picks key pick) (get_or parts i d).rows)) (zero-add (games_counted (take i parts))))
 
 pub AllByRecursion-more : {X : Type 0} (P : X → Type 0) (xs : List X) (i : ℕ) (d : X) → i < length xs → AllByRecursion P (take i xs) → P (get_or xs i d)
     → AllByRecursion P (take (i + 1) xs)
@@ -100,27 +100,27 @@ passes-both wanted row_key =
     all false b true false = refl
     all false b false d = refl
 
-pub filter-rows_from : (key : List ℕ) (pick test : RowKey → Bool) (first : ℕ) (tallies : List Counted)
-    → filter (λ hit. test (row_key_of hit.row)) (rows_from key pick first tallies) ≡ rows_from key (λ row_key. pick row_key && test row_key) first tallies
+pub filter-rows_from : (key : List ℕ) (pick test : RowKey → Bool) (first : ℕ) (parts : List Part)
+    → filter (λ hit. test (row_key_of hit.row)) (rows_from key pick first parts) ≡ rows_from key (λ row_key. pick row_key && test row_key) first parts
 unfolding rows_from picks
 filter-rows_from key pick test first [] = refl
-filter-rows_from key pick test first (tally ∷ tallies) =
-    filter-append (λ (hit : NumberedRow). test (row_key_of hit.row)) (map (numbered first) (filter (picks key pick) tally.rows)) (rows_from key pick (first + length tally.classes) tallies)
-    ∙ ap (λ l. l ++ filter (λ hit. test (row_key_of hit.row)) (rows_from key pick (first + length tally.classes) tallies))
-    (map-filter (λ (hit : NumberedRow). test (row_key_of hit.row)) (numbered first) (filter (picks key pick) tally.rows)
-    ∙ ap (map (numbered first)) (filter-both (picks key pick) (λ row. test (row_key_of row)) tally.rows
+filter-rows_from key pick test first (part ∷ parts) =
+    filter-append (λ (hit : NumberedRow). test (row_key_of hit.row)) (map (numbered first) (filter (picks key pick) part.rows)) (rows_from key pick (first + length part.classes) parts)
+    ∙ ap (λ l. l ++ filter (λ hit. test (row_key_of hit.row)) (rows_from key pick (first + length part.classes) parts))
+    (map-filter (λ (hit : NumberedRow). test (row_key_of hit.row)) (numbered first) (filter (picks key pick) part.rows)
+    ∙ ap (map (numbered first)) (filter-both (picks key pick) (λ row. test (row_key_of row)) part.rows
     ∙ filter_agree (λ row. picks key pick row && test (row_key_of row)) (picks key (λ row_key. pick row_key && test row_key))
-    (λ row. three (bytes_eq row.key key) (pick (row_key_of row)) (test (row_key_of row))) tally.rows))
-    ∙ ap (λ l. map (numbered first) (filter (picks key (λ row_key. pick row_key && test row_key)) tally.rows) ++ l)
-    (filter-rows_from key pick test (first + length tally.classes) tallies)
+    (λ row. three (bytes_eq row.key key) (pick (row_key_of row)) (test (row_key_of row))) part.rows))
+    ∙ ap (λ l. map (numbered first) (filter (picks key (λ row_key. pick row_key && test row_key)) part.rows) ++ l)
+    (filter-rows_from key pick test (first + length part.classes) parts)
   where
     three : (a b c : Bool) → ((a && b) && c) ≡ (a && (b && c))
     three true b c = refl
     three false b c = refl
 
 -- the rows of the wanted months, speeds and groups
-pub cells-kept : (key : List ℕ) (wanted : Filter) (tallies : List Counted)
-    → filter (λ hit. in_cells wanted (row_key_of hit.row)) (rows_from key (in_months wanted) 0 tallies) ≡ rows_from key (meets wanted any_next) 0 tallies
-cells-kept key wanted tallies =
-    filter-rows_from key (in_months wanted) (in_cells wanted) 0 tallies
-    ∙ ap (λ pick. rows_from key pick 0 tallies) (λ i row_key. passes-both wanted row_key i)
+pub cells-kept : (key : List ℕ) (wanted : Filter) (parts : List Part)
+    → filter (λ hit. in_cells wanted (row_key_of hit.row)) (rows_from key (in_months wanted) 0 parts) ≡ rows_from key (meets wanted any_next) 0 parts
+cells-kept key wanted parts =
+    filter-rows_from key (in_months wanted) (in_cells wanted) 0 parts
+    ∙ ap (λ pick. rows_from key pick 0 parts) (λ i row_key. passes-both wanted row_key i)

@@ -10,7 +10,7 @@ use Rattle.lookup.specs.Hits.{NumberedRow, hit_as}
 use Rattle.lookup.specs.Listing.{lists_number, next_where, all_classes}
 use Rattle.lookup.proofs.Rows.{hit-within, hit-at}
 use Rattle.tally_rows.specs.declared.row.Row.{Row}
-use Rattle.tally_rows.specs.Tally.{Counted}
+use Rattle.lookup.specs.Parts.{Part}
 
 -- ---- places in lists one after another
 
@@ -58,15 +58,15 @@ next-none list hits i number beyond =
 
 -- ---- what is known of the game of a number
 
-module _ (tallies : List Counted) (i : ℕ) (tally : Counted) (within : i < length tallies) (is : tally ≡ get_or tallies i tally) (left : ℕ) where
-  classes-are : all_classes (drop i tallies) ≡ tally.classes ++ all_classes (drop (i + 1) tallies)
-  classes-are = ap all_classes (drop_more tallies i tally within ∙ ap (λ t. t ∷ drop (i + 1) tallies) (sym is))
+module _ (parts : List Part) (i : ℕ) (part : Part) (within : i < length parts) (is : part ≡ get_or parts i part) (left : ℕ) where
+  classes-are : all_classes (drop i parts) ≡ part.classes ++ all_classes (drop (i + 1) parts)
+  classes-are = ap all_classes (drop_more parts i part within ∙ ap (λ t. t ∷ drop (i + 1) parts) (sym is))
 
-  pub classes-here : left < length tally.classes → slice_get (all_classes (drop i tallies)) left ≡ slice_get tally.classes left
-  classes-here below = ap (λ l. slice_get l left) classes-are ∙ get-left tally.classes (all_classes (drop (i + 1) tallies)) left below
+  pub classes-here : left < length part.classes → slice_get (all_classes (drop i parts)) left ≡ slice_get part.classes left
+  classes-here below = ap (λ l. slice_get l left) classes-are ∙ get-left part.classes (all_classes (drop (i + 1) parts)) left below
 
-  pub classes-later : length tally.classes ≤ left → slice_get (all_classes (drop i tallies)) left ≡ slice_get (all_classes (drop (i + 1) tallies)) (left - length tally.classes)
-  classes-later past = ap (λ l. slice_get l left) classes-are ∙ get-right tally.classes (all_classes (drop (i + 1) tallies)) left past
+  pub classes-later : length part.classes ≤ left → slice_get (all_classes (drop i parts)) left ≡ slice_get (all_classes (drop (i + 1) parts)) (left - length part.classes)
+  classes-later past = ap (λ l. slice_get l left) classes-are ∙ get-right part.classes (all_classes (drop (i + 1) parts)) left past
 
 -- ---- what is found of one entry more
 
@@ -75,3 +75,6 @@ pub found-next : {X Y : Type 0} (h : X → Option Y) (xs : List X) (i : ℕ) (d 
 found-next h xs i d within found is =
     ap (filter_map h) (take_more xs i d within) ∙ filter_map-append h (take i xs) (get_or xs i d ∷ [])
     ∙ ap (λ f. filter_map h (take i xs) ++ cons_option f []) is
+
+pub classes-none : (parts : List Part) (i : ℕ) → length parts ≤ i → (left : ℕ) → slice_get (all_classes (drop i parts)) left ≡ None
+classes-none parts i past left = ap (λ l. slice_get (all_classes l) left) (drop_all i parts past)

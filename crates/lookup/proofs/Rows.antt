@@ -73,12 +73,12 @@ sum-le f g k (h ∷ hits) each =
 
 module _ (hits : List NumberedRow) (sound : AreSound hits) where
   -- any count of the games is within the limit
-  pub count-limit : (count : Row → ℕ) → ((row : Row) → count row ≤ games_of row) → sum_by (λ h. count h.row) hits ≤ 131072
+  pub count-limit : (count : Row → ℕ) → ((row : Row) → count row ≤ games_of row) → sum_by (λ h. count h.row) hits ≤ 2147483648
   count-limit count below =
       let most = sum-le (λ h. count h.row) (λ h. games_of h.row) 1 hits (λ k d less. omega (arith, below (get_or hits k d).row)) in
       omega (arith, most, sound.few)
 
-  pub ratings-limit : sum_by (λ h. h.row.ratings) hits ≤ 65535 * 131072
+  pub ratings-limit : sum_by (λ h. h.row.ratings) hits ≤ 65535 * 2147483648
   ratings-limit =
       let most = sum-le (λ h. h.row.ratings) (λ h. games_of h.row) 65535 hits (λ k d less. (sound.each k d less).ratings) in
       omega (arith, most, sound.few)

@@ -3,13 +3,12 @@ use Rattle.std.specs.Prelude.{ℕ, ◌+◌, ◌*◌, ◌<◌, ◌≤◌, ◌^◌
 use Rattle.std.specs.List.{All, sum_by}
 use Rattle.explorer_model.specs.declared.query.Filter.{Filter}
 use Rattle.explorer_model.specs.Counting.{group_place, is_since, is_until}
-use Rattle.explorer_model.specs.Journal.{game_limit}
 use Rattle.explorer_model.specs.Order.{speed_index}
 use Rattle.lookup.specs.declared.hits.Hit.{Hit}
 use Rattle.tally_rows.specs.declared.row_key.RowKey.{RowKey}
 use Rattle.tally_rows.specs.declared.row.Row.{Row}
 use Rattle.tally_rows.specs.Recount.{picks}
-use Rattle.tally_rows.specs.Tally.{Counted}
+use Rattle.lookup.specs.Parts.{Part}
 
 -- a row, and the number of the first game of its batch
 pub record NumberedRow : Type 0 where
@@ -32,16 +31,20 @@ in_cells wanted row_key =
     slice_index_or wanted.speeds (speed_index row_key.speed) false
     && slice_index_or wanted.groups (group_place row_key.group.value) false
 
--- the rows of a position that are picked by their parts, of tallies whose games are numbered one after another from a first one on
-unfoldable pub rows_from : List ℕ → (RowKey → Bool) → ℕ → List Counted → List NumberedRow
+-- the rows of a position that are picked by their parts, of parts whose games are numbered one after another from a first one on
+unfoldable pub rows_from : List ℕ → (RowKey → Bool) → ℕ → List Part → List NumberedRow
 rows_from key pick first [] = []
-rows_from key pick first (tally ∷ tallies) =
-    map (λ row. record { row = row; first = first }) (filter (picks key pick) tally.rows)
-    ++ rows_from key pick (first + length tally.classes) tallies
+rows_from key pick first (part ∷ parts) =
+    map (λ row. record { row = row; first = first }) (filter (picks key pick) part.rows)
+    ++ rows_from key pick (first + length part.classes) parts
 
--- how many games the tallies count
-abbrev pub games_counted : List Counted → ℕ
-games_counted tallies = sum_by (λ tally. length tally.classes) tallies
+-- the most games of which an answer is made
+abbrev pub look_limit : ℕ
+look_limit = 2147483648
+
+-- how many games the parts count
+abbrev pub games_counted : List Part → ℕ
+games_counted parts = sum_by (λ part. length part.classes) parts
 
 -- ---- what is known of such rows
 
@@ -57,4 +60,4 @@ pub record IsSound (hit : NumberedRow) : Type 0 where
 
 pub record AreSound (hits : List NumberedRow) : Type 0 where
   pub each : All IsSound hits
-  pub few : sum_by (λ hit. games_of hit.row) hits ≤ game_limit
+  pub few : sum_by (λ hit. games_of hit.row) hits ≤ look_limit

@@ -4,6 +4,7 @@ pub mod Lines
 pub mod Listing
 pub mod MoveSums
 pub mod RowTests
+pub mod SegmentRows
 pub mod Selection
 pub mod Sums
-pub mod Tallies
+pub mod Parts

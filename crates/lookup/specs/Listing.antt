@@ -11,11 +11,11 @@ use Rattle.lookup.specs.declared.listing.Listing.{Listing}
 use Rattle.lookup.specs.declared.listing.Listing.TheVariants.{Top, Recent}
 use Rattle.lookup.specs.Hits.{NumberedRow, rows_from}
 use Rattle.lookup.specs.Sums.{entries_where}
-use Rattle.lookup.specs.Tallies.{tracks_in}
+use Rattle.lookup.specs.Parts.{tracks_in}
 use Rattle.tally_rows.specs.declared.row.Row.{Row}
 use Rattle.tally_rows.specs.Cover.{meets, listing, only_entry}
 use Rattle.tally_rows.specs.Recount.{all_of}
-use Rattle.tally_rows.specs.Tally.{Counted, IsCounted}
+use Rattle.lookup.specs.Parts.{Part, IsPart}
 
 -- the entries of a list of a row
 abbrev pub list_of : Listing → Row → List Entry
@@ -32,35 +32,35 @@ module _ (list : Row → List Entry) where
   next_where hits number = option_and_then (λ hit. hit.row.next) (find (lists_number number) hits)
 
 -- what is known of all games, in the order of their numbers
-abbrev pub all_classes : List Counted → List Classes
-all_classes tallies = flat_map (λ tally. tally.classes) tallies
+abbrev pub all_classes : List Part → List Classes
+all_classes parts = flat_map (λ part. part.classes) parts
 
 -- the game of a number, with its move
-abbrev pub listed_where : (Row → List Entry) → List Counted → List NumberedRow → ℕ → Option Listed
-listed_where list tallies hits number =
+abbrev pub listed_where : (Row → List Entry) → List Part → List NumberedRow → ℕ → Option Listed
+listed_where list parts hits number =
     option_and_then (λ next. option_map (λ classes. record { next = next; classes = classes })
-    (slice_get (all_classes tallies) number))
+    (slice_get (all_classes parts) number))
     (next_where list hits number)
 
 -- the rows are those of a position, and the entries are theirs
 pub record AreEntriesOf (list : Row → List Entry) (key : List ℕ) (wanted : Filter)
-    (tallies : List Counted) (hits : List NumberedRow) (test : Row → Bool)
+    (parts : List Part) (hits : List NumberedRow) (test : Row → Bool)
     (entries : List Entry) : Type 0 where
-  pub rows : hits ≡ rows_from key (meets wanted any_next) 0 tallies
+  pub rows : hits ≡ rows_from key (meets wanted any_next) 0 parts
   pub stand : All (λ entry. Contains (entries_where hits test list) entry) entries
 
 -- what is listed are the games of the entries
-abbrev pub IsListingOf : (Row → List Entry) → List Counted → List NumberedRow → List Entry
+abbrev pub IsListingOf : (Row → List Entry) → List Part → List NumberedRow → List Entry
     → List Listed → Type 0
-IsListingOf list tallies hits entries listed =
-    (key : List ℕ) (wanted : Filter) (test : Row → Bool) (each : AllByRecursion IsCounted tallies)
-    → AreEntriesOf list key wanted tallies hits test entries
-    → map Some listed ≡ map (listing key (all_of (tracks_in tallies each))) entries
+IsListingOf list parts hits entries listed =
+    (key : List ℕ) (wanted : Filter) (test : Row → Bool) (each : AllByRecursion IsPart parts)
+    → AreEntriesOf list key wanted parts hits test entries
+    → map Some listed ≡ map (listing key (all_of (tracks_in parts each))) entries
 
 -- the game of the one entry is listed, or nothing
-abbrev pub IsOnlyListingOf : (Row → List Entry) → List Counted → List NumberedRow → List Entry
+abbrev pub IsOnlyListingOf : (Row → List Entry) → List Part → List NumberedRow → List Entry
     → Option Listed → Type 0
-IsOnlyListingOf list tallies hits entries game =
-    (key : List ℕ) (wanted : Filter) (test : Row → Bool) (each : AllByRecursion IsCounted tallies)
-    → AreEntriesOf list key wanted tallies hits test entries
-    → game ≡ option_and_then (listing key (all_of (tracks_in tallies each))) (only_entry entries)
+IsOnlyListingOf list parts hits entries game =
+    (key : List ℕ) (wanted : Filter) (test : Row → Bool) (each : AllByRecursion IsPart parts)
+    → AreEntriesOf list key wanted parts hits test entries
+    → game ≡ option_and_then (listing key (all_of (tracks_in parts each))) (only_entry entries)

@@ -1,24 +1,62 @@
--- Tallies as a cover of their games: each counts the games of one batch.
-use Rattle.std.specs.Prelude.{ℕ, ◌+◌, List, [], ◌∷◌}
-use Rattle.std.specs.List.{AllByRecursion}
+-- Statement. Parts of a journal: batches that stand one after another, with what their tags say and
+-- the rows that count their games. Tallies are parts of one batch, segments of some.
+use Rattle.std.specs.Prelude.{◌≡◌, ℕ, ◌+◌, List, [], ◌∷◌, map, length}
+use Rattle.std.specs.List.{AllByRecursion, flat_map}
+use Rattle.std.specs.Arc.{arc_value}
+use Rattle.explorer_model.specs.declared.archive.Batch.{Batch}
+use Rattle.explorer_model.specs.declared.archive.Classes.{Classes}
 use Rattle.explorer_model.specs.declared.archive.Game.{Game}
 use Rattle.explorer_model.specs.Spans.{Span}
-use Rattle.tally_rows.specs.Tally.{Counted, IsCounted}
+use Rattle.explorer_model.specs.Visits.{texts_of}
+use Rattle.lookup.specs.declared.parts.Parts.{Parts}
+use Rattle.lookup.specs.declared.parts.Parts.TheVariants.{Tallies, Segments}
+use Rattle.segment_blocks.specs.Segment.{CountedSpan}
+use Rattle.tally_rows.specs.declared.row.Row.{Row}
+use Rattle.tally_rows.specs.Tally.{Counted, IsTallyOf}
 use Rattle.tally_rows.specs.Track.{Track}
 
--- a span for each batch, behind so many others
-abbrev pub spans_from : ℕ → List Counted → List Span
-spans_from first [] = []
-spans_from first (tally ∷ tallies) =
-    record { first = first; batches = tally.batch ∷ [] } ∷ spans_from (first + 1) tallies
+pub record Part : Type 0 where
+  pub batches : List Batch
+  pub classes : List Classes
+  pub rows : List Row
 
--- the games of each batch
-abbrev pub games_in : (tallies : List Counted) → AllByRecursion IsCounted tallies → List (List Game)
+-- the rows are the tally of the texts
+pub record IsPart (part : Part) : Type 0 where
+  pub tally : IsTallyOf (texts_of part.batches) part.classes part.rows
+
+-- the batches of parts, in order
+abbrev pub journal_of : List Part → List Batch
+journal_of parts = flat_map (λ part. part.batches) parts
+
+-- ---- what parts are
+
+abbrev pub tallied_part : Counted → Part
+tallied_part tally =
+    record { batches = tally.batch ∷ []; classes = tally.classes; rows = tally.rows }
+
+abbrev pub segment_part : CountedSpan → Part
+segment_part segment =
+    record { batches = segment.span.batches; classes = segment.classes; rows = segment.rows }
+
+abbrev pub parts_in : Parts → List Part
+parts_in (Tallies tallies) = map tallied_part tallies.now
+parts_in (Segments segments) = map segment_part (map arc_value segments.now)
+
+-- ---- parts as a cover of their games
+
+-- a span for each part, behind so many other batches
+abbrev pub spans_from : ℕ → List Part → List Span
+spans_from first [] = []
+spans_from first (part ∷ parts) =
+    record { first = first; batches = part.batches }
+    ∷ spans_from (first + length part.batches) parts
+
+-- the games of each part
+abbrev pub games_in : (parts : List Part) → AllByRecursion IsPart parts → List (List Game)
 games_in [] each = []
-games_in (tally ∷ tallies) each = each.0.tally.games ∷ games_in tallies each.1
+games_in (part ∷ parts) each = each.0.tally.games ∷ games_in parts each.1
 
 -- and their tracks
-abbrev pub tracks_in : (tallies : List Counted) → AllByRecursion IsCounted tallies
-    → List (List Track)
+abbrev pub tracks_in : (parts : List Part) → AllByRecursion IsPart parts → List (List Track)
 tracks_in [] each = []
-tracks_in (tally ∷ tallies) each = each.0.tally.tracks ∷ tracks_in tallies each.1
+tracks_in (part ∷ parts) each = each.0.tally.tracks ∷ tracks_in parts each.1

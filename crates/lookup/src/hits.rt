@@ -1,14 +1,16 @@
 //! The rows that a query counts.
 ghost use Rattle.std.specs.Prelude.{◌≡◌, ℕ, ◌≤◌, Bool, List, ◌++◌, map, filter, bytes_eq, IfOk, OnOk};
 ghost use Rattle.std.specs.List.{AllByRecursion};
-ghost use Rattle.explorer_model.specs.Journal.{game_limit};
-ghost use Rattle.lookup.specs.Hits.{AreSound, hit_as, in_months, in_cells, rows_from, games_counted};
+ghost use Rattle.lookup.specs.Hits.{AreSound, hit_as, in_months, in_cells, rows_from, games_counted, look_limit};
+ghost use Rattle.lookup.specs.Parts.{Part, IsPart, tallied_part};
+ghost use Rattle.lookup.specs.SegmentRows.{segment_row_as};
 ghost use Rattle.tally_rows.specs.declared.row_key.RowKey.{RowKey};
 ghost use Rattle.tally_rows.specs.Row.{row_key_of};
-ghost use Rattle.tally_rows.specs.Tally.{Counted, IsCounted};
+ghost use Rattle.tally_rows.specs.Tally.{IsCounted};
 
 use crate::filter::{is_in_cells, is_in_months};
 use crate::rows_at::rows_at;
+use crate::segment_rows::SegmentRow;
 use explorer_model::query::Filter;
 use std::alloc::{AllocError, Global};
 use tally_rows::laws::{cover_gives_what_is_picked, tallied_rows_are_sound};
@@ -22,17 +24,18 @@ pub struct Hit<'a> {
     pub first: u32,
 }
 
-/// The rows of the position with the key whose month the filter takes, of all speeds and groups.
-pub fn hits_in_months<'a>(
+/// The tallies' rows of the position with the key whose month the filter takes, of all speeds and
+/// groups.
+pub fn hits_of_tallies<'a>(
     alloc: Global,
     tallies: &'a [Tally],
     key: &[u8; 34],
     wanted: &Filter,
 ) -> Result<Vec<Hit<'a>>, AllocError>
-    requires few { games_counted tallies.now ≤ game_limit }
+    requires few { games_counted (map tallied_part tallies.now) ≤ look_limit }
     ensures rows { IfOk result (λ hits. map hit_as hits.items
-        ≡ rows_from key.now (in_months wanted.now) 0 tallies.now) }
-    ensures counted { IfOk result (λ _. AllByRecursion IsCounted tallies.now) }
+        ≡ rows_from key.now (in_months wanted.now) 0 (map tallied_part tallies.now)) }
+    ensures parts { IfOk result (λ _. AllByRecursion IsPart (map tallied_part tallies.now)) }
 {
     let mut hits = Vec::new(alloc);
     let mut first = 0;
@@ -80,11 +83,21 @@ pub fn keep_cells<'a>(mut hits: Vec<Hit<'a>>, wanted: &Filter) -> Vec<Hit<'a>>
     hits
 }
 
-/// The law that rows which are picked of tallies are sound, however they are picked.
+/// The rows, each with its number, where they stand.
+pub fn hits_of<'a>(alloc: Global, rows: &'a [SegmentRow]) -> Result<Vec<Hit<'a>>, AllocError>
+    ensures { IfOk result (λ hits. map hit_as hits.items ≡ map segment_row_as rows.now) }
+{
+    let mut hits = Vec::with_capacity(alloc, rows.len())?;
+    for SegmentRow { row, first } in rows {
+        hits.push(Hit { row, first: *first })?;
+    }
+    Ok(hits)
+}
+
+/// The law that rows which are picked of parts are sound, however they are picked.
 pub fn picked_rows_are_sound()
-    ensures { (tallies : List Counted) → AllByRecursion IsCounted tallies
-        → games_counted tallies ≤ game_limit
-        → (key : List ℕ) (pick : RowKey → Bool) → AreSound (rows_from key pick 0 tallies) }
+    ensures { (parts : List Part) → AllByRecursion IsPart parts → games_counted parts ≤ look_limit
+        → (key : List ℕ) (pick : RowKey → Bool) → AreSound (rows_from key pick 0 parts) }
 {
     cover_gives_what_is_picked();
     tallied_rows_are_sound();

@@ -12,11 +12,11 @@ ghost use Rattle.explorer_model.specs.Spans.{Span, Covers};
 ghost use Rattle.explorer_model.specs.Tidy.{IsTidyKey};
 ghost use Rattle.explorer_model.specs.Visits.{IsTextOf, IsGameAt};
 ghost use Rattle.std.specs.List.{AllByRecursion};
-ghost use Rattle.lookup.specs.Tallies.{tracks_in};
+ghost use Rattle.lookup.specs.Parts.{Part, IsPart, journal_of, tracks_in};
 ghost use Rattle.lookup.specs.FromRows.{AreTallied, IsAnswerable, IsFromRows};
 ghost use Rattle.tally_rows.specs.declared.row.Row.{Row};
 ghost use Rattle.tally_rows.specs.Cover.{game_at};
-ghost use Rattle.tally_rows.specs.Tally.{Counted, IsCounted, IsTrackOf};
+ghost use Rattle.tally_rows.specs.Tally.{IsTrackOf};
 ghost use Rattle.tally_rows.specs.Track.{Track, visit};
 
 use explorer_model::laws::first_visit_is_determined;
@@ -69,13 +69,13 @@ pub fn cover_recounts()
     tally_rows::laws::keys_tell_the_turn();
 }
 
-/// What is made of the rows of tallies, one for each batch of a journal, is what is found in the journal.
-pub fn tallies_recount()
-    ensures { (tallies : List Counted) (each : AllByRecursion IsCounted tallies)
+/// What is made of the rows of parts is what is found in their journal.
+pub fn parts_recount()
+    ensures { (parts : List Part) (each : AllByRecursion IsPart parts)
         (query : Query) (bytes : List ℕ) (found : Found)
         → IsAnswerable query bytes
-        → IsFromRows query bytes (tracks_in tallies each) (map (λ tally. tally.rows) tallies) found
-        → IsFound (map (λ tally. tally.batch) tallies) query found }
+        → IsFromRows query bytes (tracks_in parts each) (map (λ part. part.rows) parts) found
+        → IsFound (journal_of parts) query found }
 {
     cover_recounts();
 }

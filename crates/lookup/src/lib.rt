@@ -11,12 +11,14 @@ mod listing;
 mod look;
 mod moves;
 mod notation;
+mod parts;
 mod row_tests;
 mod rows_at;
+mod segment_rows;
 mod selection;
 mod sums;
 #[cfg(test)]
 mod tests;
 mod totals;
 
-pub use look::look_rows;
+pub use look::{look_rows, look_segments};

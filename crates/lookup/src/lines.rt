@@ -5,32 +5,30 @@ ghost use Rattle.explorer_model.specs.declared.chess.Move.{Move};
 ghost use Rattle.explorer_model.specs.declared.query.Filter.{Filter};
 ghost use Rattle.explorer_model.specs.Chess.{Legal};
 ghost use Rattle.explorer_model.specs.Counting.{any_next, total};
-ghost use Rattle.explorer_model.specs.Journal.{game_limit};
-ghost use Rattle.lookup.specs.Hits.{hit_as, rows_from, AreSound};
+ghost use Rattle.lookup.specs.Hits.{hit_as, rows_from, look_limit, AreSound};
 ghost use Rattle.lookup.specs.Lines.{IsAveraged, IsLineMade};
 ghost use Rattle.lookup.specs.MoveSums.{sum_as};
 ghost use Rattle.lookup.specs.Sums.{top_where, plays};
-ghost use Rattle.lookup.specs.Tallies.{tracks_in};
+ghost use Rattle.lookup.specs.Parts.{IsPart, parts_in, tracks_in};
 ghost use Rattle.tally_rows.specs.Cover.{meets, listing, only_entry};
 ghost use Rattle.tally_rows.specs.Recount.{all_of};
-ghost use Rattle.tally_rows.specs.Tally.{IsCounted};
 
 use crate::best_games::top_of_move;
 use crate::hits::Hit;
 use crate::listing::only_listed;
 use crate::moves::MoveSum;
 use crate::notation::san_of;
+use crate::parts::Parts;
 use explorer_model::answer::{Listed, MoveLine};
 use explorer_model::chess::Move as Step;
 use legal_moves::board::Board;
 use std::alloc::{AllocError, Global};
-use tally_rows::Tally;
 
 /// The lines of moves that are legal on the board, in their order.
 pub fn lines_of(
     alloc: Global,
     board: &Board,
-    tallies: &[Tally],
+    parts: &Parts,
     hits: &[Hit],
     sums: &[MoveSum],
 ) -> Result<Vec<MoveLine>, AllocError>
@@ -40,13 +38,13 @@ pub fn lines_of(
     requires sums { AllByRecursion (λ sum. sum ≡ sum_as (map hit_as hits.now) sum.next) sums.now }
     ensures { IfOk result
         (λ lines. AllZip
-        (λ sum line. IsLineMade board.now tallies.now
+        (λ sum line. IsLineMade board.now (parts_in parts.now)
         (map hit_as hits.now) sum.next line) sums.now lines.items) }
 {
     let legal = board.legal();
     let mut lines = Vec::with_capacity(alloc, sums.len())?;
     for sum in sums {
-        lines.push(line_of(alloc, board, legal.as_slice(), tallies, hits, sum)?)?;
+        lines.push(line_of(alloc, board, legal.as_slice(), parts, hits, sum)?)?;
     }
     Ok(lines)
 }
@@ -56,7 +54,7 @@ fn line_of(
     alloc: Global,
     board: &Board,
     legal: &[Step],
-    tallies: &[Tally],
+    parts: &Parts,
     hits: &[Hit],
     sum: &MoveSum,
 ) -> Result<MoveLine, AllocError>
@@ -67,21 +65,21 @@ fn line_of(
     requires averaged { IsAveraged (map hit_as hits.now) sum.now.next }
     requires sum { sum.now ≡ sum_as (map hit_as hits.now) sum.now.next }
     ensures { IfOk result
-        (λ line. IsLineMade board.now tallies.now (map hit_as hits.now) sum.now.next line) }
+        (λ line. IsLineMade board.now (parts_in parts.now) (map hit_as hits.now) sum.now.next line) }
 {
     Ok(MoveLine {
         next: sum.next,
         san: san_of(alloc, board, legal, sum.next)?,
         average: average_of(sum),
         totals: sum.totals,
-        game: only_game(alloc, tallies, hits, sum.next)?,
+        game: only_game(alloc, parts, hits, sum.next)?,
     })
 }
 
 /// The mean rating of those who played the move, rounded down.
 fn average_of(sum: &MoveSum) -> u32
     requires played { 0 < total sum.now.totals }
-    requires few { total sum.now.totals ≤ game_limit }
+    requires few { total sum.now.totals ≤ look_limit }
     requires rated { sum.now.ratings ≤ 65535 * total sum.now.totals }
     ensures { result ≡ sum.now.ratings / total sum.now.totals }
 {
@@ -91,16 +89,16 @@ fn average_of(sum: &MoveSum) -> u32
 /// The game of a move that just one game plays.
 fn only_game(
     alloc: Global,
-    tallies: &[Tally],
+    parts: &Parts,
     hits: &[Hit],
     next: Step,
 ) -> Result<Option<Listed>, AllocError>
     requires { AreSound (map hit_as hits.now) }
     ensures { IfOk result
-        (λ game. (key : List ℕ) (wanted : Filter) (each : AllByRecursion IsCounted tallies.now)
-        → map hit_as hits.now ≡ rows_from key (meets wanted any_next) 0 tallies.now
-        → game ≡ option_and_then (listing key (all_of (tracks_in tallies.now each)))
+        (λ game. (key : List ℕ) (wanted : Filter) (each : AllByRecursion IsPart (parts_in parts.now))
+        → map hit_as hits.now ≡ rows_from key (meets wanted any_next) 0 (parts_in parts.now)
+        → game ≡ option_and_then (listing key (all_of (tracks_in (parts_in parts.now) each)))
         (only_entry (top_where (map hit_as hits.now) (plays next)))) }
 {
-    only_listed(alloc, tallies, hits, top_of_move(hits, next).entries())
+    only_listed(alloc, parts, hits, top_of_move(hits, next).entries())
 }

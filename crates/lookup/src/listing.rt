@@ -2,15 +2,17 @@
 ghost use Rattle.std.specs.Prelude.{◌≡◌, ℕ, ◌+◌, ◌==◌, map, filter_map, IfOk, option_map};
 ghost use Rattle.std.specs.List.{list_any, slice_get};
 ghost use Rattle.lookup.specs.Hits.{hit_as};
+ghost use Rattle.lookup.specs.Parts.{parts_in};
 ghost use Rattle.lookup.specs.Listing.{list_of, next_where, all_classes, listed_where, IsListingOf, IsOnlyListingOf};
 
 use crate::hits::Hit;
+use crate::parts::Parts;
 use best_lists::Entry;
 use explorer_model::answer::Listed;
 use explorer_model::archive::Classes;
 use explorer_model::chess::Move;
 use std::alloc::{AllocError, Global};
-use tally_rows::{Row, Tally};
+use tally_rows::Row;
 
 /// One of the two lists of a row.
 #[derive(Clone, Copy, Debug)]
@@ -34,63 +36,63 @@ impl Listing {
 /// The games of entries of the `top` lists of the rows, in order. Fails only where memory runs out.
 pub fn listed_by_rating(
     alloc: Global,
-    tallies: &[Tally],
+    parts: &Parts,
     hits: &[Hit],
     entries: &[Entry],
 ) -> Result<Vec<Listed>, AllocError>
     ensures { IfOk result
-        (λ listed. IsListingOf (λ row. row.top) tallies.now
+        (λ listed. IsListingOf (λ row. row.top) (parts_in parts.now)
         (map hit_as hits.now) entries.now listed.items) }
 {
-    listed_in(alloc, tallies, hits, Listing::Top, entries)
+    listed_in(alloc, parts, hits, Listing::Top, entries)
 }
 
 /// The games of entries of the `recent` lists of the rows, in order. Fails only where memory runs out.
 pub fn listed_by_month(
     alloc: Global,
-    tallies: &[Tally],
+    parts: &Parts,
     hits: &[Hit],
     entries: &[Entry],
 ) -> Result<Vec<Listed>, AllocError>
     ensures { IfOk result
-        (λ listed. IsListingOf (λ row. row.recent) tallies.now
+        (λ listed. IsListingOf (λ row. row.recent) (parts_in parts.now)
         (map hit_as hits.now) entries.now listed.items) }
 {
-    listed_in(alloc, tallies, hits, Listing::Recent, entries)
+    listed_in(alloc, parts, hits, Listing::Recent, entries)
 }
 
 /// The game of the one entry of the `top` lists of the rows, or None where `entries` has none or more. Fails only where memory
 /// runs out.
 pub fn only_listed(
     alloc: Global,
-    tallies: &[Tally],
+    parts: &Parts,
     hits: &[Hit],
     entries: &[Entry],
 ) -> Result<Option<Listed>, AllocError>
     ensures { IfOk result
-        (λ game. IsOnlyListingOf (λ row. row.top) tallies.now
+        (λ game. IsOnlyListingOf (λ row. row.top) (parts_in parts.now)
         (map hit_as hits.now) entries.now game) }
 {
     let [entry] = entries else {
         return Ok(None);
     };
-    game_of(alloc, tallies, hits, Listing::Top, entry.number)
+    game_of(alloc, parts, hits, Listing::Top, entry.number)
 }
 
 /// The games that are found by the numbers of the entries, in order.
 fn listed_in(
     alloc: Global,
-    tallies: &[Tally],
+    parts: &Parts,
     hits: &[Hit],
     list: Listing,
     entries: &[Entry],
 ) -> Result<Vec<Listed>, AllocError>
     ensures { IfOk result (λ listed. listed.items
-        ≡ filter_map (λ entry. listed_where (list_of list) tallies.now (map hit_as hits.now) entry.number) entries.now) }
+        ≡ filter_map (λ entry. listed_where (list_of list) (parts_in parts.now) (map hit_as hits.now) entry.number) entries.now) }
 {
     let mut listed = Vec::with_capacity(alloc, entries.len())?;
     for entry in entries {
-        if let Some(game) = game_of(alloc, tallies, hits, list, entry.number)? {
+        if let Some(game) = game_of(alloc, parts, hits, list, entry.number)? {
             listed.push(game)?;
         }
     }
@@ -100,32 +102,32 @@ fn listed_in(
 /// The game of a number.
 fn game_of(
     alloc: Global,
-    tallies: &[Tally],
+    parts: &Parts,
     hits: &[Hit],
     list: Listing,
     number: u32,
 ) -> Result<Option<Listed>, AllocError>
     ensures { IfOk result (λ game. game
-        ≡ listed_where (list_of list) tallies.now (map hit_as hits.now) number) }
+        ≡ listed_where (list_of list) (parts_in parts.now) (map hit_as hits.now) number) }
 {
     let Some(next) = next_in(hits, list, number) else {
         return Ok(None);
     };
-    listed(alloc, tallies, next, number)
+    listed(alloc, parts, next, number)
 }
 
 /// The game of a number with its next move.
 fn listed(
     alloc: Global,
-    tallies: &[Tally],
+    parts: &Parts,
     next: Move,
     number: u32,
 ) -> Result<Option<Listed>, AllocError>
     ensures { IfOk result (λ listed. listed
         ≡ option_map (λ classes. record { next = next; classes = classes })
-        (slice_get (all_classes tallies.now) number)) }
+        (slice_get (all_classes (parts_in parts.now)) number)) }
 {
-    let Some(classes) = classes_of(tallies, number as usize) else {
+    let Some(classes) = parts.classes_of(number as usize) else {
         return Ok(None);
     };
     Ok(Some(Listed {
@@ -139,22 +141,6 @@ fn copy_of(classes: &Classes) -> Result<Classes, AllocError>
     ensures { IfOk result (λ copy. copy ≡ classes.now) }
 {
     classes.clone()
-}
-
-/// What is known of the game of a number.
-fn classes_of(tallies: &[Tally], number: usize) -> Option<&Classes>
-    ensures { option_map (λ classes. classes.now) result
-        ≡ slice_get (all_classes tallies.now) number }
-{
-    let mut left = number;
-    for tally in tallies {
-        let classes = tally.classes();
-        if left < classes.len() {
-            return Some(&classes[left]);
-        }
-        left -= classes.len();
-    }
-    None
 }
 
 /// The move that follows in the game of a number, by the first row that lists it.

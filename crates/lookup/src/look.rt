@@ -1,89 +1,131 @@
 //! The answer to a query, from rows.
-ghost use Rattle.std.specs.Prelude.{◌≡◌, ◌≤◌, List, map, take, cond, IfOk, Some, None};
-ghost use Rattle.std.specs.List.{AllByRecursion};
+ghost use Rattle.std.specs.Prelude.{◌≡◌, ℕ, ◌+◌, ◌≤◌, ◌<◌, ◌^◌, List, map, take, length, cond, IfOk, Some, None};
+ghost use Rattle.std.specs.Arc.{arc_value};
+ghost use Rattle.std.specs.List.{All, AllByRecursion, sum_by};
+ghost use Rattle.explorer_model.specs.declared.archive.Batch.{Batch};
 ghost use Rattle.explorer_model.specs.Chess.{IsValid, Legal};
-ghost use Rattle.explorer_model.specs.Counting.{any_next};
 ghost use Rattle.explorer_model.specs.Finds.{IsFound};
 ghost use Rattle.explorer_model.specs.Journal.{game_limit};
-ghost use Rattle.lookup.specs.Hits.{hit_as, games_counted, rows_from, in_months, in_cells, AreSound};
+ghost use Rattle.explorer_model.specs.Spans.{Covers};
+ghost use Rattle.explorer_model.specs.Tidy.{IsTidyKey};
+ghost use Rattle.lookup.specs.Hits.{hit_as, games_counted, look_limit, rows_from, in_months, AreSound};
 ghost use Rattle.lookup.specs.Lines.{IsPutTogether};
-ghost use Rattle.lookup.specs.Sums.{history_in, moves_in, totals_where};
-ghost use Rattle.tally_rows.specs.Cover.{meets};
-ghost use Rattle.tally_rows.specs.Row.{row_key_of};
-ghost use Rattle.tally_rows.specs.Tally.{IsCounted};
+ghost use Rattle.lookup.specs.Parts.{IsPart, parts_in, tallied_part, segment_part, journal_of};
+ghost use Rattle.lookup.specs.SegmentRows.{row_steps};
+ghost use Rattle.lookup.specs.Sums.{history_in, moves_in};
+ghost use Rattle.segment_blocks.specs.Segment.{CountedSpan};
 
 use crate::best_games::{recent_of, top_of};
 use crate::history::history_of;
-use crate::hits::{Hit, hits_in_months, keep_cells, picked_rows_are_sound};
-use crate::laws::{tallies_recount, tracks_tell_legal_moves};
+use crate::hits::{Hit, hits_of, hits_of_tallies, keep_cells, picked_rows_are_sound};
+use crate::laws::{parts_recount, tracks_tell_legal_moves};
 use crate::lines::lines_of;
 use crate::listing::{listed_by_month, listed_by_rating};
 use crate::moves::first_moves;
+use crate::parts::Parts;
+use crate::segment_rows::rows_of_segments;
 use crate::totals::totals_of;
 use best_lists::Entry;
 use explorer_model::answer::{Found, MonthLine, Totals};
 use explorer_model::list::Items;
-use explorer_model::query::{Filter, Query};
+use explorer_model::query::Query;
 use legal_moves::board::Board;
+use legal_moves::laws::tidy_is_determined;
 use packed_keys::pack;
+use segment_blocks::{Segment, Steps};
 use std::alloc::{AllocError, Global};
+use std::sync::Arc;
+use std::sync::ledger::Ledger;
 use tally_rows::Tally;
-
-/// The rows that a query counts, and how many games of each outcome they have.
-struct Counting<'a> {
-    totals: Totals,
-    hits: Vec<Hit<'a>>,
-}
 
 /// What is found in the batches of the tallies, whose games are numbered one after another.
 pub fn look_rows(alloc: Global, tallies: &[Tally], query: &Query) -> Result<Found, AllocError>
     requires valid { IsValid query.now.at }
     requires top { query.now.top ≤ 4 }
     requires recent { query.now.recent ≤ 4 }
-    requires games { games_counted tallies.now ≤ game_limit }
+    requires games { games_counted (map tallied_part tallies.now) ≤ game_limit }
     ensures { IfOk result
         (λ found. IsFound (map (λ tally. tally.batch) tallies.now) query.now found) }
 {
-    tallies_recount();
-    tracks_tell_legal_moves();
+    let (board, key) = board_and_key(query);
+    let hits = hits_of_tallies(alloc, tallies, &key, &query.filter)?;
+    found_of(alloc, &board, &key, &Parts::Tallies(tallies), query, hits)
+}
+
+/// What is found in the journal that at most 64 segments cover, by their rows alone. With r rows of the
+/// position a segment takes the steps of `rows_at`, r and one.
+pub fn look_segments<L: Ledger>(
+    alloc: Global,
+    segments: &[Arc<Segment>],
+    query: &Query,
+    steps: &mut Steps<L>,
+) -> Result<Found, AllocError>
+    requires valid { IsValid query.now.at }
+    requires top { query.now.top ≤ 4 }
+    requires recent { query.now.recent ≤ 4 }
+    requires few { length segments.now ≤ 64 }
+    ensures found { IfOk result (λ found. (journal : List Batch)
+        → Covers (map (λ segment. segment.span) (map arc_value segments.now)) journal
+        → IsFound journal query.now found) }
+    ensures cost { (key : List ℕ) (digits : CountedSpan → ℕ) → IsTidyKey query.now.at key
+        → All (λ segment. segment.blocks < 2 ^ digits segment) (map arc_value segments.now)
+        → steps.new ≤ steps.old + sum_by (row_steps key digits) (map arc_value segments.now) }
+{
+    // law: a position has one tidy form, so one key
+    tidy_is_determined();
+    let (board, key) = board_and_key(query);
+    let rows = rows_of_segments(alloc, segments, &key, &query.filter, steps)?;
+    let hits = hits_of(alloc, rows.as_slice())?;
+    found_of(alloc, &board, &key, &Parts::Segments(segments), query, hits)
+}
+
+/// The position that is asked for, and the key of its rows.
+fn board_and_key(query: &Query) -> (Board, [u8; 34])
+    requires { IsValid query.now.at }
+    ensures board { result.0 ≡ query.now.at }
+    ensures key { IsTidyKey query.now.at result.1 }
+{
     let Some(board) = Board::of(&query.at) else {
         unreachable!()
     };
     let key = pack(&board.tidy().position());
-    let Counting { totals, hits } = count(alloc, tallies, &key, &query.filter)?;
-    found_in(alloc, &board, tallies, query, totals, hits.as_slice())
+    (board, key)
 }
 
-/// Counts the rows of the position with the key that the filter takes.
-fn count<'a>(
+/// What is found in the journal of the parts, of their rows of the months that are asked for.
+fn found_of(
     alloc: Global,
-    tallies: &'a [Tally],
+    board: &Board,
     key: &[u8; 34],
-    wanted: &Filter,
-) -> Result<Counting<'a>, AllocError>
-    requires { games_counted tallies.now ≤ game_limit }
-    ensures counted { IfOk result (λ _. AllByRecursion IsCounted tallies.now) }
-    ensures totals { IfOk result (λ counting. counting.totals
-        ≡ totals_where (rows_from key.now (in_months wanted.now) 0 tallies.now)
-        (λ row. in_cells wanted.now (row_key_of row))) }
-    ensures hits { IfOk result (λ counting. map hit_as counting.hits.items
-        ≡ rows_from key.now (meets wanted.now any_next) 0 tallies.now) }
-    ensures sound { IfOk result (λ counting. AreSound (map hit_as counting.hits.items)) }
+    parts: &Parts,
+    query: &Query,
+    hits: Vec<Hit>,
+) -> Result<Found, AllocError>
+    requires board { board.now ≡ query.now.at }
+    requires key { IsTidyKey query.now.at key.now }
+    requires valid { IsValid query.now.at }
+    requires top { query.now.top ≤ 4 }
+    requires recent { query.now.recent ≤ 4 }
+    requires games { games_counted (parts_in parts.now) ≤ look_limit }
+    requires parts { AllByRecursion IsPart (parts_in parts.now) }
+    requires rows { map hit_as hits.items
+        ≡ rows_from key.now (in_months query.now.filter) 0 (parts_in parts.now) }
+    ensures { IfOk result (λ found. IsFound (journal_of (parts_in parts.now)) query.now found) }
 {
+    // laws: what is made of rows is what is found; rows tell legal moves, and are sound
+    parts_recount();
+    tracks_tell_legal_moves();
     picked_rows_are_sound();
-    let hits = hits_in_months(alloc, tallies, key, wanted)?;
-    let totals = totals_of(hits.as_slice(), wanted);
-    Ok(Counting {
-        totals,
-        hits: keep_cells(hits, wanted),
-    })
+    let totals = totals_of(hits.as_slice(), &query.filter);
+    let hits = keep_cells(hits, &query.filter);
+    found_in(alloc, board, parts, query, totals, hits.as_slice())
 }
 
 /// Puts an answer together.
 fn found_in(
     alloc: Global,
     board: &Board,
-    tallies: &[Tally],
+    parts: &Parts,
     query: &Query,
     totals: Totals,
     hits: &[Hit],
@@ -93,14 +135,14 @@ fn found_in(
     requires legal { AllByRecursion (λ m. Legal board.now m) (moves_in (map hit_as hits.now)) }
     ensures totals { IfOk result (λ found. found.totals ≡ totals) }
     ensures rest { IfOk result
-        (λ found. IsPutTogether query.now tallies.now (map hit_as hits.now) found) }
+        (λ found. IsPutTogether query.now (parts_in parts.now) (map hit_as hits.now) found) }
 {
     let sums = first_moves(alloc, hits, query.moves)?;
-    let moves = lines_of(alloc, board, tallies, hits, sums.as_slice())?;
+    let moves = lines_of(alloc, board, parts, hits, sums.as_slice())?;
     let top = top_of(hits);
-    let top = listed_by_rating(alloc, tallies, hits, first(top.entries(), query.top))?;
+    let top = listed_by_rating(alloc, parts, hits, first(top.entries(), query.top))?;
     let recent = recent_of(hits);
-    let recent = listed_by_month(alloc, tallies, hits, first(recent.entries(), query.recent))?;
+    let recent = listed_by_month(alloc, parts, hits, first(recent.entries(), query.recent))?;
     Ok(Found {
         totals,
         moves: Items::from_vec(moves),

@@ -1,10 +1,11 @@
-ghost use Rattle.std.specs.Prelude.{◌≤◌, length, IsTrue, IfOk, IfSome};
+ghost use Rattle.std.specs.Prelude.{◌≡◌, ◌≤◌, ◌<◌, length, map, IsTrue, IfOk, IfSome};
 ghost use Rattle.std.specs.List.{All};
 ghost use Rattle.explorer_model.specs.Chess.{IsValid};
 ghost use Rattle.explorer_model.specs.Journal.{game_limit};
 ghost use Rattle.lookup.specs.Hits.{games_counted};
+ghost use Rattle.lookup.specs.Parts.{tallied_part};
 
-use crate::look_rows;
+use crate::{look_rows, look_segments};
 use batch_tally::tally;
 use explorer_model::answer::{Found, Listed, MonthLine, MoveLine, Totals};
 use explorer_model::archive::{Bytes, Month, Placed};
@@ -12,8 +13,12 @@ use explorer_model::list::Items;
 use explorer_model::query::{Filter, Query};
 use legal_moves::board::Board;
 use outside::FreeGate;
+use segment_blocks::{Segment, Steps};
 use std::alloc::{AllocError, Global};
+use std::marker::Brand;
 use std::str;
+use std::sync::Arc;
+use std::sync::ledger::{Blank, Ledger};
 use std::test::Fail;
 use tally_rows::Tally;
 
@@ -67,7 +72,7 @@ fn tally_of(alloc: Global, games: &[Played]) -> Result<Option<Tally>, AllocError
 
 /// Both, where they are as small as batches are.
 fn both(first: Tally, second: Tally) -> Option<[Tally; 2]>
-    ensures { IfSome result (λ tallies. games_counted tallies ≤ game_limit) }
+    ensures { IfSome result (λ tallies. games_counted (map tallied_part tallies) ≤ game_limit) }
 {
     if 512 < first.classes().len() || 512 < second.classes().len() {
         return None;
@@ -184,46 +189,54 @@ fn ann() -> Played<'static> {
     }
 }
 
-fn first_batch(alloc: Global) -> Result<Option<Tally>, AllocError> {
-    let bea = Played {
+fn bea() -> Played<'static> {
+    Played {
         white: "Bea",
         ratings: (1702, 1700),
         time: "600+0",
         date: "2020.02.01",
         moves: "1. e4 c5",
         result: "0-1",
-    };
-    tally_of(alloc, &[ann(), bea])
+    }
 }
 
-fn second_batch(alloc: Global) -> Result<Option<Tally>, AllocError> {
-    let cid = Played {
+fn cid() -> Played<'static> {
+    Played {
         white: "Cid",
         ratings: (2000, 1900),
         date: "2019.12.31",
         moves: "1. d4 d5",
         result: "1/2-1/2",
         ..ann()
-    };
-    let dan = Played {
+    }
+}
+
+fn dan() -> Played<'static> {
+    Played {
         white: "Dan",
         ratings: (1500, 1450),
         date: "2020.02.29",
         moves: "1. e4",
         ..ann()
-    };
-    let eve = Played {
+    }
+}
+
+fn eve() -> Played<'static> {
+    Played {
         white: "Eve",
         moves: "",
         ..ann()
-    };
-    tally_of(alloc, &[cid, dan, eve])
+    }
 }
 
 fn two_batches(alloc: Global) -> Result<Option<[Tally; 2]>, AllocError>
-    ensures { IfOk result (λ made. IfSome made (λ tallies. games_counted tallies ≤ game_limit)) }
+    ensures { IfOk result (λ made. IfSome made
+        (λ tallies. games_counted (map tallied_part tallies) ≤ game_limit)) }
 {
-    match (first_batch(alloc)?, second_batch(alloc)?) {
+    match (
+        tally_of(alloc, &[ann(), bea()])?,
+        tally_of(alloc, &[cid(), dan(), eve()])?,
+    ) {
         (Some(first), Some(second)) => Ok(both(first, second)),
         _ => Ok(None),
     }
@@ -255,6 +268,13 @@ fn narrowed() -> [Asked; 4] {
     ]
 }
 
+// Worked out by hand.
+const EVERYTHING: &str = "3/1/1; moves e4 1567 2/0/1 d4 2000 0/1/0 Cid; top Cid Bea Dan Ann; \
+    recent Dan Bea Ann Cid; months 2019-12 0/1/0 2020-1 2/0/0 2020-2 1/0/1";
+
+const SINCE_JANUARY: &str = "3/0/1; moves e4 1567 2/0/1; top Bea Dan Ann; recent Dan Bea Ann; \
+    months 2020-1 2/0/0 2020-2 1/0/1";
+
 #[test]
 fn two_batches_with_every_filter(rt: HostRuntime) -> Result<(), Fail> {
     let Some(tallies) = two_batches(rt.alloc())? else {
@@ -270,11 +290,7 @@ fn two_batches_with_every_filter(rt: HostRuntime) -> Result<(), Fail> {
         ..everything_of(EVERY_GAME)
     };
     let table = [
-        (
-            everything_of(EVERY_GAME),
-            "3/1/1; moves e4 1567 2/0/1 d4 2000 0/1/0 Cid; top Cid Bea Dan Ann; \
-             recent Dan Bea Ann Cid; months 2019-12 0/1/0 2020-1 2/0/0 2020-2 1/0/1",
-        ),
+        (everything_of(EVERY_GAME), EVERYTHING),
         (
             rapid,
             "0/0/1; moves e4 1702 0/0/1 Bea; top Bea; recent Bea; months 2020-2 0/0/1",
@@ -284,11 +300,7 @@ fn two_batches_with_every_filter(rt: HostRuntime) -> Result<(), Fail> {
             "3/0/0; moves e4 1500 2/0/0; top Dan Ann; recent Dan Ann; \
              months 2020-1 2/0/0 2020-2 1/0/0",
         ),
-        (
-            since,
-            "3/0/1; moves e4 1567 2/0/1; top Bea Dan Ann; recent Dan Bea Ann; \
-             months 2020-1 2/0/0 2020-2 1/0/1",
-        ),
+        (since, SINCE_JANUARY),
         (
             until,
             "2/1/0; moves d4 2000 0/1/0 Cid e4 1500 1/0/0 Ann; top Cid Ann; recent Ann Cid; \
@@ -299,6 +311,75 @@ fn two_batches_with_every_filter(rt: HostRuntime) -> Result<(), Fail> {
     for (asked, answer) in &table {
         let found = look_rows(rt.alloc(), &tallies, &query_of(rt.alloc(), asked))?;
         assert_eq!(rt; told(rt.alloc(), &found)?.as_str(), *answer);
+    }
+    Ok(())
+}
+
+/// Segments of so many of the five games, one segment after another; None where a batch is refused
+/// or the games are too few.
+fn segments_of(alloc: Global, sizes: &[usize]) -> Result<Option<Vec<Arc<Segment>>>, AllocError> {
+    let games = [ann(), bea(), cid(), dan(), eve()];
+    let mut rest = games.as_slice();
+    let mut segments = Vec::new(alloc);
+    let mut first = 0;
+    for size in sizes {
+        if rest.len() < *size || first == 5 {
+            return Ok(None);
+        }
+        let (batch, others) = rest.split_at(*size);
+        let Some(tally) = tally_of(alloc, batch)? else {
+            return Ok(None);
+        };
+        segments.push(Arc::new(alloc, Segment::of(alloc, first, tally)?)?)?;
+        rest = others;
+        first += 1;
+    }
+    Ok(Some(segments))
+}
+
+/// What is found in the journal of the segments, in one line; empty where they are too many.
+fn told_by_segments<L: Ledger>(
+    alloc: Global,
+    segments: &[Arc<Segment>],
+    asked: &Asked,
+    blank: Blank,
+) -> Result<String, AllocError>
+    requires name { blank.name ≡ L.name }
+    requires parts { blank.parts ≡ L.parts }
+    requires some { 0 < L.parts }
+{
+    if 64 < segments.len() {
+        return Ok(String::new(alloc));
+    }
+    let mut steps = Steps::<L>::new(blank);
+    let found = look_segments(alloc, segments, &query_of(alloc, asked), &mut steps)?;
+    told(alloc, &found)
+}
+
+/// What is found in the journal of the five games in segments of these sizes.
+fn told_by_cut(alloc: Global, sizes: &[usize], asked: &Asked) -> Result<String, AllocError> {
+    match segments_of(alloc, sizes)? {
+        Some(segments) => {
+            told_by_segments::<Brand>(alloc, segments.as_slice(), asked, Blank::new(1))
+        }
+        None => Ok(String::new(alloc)),
+    }
+}
+
+#[test]
+fn one_two_and_five_segments_answer_alike(rt: HostRuntime) -> Result<(), Fail> {
+    let [_, _, since, _] = narrowed();
+    let table = [
+        (everything_of(EVERY_GAME), EVERYTHING),
+        (since, SINCE_JANUARY),
+    ];
+    for (asked, answer) in &table {
+        let one = told_by_cut(rt.alloc(), &[5], asked)?;
+        assert_eq!(rt; one.as_str(), *answer);
+        let two = told_by_cut(rt.alloc(), &[2, 3], asked)?;
+        assert_eq!(rt; two.as_str(), *answer);
+        let five = told_by_cut(rt.alloc(), &[1, 1, 1, 1, 1], asked)?;
+        assert_eq!(rt; five.as_str(), *answer);
     }
     Ok(())
 }

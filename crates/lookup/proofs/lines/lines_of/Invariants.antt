@@ -1,9 +1,10 @@
 use Rattle.std.proofs.Common.{map, take}
 use Rattle.std.specs.List.{AllZip}
+use Rattle.lookup.specs.Parts.{parts_in}
 use Rattle.lookup.specs.Hits.{hit_as}
 use Rattle.lookup.specs.Lines.{IsLineMade}
 use Rattle.lookup.proofs.lines.lines_of.Given as goal
 
 abbrev pub invariant-loop-sum : goal.invariant-loop-sum
 invariant-loop-sum l =
-    AllZip (λ sum line. IsLineMade l.board l.tallies (map hit_as l.hits) sum.next line) (take l.sum-index l.sums) l.lines.items
+    AllZip (λ sum line. IsLineMade l.board (parts_in l.parts) (map hit_as l.hits) sum.next line) (take l.sum-index l.sums) l.lines.items

@@ -7,6 +7,7 @@ use Rattle.explorer_model.specs.declared.answer.MoveLine.{MoveLine}
 use Rattle.explorer_model.specs.declared.chess.Move.{Move}
 use Rattle.explorer_model.specs.declared.chess.Position.{Position}
 use Rattle.explorer_model.specs.Chess.{Legal}
+use Rattle.lookup.specs.Parts.{parts_in}
 use Rattle.lookup.specs.declared.moves.MoveSum.{MoveSum}
 use Rattle.lookup.specs.Hits.{NumberedRow, hit_as}
 use Rattle.lookup.specs.Lines.{IsAveraged, IsLineMade}
@@ -41,7 +42,7 @@ returns-clause-rest c =
     let hits : List NumberedRow = map hit_as c.args.hits.now in
     let moves : List Move = best (before_by_total hits) c.args.query.now.moves (moves_in hits) in
     let sums : c.as_slice.result.now ≡ map (sum_as hits) moves = c.as_slice.ensures.value ∙ c.in_ok-sums.ensures in
-    let made : (at : Position) → MoveSum → MoveLine → Type 0 = λ at sum line. IsLineMade at c.args.tallies.now hits sum.next line in
+    let made : (at : Position) → MoveSum → MoveLine → Type 0 = λ at sum line. IsLineMade at (parts_in c.args.parts.now) hits sum.next line in
     let AtBoard : Position → Type 0 = λ at. AllZip (made at) c.as_slice.result.now c.in_ok-moves.moves.items in
     let OfSums : List MoveSum → Type 0 = λ sums. AllZip (made c.args.query.now.at) sums c.in_ok-moves.moves.items in
     let OfLines : List MoveLine → Type 0 = λ lines. AllZip (made c.args.query.now.at) (map (sum_as hits) moves) lines in
@@ -49,10 +50,10 @@ returns-clause-rest c =
     c.first.ensures ∙ ap (take c.args.query.now.top) (c.entries.ensures.entries ∙ c.top_of-top.ensures) in
     let recent : c.first-2.result.now ≡ take c.args.query.now.recent (recent_where hits any_row) =
     c.first-2.ensures ∙ ap (take c.args.query.now.recent) (c.entries-2.ensures.entries ∙ c.recent_of-recent.ensures) in
-    let TopOf : List Entry → Type 0 = λ entries. IsListingOf (λ row. row.top) c.args.tallies.now hits entries c.in_ok-top.top.items in
-    let TopAs : List Listed → Type 0 = λ listed. IsListingOf (λ row. row.top) c.args.tallies.now hits (take c.args.query.now.top (top_where hits any_row)) listed in
-    let RecentOf : List Entry → Type 0 = λ entries. IsListingOf (λ row. row.recent) c.args.tallies.now hits entries c.in_ok-recent.recent.items in
-    let RecentAs : List Listed → Type 0 = λ listed. IsListingOf (λ row. row.recent) c.args.tallies.now hits (take c.args.query.now.recent (recent_where hits any_row)) listed in
+    let TopOf : List Entry → Type 0 = λ entries. IsListingOf (λ row. row.top) (parts_in c.args.parts.now) hits entries c.in_ok-top.top.items in
+    let TopAs : List Listed → Type 0 = λ listed. IsListingOf (λ row. row.top) (parts_in c.args.parts.now) hits (take c.args.query.now.top (top_where hits any_row)) listed in
+    let RecentOf : List Entry → Type 0 = λ entries. IsListingOf (λ row. row.recent) (parts_in c.args.parts.now) hits entries c.in_ok-recent.recent.items in
+    let RecentAs : List Listed → Type 0 = λ listed. IsListingOf (λ row. row.recent) (parts_in c.args.parts.now) hits (take c.args.query.now.recent (recent_where hits any_row)) listed in
     record {
       lines = subst OfLines (sym c.from_vec.ensures) (subst OfSums sums (subst AtBoard c.requires.board c.in_ok-moves.ensures));
       top = subst TopAs (sym c.from_vec-2.ensures) (subst TopOf top c.in_ok-top.ensures);
