@@ -24,7 +24,8 @@ waiting None [] = None
 waiting None (operation ∷ more) = Some (change_made operation)
 
 -- the operation may be made, and the history is the one behind it
-pub record IsQueued (list : List CountedSpan) (front history : Reached) (operation : Operation) : Type 0 where
+pub record IsQueued (list : List CountedSpan) (front history : Reached) (operation : Operation)
+    : Type 0 where
   pub may : MayMake list (change_made operation)
   pub log : history.log ≡ with_put (journal_of list) (change_made operation)
   pub front_is : front_after front operation ≡ history
@@ -63,6 +64,7 @@ Flushes old new (Some change) (Ok some) = (some ≡ true) × IsMade old new chan
 Flushes old new (Some change) (Err refused) = new ≡ old
 
 -- a change that is held is published, or nothing changes
-abbrev pub Remakes : {E : Type 0} → Publishing → Publishing → Change → Result (List Batch) E → Type 0
+abbrev pub Remakes : {E : Type 0} → Publishing → Publishing → Change → Result (List Batch) E
+    → Type 0
 Remakes old new change (Ok note) = Publishes old new change note
 Remakes old new change (Err refused) = new ≡ old

@@ -18,12 +18,15 @@ abbrev pub IsBelow : Option Reached → Reached → Type 0
 IsBelow None front = ⊤
 IsBelow (Some seen) front = Begins seen front
 
-pub record IsKeptBy (list : List CountedSpan) (front : Reached) (views : List (Option Reached)) : Type 0 where
+pub record IsKeptBy (list : List CountedSpan) (front : Reached) (views : List (Option Reached))
+    : Type 0 where
   pub tied : front.log ≡ journal_of list
-  pub below : (seat : ℕ) (seen : Option Reached) → get_elem? views seat ≡ some seen → IsBelow seen front
+  pub below : (seat : ℕ) (seen : Option Reached) → get_elem? views seat ≡ some seen
+      → IsBelow seen front
 
 -- what is published is seen, and it has all that was seen
-pub record SeesShown (seen : Option Reached) (list : List CountedSpan) (front : Reached) (after : Option Reached) : Type 0 where
+pub record SeesShown (seen : Option Reached) (list : List CountedSpan) (front : Reached)
+    (after : Option Reached) : Type 0 where
   pub below : IsBelow seen front
   pub tied : front.log ≡ journal_of list
   pub seen_now : after ≡ Some front
