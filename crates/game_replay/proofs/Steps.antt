@@ -1,7 +1,7 @@
 -- One token after another.
-use Rattle.std.proofs.Common.{arith, ◌≡◌, ◌∙◌, sym, ap, subst, refl, inl, inr, ℕ, suc, ◌+◌, ◌<◌, ◌≤◌, List, [], ◌∷◌, ◌++◌, length, drop, Result, Ok, Err, Bool, true, if◌then◌else◌}
+use Rattle.std.proofs.Common.{arith, ◌≡◌, ◌∙◌, sym, ap, subst, refl, inl, inr, ℕ, suc, ◌+◌, ◌<◌, ◌≤◌, List, [], ◌∷◌, ◌++◌, length, map, drop, Result, Ok, Err, Bool, true, if◌then◌else◌}
 use Rattle.std.proofs.Math.Seq.{drop-cons}
-use Rattle.std.proofs.lemmas.List.{append_assoc, append-nil, drop_all}
+use Rattle.std.proofs.lemmas.List.{append_assoc, append-nil, drop_all, length-map, get_or-map}
 use Rattle.std.specs.List.{slice_index_or}
 use Rattle.explorer_model.specs.declared.archive.Token.{Token}
 use Rattle.explorer_model.specs.declared.chess.Move.{Move}
@@ -79,3 +79,9 @@ here tokens index token within is =
 
 pub pushed : (moves more : List Move) (m : Move) (ok : Bool) → more ≡ (if ok then moves ++ m ∷ [] else moves) → ok ≡ true → more ≡ moves ++ m ∷ []
 pushed moves more m ok is holds = is ∙ ap (λ (b : Bool). if b then moves ++ m ∷ [] else moves) holds
+
+pub here_at : {X : Type 0} (f : X → Token) (xs : List X) (index : ℕ) (otherwise : X) → index < length xs
+    → drop index (map f xs) ≡ f (slice_index_or xs index otherwise) ∷ drop (index + 1) (map f xs)
+here_at f xs index otherwise within =
+    here (map f xs) index (f (slice_index_or xs index otherwise)) (omega (arith, length-map xs f))
+    (sym (get_or-map f xs index otherwise (f (slice_index_or xs index otherwise)) within))

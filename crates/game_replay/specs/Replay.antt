@@ -1,5 +1,5 @@
 -- What replaying answers: a game, or the first fault. Want of memory is free.
-use Rattle.std.specs.Prelude.{◌≡◌, ℕ, ◌+◌, ◌++◌, List, drop, Result}
+use Rattle.std.specs.Prelude.{◌≡◌, ℕ, ◌+◌, ◌++◌, List, map, drop, Result}
 use Rattle.std.specs.Result.{result_map_both}
 use Rattle.explorer_model.specs.declared.archive.Game.{Game}
 use Rattle.explorer_model.specs.declared.archive.Token.{Token}
@@ -10,6 +10,7 @@ use Rattle.explorer_model.specs.declared.fault.Stop.{Stop}
 use Rattle.explorer_model.specs.Chess.{start}
 use Rattle.explorer_model.specs.Games as games
 use Rattle.explorer_model.specs.Stop.{Answers}
+use Rattle.pgn_lex.specs.Span.{token_in}
 use Rattle.game_replay.specs.declared.score.Scored.{Scored}
 
 -- the answer is the text's game, or its first fault
@@ -21,8 +22,11 @@ abbrev pub GivesMoves : List Token → Result (List Move) (Stop GameFault) → T
 GivesMoves tokens answer = Answers answer (games.Plays start 1 tokens)
 
 -- the code's score of a text
-abbrev pub score_as : Scored → games.Score
-score_as scored = record { classes = scored.classes; tokens = scored.tokens }
+abbrev pub score_as : List ℕ → Scored → games.Score
+score_as text scored = record {
+  classes = scored.classes;
+  tokens = map (token_in text) scored.spans.items;
+}
 
 -- moves before those of the rest
 abbrev pub onto_front : List Move → Result (List Move) GameFault → Result (List Move) GameFault

@@ -16,7 +16,7 @@ pub fn replay(alloc: Global, text: &[u8]) -> Result<Game, Stop<GameFault>>
     ensures { GivesGame text.now result }
 {
     let scored = score(alloc, text)?;
-    let moves = moves_of(alloc, scored.tokens.as_slice())?;
+    let moves = moves_of(alloc, text, scored.spans.as_slice())?;
     Ok(Game {
         classes: scored.classes,
         moves,

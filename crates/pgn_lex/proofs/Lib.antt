@@ -2,6 +2,7 @@ pub mod Meaning
 pub mod Rows
 pub mod Runs
 pub mod Shapes
+pub mod Spans
 pub mod Steps
 pub mod Strings
 pub mod Symbols

@@ -1,5 +1,5 @@
 -- An item as the code finds it, and as the definition does.
-use Rattle.std.specs.Prelude.{ℕ, ◌+◌, Bool, List, [], ◌∷◌, take, drop, slice_index, ◌==◌}
+use Rattle.std.specs.Prelude.{length, ◌≡◌, ℕ, ◌+◌, Bool, List, [], ◌∷◌, take, drop, slice_index, ◌==◌}
 use Rattle.explorer_model.specs.Items.{Shape, Item, Wrong, one_byte, shape_of, symbol_of}
 use Rattle.explorer_model.specs.Items as items
 use Rattle.pgn_lex.specs.declared.items.Kind.{Kind}
@@ -42,3 +42,7 @@ unfoldable pub item_at : ℕ → List ℕ → Item
 item_at at text =
     let shape = shape_at (begins_line at text) (drop at text) in
     record { kind = shape.kind; place = at; text = take (shape.more + 1) (drop at text) }
+
+-- the item's bytes are those that stand in the text at its place
+abbrev pub IsCut : List ℕ → Item → Type 0
+IsCut text item = take (length item.text) (drop item.place text) ≡ item.text

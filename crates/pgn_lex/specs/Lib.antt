@@ -3,3 +3,5 @@ pub mod Items
 pub mod Laws
 pub mod Pair
 pub mod Reading
+pub mod Span
+pub mod Spanned

@@ -1,5 +1,5 @@
 -- A text that is read up to a place.
-use Rattle.std.specs.Prelude.{◌≡◌, ℕ, ◌+◌, ◌≤◌, List, [], ◌∷◌, ◌++◌, length, drop, Result, Ok, if◌then◌else◌}
+use Rattle.std.specs.Prelude.{◌≡◌, ℕ, ◌+◌, ◌≤◌, List, [], ◌∷◌, ◌++◌, length, map, drop, Result, Ok, if◌then◌else◌}
 use Rattle.explorer_model.specs.declared.archive.Parts.{Parts}
 use Rattle.explorer_model.specs.declared.archive.Tag.{Tag}
 use Rattle.explorer_model.specs.declared.archive.Token.{Token}
@@ -12,6 +12,7 @@ use Rattle.pgn_lex.specs.declared.reading.Section.{Section}
 use Rattle.pgn_lex.specs.declared.reading.Section.TheVariants as sections
 use Rattle.pgn_lex.specs.declared.reading.Found.{Found}
 use Rattle.pgn_lex.specs.Items.{begins_line}
+use Rattle.pgn_lex.specs.Span.{token_in}
 
 abbrev pub section_as : Section → model.Section
 section_as sections.Heading = model.Heading
@@ -29,8 +30,9 @@ pub record Front : Type 0 where
   pub tags : List Tag
   pub tokens : List Token
 
-abbrev pub front_of : Found → Front
-front_of found = record { tags = found.tags.items; tokens = found.tokens.items }
+abbrev pub front_of : List ℕ → Found → Front
+front_of text found =
+    record { tags = found.tags.items; tokens = map (token_in text) found.spans.items }
 
 abbrev pub token_of : Item → Token
 token_of item = record { place = item.place; text = item.text }

@@ -2,7 +2,7 @@ ghost use Rattle.std.specs.Prelude.{◌≡◌, ◌+◌, ◌<◌, ◌≤◌, ◌^
 ghost use Rattle.std.specs.Char.{is_ascii_digit};
 ghost use Rattle.std.specs.List.{list_all};
 ghost use Rattle.explorer_model.specs.Items.{ending_of, kind_of_symbol, one_byte, comment_of, remark_of, pair_item_of, nag_of};
-ghost use Rattle.pgn_lex.specs.Items.{kind_as, shape_as, shape_at, symbol_at, begins_line, item_as, item_at};
+ghost use Rattle.pgn_lex.specs.Items.{kind_as, shape_as, shape_at, symbol_at, begins_line, item_as, item_at, IsCut};
 
 use crate::bytes::{Class, Lead, find, lead_of, run_len};
 use crate::pair::{Pair, pair_of};
@@ -46,6 +46,8 @@ pub fn item_at(text: &[u8], at: usize) -> Item<'_>
     requires within { at < length text.now }
     requires small { length text.now < 2 ^ 32 }
     ensures item { item_as result ≡ item_at at text.now }
+    ensures place { result.place ≡ at }
+    ensures stands { IsCut text.now (item_as result) }
     ensures some { 0 < length result.text.now }
     ensures within { at + length result.text.now ≤ length text.now }
 {

@@ -6,8 +6,12 @@ mod items;
 pub mod laws;
 mod pair;
 mod reading;
+mod span;
+mod spanned;
 
-pub use reading::parts;
+pub use reading::{parts, spanned_parts};
+pub use span::Span;
+pub use spanned::SpannedParts;
 
 #[cfg(test)]
 mod tests;

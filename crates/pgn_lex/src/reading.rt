@@ -1,11 +1,16 @@
-ghost use Rattle.std.specs.Prelude.{◌≡◌, ◌+◌, ◌<◌, ◌≤◌, ◌^◌, length, option_map, IfSome, IfOk, OnOk};
+ghost use Rattle.std.specs.Prelude.{◌≡◌, ◌+◌, ◌<◌, ◌≤◌, ◌^◌, ℕ, List, length, map, option_map, IfSome, IfOk, OnOk};
+ghost use Rattle.std.specs.List.{All};
 ghost use Rattle.explorer_model.specs.Parts.{after, after_in_heading, after_in_moves, after_in_variation, at_end, parts};
-ghost use Rattle.explorer_model.specs.Stop.{Gives};
-ghost use Rattle.pgn_lex.specs.Items.{kind_as, item_as, item_at};
-ghost use Rattle.pgn_lex.specs.Reading.{section_as, depth_of, front_of, token_of, added, finished};
+ghost use Rattle.explorer_model.specs.Stop.{Gives, GivesBy};
+ghost use Rattle.pgn_lex.specs.Items.{kind_as, item_as, item_at, IsCut};
+ghost use Rattle.pgn_lex.specs.Spanned.{spanned_as};
+ghost use Rattle.pgn_lex.specs.Reading.{section_as, depth_of, front_of, added, finished};
+ghost use Rattle.pgn_lex.specs.Span.{token_in, IsWithin};
 
 use crate::items::{Item, Kind, item_at};
 use crate::pair::tag;
+use crate::span::Span;
+use crate::spanned::SpannedParts;
 use explorer_model::archive::{Bytes, Ending, Parts, Tag, Tags, Token, Tokens};
 use explorer_model::fault::{LexFault, Stop};
 use std::alloc::{AllocError, Global};
@@ -20,11 +25,11 @@ enum Section {
     Ended(Ending),
 }
 
-/// The tags and tokens of a text up to a place.
+/// The tags and move tokens of a text up to a place.
 #[derive(Debug, Drop)]
 struct Found {
     tags: Vec<Tag>,
-    tokens: Vec<Token>,
+    spans: Vec<Span>,
 }
 
 /// What a game's text consists of: its tags, the tokens of its moves outside comments and
@@ -33,9 +38,25 @@ pub fn parts(alloc: Global, text: &[u8]) -> Result<Parts, Stop<LexFault>>
     requires { length text.now ≤ 65536 }
     ensures { Gives result (parts text.now) }
 {
+    let spanned = spanned_parts(alloc, text)?;
+    let tokens = tokens_of(alloc, text, spanned.spans.as_slice())?;
+    Ok(Parts {
+        tags: spanned.tags,
+        tokens,
+        termination: spanned.termination,
+    })
+}
+
+/// As [`parts`], with the move tokens as spans of the text in place of copies.
+pub fn spanned_parts(alloc: Global, text: &[u8]) -> Result<SpannedParts, Stop<LexFault>>
+    requires { length text.now ≤ 65536 }
+    ensures parts { GivesBy (spanned_as text.now) result (parts text.now) }
+    ensures within { IfOk result
+        (λ spanned. All (IsWithin (length text.now)) spanned.spans.items) }
+{
     let mut found = Found {
         tags: Vec::new(alloc),
-        tokens: Vec::new(alloc),
+        spans: Vec::new(alloc),
     };
     let mut section = Section::Heading;
     let mut at = 0;
@@ -49,6 +70,21 @@ pub fn parts(alloc: Global, text: &[u8]) -> Result<Parts, Stop<LexFault>>
         at += item.text.len();
     }
     finish(section, found)
+}
+
+/// The tokens that spans of a text are, as copies.
+fn tokens_of(alloc: Global, text: &[u8], spans: &[Span]) -> Result<Tokens, AllocError>
+    requires { All (IsWithin (length text.now)) spans.now }
+    ensures { IfOk result (λ tokens. tokens ≡ map (token_in text.now) spans.now) }
+{
+    let mut tokens = Vec::with_capacity(alloc, spans.len())?;
+    for span in spans {
+        tokens.push(Token {
+            place: span.start,
+            text: Bytes::from_vec(Vec::from_slice(alloc, span.of(text))?),
+        })?;
+    }
+    Ok(Tokens::from_vec(tokens))
 }
 
 /// Where the text stands after an item, or none where such an item must not stand.
@@ -121,33 +157,43 @@ fn after_in_variation(inner: u32, outer: u32, kind: Kind<'_>) -> Option<Section>
 impl Found {
     /// Adds what an item says; what stands in a variation says nothing.
     fn add(&mut self, alloc: Global, section: Section, item: Item<'_>) -> Result<(), AllocError>
-        ensures { OnOk result (front_of self.new
-            ≡ added (section_as section) (item_as item.entry) (front_of self.old)) }
+        requires small { item.place + length item.text.now < 2 ^ 32 }
+        ensures front { (text : List ℕ) → IsCut text (item_as item.entry)
+            → OnOk result (front_of text self.new
+            ≡ added (section_as section) (item_as item.entry) (front_of text self.old)) }
+        ensures within { (size : ℕ) → item.entry.place + length item.entry.text.now ≤ size
+            → All (IsWithin size) self.old.spans.items
+            → OnOk result (All (IsWithin size) self.new.spans.items) }
     {
         if let Section::Variation { .. } = section {
             return Ok(());
         }
         match item.kind {
             Kind::Pair(pair) => self.tags.push(tag(alloc, pair)?)?,
-            Kind::Word => self.tokens.push(token(alloc, item)?)?,
+            Kind::Word => self.spans.push(span_of(item))?,
             _ => {}
         }
         Ok(())
     }
 }
 
-fn token(alloc: Global, item: Item<'_>) -> Result<Token, AllocError>
-    ensures { IfOk result (λ token. token ≡ token_of (item_as item.entry)) }
+/// The span of an item.
+fn span_of(item: Item<'_>) -> Span
+    requires { item.place + length item.text.now < 2 ^ 32 }
+    ensures start { result.start ≡ item.entry.place }
+    ensures end { result.end ≡ item.entry.place + length item.entry.text.now }
 {
-    Ok(Token {
-        place: item.place,
-        text: Bytes::from_vec(Vec::from_slice(alloc, item.text)?),
-    })
+    Span {
+        start: item.place,
+        end: item.place + item.text.len() as u32,
+    }
 }
 
 /// The parts at the text's end, where no variation is open.
-fn finish(section: Section, found: Found) -> Result<Parts, Stop<LexFault>>
-    ensures { Gives result (finished (section_as section) (front_of found)) }
+fn finish(section: Section, found: Found) -> Result<SpannedParts, Stop<LexFault>>
+    ensures parts { (text : List ℕ) → GivesBy (spanned_as text) result
+        (finished (section_as section) (front_of text found)) }
+    ensures spans { IfOk result (λ spanned. spanned.spans.items ≡ found.spans.items) }
 {
     let termination = match section {
         Section::Heading | Section::Moves => None,
@@ -156,9 +202,9 @@ fn finish(section: Section, found: Found) -> Result<Parts, Stop<LexFault>>
         }
         Section::Ended(ending) => Some(ending),
     };
-    Ok(Parts {
+    Ok(SpannedParts {
         tags: Tags::from_vec(found.tags),
-        tokens: Tokens::from_vec(found.tokens),
+        spans: found.spans,
         termination,
     })
 }

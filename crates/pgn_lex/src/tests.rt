@@ -1,4 +1,4 @@
-use super::parts;
+use super::{parts, spanned_parts};
 use explorer_model::archive::{Bytes, Parts};
 use explorer_model::fault::Stop;
 use std::fmt::Write;
@@ -126,4 +126,20 @@ fn variations_nest_without_recursion(rt: HostRuntime) -> Result<(), Fail> {
         "60001:e4 Some(WhiteWins)"
     );
     Ok(())
+}
+
+#[test]
+fn spans_are_where_the_tokens_stand(rt: HostRuntime) {
+    let text = b"1. e4 (d4) {x} exd5+ 1-0";
+    let Ok(spanned) = spanned_parts(rt.alloc(), text) else {
+        panic!(rt; "the text is refused");
+    };
+    let mut found = spanned.spans.as_slice().iter();
+    for (start, end) in [(3, 5), (15, 20)] {
+        let Some(span) = found.next() else {
+            panic!(rt; "a token is missing");
+        };
+        assert_eq!(rt; (span.start, span.end), (start, end));
+    }
+    assert!(rt; found.next().is_none());
 }

@@ -1,5 +1,7 @@
+use Rattle.std.proofs.Common.{map}
+use Rattle.pgn_lex.specs.Span.{token_in}
 use Rattle.game_replay.specs.Replay.{Playing}
 use Rattle.game_replay.proofs.moves.moves_of.Given as goal
 
-abbrev pub invariant-loop-token : goal.invariant-loop-token
-invariant-loop-token l = Playing l.tokens l.board l.moves.items l.ply l.token-index
+abbrev pub invariant-loop-span : goal.invariant-loop-span
+invariant-loop-span l = Playing (map (token_in l.text) l.spans) l.board l.moves.items l.ply l.span-index
