@@ -14,7 +14,10 @@ use Rattle.explorer_model.specs.declared.answer.MonthLine.{MonthLine}
 use Rattle.explorer_model.specs.declared.answer.MoveLine.{MoveLine}
 use Rattle.explorer_model.specs.declared.archive.Outcome.{Outcome}
 use Rattle.explorer_model.specs.declared.archive.Outcome.TheVariants as outcomes
+use Rattle.explorer_model.specs.declared.fault.Refusal.{Refusal}
 use Rattle.explorer_model.specs.Answer.{items_by, array_by, winner_value, listed_value, game_value, move_value, move_items, month_value, answer_value, unnamed}
+use Rattle.explorer_model.specs.Replies.{refusal_value}
+use Rattle.answer_json.specs.Stored.{stored_value}
 
 items_of-map : {A : Type 0} (value : A → Data) (xs : List A) → items_of (map value xs) ≡ items_by value xs
 items_of-map value [] = refl
@@ -82,3 +85,9 @@ with_months found (Some months) =
 
 pub no_float-answer : (found : Found) → has_float (answer_value found (unnamed found.moves)) ≡ false
 no_float-answer found = with_months found found.history
+
+no_float-refusal : (refusal : Refusal) → has_float (refusal_value refusal) ≡ false
+no_float-refusal refusal = refl
+
+pub no_float-stored : (batches stored : ℕ) (refused : List Refusal) → has_float (stored_value batches stored refused) ≡ false
+no_float-stored batches stored refused = rw (no_float_in refusal_value no_float-refusal refused) refl

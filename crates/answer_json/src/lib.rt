@@ -6,6 +6,9 @@ mod game;
 pub mod laws;
 mod line;
 pub mod refusal;
+mod stored;
 #[cfg(test)]
 mod tests;
 mod texts;
+
+pub use stored::stored_body;

@@ -3,9 +3,11 @@ ghost use Rattle.std.specs.List.{All};
 ghost use Rattle.answer_json.specs.Plain.{HasPlainId, IsPlainLine, IsPlainFound};
 
 use crate::answer::body;
+use crate::stored_body;
 use explorer_model::answer::{Found, Listed, MonthLine, MoveLine, Totals};
 use explorer_model::archive::{Bytes, Classes, GameId, Group, Mode, Month, Outcome, Player, Speed};
 use explorer_model::chess::{Move, Role};
+use explorer_model::fault::{Refusal, Why};
 use explorer_model::list::Items;
 use explorer_model::square::Square;
 use explorer_model::text::Name;
@@ -192,5 +194,27 @@ fn writes_other_values(rt: HostRuntime) -> Result<(), Fail> {
          \"speed\":\"ultraBullet\",\"uci\":\"e2e4\",\"white\":{\"name\":\"\",\"rating\":1500},\
          \"winner\":null,\"year\":987}],\"topGames\":[],\"white\":0}";
     assert!(rt; body(alloc, &found)?.as_slice() == text.as_bytes());
+    Ok(())
+}
+
+#[test]
+fn writes_what_was_stored(rt: HostRuntime) -> Result<(), Fail> {
+    let alloc = rt.alloc();
+    let none = stored_body(alloc, 1, 1, &[])?;
+    assert!(rt; none.as_slice() == b"{\"batches\":1,\"refused\":[],\"stored\":1}".as_slice());
+    let refused = [
+        Refusal {
+            place: 0,
+            why: Why::Repeated { number: 0 },
+        },
+        Refusal {
+            place: 194,
+            why: Why::Twice { first: 0 },
+        },
+    ];
+    let two = stored_body(alloc, 2, 0, &refused)?;
+    let text = "{\"batches\":2,\"refused\":[{\"place\":0,\"why\":\"Repeated 0\"},\
+         {\"place\":194,\"why\":\"Twice 0\"}],\"stored\":0}";
+    assert!(rt; two.as_slice() == text.as_bytes());
     Ok(())
 }
