@@ -1,6 +1,7 @@
 -- Spans cover the games of a journal, and parts have spans.
 use Rattle.std.proofs.Common.{◌≡◌, ℕ, ◌+◌, List, [], ◌∷◌, ◌++◌, map, length, refl, ap, ◌∙◌, sym, subst, append_assoc}
-use Rattle.std.specs.List.{AllByRecursion, AllZip}
+use Rattle.std.specs.List.{AllByRecursion, AllZip, sum_by}
+use Rattle.std.proofs.lemmas.List.Sums.{sum_by-cons}
 use Rattle.explorer_model.specs.declared.archive.Batch.{Batch}
 use Rattle.explorer_model.specs.declared.archive.Game.{Game}
 use Rattle.explorer_model.specs.Spans.{Span, Adjoin, Covers, batches_of}
@@ -11,6 +12,7 @@ use Rattle.tally_rows.specs.Tallied.{Tallied}
 use Rattle.tally_rows.specs.Tally.{Counted, IsCounted, IsTallyOf, IsTrackOf}
 use Rattle.segment_blocks.specs.Segment.{CountedSpan}
 use Rattle.lookup.specs.Parts.{Part, IsPart, games_in, journal_of, segment_part, spans_from, tallied_part, tracks_in}
+use Rattle.lookup.specs.Hits.{games_counted}
 use Rattle.lookup.specs.FromRows.{AreTallied, texts_in}
 
 -- ---- the games of spans are those of their batches
@@ -79,3 +81,9 @@ tallies-journal (tally ∷ tallies) = ap (λ l. tally.batch ∷ l) (tallies-jour
 pub segments-journal : (segments : List CountedSpan) → journal_of (map segment_part segments) ≡ batches_of (map (λ segment. segment.span) segments)
 segments-journal [] = refl
 segments-journal (segment ∷ segments) = ap (λ l. segment.span.batches ++ l) (segments-journal segments)
+
+pub tallies-counted : (tallies : List Counted) → games_counted (map tallied_part tallies) ≡ sum_by (λ tally. length tally.classes) tallies
+tallies-counted [] = refl
+tallies-counted (tally ∷ tallies) =
+    sum_by-cons (λ (part : Part). length part.classes) (tallied_part tally) (map tallied_part tallies)
+    ∙ (ap (λ n. length tally.classes + n) (tallies-counted tallies) ∙ sym (sum_by-cons (λ (t : Counted). length t.classes) tally tallies))

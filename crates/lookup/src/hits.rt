@@ -1,6 +1,6 @@
 //! The rows that a query counts.
 ghost use Rattle.std.specs.Prelude.{◌≡◌, ℕ, ◌≤◌, Bool, List, ◌++◌, map, filter, bytes_eq, IfOk, OnOk};
-ghost use Rattle.std.specs.List.{AllByRecursion};
+ghost use Rattle.std.specs.List.{AllByRecursion, sum_by};
 ghost use Rattle.lookup.specs.Hits.{AreSound, hit_as, in_months, in_cells, rows_from, games_counted, look_limit};
 ghost use Rattle.lookup.specs.Parts.{Part, IsPart, tallied_part};
 ghost use Rattle.lookup.specs.SegmentRows.{segment_row_as};
@@ -32,10 +32,12 @@ pub fn hits_of_tallies<'a>(
     key: &[u8; 34],
     wanted: &Filter,
 ) -> Result<Vec<Hit<'a>>, AllocError>
-    requires few { games_counted (map tallied_part tallies.now) ≤ look_limit }
+    requires few { sum_by (λ tally. length tally.classes) tallies.now ≤ look_limit }
     ensures rows { IfOk result (λ hits. map hit_as hits.items
         ≡ rows_from key.now (in_months wanted.now) 0 (map tallied_part tallies.now)) }
     ensures parts { IfOk result (λ _. AllByRecursion IsPart (map tallied_part tallies.now)) }
+    ensures games { IfOk result
+        (λ _. games_counted (map tallied_part tallies.now) ≤ look_limit) }
 {
     let mut hits = Vec::new(alloc);
     let mut first = 0;

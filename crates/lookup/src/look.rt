@@ -43,7 +43,7 @@ pub fn look_rows(alloc: Global, tallies: &[Tally], query: &Query) -> Result<Foun
     requires valid { IsValid query.now.at }
     requires top { query.now.top ≤ 4 }
     requires recent { query.now.recent ≤ 4 }
-    requires games { games_counted (map tallied_part tallies.now) ≤ game_limit }
+    requires games { sum_by (λ tally. length tally.classes) tallies.now ≤ game_limit }
     ensures { IfOk result
         (λ found. IsFound (map (λ tally. tally.batch) tallies.now) query.now found) }
 {

@@ -1,9 +1,7 @@
 ghost use Rattle.std.specs.Prelude.{◌≡◌, ◌≤◌, ◌<◌, length, map, IsTrue, IfOk, IfSome};
-ghost use Rattle.std.specs.List.{All};
+ghost use Rattle.std.specs.List.{All, sum_by};
 ghost use Rattle.explorer_model.specs.Chess.{IsValid};
 ghost use Rattle.explorer_model.specs.Journal.{game_limit};
-ghost use Rattle.lookup.specs.Hits.{games_counted};
-ghost use Rattle.lookup.specs.Parts.{tallied_part};
 
 use crate::{look_rows, look_segments};
 use batch_tally::tally;
@@ -72,7 +70,7 @@ fn tally_of(alloc: Global, games: &[Played]) -> Result<Option<Tally>, AllocError
 
 /// Both, where they are as small as batches are.
 fn both(first: Tally, second: Tally) -> Option<[Tally; 2]>
-    ensures { IfSome result (λ tallies. games_counted (map tallied_part tallies) ≤ game_limit) }
+    ensures { IfSome result (λ tallies. sum_by (λ tally. length tally.classes) tallies ≤ game_limit) }
 {
     if 512 < first.classes().len() || 512 < second.classes().len() {
         return None;
@@ -231,7 +229,7 @@ fn eve() -> Played<'static> {
 
 fn two_batches(alloc: Global) -> Result<Option<[Tally; 2]>, AllocError>
     ensures { IfOk result (λ made. IfSome made
-        (λ tallies. games_counted (map tallied_part tallies) ≤ game_limit)) }
+        (λ tallies. sum_by (λ tally. length tally.classes) tallies ≤ game_limit)) }
 {
     match (
         tally_of(alloc, &[ann(), bea()])?,
@@ -319,19 +317,18 @@ fn two_batches_with_every_filter(rt: HostRuntime) -> Result<(), Fail> {
 /// or the games are too few.
 fn segments_of(alloc: Global, sizes: &[usize]) -> Result<Option<Vec<Arc<Segment>>>, AllocError> {
     let games = [ann(), bea(), cid(), dan(), eve()];
-    let mut rest = games.as_slice();
     let mut segments = Vec::new(alloc);
+    let mut from = 0;
     let mut first = 0;
     for size in sizes {
-        if rest.len() < *size || first == 5 {
+        if first == 5 || 5 < from || 5 - from < *size {
             return Ok(None);
         }
-        let (batch, others) = rest.split_at(*size);
-        let Some(tally) = tally_of(alloc, batch)? else {
+        let Some(tally) = tally_of(alloc, &games[from..from + *size])? else {
             return Ok(None);
         };
         segments.push(Arc::new(alloc, Segment::of(alloc, first, tally)?)?)?;
-        rest = others;
+        from += *size;
         first += 1;
     }
     Ok(Some(segments))

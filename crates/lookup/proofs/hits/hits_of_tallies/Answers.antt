@@ -2,7 +2,7 @@ use Rattle.std.proofs.Common.{rules, ◌≡◌, ◌+◌, ◌<◌, ◌≤◌, ◌
 use Rattle.std.proofs.lemmas.List.Sums.{sum_by_more}
 use Rattle.lookup.specs.Hits.{hit_as, in_months, rows_from, games_counted}
 use Rattle.lookup.specs.Parts.{Part, IsPart, tallied_part}
-use Rattle.lookup.proofs.Journal.{counted-part}
+use Rattle.lookup.proofs.Journal.{counted-part, tallies-counted}
 use Rattle.lookup.proofs.Numbered.{numbered, picked-rows, rows_from-nil, rows_from-more, AllByRecursion-more}
 use Rattle.lookup.proofs.PartLoops.{mapped-at, mapped-within}
 use Rattle.lookup.proofs.SegmentRowLemmas.{room}
@@ -46,7 +46,7 @@ overflow_cast-first c =
     let i = c.loop-tally.tally-index in
     let fits : c.loop-tally.first + length (tallied_part c.tally-item.result).classes ≤ look_limit =
     room (map tallied_part c.args.tallies.now) i (tallied_part c.tally-item.result) c.loop-tally.first (mapped-within tallied_part c.args.tallies.now i c.loop-tally-test.true)
-    (mapped-at tallied_part c.args.tallies.now i c.tally-item.result c.tally-item.is) c.loop-tally.invariant.first c.requires.few in
+    (mapped-at tallied_part c.args.tallies.now i c.tally-item.result c.tally-item.is) c.loop-tally.invariant.first (omega (arith, c.requires.few, tallies-counted c.args.tallies.now)) in
     let long : length c.classes.result.now ≡ length c.tally-item.result.classes = ap length c.classes.ensures in
     search (rules, fits, long)
 
@@ -55,6 +55,9 @@ overflow_add-first c =
     let i = c.loop-tally.tally-index in
     let fits : c.loop-tally.first + length (tallied_part c.tally-item.result).classes ≤ look_limit =
     room (map tallied_part c.args.tallies.now) i (tallied_part c.tally-item.result) c.loop-tally.first (mapped-within tallied_part c.args.tallies.now i c.loop-tally-test.true)
-    (mapped-at tallied_part c.args.tallies.now i c.tally-item.result c.tally-item.is) c.loop-tally.invariant.first c.requires.few in
+    (mapped-at tallied_part c.args.tallies.now i c.tally-item.result c.tally-item.is) c.loop-tally.invariant.first (omega (arith, c.requires.few, tallies-counted c.args.tallies.now)) in
     let long : length c.classes.result.now ≡ length c.tally-item.result.classes = ap length c.classes.ensures in
     search (rules, fits, long)
+
+pub returns-clause-games : goal.returns-clause-games
+returns-clause-games c = omega (arith, c.requires.few, tallies-counted c.args.tallies.now)
