@@ -1,6 +1,7 @@
 //! Answers from rows.
 #![tactic(auto)]
 
+mod answer;
 mod best_games;
 mod filter;
 mod history;
@@ -8,7 +9,6 @@ mod hits;
 pub mod laws;
 mod lines;
 mod listing;
-mod look;
 mod moves;
 mod notation;
 mod parts;
@@ -16,9 +16,11 @@ mod row_tests;
 mod rows_at;
 mod segment_rows;
 mod selection;
+pub mod snapshot;
 mod sums;
 #[cfg(test)]
 mod tests;
 mod totals;
 
-pub use look::{look_rows, look_segments};
+pub use answer::{look_rows, look_segments};
+pub use snapshot::look;

@@ -2,7 +2,7 @@
 ghost use Rattle.std.specs.Prelude.{◌≡◌, map, length};
 ghost use Rattle.std.specs.Arc.{arc_value};
 ghost use Rattle.explorer_model.specs.Spans.{Covers};
-ghost use Rattle.published_index.specs.Cover.{spans_of, journal_of};
+ghost use Rattle.published_index.specs.Cover.{spans_of, journal_of, IsList};
 
 use crate::list::{List, SharedSegment};
 use std::marker::Model;
@@ -27,6 +27,7 @@ impl Snapshot {
     pub fn segments(&self) -> &[SharedSegment]
         ensures segments { map arc_value result.now ≡ self.now }
         ensures covers { Covers (spans_of self.now) (journal_of self.now) }
+        ensures list { IsList self.now }
     {
         self.list.segments()
     }

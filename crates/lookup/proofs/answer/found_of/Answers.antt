@@ -15,7 +15,7 @@ use Rattle.lookup.proofs.Looking.{put-together, both-ok}
 use Rattle.lookup.proofs.Numbered.{cells-kept}
 use Rattle.tally_rows.specs.Cover.{meets}
 use Rattle.tally_rows.specs.Row.{row_key_of}
-use Rattle.lookup.proofs.look.found_of.Goals as goal
+use Rattle.lookup.proofs.answer.found_of.Goals as goal
 
 rows : (c : goal.After-as_slice-2) → map hit_as c.as_slice-2.result.now ≡ rows_from c.args.key.now (meets c.args.query.now.filter any_next) 0 (parts_in c.args.parts.now)
 rows c =

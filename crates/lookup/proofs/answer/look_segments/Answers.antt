@@ -13,7 +13,7 @@ use Rattle.lookup.proofs.Journal.{segments-journal}
 use Rattle.lookup.proofs.Listings.{if-ok}
 use Rattle.lookup.proofs.OneKey.{one-key}
 use Rattle.segment_blocks.specs.Segment.{CountedSpan}
-use Rattle.lookup.proofs.look.look_segments.Goals as goal
+use Rattle.lookup.proofs.answer.look_segments.Goals as goal
 
 pub returns-in_err-rows-clause-cost : goal.returns-in_err-rows-clause-cost
 returns-in_err-rows-clause-cost g c = λ key digits tidy small.

@@ -4,7 +4,7 @@ use Rattle.explorer_model.specs.Finds.{IsFound}
 use Rattle.lookup.specs.Parts.{journal_of, tallied_part}
 use Rattle.lookup.proofs.Journal.{tallies-journal}
 use Rattle.lookup.proofs.Listings.{if-ok}
-use Rattle.lookup.proofs.look.look_rows.Goals as goal
+use Rattle.lookup.proofs.answer.look_rows.Goals as goal
 
 pub returns : goal.returns
 returns c =

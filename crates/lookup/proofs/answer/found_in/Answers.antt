@@ -16,7 +16,7 @@ use Rattle.lookup.specs.MoveSums.{sum_as}
 use Rattle.lookup.specs.Sums.{any_row, top_where, recent_where, moves_in, before_by_total}
 use Rattle.lookup.proofs.Averages.{averaged}
 use Rattle.lookup.proofs.Looking.{sums-have, sums-are}
-use Rattle.lookup.proofs.look.found_in.Goals as goal
+use Rattle.lookup.proofs.answer.found_in.Goals as goal
 
 sums : (c : goal.After-as_slice) → c.as_slice.result.now ≡ map (sum_as (map hit_as c.args.hits.now)) (best (before_by_total (map hit_as c.args.hits.now)) c.args.query.now.moves (moves_in (map hit_as c.args.hits.now)))
 sums c = c.as_slice.ensures.value ∙ c.in_ok-sums.ensures
