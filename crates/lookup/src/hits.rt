@@ -1,5 +1,5 @@
 //! The rows that a query counts.
-ghost use Rattle.std.specs.Prelude.{◌≡◌, ℕ, ◌≤◌, Bool, List, ◌++◌, map, filter, bytes_eq, IfOk, OnOk};
+ghost use Rattle.std.specs.Prelude.{◌≡◌, ℕ, ◌≤◌, Bool, List, ◌++◌, map, filter, length, bytes_eq, IfOk, OnOk};
 ghost use Rattle.std.specs.List.{AllByRecursion, sum_by};
 ghost use Rattle.lookup.specs.Hits.{AreSound, hit_as, in_months, in_cells, rows_from, games_counted, look_limit};
 ghost use Rattle.lookup.specs.Parts.{Part, IsPart, tallied_part};
