@@ -321,7 +321,7 @@ fn segments_of(alloc: Global, sizes: &[usize]) -> Result<Option<Vec<Arc<Segment>
     let mut from = 0;
     let mut first = 0;
     for size in sizes {
-        if first == 5 || 5 < from || 5 - from < *size {
+        if 4 < first || 5 < from || 5 - from < *size {
             return Ok(None);
         }
         let Some(tally) = tally_of(alloc, &games[from..from + *size])? else {
