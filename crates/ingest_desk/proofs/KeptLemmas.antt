@@ -1,0 +1,259 @@
+-- What an ingest keeps, step by step.
+use Rattle.std.proofs.Common.{◌≡◌, ◌≢◌, ◌<◌, ◌≤◌, ◌+◌, ◌*◌, ◌^◌, ◌⊎◌, inl, inr, ℕ, zero, suc, List, [], ◌∷◌, ◌++◌, length, map, get_or, flat_map, sum_by, Option, None, Some, Result, Ok, Err, refl, sym, ap, ◌∙◌, subst, arith, rules, length-append}
+use Rattle.std.proofs.lemmas.Grind.{flat_map-append}
+use Rattle.std.proofs.lemmas.List.Sums.{sum_by-append}
+use Rattle.std.specs.List.{All, AllZip}
+use Rattle.std.specs.Prelude.{IsOk, OnOk}
+use Rattle.disk_model.specs.Disk.{DiskState, LeavesOnly, MayLeave}
+use Rattle.explorer_model.specs.declared.archive.Batch.{Batch}
+use Rattle.explorer_model.specs.declared.archive.Game.{Game}
+use Rattle.explorer_model.specs.declared.fault.GameFault.{GameFault}
+use Rattle.explorer_model.specs.declared.fault.GameFault.TheVariants as faults
+use Rattle.explorer_model.specs.declared.fault.TagFault.TheVariants.{Missing}
+use Rattle.explorer_model.specs.declared.fault.TagName.TheVariants as names
+use Rattle.explorer_model.specs.Classes.{classes, is_standard, is_from_start}
+use Rattle.explorer_model.specs.Games.{Score, score, GameOf}
+use Rattle.explorer_model.specs.Items.{items, items_from}
+use Rattle.explorer_model.specs.Journal.{IsBatch, IsSound, byte_count, game_count}
+use Rattle.explorer_model.specs.Parts.{meaning, parts}
+use Rattle.explorer_model.specs.StoreFile.{IsStorable, gate_limit, header, payload_of, record_bytes, store_of}
+use Rattle.explorer_model.specs.Visits.{IsTextOf, texts_of}
+use Rattle.manifest.proofs.PayloadLemmas.{length-texts}
+use Rattle.manifest.specs.Manifest.{IsManifestOf, IsWithOrWithoutBatch}
+use Rattle.record_log.specs.Log.{IsNotAdded, Log}
+use Rattle.record_log.specs.declared.fault.AppendFault.{AppendFault}
+use Rattle.record_log.specs.declared.fault.AppendFault.TheVariants as appends
+use Rattle.published_index.specs.Calls.{Makes, Retries}
+use Rattle.published_index.specs.Changes.{AddOf, Change, JoinAt, with_put}
+use Rattle.published_index.specs.Cover.{journal_of}
+use Rattle.published_index.specs.States.{Publishing}
+use Rattle.ingest_desk.specs.Installs.{caught_up, list_by}
+use Rattle.ingest_desk.specs.Kept.{IsKept, Keeps, KeepsBy}
+use Rattle.ingest_desk.specs.Registers.{IsRegisterOf, IsSame, text_bytes}
+use Rattle.ingest_desk.specs.Stored.{journal_by, with_held}
+use Rattle.ingest_desk.specs.declared.register.Register.{Register}
+use Rattle.ingest_desk.proofs.IdLemmas.{false_true}
+use Rattle.ingest_desk.proofs.RegisterLemmas.{bytes_more, fewer_batches, games_more, register_same}
+
+pub fault_none : (counts : ℕ × ℕ) → Some counts ≡ None → ⊥
+fault_none counts e = cc
+
+-- ---- the index
+
+pub made : {E : Type 0} (old new : Publishing) (change : Change) (result : Result (List Batch) E)
+    → old.held ≡ None → Makes old new change result
+    → journal_by new ≡ with_put (journal_by old) change
+made old new change (Ok note) none publishes =
+    ap (with_held (journal_of new.list)) publishes.none_held
+    ∙ publishes.journal
+    ∙ ap (λ held. with_put (with_held (journal_of old.list) held) change) (sym none)
+made old new change (Err e) none holds =
+    ap journal_by holds ∙ ap (λ held. with_put (with_held (journal_of old.list) held) change) (sym none)
+
+pub retried : {E : Type 0} (old new : Publishing) (held : Option Change)
+    (result : Result (Option (List Batch)) E)
+    → old.held ≡ held → Retries old new held result → journal_by new ≡ journal_by old
+retried old new None result is same = ap journal_by same.1
+retried old new (Some change) (Ok None) is never = absurd never
+retried old new (Some change) (Ok (Some note)) is publishes =
+    ap (with_held (journal_of new.list)) publishes.none_held
+    ∙ publishes.journal
+    ∙ ap (with_held (journal_of old.list)) (sym is)
+retried old new (Some change) (Err e) is same = ap journal_by same
+
+held_after : {E : Type 0} (old new : Publishing) (held : Option Change)
+    (result : Result (Option (List Batch)) E)
+    → old.held ≡ held → Retries old new held result → OnOk result (new.held ≡ None)
+held_after old new None (Ok _) is same = ap (λ (p : Publishing). p.held) same.1 ∙ is
+held_after old new None (Err e) is same = tt
+held_after old new (Some change) (Ok None) is never = absurd never
+held_after old new (Some change) (Ok (Some note)) is publishes = publishes.none_held
+held_after old new (Some change) (Err e) is same = tt
+
+pub none_held : {E : Type 0} (old new : Publishing) (result : Result (Option (List Batch)) E)
+    → Retries old new old.held result → OnOk result (new.held ≡ None)
+none_held old new result retries = held_after old new old.held result refl retries
+
+ok_of : {E : Type 0} (result : Result (Option (List Batch)) E) → result ≡ Ok None → IsOk result
+ok_of result is = rw is refl
+
+nothing_by : {E : Type 0} (old new : Publishing) (held : Option Change)
+    (result : Result (Option (List Batch)) E)
+    → held ≡ None → Retries old new held result → IsOk result
+nothing_by old new None result none same = ok_of result same.0
+nothing_by old new (Some change) result none retries = absurd (some_none change none)
+  where
+    some_none : (change : Change) → Some change ≡ None → ⊥
+    some_none change e = cc
+
+pub nothing_held : {E : Type 0} (old new : Publishing) (result : Result (Option (List Batch)) E)
+    → Retries old new old.held result → old.held ≡ None → IsOk result
+nothing_held old new result retries none = nothing_by old new old.held result none retries
+
+-- ---- texts with a game
+
+no_text : (game : Game) → GameOf [] (Ok game) → ⊥
+unfolding score parts meaning items items_from classes is_standard is_from_start
+no_text game is = read_none game is
+  where
+    read_none : (game : Game) → Path (Result Game GameFault) (Ok game) (Err (faults.Tag (Missing names.Event))) → ⊥
+    read_none game e = cc
+
+some_text : (text : List ℕ) (game : Game) → GameOf text (Ok game) → 0 < length text
+some_text [] game is = absurd (no_text game is)
+some_text (byte ∷ text) game is = omega arith
+
+some_texts : (texts : List (List ℕ)) (games : List Game) → AllZip IsTextOf texts games → (k : ℕ)
+    (d : List ℕ) → k < length texts → 1 ≤ length (get_or texts k d)
+some_texts [] games zip k d lt = absurd (omega (arith, lt))
+some_texts (text ∷ texts) [] zip k d lt = absurd zip
+some_texts (text ∷ texts) (game ∷ games) zip zero d lt = some_text text game zip.0
+some_texts (text ∷ texts) (game ∷ games) zip (suc k) d lt =
+    some_texts texts games zip.1 k d (omega (arith, lt))
+
+pub storable : (batch : Batch) → IsBatch batch → IsStorable batch
+storable batch is = record {
+  texts = (is.some, is.few);
+  lengths = λ k d lt. (some_texts batch.texts is.games is.are_games k d lt, is.short k d lt);
+}
+
+-- ---- room in the file
+
+size_of : (journal : List Batch) → length (flat_map record_bytes (map payload_of journal))
+    ≡ 7 * length journal + 4 * length (texts_of journal) + byte_count journal
+size_of [] = refl
+size_of (batch ∷ journal) =
+    let rest = flat_map record_bytes (map payload_of journal) in
+    omega (
+      arith,
+      size_of journal,
+      length-append (record_bytes (payload_of batch)) rest,
+      length-texts batch.texts,
+      length-append batch.texts (texts_of journal),
+      sum_by-append (λ (text : List ℕ). length text) batch.texts (texts_of journal),
+    )
+
+pub low : (journal : List Batch) (batch : Batch) (gate : ℕ) → IsSound journal
+    → gate ≡ length (store_of journal) → length batch.texts ≤ 512 → text_bytes batch ≤ 33554432
+    → gate + 5 + length (payload_of batch) ≤ gate_limit
+low journal batch gate sound place few short =
+    omega (
+      arith,
+      place,
+      size_of journal,
+      length-texts batch.texts,
+      fewer_batches journal sound,
+      sound.within.0,
+      sound.within.1,
+      few,
+      short,
+    )
+
+-- ---- the disk
+
+module _ {D : Type 0} (disk : D → DiskState) (left_since : D → ℕ → List ℕ → Type 0) where
+  sound_by : (journal : List Batch) (manifest : Log D) (fault : Option (ℕ × ℕ))
+      → KeepsBy disk left_since journal manifest fault → fault ≡ None
+      → IsManifestOf disk left_since journal manifest
+  sound_by journal manifest None keeps none = keeps
+  sound_by journal manifest (Some counts) keeps none = absurd (fault_none counts none)
+
+  pub sound_manifest : (journal : List Batch) (manifest : Log D)
+      → Keeps disk left_since journal manifest → manifest.fault ≡ None
+      → IsManifestOf disk left_since journal manifest
+  sound_manifest journal manifest keeps none = sound_by journal manifest manifest.fault keeps none
+
+  keeps_by : (journal : List Batch) (manifest : Log D) (fault : Option (ℕ × ℕ)) → fault ≡ None
+      → IsManifestOf disk left_since journal manifest → KeepsBy disk left_since journal manifest fault
+  keeps_by journal manifest None none is = is
+  keeps_by journal manifest (Some counts) none is = absurd (fault_none counts none)
+
+  pub keeps_sound : (journal : List Batch) (manifest : Log D)
+      → IsManifestOf disk left_since journal manifest → Keeps disk left_since journal manifest
+  keeps_sound journal manifest is = keeps_by journal manifest manifest.fault is.sound is
+
+  -- a crash leaves nothing new where the disk is left alone
+  pub unmoved : (journal : List Batch) (batch : Batch) (manifest : Log D)
+      → IsManifestOf disk left_since journal manifest
+      → LeavesOnly disk left_since manifest.disk manifest.disk (IsWithOrWithoutBatch journal batch)
+  unmoved journal batch manifest is = record {
+    later = omega arith;
+    each = λ image left. inl (is.images image left);
+    before = λ t image earlier left. inl left;
+  }
+
+  -- after a batch that was not taken
+  pub keeps_after :
+      ((it : D) (t : ℕ) (image : List ℕ) → t ≤ (disk it).moment → MayLeave disk left_since it image
+      → left_since it t image)
+      → (journal : List Batch) (batch : Batch) (fault : AppendFault) (old new : Log D)
+      → IsManifestOf disk left_since journal old
+      → LeavesOnly disk left_since old.disk new.disk (IsWithOrWithoutBatch journal batch)
+      → IsNotAdded disk fault old new → Keeps disk left_since journal new
+  keeps_after counts journal batch (appends.Closed before after) old new is leaves refuses =
+      subst (Keeps disk left_since journal) (sym refuses.same) (keeps_sound journal old is)
+  keeps_after counts journal batch appends.OutOfMemory old new is leaves refuses =
+      subst (Keeps disk left_since journal) (sym refuses.same) (keeps_sound journal old is)
+  keeps_after counts journal batch (appends.DiskFault before after) old new is leaves breaks =
+      subst (Keeps disk left_since journal) (sym breaks.rest)
+      (batch, λ image left. leaves.each image (counts new.disk (disk old.disk).moment image leaves.later left))
+
+  -- ---- the invariant
+
+  pub kept_index : (manifest : Log D) (old new : Publishing) (register : Register)
+      → IsKept disk left_since manifest old register → journal_by new ≡ journal_by old
+      → IsKept disk left_since manifest new register
+  kept_index manifest old new register kept same = record {
+    knows = subst (λ journal. IsRegisterOf journal register) (sym same) kept.knows;
+    keeps = subst (λ journal. Keeps disk left_since journal manifest) (sym same) kept.keeps;
+  }
+
+  pub kept_register : (manifest : Log D) (index : Publishing) (old new : Register)
+      → IsKept disk left_since manifest index old → IsSame old new
+      → IsKept disk left_since manifest index new
+  kept_register manifest index old new kept same = record {
+    knows = register_same (journal_by index) old new kept.knows same;
+    keeps = kept.keeps;
+  }
+
+pub listed : (index : Publishing) → index.held ≡ None → journal_by index ≡ journal_of index.list
+listed index none = ap (with_held (journal_of index.list)) none
+
+-- the published games are among the stored ones
+pub listed_games : (index : Publishing) → game_count (journal_of index.list) ≤ game_count (journal_by index)
+listed_games index = by index.held refl
+  where
+    by : (held : Option Change) → index.held ≡ held
+        → game_count (journal_of index.list) ≤ game_count (journal_by index)
+    by None is = omega (arith, ap (λ h. game_count (with_held (journal_of index.list) h)) is)
+    by (Some (JoinAt at segment)) is =
+        omega (arith, ap (λ h. game_count (with_held (journal_of index.list) h)) is)
+    by (Some (AddOf segment)) is =
+        let front = journal_of index.list in
+        let more = segment.span.batches in
+        omega (
+          arith,
+          ap (λ h. game_count (with_held front h)) is,
+          ap length (flat_map-append (λ (batch : Batch). batch.texts) front more),
+          length-append (texts_of front) (texts_of more),
+        )
+
+-- the list is the one that is caught up with where nothing is held
+pub not_behind : (index : Publishing) → index.held ≡ None → list_by index ≡ index.list
+not_behind index none = ap (caught_up index.list) none
+
+caught_by : {E : Type 0} (old new : Publishing) (held : Option Change)
+    (result : Result (Option (List Batch)) E)
+    → old.held ≡ held → Retries old new held result → IsOk result → list_by old ≡ new.list
+caught_by old new None result is same ok =
+    ap (caught_up old.list) is ∙ sym (ap (λ (p : Publishing). p.list) same.1)
+caught_by old new (Some change) (Ok None) is never ok = absurd never
+caught_by old new (Some change) (Ok (Some told)) is publishes ok =
+    ap (caught_up old.list) is ∙ sym publishes.list
+caught_by old new (Some change) (Err e) is same ok = absurd (false_true ok)
+
+-- after a change was caught up with
+pub caught : {E : Type 0} (old new : Publishing) (result : Result (Option (List Batch)) E)
+    → Retries old new old.held result → IsOk result → new.held ≡ None → list_by new ≡ list_by old
+caught old new result retries ok none =
+    not_behind new none ∙ sym (caught_by old new old.held result refl retries ok)

@@ -1,0 +1,6 @@
+pub mod IdLemmas
+pub mod RegisterLemmas
+pub mod KeptLemmas
+pub mod PickingLemmas
+pub mod TallyingLemmas
+pub mod RecountLemmas

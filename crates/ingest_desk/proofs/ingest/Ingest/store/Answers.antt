@@ -1,0 +1,153 @@
+use Rattle.std.proofs.Common.{◌≡◌, ◌≤◌, ◌<◌, ◌+◌, ℕ, List, [], ◌∷◌, ◌++◌, None, Some, Ok, Err, map, length, sym, ap, ◌∙◌, refl, subst, arith}
+use Rattle.std.specs.Arc.{arc_value}
+use Rattle.explorer_model.specs.declared.archive.Batch.{Batch}
+use Rattle.manifest.proofs.PayloadLemmas.{texts-fit}
+use Rattle.segment_blocks.specs.Segment.{CountedSpan}
+use Rattle.tally_rows.specs.Tally.{IsCounted}
+use Rattle.published_index.specs.Changes.{AddOf}
+use Rattle.published_index.specs.Cover.{journal_of}
+use Rattle.ingest_desk.specs.Kept.{Keeps}
+use Rattle.ingest_desk.specs.Registers.{IsRegisterOf}
+use Rattle.ingest_desk.specs.Stored.{journal_by}
+use Rattle.ingest_desk.proofs.KeptLemmas.{keeps_after, keeps_sound, kept_register, listed, low, made, sound_manifest, storable}
+use Rattle.ingest_desk.proofs.RegisterLemmas.{fewer_batches, first_is, fits_of, fits_same, long, register_same}
+use Rattle.ingest_desk.proofs.ingest.Ingest.store.Goals as goal
+use Rattle.ingest_desk.proofs.ingest.Ingest.store.Goals.{in-Ok-put, in-Err-put}
+
+pub invariant_of-self : goal.invariant_of-self
+invariant_of-self g c =
+    let s = c.self in
+    let d = g.D.Disk in
+    kept_register d.disk d.left_since s.inside.manifest s.inside.publisher s.inside.register
+    c.reserve.new.self s.invariant c.reserve.ensures.same
+
+pub share_of-requires : goal.share_of-requires
+share_of-requires g c =
+    let s = c.self in
+    let index = s.inside.publisher in
+    let none : index.held ≡ None = rw (← s.view_is) at c.requires.none_held in
+    let sound = s.invariant.knows.sound in
+    let whole = ap length (listed index none) in
+    let list = ap (λ (l : List CountedSpan). length (journal_of l)) c.list.ensures.list in
+    omega (arith, c.batches-place.ensures.batches, list, whole, fewer_batches (journal_by index) sound, sound.within.0)
+
+pub invariant_of-self-in_default : goal.invariant_of-self-in_default
+invariant_of-self-in_default g c =
+    let s = c.self in
+    let d = g.D.Disk in
+    kept_register d.disk d.left_since s.inside.manifest s.inside.publisher s.inside.register
+    c.reserve.new.self s.invariant c.reserve.ensures.same
+
+pub store-requires-clause-storable : goal.store-requires-clause-storable
+store-requires-clause-storable g c =
+    let tally = c.args.tally in
+    let counted : IsCounted tally = subst IsCounted c.tally.view_is c.tally.invariant in
+    let batches = ap (λ (s : CountedSpan). s.span.batches) c.deref.ensures ∙ c.in-Ok.ensures.tally.batches in
+    let batch = first_is _ tally.batch _ batches c.batch_of.ensures in
+    rw batch (storable tally.batch counted.batch)
+
+pub store-requires-clause-low : goal.store-requires-clause-low
+store-requires-clause-low g c =
+    let s = c.self in
+    let d = g.D.Disk in
+    let m = s.inside.manifest in
+    let j = journal_by s.inside.publisher in
+    let tally = c.args.tally in
+    let counted : IsCounted tally = subst IsCounted c.tally.view_is c.tally.invariant in
+    let batches = ap (λ (s : CountedSpan). s.span.batches) c.deref.ensures ∙ c.in-Ok.ensures.tally.batches in
+    let batch = first_is _ tally.batch _ batches c.batch_of.ensures in
+    let open_is = rw (← s.view_is) at c.requires.open in
+    let is = sound_manifest d.disk d.left_since j m s.invariant.keeps open_is in
+    rw batch (low j tally.batch m.gate s.invariant.knows.sound is.place counted.batch.few
+    (texts-fit tally.batch (storable tally.batch counted.batch)))
+
+pub invariant_of-self-in-Err : goal.invariant_of-self-in-Err
+invariant_of-self-in-Err g c =
+    let s = c.self in
+    let d = g.D.Disk in
+    let m = s.inside.manifest in
+    let j = journal_by s.inside.publisher in
+    let open_is = rw (← s.view_is) at c.requires.open in
+    let is = sound_manifest d.disk d.left_since j m s.invariant.keeps open_is in
+    record {
+      knows = register_same j s.inside.register c.reserve.new.self s.invariant.knows c.reserve.ensures.same;
+      keeps = keeps_after d.disk d.left_since g.met.D.Disk.counts_now j c.batch_of.result.now c.in-Err.fault
+          m c.store.new.self is (c.in-Err.ensures.any_moment j is) c.in-Err.ensures.cases;
+    }
+
+pub enter-requires-clause-fits : goal.enter-requires-clause-fits
+enter-requires-clause-fits g c =
+    let s = c.self in
+    let j = journal_by s.inside.publisher in
+    let r = s.inside.register in
+    let same = c.reserve.ensures.same in
+    let tally = c.args.tally in
+    let counted : IsCounted tally = subst IsCounted c.tally.view_is c.tally.invariant in
+    let fits_are = rw (← s.view_is) at c.requires.fits in
+    let knows = s.invariant.knows in
+    let fits = fits_of j r tally knows (fits_are knows.sound.games knows.sound.are_games) in
+    record {
+      tally = tally;
+      counted = counted;
+      made_of = record {
+        batches = ap (λ (s : CountedSpan). s.span.batches) c.deref-2.ensures ∙ c.in-Ok.ensures.tally.batches;
+        classes = ap (λ (s : CountedSpan). s.classes) c.deref-2.ensures ∙ c.in-Ok.ensures.tally.classes;
+      };
+      fits = fits_same r c.reserve.new.self tally same fits;
+      few = omega (arith, same.batches, same.games, knows.batches, knows.games, fewer_batches j knows.sound);
+    }
+
+pub overflow_cast-result : goal.overflow_cast-result
+overflow_cast-result g c =
+    let tally = c.args.tally in
+    let counted : IsCounted tally = subst IsCounted c.tally.view_is c.tally.invariant in
+    omega (arith, ap length c.classes-games.ensures, long tally counted, counted.batch.few)
+
+pub invariant_of-self-2 : goal.invariant_of-self-2
+invariant_of-self-2 g c =
+    let s = c.self in
+    let d = g.D.Disk in
+    let m = s.inside.manifest in
+    let index = s.inside.publisher in
+    let j = journal_by index in
+    let tally = c.args.tally in
+    let shared = c.in-Ok.segment in
+    let none : index.held ≡ None = rw (← s.view_is) at c.requires.none_held in
+    let open_is = rw (← s.view_is) at c.requires.open in
+    let is = sound_manifest d.disk d.left_since j m s.invariant.keeps open_is in
+    let made_of = c.in-Ok.ensures.tally in
+    let batches = ap (λ (s : CountedSpan). s.span.batches) c.deref.ensures ∙ made_of.batches in
+    let batch = first_is _ tally.batch _ batches c.batch_of.ensures in
+    let all : journal_by c.put.new.self ≡ j ++ tally.batch ∷ [] =
+    made index c.put.new.self (AddOf (arc_value shared)) c.put.result none c.put.ensures
+    ∙ ap (λ bs. j ++ bs) made_of.batches in
+    let knows = register_same j s.inside.register c.reserve.new.self s.invariant.knows c.reserve.ensures.same in
+    let R : List Batch → Type 0 = λ l. IsRegisterOf l c.enter.new.self in
+    let K : List Batch → Type 0 = λ l. Keeps d.disk d.left_since l c.store.new.self in
+    let entered = ap (λ (s : CountedSpan). j ++ s.span.batches) c.deref-2.ensures ∙ ap (λ bs. j ++ bs) made_of.batches in
+    record {
+      knows = subst R (sym all) (subst R entered (c.enter.ensures j knows));
+      keeps = subst K (sym all)
+          (subst K (ap (λ (b : Batch). j ++ b ∷ []) batch)
+          (keeps_sound d.disk d.left_since (j ++ c.batch_of.result.now ∷ []) c.store.new.self
+          (c.in_default-store.ensures.stored j is)));
+    }
+
+pub returns-clause-receipt : goal.returns-clause-receipt
+returns-clause-receipt g c =
+    let s = c.self in
+    let index = s.inside.publisher in
+    let tally = c.args.tally in
+    let none : index.held ≡ None = rw (← s.view_is) at c.requires.none_held in
+    let counted : IsCounted tally = subst IsCounted c.tally.view_is c.tally.invariant in
+    let whole = ap length (listed index none) in
+    let list = ap (λ (l : List CountedSpan). length (journal_of l)) c.list.ensures.list in
+    elim c.match-put.branch [
+      | in-Ok-put w ↦
+          rw w.result-is (rw (← s.view_is) (record {
+            batches = omega (arith, c.batches-place.ensures.batches, list, whole);
+            first = c.games-first.ensures ∙ c.reserve.ensures.same.games ∙ s.invariant.knows.games;
+            games = ap length c.classes-games.ensures ∙ long tally counted;
+          }))
+      | in-Err-put w ↦ rw w.result-is tt
+    ]

@@ -1,0 +1,8 @@
+use Rattle.std.proofs.Common.{◌≡◌, ◌≤◌, ◌+◌, ◌*◌, ℕ, List, length, take, sum_by}
+use Rattle.ingest_desk.proofs.recount.payload_size.Given as goal
+
+abbrev pub invariant-loop-text : goal.invariant-loop-text
+invariant-loop-text l = record {
+  sum : l.size ≡ 2 + sum_by (λ (text : List ℕ). 4 + length text) (take l.text-index l.text-items);
+  small : l.size ≤ 2 + 65540 * l.text-index;
+}

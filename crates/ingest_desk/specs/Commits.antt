@@ -1,0 +1,94 @@
+-- Statement: what a commit answers, and what it leaves.
+use Rattle.std.specs.Prelude.{◌≡◌, ◌⊎◌, ◌≢◌, ℕ, ◌+◌, true, false, List, [], ◌∷◌, ◌++◌, length, Option, None, Some, Result, Ok, Err}
+use Rattle.disk_model.specs.Disk.{DiskState}
+use Rattle.explorer_model.specs.declared.archive.Batch.{Batch}
+use Rattle.explorer_model.specs.Journal.{game_count}
+use Rattle.explorer_model.specs.StoreFile.{payload_of}
+use Rattle.record_log.specs.Log.{Adds, Breaks, Log}
+use Rattle.record_log.specs.declared.fault.AppendFault.{AppendFault}
+use Rattle.record_log.specs.declared.fault.AppendFault.TheVariants as appends
+use Rattle.tally_rows.specs.Tally.{Counted}
+use Rattle.segment_blocks.specs.Segment.{CountedSpan}
+use Rattle.published_index.specs.Changes.{AddOf, Change}
+use Rattle.ingest_desk.specs.Causes.{Cause, HasIds, HasNoRoom, IsClosed}
+use Rattle.ingest_desk.specs.declared.fault.CommitFault.{CommitFault}
+use Rattle.ingest_desk.specs.declared.fault.CommitFault.TheVariants as faults
+use Rattle.ingest_desk.specs.declared.mark.MarkKind.TheVariants as kinds
+use Rattle.ingest_desk.specs.declared.receipt.Receipt.{Receipt}
+
+-- Want of memory before the batch is stored comes where nothing else is against it, or where a
+-- change was held.
+abbrev pub MayLack : Option Cause → Option Change → Type 0
+MayLack cause held = (cause ≡ None) ⊎ (held ≢ None)
+
+-- Each answer has its cause; with a cause there is no other answer, but for want of memory where a
+-- change was held. A clash hands the tally back.
+abbrev pub Refuses : {J : Type 0} → Result (Receipt J) (CommitFault J)
+    → Option Cause → Counted → Option Change → Type 0
+Refuses (Ok receipt) cause tally held = cause ≡ None
+Refuses (Err (faults.Closed before after mark)) cause tally held =
+    cause ≡ Some (IsClosed before after)
+Refuses (Err (faults.Clash handed pairs note)) cause tally held =
+    (cause ≡ Some (HasIds pairs.items)) × (handed ≡ tally)
+Refuses (Err (faults.Full games bytes note)) cause tally held =
+    cause ≡ Some (HasNoRoom games bytes)
+Refuses (Err (faults.DiskFault before after mark)) cause tally held = cause ≡ None
+Refuses (Err (faults.OutOfMemory true)) cause tally held = cause ≡ None
+Refuses (Err (faults.OutOfMemory false)) cause tally held = MayLack cause held
+
+-- the batch is stored, or the journal is as it was
+abbrev pub Stores : {J : Type 0} → Result (Receipt J) (CommitFault J)
+    → Batch → List Batch → List Batch → Type 0
+Stores (Ok receipt) batch old new = new ≡ old ++ batch ∷ []
+Stores (Err (faults.OutOfMemory true)) batch old new = new ≡ old ++ batch ∷ []
+Stores (Err _) batch old new = new ≡ old
+
+-- what is left of the manifest: a disk fault closes it, and nothing else does
+abbrev pub Leaves : {D J : Type 0} → (D → DiskState)
+    → Result (Receipt J) (CommitFault J) → Batch → Log D → Log D → Type 0
+Leaves disk (Ok receipt) batch old new = Adds (length (payload_of batch)) old new
+Leaves disk (Err (faults.OutOfMemory true)) batch old new = Adds (length (payload_of batch)) old new
+Leaves disk (Err (faults.DiskFault before after mark)) batch old new =
+    Breaks disk before after old new
+Leaves disk (Err _) batch old new = new ≡ old
+
+-- the receipt of a batch behind a journal
+pub record IsReceiptOf {J : Type 0} (receipt : Receipt J) (old : List Batch)
+    (batch : Batch) : Type 0 where
+  pub batches : receipt.batches ≡ length old + 1
+  pub first : receipt.first ≡ game_count old
+  pub games : receipt.games ≡ length batch.texts
+
+-- where there is a note, it has the whole journal, and all of it is published
+abbrev pub Tells : {J : Type 0} → Result (Receipt J) (CommitFault J)
+    → List Batch → Option Change → Type 0
+Tells (Ok receipt) journal held = (receipt.note ≡ journal) × (held ≡ None)
+Tells (Err (faults.Clash handed pairs note)) journal held = (note ≡ journal) × (held ≡ None)
+Tells (Err (faults.Full games bytes note)) journal held = (note ≡ journal) × (held ≡ None)
+Tells (Err _) journal held = Unit {0}
+
+-- a mark has the kind of its answer
+abbrev pub IsMarked : {J : Type 0} → Result (Receipt J) (CommitFault J)
+    → Type 0
+IsMarked (Err (faults.Closed before after mark)) = mark.kind ≡ kinds.Closed
+IsMarked (Err (faults.DiskFault before after mark)) = mark.kind ≡ kinds.DiskFault
+IsMarked _ = Unit {0}
+
+-- ---- a batch that nothing is against
+
+-- it is stored, or the disk fails or memory is wanting
+abbrev pub IsStoring : {J : Type 0} → Result (Receipt J) (CommitFault J)
+    → Type 0
+IsStoring (Ok receipt) = Unit {0}
+IsStoring (Err (faults.DiskFault before after mark)) = Unit {0}
+IsStoring (Err (faults.OutOfMemory stored)) = Unit {0}
+IsStoring (Err _) = ⊥
+
+-- the answer for a fault of the manifest
+abbrev pub IsFaultOf : {J : Type 0} → AppendFault → CommitFault J → Type 0
+IsFaultOf (appends.Closed before after) (faults.Closed before' after' mark) =
+    (before' ≡ before) × (after' ≡ after)
+IsFaultOf (appends.DiskFault before after) (faults.DiskFault before' after' mark) =
+    (before' ≡ before) × (after' ≡ after)
+IsFaultOf appends.OutOfMemory (faults.OutOfMemory stored) = stored ≡ false
+IsFaultOf _ _ = ⊥

@@ -1,0 +1,14 @@
+pub mod Clashes
+pub mod IdTable
+pub mod Causes
+pub mod Registers
+pub mod Marking
+pub mod Stored
+pub mod Kept
+pub mod Commits
+pub mod Picking
+pub mod Reporting
+pub mod Importers
+pub mod Recounts
+pub mod Openings
+pub mod Installs

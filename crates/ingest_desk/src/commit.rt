@@ -1,0 +1,194 @@
+//! A batch is stored and published.
+ghost use Rattle.std.specs.Prelude.{◌≡◌, ◌<◌, ◌≤◌, ◌+◌, ◌^◌, ◌++◌, ◌∷◌, [], ℕ, List, Option, None, Some, IfOk, OnOk, length};
+ghost use Rattle.std.specs.Arc.{arc_value};
+ghost use Rattle.disk_model.specs.Disk.{LeavesOnly};
+ghost use Rattle.explorer_model.specs.declared.archive.Batch.{Batch as StoredBatch};
+ghost use Rattle.explorer_model.specs.declared.archive.Game.{Game};
+ghost use Rattle.explorer_model.specs.Journal.{IsSound};
+ghost use Rattle.explorer_model.specs.Visits.{AreGamesOf};
+ghost use Rattle.record_log.specs.Log.{EachImage};
+ghost use Rattle.manifest.specs.Manifest.{HasJournal, IsWithOrWithoutBatch};
+ghost use Rattle.published_index.specs.Cover.{list_limit};
+ghost use Rattle.ingest_desk.specs.Causes.{Judges, cause, cause_of_new};
+ghost use Rattle.ingest_desk.specs.Commits.{IsFaultOf, IsMarked, IsReceiptOf, IsStoring, Leaves, Refuses, Stores, Tells};
+ghost use Rattle.ingest_desk.specs.Registers.{IsSegmentOf};
+ghost use Rattle.ingest_desk.specs.Stored.{journal};
+
+use crate::batches::batch_of;
+use crate::fault::CommitFault;
+use crate::ingest::Ingest;
+use crate::mark::Mark;
+use crate::receipt::Receipt;
+use crate::register::Verdict;
+use disk_model::Disk;
+use published_index::{Index, SharedSegment};
+use record_log::AppendFault;
+use segment_blocks::Segment;
+use std::alloc::{AllocError, Global};
+use std::sync::{Arc, Wait};
+use std::thread::Threads;
+use tally_rows::Tally;
+
+impl<D: Disk, J: Index> Ingest<D, J> {
+    /// Stores a batch and publishes it. It waits for the readers that are inside.
+    pub fn commit<R: Wait + Threads + Sync>(
+        &mut self,
+        rt: &R,
+        alloc: Global,
+        tally: Tally,
+    ) -> Result<Receipt<J>, CommitFault<J>>
+        ensures sound { IsSound (journal self.old) }
+        ensures refused { (games : List Game) → AreGamesOf (journal self.old) games
+            → Refuses result (cause self.old.manifest.fault games (journal self.old) tally)
+            tally self.old.index.held }
+        ensures stores { Stores result tally.batch (journal self.old) (journal self.new) }
+        ensures manifest { Leaves D.disk result tally.batch self.old.manifest self.new.manifest }
+        ensures receipt { IfOk result
+            (λ receipt. IsReceiptOf receipt (journal self.old) tally.batch) }
+        ensures told { Tells result (journal self.new) self.new.index.held }
+        ensures marked { IsMarked result }
+
+        ensures crash { self.old.manifest.fault ≡ None → LeavesOnly D.disk D.left_since
+            self.old.manifest.disk self.new.manifest.disk
+            (IsWithOrWithoutBatch (journal self.old) tally.batch) }
+        ensures kept { OnOk result (EachImage D.disk D.left_since self.new.manifest.disk
+            (HasJournal (journal self.new))) }
+    {
+        self.known();
+        if let Some((before, after)) = self.fault() {
+            return Err(CommitFault::Closed {
+                before,
+                after,
+                mark: Mark::closed(),
+            });
+        }
+        if self.catch_up(rt).is_err() {
+            return Err(CommitFault::OutOfMemory { stored: false });
+        }
+        match self.judge(&tally) {
+            Verdict::Clash(pairs) => {
+                let note = self.tell();
+                Err(CommitFault::Clash { tally, pairs, note })
+            }
+            Verdict::Full { games, bytes } => {
+                let whole = self.tell();
+                Err(CommitFault::Full {
+                    games,
+                    bytes,
+                    note: whole,
+                })
+            }
+            Verdict::Fits => {
+                if self.make_room(rt, alloc).is_err() {
+                    return Err(CommitFault::OutOfMemory { stored: false });
+                }
+                self.store(rt, alloc, tally)
+            }
+        }
+    }
+
+    /// What is true of each ingest: its journal is sound, and a crash leaves it.
+    fn known(&self)
+        ensures sound { IsSound (journal self.now) }
+        ensures crash { self.now.manifest.fault ≡ None → (batch : StoredBatch)
+            → LeavesOnly D.disk D.left_since self.now.manifest.disk self.now.manifest.disk
+            (IsWithOrWithoutBatch (journal self.now) batch) }
+    {
+        let _register = &self.register;
+    }
+
+    /// The counts of the disk fault that closed the store, if one did.
+    fn fault(&self) -> Option<(u64, u64)>
+        ensures { result ≡ self.now.manifest.fault }
+    {
+        self.manifest.fault()
+    }
+
+    /// Whether a batch can be stored, where no disk fault closed the store. It takes no memory.
+    fn judge(&self, tally: &Tally) -> Verdict
+        ensures { (games : List Game) → AreGamesOf (journal self.now) games
+            → Judges result (cause_of_new games (journal self.now) tally.now) }
+    {
+        self.register.judge(tally)
+    }
+
+    /// Stores and publishes a batch that nothing is against.
+    fn store<R: Wait>(
+        &mut self,
+        rt: &R,
+        alloc: Global,
+        tally: Tally,
+    ) -> Result<Receipt<J>, CommitFault<J>>
+        requires open { self.old.manifest.fault ≡ None }
+        requires none_held { self.old.index.held ≡ None }
+        requires room { length self.old.index.list < list_limit }
+        requires fits { (games : List Game) → AreGamesOf (journal self.old) games
+            → cause_of_new games (journal self.old) tally ≡ None }
+
+        ensures answers { IsStoring result }
+        ensures stores { Stores result tally.batch (journal self.old) (journal self.new) }
+        ensures manifest { Leaves D.disk result tally.batch self.old.manifest self.new.manifest }
+        ensures receipt { IfOk result
+            (λ receipt. IsReceiptOf receipt (journal self.old) tally.batch) }
+        ensures told { Tells result (journal self.new) self.new.index.held }
+        ensures marked { IsMarked result }
+        ensures crash { LeavesOnly D.disk D.left_since
+            self.old.manifest.disk self.new.manifest.disk
+            (IsWithOrWithoutBatch (journal self.old) tally.batch) }
+        ensures kept { OnOk result (EachImage D.disk D.left_since self.new.manifest.disk
+            (HasJournal (journal self.new))) }
+    {
+        let games = tally.classes().len();
+        if self.register.reserve(games).is_err() {
+            return Err(CommitFault::OutOfMemory { stored: false });
+        }
+        let place = self.publisher.list().batches();
+        let Ok(segment) = share_of(alloc, place, tally) else {
+            return Err(CommitFault::OutOfMemory { stored: false });
+        };
+        if let Err(fault) = self.manifest.store(alloc, batch_of(&segment, 0)) {
+            return Err(fault_of(fault));
+        }
+        let first = self.register.games() as u32;
+        self.register.enter(&segment);
+        match self.publisher.put(rt, segment) {
+            Ok(note) => Ok(Receipt {
+                batches: place + 1,
+                first,
+                games: games as u32,
+                note,
+            }),
+            Err(_) => Err(CommitFault::OutOfMemory { stored: true }),
+        }
+    }
+}
+
+/// The segment of a batch behind so many others, to be shared.
+pub(crate) fn share_of(alloc: Global, place: u32, tally: Tally) -> Result<SharedSegment, AllocError>
+    requires { place + 1 < 2 ^ 32 }
+    ensures first { IfOk result (λ segment. (arc_value segment).span.first ≡ place) }
+    ensures tally { IfOk result (λ segment. IsSegmentOf tally (arc_value segment)) }
+{
+    let segment = Segment::of(alloc, place, tally)?;
+    Ok(Arc::new(alloc, segment)?)
+}
+
+/// The answer where the manifest has not taken a batch.
+fn fault_of<J: Index>(fault: AppendFault) -> CommitFault<J>
+    ensures fault { IsFaultOf fault result }
+    ensures marked { IsMarked (Err result) }
+{
+    match fault {
+        AppendFault::Closed { before, after } => CommitFault::Closed {
+            before,
+            after,
+            mark: Mark::closed(),
+        },
+        AppendFault::DiskFault { before, after } => CommitFault::DiskFault {
+            before,
+            after,
+            mark: Mark::disk_fault(),
+        },
+        AppendFault::OutOfMemory => CommitFault::OutOfMemory { stored: false },
+    }
+}

@@ -1,0 +1,33 @@
+//! Importers: who stores a body for a connection.
+ghost use Rattle.std.specs.Prelude.{◌≤◌, ◌<◌, ◌^◌, ◌∷◌, [], length};
+ghost use Rattle.explorer_model.specs.Cuts.{cuts};
+ghost use Rattle.explorer_model.specs.Wire.{body_limit};
+ghost use Rattle.ingest_desk.specs.Importers.{
+  CountsRose,
+  EndsInMemory,
+  ImporterState,
+  TellsAll,
+  call_of,
+  ending_of,
+};
+ghost use Rattle.ingest_desk.specs.Reporting.{Reports, games_of};
+
+use crate::report::Report;
+use published_index::Index;
+
+/// One session's handle on a store.
+pub trait Importer<J: Index> {
+    // What the importer has come to.
+    ghost importer: { Self → ImporterState };
+
+    /// Imports the texts of a body. It may wait for other imports.
+    fn import(&mut self, body: &[u8]) -> Report<J>
+        requires { length body.now ≤ body_limit }
+        ensures reports { Reports (cuts body.now) result }
+        ensures in_memory { EndsInMemory (ending_of result.end) }
+        ensures few { games_of result.receipts.items < 2 ^ 32 }
+        ensures counts { CountsRose (ending_of result.end)
+            (importer self.old).counts (importer self.new).counts }
+        ensures told { TellsAll (importer self.old).calls (importer self.new).calls
+            (call_of body.now result ∷ []) };
+}

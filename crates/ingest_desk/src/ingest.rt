@@ -1,0 +1,87 @@
+//! What is stored and published.
+ghost use Rattle.std.specs.Prelude.{◌≡◌, None, IsOk, OnOk, length};
+ghost use Rattle.published_index.specs.Cover.{journal_of};
+ghost use Rattle.published_index.specs.Calls.{Retries};
+ghost use Rattle.explorer_model.specs.Journal.{IsSound};
+ghost use Rattle.ingest_desk.specs.Stored.{journal};
+
+use crate::register::Register;
+use disk_model::Disk;
+use manifest::Manifest;
+use published_index::{Index, Note, Publisher};
+use std::alloc::AllocError;
+use std::marker::Model;
+use std::sync::{Mutex, Wait};
+
+/// A store with its ids and its published list, as one value: what is published is what is stored,
+/// but for a batch that is held until there is memory to publish it. It is not `Drop`: end it by
+/// `into_disk`.
+pub struct Ingest<D: Disk, J: Index> {
+    pub(crate) manifest: Manifest<D>,
+    pub(crate) publisher: Publisher<J>,
+    pub(crate) register: Register,
+}
+
+/// An ingest that threads share. What is true of each `Ingest` is known whenever the lock is taken.
+pub type Desk<D, J> = Mutex<Ingest<D, J>>;
+
+impl<D: Disk, J: Index> Model for Ingest<D, J> {
+    ghost use Rattle.ingest_desk.specs.Stored.{Stored};
+
+    ghost Value = { Stored D };
+
+    ghost use Rattle.ingest_desk.specs.Kept.{IsKept};
+
+    ghost view = { λ i. record { manifest = i.manifest; index = i.publisher } };
+
+    ghost invariant = { λ i. IsKept D.disk D.left_since i.manifest i.publisher i.register };
+}
+
+impl<D: Disk, J: Index> Ingest<D, J> {
+    /// How many batches are stored.
+    pub fn batches(&self) -> u32
+        ensures batches { result ≡ length (journal self.now) }
+        ensures sound { IsSound (journal self.now) }
+    {
+        self.register.batches()
+    }
+
+    /// The publisher of the list.
+    pub fn publisher(&self) -> &Publisher<J>
+        ensures { result.now ≡ self.now.index }
+    {
+        &self.publisher
+    }
+
+    /// A note of the whole published journal. It takes no memory.
+    pub fn tell(&mut self) -> Note<J>
+        ensures note { result ≡ journal_of self.old.index.list }
+        ensures same { self.new ≡ self.old }
+    {
+        self.publisher.tell()
+    }
+
+    /// Publishes the change that is held, if one is. It waits for the readers that are inside.
+    pub fn catch_up<R: Wait>(&mut self, rt: &R) -> Result<Option<Note<J>>, AllocError>
+        ensures retries { Retries self.old.index self.new.index self.old.index.held result }
+        ensures manifest { self.new.manifest ≡ self.old.manifest }
+        ensures journal { journal self.new ≡ journal self.old }
+        ensures none_held { OnOk result (self.new.index.held ≡ None) }
+        ensures nothing { self.old.index.held ≡ None → IsOk result }
+    {
+        self.publisher.retry(rt)
+    }
+
+    /// Ends the publisher, and gives the disk back. It waits for the readers that are inside.
+    pub fn into_disk<R: Wait>(self, rt: &R) -> D
+        ensures { result ≡ self.manifest.disk }
+    {
+        let Ingest {
+            manifest,
+            publisher,
+            register: _register,
+        } = self;
+        publisher.close(rt);
+        manifest.into_disk()
+    }
+}

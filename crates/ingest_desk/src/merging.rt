@@ -1,0 +1,153 @@
+//! Segments of the published list become one.
+ghost use Rattle.std.specs.Prelude.{◌≡◌, ◌+◌, ◌<◌, ◌≤◌, None, IfOk, MatchOption, OnOk, length, map};
+ghost use Rattle.std.specs.Arc.{arc_value};
+ghost use Rattle.explorer_model.specs.Journal.{game_count, game_limit};
+ghost use Rattle.explorer_model.specs.Timeline.{both};
+ghost use Rattle.published_index.specs.Cover.{IsList, journal_of, list_limit};
+ghost use Rattle.ingest_desk.specs.Installs.{Installs};
+ghost use Rattle.ingest_desk.specs.Picking.{HasNoneDue, IsPicked, rest_limit};
+ghost use Rattle.ingest_desk.specs.Stored.{journal};
+
+use crate::fault::InstallFault;
+use crate::ingest::Ingest;
+use crate::job::Job;
+use crate::picking::{last_due, place_of, spans_of};
+use disk_model::Disk;
+use outside::FreeGate;
+use published_index::{Index, Note, SharedSegment};
+use segment_blocks::Segment;
+use segment_merge::merge;
+use std::alloc::{AllocError, Global};
+use std::sync::{Arc, Wait};
+use std::thread::Threads;
+
+/// The most segments of a list.
+const LIST_LIMIT: usize = 64;
+
+impl<D: Disk, J: Index> Ingest<D, J> {
+    /// The last neighbours of the list of which the left one has at most twice as many games as the
+    /// right one.
+    pub fn pick(&self) -> Result<Option<Job>, AllocError>
+        ensures { IfOk result (λ found. MatchOption found (HasNoneDue self.now.index.list)
+            (λ job. IsPicked self.now.index.list (arc_value job.left) (arc_value job.right))) }
+    {
+        let segments = self.publisher.list().segments();
+        let Some(at) = last_due(segments) else {
+            return Ok(None);
+        };
+        let left = Arc::try_clone(&segments[at])?;
+        let right = Arc::try_clone(&segments[at + 1])?;
+        let (_left, _right) = (left.span(), right.span());
+        Ok(Some(Job { left, right }))
+    }
+
+    /// Puts the segment of a job's two in their place, where they still stand as neighbours. A change
+    /// that is held is published before. It waits for the readers that are inside.
+    pub fn install<R: Wait>(
+        &mut self,
+        rt: &R,
+        alloc: Global,
+        job: Job,
+        merged: Segment,
+    ) -> Result<Note<J>, InstallFault>
+        requires { merged.span ≡ both (arc_value job.left).span (arc_value job.right).span }
+        ensures installs { Installs (arc_value job.left).span (arc_value job.right).span merged
+            self.old.index self.new.index result }
+        ensures manifest { self.new.manifest ≡ self.old.manifest }
+        ensures journal { journal self.new ≡ journal self.old }
+    {
+        if self.catch_up(rt).is_err() {
+            return Err(InstallFault::OutOfMemory);
+        }
+        self.replace(rt, alloc, &job, merged)
+    }
+
+    /// The same where nothing is held.
+    fn replace<R: Wait>(
+        &mut self,
+        rt: &R,
+        alloc: Global,
+        job: &Job,
+        merged: Segment,
+    ) -> Result<Note<J>, InstallFault>
+        requires none_held { self.old.index.held ≡ None }
+        requires both { merged.span
+            ≡ both (arc_value job.now.left).span (arc_value job.now.right).span }
+        ensures installs { Installs (arc_value job.now.left).span (arc_value job.now.right).span
+            merged self.old.index self.new.index result }
+        ensures manifest { self.new.manifest ≡ self.old.manifest }
+        ensures journal { journal self.new ≡ journal self.old }
+    {
+        let segments = self.publisher.list().segments();
+        let Some(at) = place_of(segments, &job.left, &job.right) else {
+            return Err(InstallFault::Gone {
+                spans: spans_of(segments),
+            });
+        };
+        let Ok(shared) = Arc::new(alloc, merged) else {
+            return Err(InstallFault::OutOfMemory);
+        };
+        match self.publisher.replace(rt, at, shared) {
+            Ok(note) => Ok(note),
+            Err(_) => Err(InstallFault::OutOfMemory),
+        }
+    }
+
+    /// Joins the neighbours that are due where the list has no room.
+    pub(crate) fn make_room<R: Wait + Threads + Sync>(
+        &mut self,
+        rt: &R,
+        alloc: Global,
+    ) -> Result<(), AllocError>
+        requires { self.old.index.held ≡ None }
+        ensures room { OnOk result (length self.new.index.list < list_limit) }
+        ensures none_held { OnOk result (self.new.index.held ≡ None) }
+        ensures manifest { self.new.manifest ≡ self.old.manifest }
+        ensures journal { journal self.new ≡ journal self.old }
+    {
+        let segments = self.publisher.list().segments();
+        if segments.len() < LIST_LIMIT {
+            return Ok(());
+        }
+        let Some(at) = last_due(segments) else {
+            return Ok(());
+        };
+        let left = &segments[at];
+        let right = &segments[at + 1];
+        let (_left, _right) = (left.span(), right.span());
+        let merged = merge(rt, alloc, left, right, 1, &FreeGate)?;
+        let merged = Arc::new(alloc, merged)?;
+        let _ = self.publisher.replace(rt, at, merged)?;
+        Ok(())
+    }
+}
+
+/// Joins the last neighbours that are due, if there are any.
+pub(crate) fn join_due<R: Threads + Sync>(
+    rt: &R,
+    alloc: Global,
+    segments: &mut Vec<SharedSegment>,
+    workers: usize,
+) -> Result<(), AllocError>
+    requires some_workers { 1 ≤ workers }
+    requires few_workers { workers ≤ 16 }
+    requires list { IsList (map arc_value segments.old.items) }
+    requires few { length segments.old.items ≤ rest_limit + 1 }
+    requires within { game_count (journal_of (map arc_value segments.old.items)) ≤ game_limit }
+    ensures list { OnOk result (IsList (map arc_value segments.new.items)) }
+    ensures journal { OnOk result (journal_of (map arc_value segments.new.items)
+        ≡ journal_of (map arc_value segments.old.items)) }
+    ensures few { OnOk result (length segments.new.items ≤ rest_limit) }
+{
+    let Some(at) = last_due(segments) else {
+        return Ok(());
+    };
+    let left = &segments[at];
+    let right = &segments[at + 1];
+    let (_left, _right) = (left.span(), right.span());
+    let merged = merge(rt, alloc, left, right, workers, &FreeGate)?;
+    let shared = Arc::new(alloc, merged)?;
+    segments.remove(at);
+    segments[at] = shared;
+    Ok(())
+}

@@ -1,0 +1,77 @@
+ghost use Rattle.std.specs.Prelude.{◌≡◌, ◌≤◌, None, IfOk, IfErr, IfSome};
+ghost use Rattle.disk_model.specs.Disk.{IsQuiet};
+ghost use Rattle.record_log.specs.Log.{EachImage};
+ghost use Rattle.manifest.specs.Manifest.{HasJournal};
+ghost use Rattle.published_index.specs.Cover.{journal_of};
+ghost use Rattle.ingest_desk.specs.Openings.{IsNotOpened};
+
+use crate::recount::{Recounted, recount};
+use crate::unnamed::Unnamed;
+use disk_model::Disk;
+use explorer_model::fault::Stop;
+use explorer_model::store::LogFault;
+use manifest::Manifest;
+use published_index::{List, open_list};
+use record_log::{Back, OpenFault};
+use std::alloc::Global;
+use std::sync::Wait;
+use std::thread::Threads;
+
+/// Opens the store on a disk, and counts its journal anew, with so many workers. It begins with a
+/// sync and writes nothing, so that a crash leaves what one could have left before. After what is
+/// wrong with the file, `Damaged` comes for the first record with which the journal is not sound.
+pub fn open<R: Wait + Threads + Sync, D: Disk>(
+    rt: &R,
+    alloc: Global,
+    disk: D,
+    workers: usize,
+    readers: usize,
+) -> Result<Unnamed<D>, Back<D, OpenFault>>
+    requires some_workers { 1 ≤ workers }
+    requires few_workers { workers ≤ 16 }
+    requires some { 1 ≤ readers }
+    requires few { readers ≤ 64 }
+
+    ensures read { IfOk result (λ unnamed. IfSome (D.disk disk).content
+        (HasJournal (journal_of unnamed.index.list))) }
+    ensures sound { IfOk result (λ unnamed. unnamed.manifest.fault ≡ None) }
+    ensures images { IfOk result (λ unnamed. EachImage D.disk D.left_since unnamed.manifest.disk
+        (HasJournal (journal_of unnamed.index.list))) }
+    ensures readers { IfOk result (λ unnamed. unnamed.index.readers ≡ readers) }
+    ensures refused { IfErr result (λ back. IsNotOpened D.disk back.fault disk back.disk) }
+
+    ensures quiet { IfOk result
+        (λ unnamed. IsQuiet D.disk D.left_since disk unnamed.manifest.disk) }
+    ensures quiet_refused { IfErr result (λ back. IsQuiet D.disk D.left_since disk back.disk) }
+{
+    let opened = manifest::open(alloc, disk)?;
+    let manifest::Opened { manifest, journal } = opened;
+    let recounted = match recount(rt, alloc, journal, workers) {
+        Ok(recounted) => recounted,
+        Err(Stop::Fault(at)) => {
+            let fault = OpenFault::Log(LogFault::Damaged { at });
+            return Err(back_of(manifest, fault));
+        }
+        Err(Stop::OutOfMemory) => return Err(back_of(manifest, OpenFault::OutOfMemory)),
+    };
+    let Recounted { register, segments } = recounted;
+    let Ok(index) = open_list(rt, alloc, List::of(segments), readers) else {
+        return Err(back_of(manifest, OpenFault::OutOfMemory));
+    };
+    Ok(Unnamed {
+        manifest,
+        register,
+        index,
+    })
+}
+
+/// The disk of a manifest, with the reason.
+fn back_of<D: Disk>(manifest: Manifest<D>, fault: OpenFault) -> Back<D, OpenFault>
+    ensures disk { result.disk ≡ manifest.disk }
+    ensures fault { result.fault ≡ fault }
+{
+    Back {
+        disk: manifest.into_disk(),
+        fault,
+    }
+}
