@@ -8,7 +8,8 @@ ghost use Rattle.ingest_desk.specs.Recounts.{IsUnsoundAt};
 /// A list has one pair that is to become one, or none.
 pub fn picking_is_determined()
     ensures picked { (list : List CountedSpan) (left right first second : CountedSpan)
-        → IsPicked list left right → IsPicked list first second → (left ≡ first) × (right ≡ second) }
+        → IsPicked list left right → IsPicked list first second
+        → (left ≡ first) × (right ≡ second) }
     ensures either { (list : List CountedSpan) (left right : CountedSpan) → HasNoneDue list
         → IsPicked list left right → ⊥ }
 {}

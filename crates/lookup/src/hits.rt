@@ -66,7 +66,8 @@ fn add_hits<'a>(
     wanted: &Filter,
 ) -> Result<(), AllocError>
     ensures { OnOk result (map hit_as hits.new.items
-        ≡ map hit_as hits.old.items ++ map (λ row. record { row = row; first = first }) (filter (λ row. in_months wanted.now (row_key_of row)) rows.now)) }
+        ≡ map hit_as hits.old.items ++ map (λ row. record { row = row; first = first })
+        (filter (λ row. in_months wanted.now (row_key_of row)) rows.now)) }
 {
     for row in rows {
         if is_in_months(wanted, row) {

@@ -65,7 +65,8 @@ fn line_of(
     requires averaged { IsAveraged (map hit_as hits.now) sum.now.next }
     requires sum { sum.now ≡ sum_as (map hit_as hits.now) sum.now.next }
     ensures { IfOk result
-        (λ line. IsLineMade board.now (parts_in parts.now) (map hit_as hits.now) sum.now.next line) }
+        (λ line. IsLineMade board.now (parts_in parts.now) (map hit_as hits.now)
+        sum.now.next line) }
 {
     Ok(MoveLine {
         next: sum.next,
@@ -95,7 +96,8 @@ fn only_game(
 ) -> Result<Option<Listed>, AllocError>
     requires { AreSound (map hit_as hits.now) }
     ensures { IfOk result
-        (λ game. (key : List ℕ) (wanted : Filter) (each : AllByRecursion IsPart (parts_in parts.now))
+        (λ game. (key : List ℕ) (wanted : Filter)
+        (each : AllByRecursion IsPart (parts_in parts.now))
         → map hit_as hits.now ≡ rows_from key (meets wanted any_next) 0 (parts_in parts.now)
         → game ≡ option_and_then (listing key (all_of (tracks_in (parts_in parts.now) each)))
         (only_entry (top_where (map hit_as hits.now) (plays next)))) }

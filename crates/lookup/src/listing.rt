@@ -88,7 +88,8 @@ fn listed_in(
     entries: &[Entry],
 ) -> Result<Vec<Listed>, AllocError>
     ensures { IfOk result (λ listed. listed.items
-        ≡ filter_map (λ entry. listed_where (list_of list) (parts_in parts.now) (map hit_as hits.now) entry.number) entries.now) }
+        ≡ filter_map (λ entry. listed_where (list_of list) (parts_in parts.now)
+        (map hit_as hits.now) entry.number) entries.now) }
 {
     let mut listed = Vec::with_capacity(alloc, entries.len())?;
     for entry in entries {
