@@ -1,0 +1,10 @@
+pub mod FrontLemmas
+pub mod KnownNotes
+pub mod StoredLemmas
+pub mod ExchangeLemmas
+pub mod ConnectionLemmas
+pub mod DoorLemmas
+pub mod LawLemmas
+pub mod AskedLemmas
+pub mod ReplyLemmas
+pub mod NoReports

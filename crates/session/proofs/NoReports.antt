@@ -1,0 +1,52 @@
+-- The report of an import that stored and refused nothing.
+use Rattle.std.proofs.Common.{◌≡◌, ◌==◌, ℕ, true, List, [], ◌∷◌, length, refl, sym, subst, arith}
+use Rattle.std.proofs.lemmas.Bool.Decides.{nat_tests}
+use Rattle.std.proofs.lemmas.List.Elements.{All-nil}
+use Rattle.explorer_model.specs.declared.archive.Batch.{Batch}
+use Rattle.explorer_model.specs.declared.fault.Refusal.{Refusal}
+use Rattle.explorer_model.specs.Cuts.{Cut, cuts, cuts_from, cuts_of, parted, preamble}
+use Rattle.explorer_model.specs.Imports.{AccountedBeside, groups}
+use Rattle.ingest_desk.specs.declared.receipt.Receipt.{Receipt}
+use Rattle.ingest_desk.specs.declared.report.End.{End}
+use Rattle.ingest_desk.specs.declared.report.End.TheVariants as ends
+use Rattle.ingest_desk.specs.declared.report.Report.{Report}
+use Rattle.ingest_desk.specs.Reporting.{AccountsTo, AreReceipts, RepeatsBy, Reports, games_of}
+
+none-beside : AccountedBeside [] [] []
+none-beside = record {
+  examinations = [];
+  are_examinations = tt;
+  numbers = [];
+  one_each = refl;
+  yields = record { batches_are = refl; refused_are = refl };
+}
+
+no-groups : groups (cuts []) ≡ []
+unfolding groups cuts cuts_from cuts_of parted preamble
+no-groups = refl
+
+reports : {J : Type 0} (cuts : List Cut) (report : Report J) → report.receipts.items ≡ [] → report.refused.items ≡ []
+    → AccountsTo report.end (groups cuts) [] [] → Reports cuts report
+reports cuts report receipts refused accounts = record {
+  batches = [];
+  are_receipts = rw receipts tt;
+  accounts = subst (λ (r : List Refusal). AccountsTo report.end (groups cuts) [] r) (sym refused) accounts;
+  repeats = rw refused (All-nil (λ r. RepeatsBy cuts report.clashes.items r.place r.why));
+}
+
+pub reports-nothing : {J : Type 0} (body : List ℕ) (report : Report J) → report.receipts.items ≡ [] → report.refused.items ≡ []
+    → report.end ≡ ends.OutOfMemory → Reports (cuts body) report
+reports-nothing {J} body report receipts refused end =
+    reports (cuts body) report receipts refused
+    (subst (λ (e : End J). AccountsTo e (groups (cuts body)) [] []) (sym end) (0, record { within = omega arith; accounted = none-beside }))
+
+pub reports-empty : {J : Type 0} (body : List ℕ) (report : Report J) → body ≡ [] → report.receipts.items ≡ []
+    → report.refused.items ≡ [] → report.end ≡ ends.Whole → Reports (cuts body) report
+reports-empty {J} body report empty receipts refused end =
+    let whole : AccountedBeside (groups (cuts body)) [] [] = rw (empty, no-groups) none-beside in
+    reports (cuts body) report receipts refused (subst (λ (e : End J). AccountsTo e (groups (cuts body)) [] []) (sym end) whole)
+
+pub empty-list : (xs : List ℕ) → (length xs == 0) ≡ true → xs ≡ []
+empty-list [] empty = refl
+empty-list (x ∷ xs) empty =
+    let none : length (x ∷ xs) ≡ 0 = grind (arith, nat_tests) in absurd (omega arith)

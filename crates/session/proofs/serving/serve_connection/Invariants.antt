@@ -1,0 +1,14 @@
+use Rattle.std.proofs.Common.{◌<◌}
+use Rattle.session.specs.Exchanges.{backend}
+use Rattle.session.specs.Steps.{IsServing}
+use Rattle.session.proofs.serving.serve_connection.Given as goal
+
+abbrev pub invariant-serving : goal.invariant-serving
+invariant-serving g l = record {
+  serving : IsServing (g.L.Source.source l.fn.link) (backend l.fn.pass (g.I.Importer.importer l.fn.importer))
+      l.wire (g.L.Source.source l.link) (backend l.pass (g.I.Importer.importer l.importer));
+  more : 0 < l.wire.more;
+}
+
+abbrev pub decreases-serving : goal.decreases-serving
+decreases-serving g l = l.wire.more

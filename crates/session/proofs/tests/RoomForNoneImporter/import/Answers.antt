@@ -1,0 +1,14 @@
+use Rattle.std.proofs.Common.{◌≡◌, ◌∙◌, sym}
+use Rattle.session.proofs.NoReports.{empty-list, reports-empty, reports-nothing}
+use Rattle.session.proofs.tests.RoomForNoneImporter.import.Goals as goal
+
+pub returns-then-is_empty-clause-reports : goal.returns-then-is_empty-clause-reports
+returns-then-is_empty-clause-reports g c =
+    let r = c.report_of.ensures in
+    let empty = empty-list c.args.body.now (sym c.is_empty.ensures ∙ c.if-is_empty.true) in
+    reports-empty c.args.body.now c.report_of.result empty r.receipts r.refused r.end
+
+pub returns-clause-reports : goal.returns-clause-reports
+returns-clause-reports g c =
+    let r = c.report_of-2.ensures in
+    reports-nothing c.args.body.now c.report_of-2.result r.receipts r.refused r.end

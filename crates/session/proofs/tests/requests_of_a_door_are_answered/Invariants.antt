@@ -1,0 +1,5 @@
+use Rattle.session.proofs.tests.requests_of_a_door_are_answered.Given as goal
+
+-- the index that was just opened
+abbrev pub ghosts-answers : goal.ghosts-answers
+ghosts-answers g a = record { name = a.unnamed.name }

@@ -1,0 +1,96 @@
+-- Statement: exchanges of a connection, one after another: what is asked, and what is replied.
+use Rattle.std.specs.Prelude.{◌≡◌, ◌≤◌, ℕ, List, [], ◌∷◌, length, take, map, filter_map, Option, Some, None}
+use Rattle.std.specs.List.{flat_map}
+use Rattle.explorer_model.specs.declared.archive.Batch.{Batch}
+use Rattle.explorer_model.specs.declared.wire.Asked.{Asked}
+use Rattle.explorer_model.specs.declared.wire.Reply.{Reply}
+use Rattle.explorer_model.specs.Replies.{reply_text}
+use Rattle.published_index.specs.States.{Watching}
+use Rattle.ingest_desk.specs.declared.report.ImportCall.{ImportCall}
+use Rattle.ingest_desk.specs.Importers.{CountsRose, ImportCounts, ImporterState}
+use Rattle.session.specs.Imports.{RepliesTo}
+use Rattle.session.specs.Replies.{AnswersQuery, Readings, Route, Answer, Import, Fixed, Silence, closes, readings_of, route_of}
+
+-- what stays from one connection to the next: the pass, and the importer
+pub record Backend : Type 0 where
+  pub pass : Watching
+  pub importer : ImporterState
+
+abbrev pub backend : Watching → ImporterState → Backend
+backend pass importer = record { pass = pass; importer = importer }
+
+-- how many batches the pass has seen, its readings, and what the importer counts
+pub record Moment : Type 0 where
+  pub seen : ℕ
+  pub readings : Readings
+  pub counts : ImportCounts
+
+abbrev pub moment_of : Backend → Moment
+moment_of back = record {
+  seen = length back.pass.seen;
+  readings = readings_of back.pass;
+  counts = back.importer.counts;
+}
+
+-- what is asked, what is replied, and the call of the importer that was made for it
+pub record Exchange : Type 0 where
+  pub asked : Asked
+  pub reply : Reply
+  pub call : Option ImportCall
+
+-- ---- one exchange
+
+-- the reply answers the query string over the journal, and nothing is imported
+pub record GrantsAnswer (text : List ℕ) (journal : List Batch) (before after : Moment)
+    (call : Option ImportCall) (reply : Reply) : Type 0 where
+  pub answers : AnswersQuery text journal before.readings after.readings reply
+  pub unmoved : after.readings.entered ≡ before.readings.entered → after.seen ≡ before.seen
+  pub uncalled : call ≡ None
+  pub counts : after.counts ≡ before.counts
+
+-- one call imports the body, and the reply is the one for how it ended
+pub record GrantsImport (body : List ℕ) (journal : List Batch) (before after : Moment)
+    (call : Option ImportCall) (reply : Reply) : Type 0 where
+  pub made : ImportCall
+  pub called : call ≡ Some made
+  pub body_is : made.body ≡ body
+  pub counts : CountsRose made.ending before.counts after.counts
+  pub replies : RepliesTo made.ending journal body made.games reply
+  pub readings : after.readings ≡ before.readings
+
+-- the reply is a fixed one, and nothing else happens
+pub record GrantsFixed (fixed : Reply) (before after : Moment) (call : Option ImportCall)
+    (reply : Reply) : Type 0 where
+  pub is_fixed : reply ≡ fixed
+  pub uncalled : call ≡ None
+  pub stays : after ≡ before
+
+-- the reply is one to what is asked for, over the journal that the pass has seen then
+abbrev pub Grants : Route → List Batch → Moment → Moment → Option ImportCall → Reply → Type 0
+Grants (Answer text) journal before after call reply =
+    GrantsAnswer text journal before after call reply
+Grants (Import body) journal before after call reply =
+    GrantsImport body journal before after call reply
+Grants (Fixed fixed) journal before after call reply = GrantsFixed fixed before after call reply
+Grants Silence journal before after call reply = ⊥
+
+-- ---- exchanges
+
+-- Each exchange leads from one moment to the next. What the pass has seen by then is a front of the
+-- journal, no shorter than before, and the reply is over that front.
+abbrev pub AreExchanges : List Batch → Moment → List Exchange → Moment → Type 0
+AreExchanges journal before [] after = after ≡ before
+AreExchanges journal before (x ∷ xs) after =
+    (middle : Moment) × (before.seen ≤ middle.seen) × (middle.seen ≤ length journal)
+    × Grants (route_of x.asked) (take middle.seen journal) before middle x.call x.reply
+    × AreExchanges journal middle xs after
+
+abbrev pub asked_in : List Exchange → List Asked
+asked_in exchanges = map (λ x. x.asked) exchanges
+
+abbrev pub calls_in : List Exchange → List ImportCall
+calls_in exchanges = filter_map (λ x. x.call) exchanges
+
+-- the bytes of the replies, one after another
+abbrev pub reply_texts : List Exchange → List ℕ
+reply_texts exchanges = flat_map (λ x. reply_text x.reply (closes x.asked)) exchanges

@@ -1,0 +1,7 @@
+pub mod Replies
+pub mod Imports
+pub mod Exchanges
+pub mod Serving
+pub mod Doors
+pub mod Laws
+pub mod Steps

@@ -1,0 +1,87 @@
+-- Statement: what is replied to what a connection asks.
+use Rattle.std.specs.Prelude.{◌≡◌, ◌⊎◌, ◌+◌, ◌<◌, ℕ, Bool, true, List, Ok, Err}
+use Rattle.explorer_model.specs.declared.archive.Batch.{Batch}
+use Rattle.explorer_model.specs.declared.wire.Asked.{Asked}
+use Rattle.explorer_model.specs.declared.wire.Asked.TheVariants as asks
+use Rattle.explorer_model.specs.declared.wire.Method.{Method}
+use Rattle.explorer_model.specs.declared.wire.Method.TheVariants as methods
+use Rattle.explorer_model.specs.declared.wire.Path.{Path}
+use Rattle.explorer_model.specs.declared.wire.Path.TheVariants as paths
+use Rattle.explorer_model.specs.declared.wire.Reply.{Reply}
+use Rattle.explorer_model.specs.declared.wire.Reply.TheVariants as replies
+use Rattle.explorer_model.specs.declared.wire.RequestFault.{RequestFault}
+use Rattle.explorer_model.specs.declared.wire.RequestFault.TheVariants as faults
+use Rattle.explorer_model.specs.Query.{QueryReads}
+use Rattle.explorer_model.specs.Replies.{IsFoundIn}
+use Rattle.published_index.specs.States.{Watching}
+
+-- ---- what is asked for
+
+-- what a connection asks for
+pub data Route : Type 0 where
+  -- an answer to the query string
+  Answer : List ℕ → Route
+  -- an import of the body
+  Import : List ℕ → Route
+  -- a reply that nothing else decides
+  Fixed : Reply → Route
+  -- no reply
+  Silence : Route
+
+-- paths take one method each
+abbrev pub route_by : Path → Method → List ℕ → List ℕ → Route
+route_by paths.Lichess methods.Get query body = Answer query
+route_by paths.Lichess _ query body = Fixed (replies.NotAllowed methods.Get)
+route_by paths.Import methods.Post query body = Import body
+route_by paths.Import _ query body = Fixed (replies.NotAllowed methods.Post)
+route_by paths.Other _ query body = Fixed replies.NotFound
+
+abbrev pub refusal_reply : RequestFault → Reply
+refusal_reply faults.BadRequest = replies.BadRequest
+refusal_reply faults.TooLarge = replies.TooLarge
+refusal_reply faults.HeadTooLarge = replies.HeadTooLarge
+
+abbrev pub route_of : Asked → Route
+route_of (asks.Wanted request) = route_by request.path request.method request.query request.body
+route_of (asks.Refused fault) = Fixed (refusal_reply fault)
+route_of asks.NoMemory = Fixed replies.NoMemory
+route_of asks.Done = Silence
+route_of asks.Cut = Silence
+route_of asks.ReadFault = Silence
+
+-- the connection is closed behind the reply
+abbrev pub closes : Asked → Bool
+closes (asks.Wanted request) = request.last
+closes _ = true
+
+-- ---- the answer to a query
+
+-- how often a pass has entered, and how many readings it was not given
+pub record Readings : Type 0 where
+  pub entered : ℕ
+  pub unread : ℕ
+
+abbrev pub readings_of : Watching → Readings
+readings_of pass = record { entered = pass.entered; unread = pass.unread }
+
+-- one entering more, and no reading that was not given
+abbrev pub Enters : Readings → Readings → Type 0
+Enters before after = after ≡ record before { entered = before.entered + 1 }
+
+-- at most one entering more
+abbrev pub MayEnter : Readings → Readings → Type 0
+MayEnter before after =
+    (after.entered ≡ before.entered) ⊎ (after.entered ≡ before.entered + 1)
+
+-- The reply answers the query string over the journal that the pass has seen then, or names its
+-- first malformed parameter. Want of memory is free, and a reading that was not given is counted.
+abbrev pub AnswersQuery : List ℕ → List Batch → Readings → Readings → Reply → Type 0
+AnswersQuery text journal before after (replies.Found batches body) =
+    IsFoundIn text journal batches body × Enters before after
+AnswersQuery text journal before after (replies.BadParameter name) =
+    QueryReads text (Err (record { name = name })) × (after ≡ before)
+AnswersQuery text journal before after replies.NoMemory =
+    MayEnter before after × (after.unread ≡ before.unread)
+AnswersQuery text journal before after replies.Unread =
+    (after.entered ≡ before.entered) × (before.unread < after.unread)
+AnswersQuery text journal before after _ = ⊥

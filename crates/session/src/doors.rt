@@ -1,0 +1,42 @@
+//! Doors.
+ghost use Rattle.session.specs.Doors.{DoorServed, EndsDoor};
+ghost use Rattle.session.specs.Exchanges.{backend};
+
+use crate::serving::serve_connection;
+use ingest_desk::Importer;
+use outside::{Door, Failed};
+use published_index::{Index, Pass};
+use std::alloc::Global;
+
+/// How the serving of a door ended.
+#[derive(Clone, Copy, Debug, PartialEq, Eq)]
+pub enum DoorEnd {
+    /// No connection is left.
+    Whole,
+    AcceptFault,
+}
+
+/// Serves the connections of a door, one after another, and gives each back to it. It may wait for
+/// a peer.
+pub fn serve_door<J: Index, D: Door, I: Importer<J>>(
+    alloc: Global,
+    door: &mut D,
+    pass: &mut Pass<J>,
+    importer: &mut I,
+) -> DoorEnd
+    ensures served { DoorServed (D.door door.old) (backend pass.old (I.importer importer.old))
+        (D.door door.new) (backend pass.new (I.importer importer.new)) }
+    ensures ends { EndsDoor result (D.door door.old) (D.door door.new) }
+{
+    'accepting: loop {
+        match door.accept() {
+            Ok(Some(link)) => {
+                let mut link = link;
+                let _ = serve_connection(alloc, &mut link, pass, importer);
+                door.finish(link);
+            }
+            Ok(None) => return DoorEnd::Whole,
+            Err(Failed) => return DoorEnd::AcceptFault,
+        }
+    }
+}

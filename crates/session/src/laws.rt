@@ -1,0 +1,50 @@
+//! Laws of what a connection comes to. Each is the contract of a function that has nothing to do or
+//! only cites the laws below it.
+ghost use Rattle.std.specs.Prelude.{◌≡◌, ◌≤◌, ◌+◌, ℕ, List};
+ghost use Rattle.std.specs.List.{AllByRecursion};
+ghost use Rattle.explorer_model.specs.declared.archive.Batch.{Batch};
+ghost use Rattle.explorer_model.specs.declared.wire.Reply.{Reply};
+ghost use Rattle.outside.specs.Stream.{Stream};
+ghost use Rattle.session.specs.declared.serving.Ended.{Ended};
+ghost use Rattle.session.specs.Exchanges.{Backend, Exchange, Moment, AreExchanges};
+ghost use Rattle.session.specs.Laws.{AscendFrom, IsAllAnswered, IsOverFront, IsTold, numbers, unread_in};
+ghost use Rattle.session.specs.Replies.{AnswersQuery, Readings, route_of};
+ghost use Rattle.session.specs.Serving.{Served};
+
+use lookup::laws::answers_are_determined;
+use query_params::laws::query_is_determined;
+
+/// Each answer is over the first batches of what the pass has seen in the end, as many as its
+/// number says. The numbers of replies do not fall, and the first is no less than what the pass had
+/// seen before. No more replies say that the journal could not be read than readings were not
+/// given.
+pub fn answers_are_over_fronts()
+    ensures fronts { (journal : List Batch) (before after : Moment) (exchanges : List Exchange)
+        → AreExchanges journal before exchanges after
+        → AllByRecursion (λ x. IsOverFront journal (route_of x.asked) x.reply) exchanges }
+    ensures numbers { (journal : List Batch) (before after : Moment) (exchanges : List Exchange)
+        → AreExchanges journal before exchanges after → AscendFrom before.seen (numbers exchanges) }
+    ensures unread { (journal : List Batch) (before after : Moment) (exchanges : List Exchange)
+        → AreExchanges journal before exchanges after
+        → before.readings.unread + unread_in exchanges ≤ after.readings.unread }
+{}
+
+/// Each request and refusal in the bytes that were taken is answered, unless there was no memory
+/// for the last of them, or the replies could not be written.
+pub fn all_that_is_asked_is_answered()
+    ensures { (link link' : Stream) (before after : Backend) (ended : Ended)
+        (served : Served link before ended link' after)
+        → IsAllAnswered ended served.taken served.exchanges }
+{}
+
+/// A query string has one answer over a journal, where the journal could be read and memory was
+/// there.
+pub fn replies_are_determined()
+    ensures { (text : List ℕ) (journal : List Batch) (before after later : Readings)
+        (reply other : Reply) → IsTold reply → IsTold other
+        → AnswersQuery text journal before after reply
+        → AnswersQuery text journal before later other → reply ≡ other }
+{
+    query_is_determined();
+    answers_are_determined();
+}

@@ -1,0 +1,16 @@
+//! Connections: the replies to their requests, over what a pass has seen.
+#![tactic(auto)]
+
+mod answering;
+mod doors;
+mod importing;
+pub mod laws;
+mod replying;
+mod serving;
+
+pub use answering::answer;
+pub use doors::{DoorEnd, serve_door};
+pub use serving::{Ended, serve_connection};
+
+#[cfg(test)]
+mod tests;

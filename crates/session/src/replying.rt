@@ -1,0 +1,78 @@
+//! Replies to what is asked.
+ghost use Rattle.std.specs.Prelude.{◌≡◌, ◌≤◌, length};
+ghost use Rattle.explorer_model.specs.Wire.{body_limit};
+ghost use Rattle.explorer_model.specs.declared.wire.Asked.TheVariants.{Wanted};
+ghost use Rattle.session.specs.Exchanges.{backend};
+ghost use Rattle.session.specs.Replies.{closes, refusal_reply};
+ghost use Rattle.session.specs.Steps.{IsReplied, Replied};
+
+use crate::answering::answer;
+use crate::importing::import;
+use explorer_model::wire::{Asked, Method, Path, Reply, Request, RequestFault};
+use ingest_desk::Importer;
+use published_index::{Index, Pass};
+use std::alloc::Global;
+
+/// Whether the connection is closed behind the reply.
+pub fn closes(asked: &Asked) -> bool
+    ensures { result ≡ closes asked.now }
+{
+    match asked {
+        Asked::Wanted(request) => request.last,
+        _ => true,
+    }
+}
+
+/// The reply to what is asked.
+pub fn reply_to<J: Index, I: Importer<J>>(
+    alloc: Global,
+    asked: &Asked,
+    pass: &mut Pass<J>,
+    importer: &mut I,
+) -> Reply
+    requires { IsReplied asked.now }
+    ensures { Replied asked.now (backend pass.old (I.importer importer.old)) result
+        (backend pass.new (I.importer importer.new)) }
+{
+    match asked {
+        Asked::Wanted(request) => reply_to_request(alloc, request, pass, importer),
+        Asked::Refused(fault) => refusal_reply(*fault),
+        Asked::NoMemory => Reply::NoMemory,
+        Asked::Done | Asked::Cut | Asked::ReadFault => unreachable!(),
+    }
+}
+
+fn refusal_reply(fault: RequestFault) -> Reply
+    ensures { result ≡ refusal_reply fault }
+{
+    match fault {
+        RequestFault::BadRequest => Reply::BadRequest,
+        RequestFault::TooLarge => Reply::TooLarge,
+        RequestFault::HeadTooLarge => Reply::HeadTooLarge,
+    }
+}
+
+fn reply_to_request<J: Index, I: Importer<J>>(
+    alloc: Global,
+    request: &Request,
+    pass: &mut Pass<J>,
+    importer: &mut I,
+) -> Reply
+    requires { length request.now.body ≤ body_limit }
+    ensures { Replied (Wanted request.now) (backend pass.old (I.importer importer.old)) result
+        (backend pass.new (I.importer importer.new)) }
+{
+    match request.path {
+        Path::Lichess => match request.method {
+            Method::Get => answer(alloc, pass, request.query.as_slice()),
+            _ => Reply::NotAllowed { allow: Method::Get },
+        },
+        Path::Import => match request.method {
+            Method::Post => import(alloc, pass, importer, request.body.as_slice()),
+            _ => Reply::NotAllowed {
+                allow: Method::Post,
+            },
+        },
+        Path::Other => Reply::NotFound,
+    }
+}

@@ -1,0 +1,84 @@
+//! Connections.
+ghost use Rattle.std.specs.Prelude.{◌<◌, IfNone, IfSome};
+ghost use Rattle.outside.specs.Stream.{Stream};
+ghost use Rattle.session.specs.Exchanges.{Backend, backend};
+ghost use Rattle.session.specs.Serving.{Served};
+ghost use Rattle.session.specs.Steps.{IsServing};
+
+use crate::replying::{closes, reply_to};
+use explorer_model::wire::Asked;
+use http_wire::Wire;
+use ingest_desk::Importer;
+use outside::Link;
+use published_index::{Index, Pass};
+use std::alloc::Global;
+
+/// How a connection ended.
+#[derive(Clone, Copy, Debug, PartialEq, Eq)]
+pub enum Ended {
+    /// The input ended between requests, or the connection was to be closed.
+    Done,
+    /// The input ended within a request.
+    Cut,
+    ReadFault,
+    WriteFault,
+}
+
+/// Serves a connection to its end: at most 1,000 requests, each replied to before the next is read.
+/// A read and an import may wait.
+pub fn serve_connection<J: Index, L: Link, I: Importer<J>>(
+    alloc: Global,
+    link: &mut L,
+    pass: &mut Pass<J>,
+    importer: &mut I,
+) -> Ended
+    ensures { Served (L.source link.old) (backend pass.old (I.importer importer.old)) result
+        (L.source link.new) (backend pass.new (I.importer importer.new)) }
+{
+    let mut wire = Wire::new();
+    'serving: loop {
+        if let Some(ended) = serve_one(alloc, &mut wire, link, pass, importer) {
+            return ended;
+        }
+    }
+}
+
+/// Serves one request, and says how the connection ended, where it did.
+fn serve_one<J: Index, L: Link, I: Importer<J>>(
+    alloc: Global,
+    wire: &mut Wire,
+    link: &mut L,
+    pass: &mut Pass<J>,
+    importer: &mut I,
+) -> Option<Ended>
+    requires { 0 < wire.old.more }
+    ensures serving { (before : Stream) (start : Backend)
+        → IsServing before start wire.old (L.source link.old)
+        (backend pass.old (I.importer importer.old))
+        → IfNone result (IsServing before start wire.new (L.source link.new)
+        (backend pass.new (I.importer importer.new))) }
+    ensures served { (before : Stream) (start : Backend)
+        → IsServing before start wire.old (L.source link.old)
+        (backend pass.old (I.importer importer.old))
+        → IfSome result (λ ended. Served before start ended (L.source link.new)
+        (backend pass.new (I.importer importer.new))) }
+    ensures more { IfNone result (0 < wire.new.more) }
+    ensures fewer { IfNone result (wire.new.more < wire.old.more) }
+{
+    let asked = wire.next(alloc, link);
+    match asked {
+        Asked::Done => return Some(Ended::Done),
+        Asked::Cut => return Some(Ended::Cut),
+        Asked::ReadFault => return Some(Ended::ReadFault),
+        _ => {}
+    }
+    let reply = reply_to(alloc, &asked, pass, importer);
+    let last = closes(&asked);
+    let Ok(()) = wire.reply(link, &reply, last) else {
+        return Some(Ended::WriteFault);
+    };
+    if last {
+        return Some(Ended::Done);
+    }
+    None
+}
