@@ -112,7 +112,7 @@ exchanged link before wire wire' l l' middle after asked reply some i a r =
     let journal = after.pass.seen in
     let served = exchanges-grow middle.pass.seen journal (moment_of before) i.exchanges (moment_of middle) r.grew i.served in
     let grants = subst (λ (seen : List Batch). Grants (route_of asked) seen (moment_of middle) (moment_of after) r.call reply)
-        (sym (take-all journal)) r.grants in
+    (sym (take-all journal)) r.grants in
     let whole : length journal ≤ length journal = omega arith in
     let given : l'.given ≡ l.given + length a.got = ap (λ (s : Stream). s.given) a.reads.rest in
     let written : l'.written ≡ l.written = ap (λ (s : Stream). s.written) a.reads.rest in

@@ -150,7 +150,7 @@ numbers-ascend journal before after (x ∷ xs) s =
     let seen : length (take s.0.seen journal) ≡ s.0.seen = length-front s.0.seen journal s.2 in
     let rest = numbers-ascend journal s.0 after xs s.4 in
     let number : (n : ℕ) → number_of x.reply ≡ Some n → n ≡ s.0.seen =
-        λ n e. route-number (route_of x.asked) (take s.0.seen journal) before s.0 x.call x.reply n (unnumbered x.asked) s.3 e ∙ seen in
+    λ n e. route-number (route_of x.asked) (take s.0.seen journal) before s.0 x.call x.reply n (unnumbered x.asked) s.3 e ∙ seen in
     ascend-one (number_of x.reply) before.seen s.0.seen (numbers xs) s.1 number rest
 
 -- ---- readings that were not given

@@ -24,7 +24,7 @@ replied-import request before after reply path method r =
       readings = r.readings;
     } in
     let Granted : Path → Method → Type 0 =
-        λ p m. Grants (route_by p m request.query request.body) after.pass.seen (moment_of before) (moment_of after) (Some r.call) reply in
+    λ p m. Grants (route_by p m request.query request.body) after.pass.seen (moment_of before) (moment_of after) (Some r.call) reply in
     record {
       call = Some r.call;
       grew = r.grew;

@@ -5,7 +5,7 @@ use super::*;
 use explorer_model::archive::Bytes;
 use ingest_desk::{End, ImportCall, ImportEnding, Importer, Report};
 use outside::{MemDoor, MemLink, MemSink, MemSource};
-use published_index::{Index, List, Unnamed, open_list};
+use published_index::{Index, List, Pass, Unnamed, open_list};
 use std::alloc::Global;
 use std::marker::{Brand, PhantomData};
 use std::process::Abort;
@@ -126,8 +126,15 @@ fn answers<J: Index, R: Wait + Abort>(rt: &R, alloc: Global, unnamed: Unnamed) -
             return Err(Fail::from("no room for the passes"));
         }
     };
+    let answered = match passes.pop() {
+        Some(mut pass) => serves(rt, alloc, &mut pass),
+        None => Err(Fail::from("no pass")),
+    };
     publisher.close(rt);
-    let mut pass = passes.pop().ok_or("a pass")?;
+    answered
+}
+
+fn serves<J: Index, R: Abort>(rt: &R, alloc: Global, pass: &mut Pass<J>) -> Result<(), Fail> {
     let mut importer = RoomForNone {
         alloc,
         calls: Some(Vec::new(alloc)),
@@ -135,7 +142,8 @@ fn answers<J: Index, R: Wait + Abort>(rt: &R, alloc: Global, unnamed: Unnamed) -
     };
     let links = vec![in alloc; link(alloc, REQUESTS, 7)?, link(alloc, b"GET /", 7)?]?;
     let mut door = MemDoor::new(alloc, links, 2, Vec::new(alloc))?;
-    assert_eq!(rt; serve_door(alloc, &mut door, &mut pass, &mut importer), DoorEnd::Whole);
+    let end = serve_door(alloc, &mut door, pass, &mut importer);
+    assert_eq!(rt; end, DoorEnd::Whole);
     let links = door.taken_back();
     assert_eq!(rt; links.len(), 2);
     assert_eq!(rt; links[0].written(), REPLIES);

@@ -13,7 +13,7 @@ accepting-preserved g c =
     let middle = backend c.accepting.pass (g.I.Importer.importer c.accepting.importer) in
     let after = backend c.serve_connection.new.pass (g.I.Importer.importer c.serve_connection.new.importer) in
     let stay = faults-stay (g.D.Link.Source.source c.in-Ok-Some.link) (g.D.Link.Source.source c.serve_connection.new.link)
-        (g.D.Door.door c.accepting.door) (g.D.Door.door c.accept.new.self) (g.D.Door.door c.finish.new.self) accepts c.finish.ensures in
+    (g.D.Door.door c.accepting.door) (g.D.Door.door c.accept.new.self) (g.D.Door.door c.finish.new.self) accepts c.finish.ensures in
     record {
       served = served-more (g.D.Door.door c.args.door.now) before (g.D.Door.door c.accepting.door) middle
           (g.D.Link.Source.source c.in-Ok-Some.link) (g.D.Door.door c.accept.new.self)
