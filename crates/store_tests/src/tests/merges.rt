@@ -1,0 +1,127 @@
+//! Two segments as one.
+use super::{merged, one_game, segment_of, tally_of_batch};
+use outside::{FreeGate, Gate};
+use segment_blocks::Segment;
+use std::alloc::{AllocError, Global};
+use std::sync::atomic::{AtomicU64, Ordering};
+use std::test::Fail;
+use tally_rows::Row;
+
+/// A gate that marks each leaf and counts how often it is passed. It holds leaf 1 until leaf 2 has
+/// come, or a million turns are over.
+#[derive(Drop)]
+struct HoldingGate {
+    leaves: AtomicU64,
+    passes: AtomicU64,
+}
+
+impl HoldingGate {
+    fn new() -> HoldingGate {
+        HoldingGate {
+            leaves: AtomicU64::new(0),
+            passes: AtomicU64::new(0),
+        }
+    }
+}
+
+impl Gate for HoldingGate {
+    fn pass(&self, leaf: usize) {
+        if leaf == 1 {
+            for _ in 0..1_000_000u32 {
+                if self.leaves.load(Ordering::SeqCst) & 4 == 4 {
+                    // Leaf 2 has come while leaf 1 was here: both are marked.
+                    self.leaves.fetch_or(1, Ordering::SeqCst);
+                    break;
+                }
+            }
+        }
+        self.passes.fetch_add(1, Ordering::SeqCst);
+        self.leaves.fetch_or(1u64 << (leaf % 64), Ordering::SeqCst);
+    }
+}
+
+/// How many games White won in each row, and the number of each game that a row lists.
+fn wins_and_listed(alloc: Global, segment: &Segment) -> Result<(Vec<u32>, Vec<u32>), AllocError> {
+    let mut wins = Vec::new(alloc);
+    let mut listed = Vec::new(alloc);
+    let mut rows = segment.rows_within(None, None);
+    while let Some(held) = rows.advance() {
+        let row = held.to_row();
+        wins.push(row.white)?;
+        push_listed(&mut listed, &row)?;
+    }
+    Ok((wins, listed))
+}
+
+fn push_listed(listed: &mut Vec<u32>, row: &Row) -> Result<(), AllocError> {
+    for entry in row.top.entries() {
+        listed.push(entry.number)?;
+    }
+    Ok(())
+}
+
+/// How often a number stands among others.
+fn count_of(number: u32, among: &[u32]) -> usize {
+    among.iter().filter(|other| **other == number).count()
+}
+
+#[test]
+fn two_leaves_of_a_merge_run_at_once(rt: HostRuntime) -> Result<(), Fail> {
+    let left = one_game(rt.alloc(), 0, "1. e4 e5")?;
+    let right = one_game(rt.alloc(), 1, "1. e4 c5")?;
+    let gate = HoldingGate::new();
+    let both = merged(&rt, rt.alloc(), &left, &right, 2, &gate)?;
+    // The mark of both, and leaves 1 and 2.
+    assert_eq!(rt; gate.leaves.load(Ordering::SeqCst), 0b111);
+    assert_eq!(rt;
+        (both.span().first, both.span().count, both.games()),
+        (0, 2, 2)
+    );
+    // The start with e4 counts both games; e4 with e5 and with c5, and the two last positions.
+    let (wins, listed) = wins_and_listed(rt.alloc(), &both)?;
+    assert_eq!(rt;
+        (count_of(1, wins.as_slice()), count_of(2, wins.as_slice())),
+        (4, 1)
+    );
+    assert_eq!(rt; wins.len(), 5);
+    // The start lists games 0 and 1, e4 lists game 0 with e5 and game 1 with c5.
+    assert_eq!(rt;
+        (
+            count_of(0, listed.as_slice()),
+            count_of(1, listed.as_slice())
+        ),
+        (2, 2)
+    );
+    assert_eq!(rt; listed.len(), 4);
+    Ok(())
+}
+
+/// Whether both segments have the same rows.
+fn have_same_rows(a: &Segment, b: &Segment) -> bool {
+    let mut rows = a.rows_within(None, None);
+    let mut others = b.rows_within(None, None);
+    while let Some(row) = rows.advance() {
+        match others.advance() {
+            Some(other) if row.to_row() == other.to_row() => {}
+            _ => return false,
+        }
+    }
+    others.advance().is_none()
+}
+
+#[test]
+fn merges_are_equal_for_every_number_of_workers(rt: HostRuntime) -> Result<(), Fail> {
+    let left = segment_of(rt.alloc(), 0, tally_of_batch(rt.alloc())?)?;
+    let right = segment_of(rt.alloc(), 1, tally_of_batch(rt.alloc())?)?;
+    let alone = merged(&rt, rt.alloc(), &left, &right, 1, &FreeGate)?;
+    assert_eq!(rt; alone.games(), 1024);
+    // Four keys in 16 ranges: most of the ranges are empty.
+    for (workers, leaves) in [(1, 0x2), (2, 0x6), (8, 0x1fe), (16, 0x1fffe)] {
+        let gate = HoldingGate::new();
+        let both = merged(&rt, rt.alloc(), &left, &right, workers, &gate)?;
+        assert_eq!(rt; gate.passes.load(Ordering::SeqCst), workers as u64);
+        assert_eq!(rt; gate.leaves.load(Ordering::SeqCst) & !1, leaves);
+        assert!(rt; have_same_rows(&both, &alone), "with {workers} workers");
+    }
+    Ok(())
+}

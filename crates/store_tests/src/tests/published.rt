@@ -1,0 +1,236 @@
+//! The published list of segments.
+ghost use Rattle.std.specs.Prelude.{◌≡◌, IfOk};
+ghost use Rattle.std.specs.Arc.{arc_value};
+ghost use Rattle.published_index.specs.Changes.{CanJoin};
+
+use super::{merged, one_game};
+use outside::FreeGate;
+use published_index::{Index, List, Note, Pass, Publisher, SharedSegment, Unnamed, open_list};
+use std::alloc::Global;
+use std::marker::Brand;
+use std::process::Abort;
+use std::sync::{Arc, Mutex, MutexGuard, Wait};
+use std::test::Fail;
+use std::thread::{Threads, join};
+
+/// How many segments the list has at the end of the test of many puts.
+const PUTS: u32 = 60;
+
+/// The publisher and the passes of an index.
+fn named<J: Index, R: Wait>(
+    rt: &R,
+    alloc: Global,
+    unnamed: Unnamed,
+) -> Result<(Publisher<J>, Vec<Pass<J>>), Fail>
+    requires { unnamed.name ≡ J.name }
+{
+    match unnamed.named::<J>(alloc) {
+        Ok(index) => Ok(index),
+        Err(unnamed) => {
+            unnamed.close(rt);
+            Err(Fail::from("no room for the passes"))
+        }
+    }
+}
+
+/// Puts the segment of one more game, where the list has room for it.
+fn put<J: Index, R: Wait>(
+    rt: &R,
+    alloc: Global,
+    publisher: &mut Publisher<J>,
+) -> Result<Note<J>, Fail> {
+    publisher.retry(rt)?;
+    if publisher.list().segments().len() >= 64 {
+        return Err(Fail::from("the list is full"));
+    }
+    let end = publisher.list().batches();
+    let segment = one_game(alloc, end, "1. e4 e5")?;
+    let segment = Arc::new(alloc, segment)?;
+    Ok(publisher.put(rt, segment)?)
+}
+
+/// What passes see of two puts.
+#[derive(Debug, PartialEq, Eq, Drop)]
+struct Seen {
+    /// How many batches a snapshot has that was entered between the puts, and one behind them.
+    between: u32,
+    behind: u32,
+    /// How many the first snapshot has in the end.
+    kept: u32,
+    /// The front of a pass that only learnt the second note.
+    learnt: u32,
+}
+
+fn put_twice<J: Index, R: Wait>(
+    rt: &R,
+    alloc: Global,
+    publisher: &mut Publisher<J>,
+    mut passes: Vec<Pass<J>>,
+) -> Result<Seen, Fail> {
+    let mut entering = passes.pop().ok_or("a pass")?;
+    let mut learning = passes.pop().ok_or("a second pass")?;
+    put(rt, alloc, publisher)?;
+    let first = entering.enter(alloc)?;
+    let between = first.batches();
+    let note = put(rt, alloc, publisher)?;
+    let behind = entering.enter(alloc)?.batches();
+    learning.learn(note);
+    Ok(Seen {
+        between,
+        behind,
+        kept: first.batches(),
+        learnt: learning.front(),
+    })
+}
+
+fn sees_puts<J: Index, R: Wait + Abort>(rt: &R, alloc: Global, unnamed: Unnamed) -> Result<(), Fail>
+    requires { unnamed.name ≡ J.name }
+{
+    let (mut publisher, passes) = named::<J, R>(rt, alloc, unnamed)?;
+    let seen = put_twice(rt, alloc, &mut publisher, passes);
+    publisher.close(rt);
+    let wanted = Seen {
+        between: 1,
+        behind: 2,
+        kept: 1,
+        learnt: 2,
+    };
+    assert_eq!(rt; seen?, wanted);
+    Ok(())
+}
+
+#[test]
+fn second_put_is_seen_without_a_note(rt: HostRuntime) -> Result<(), Fail> {
+    let alloc: Global = rt.alloc();
+    let unnamed = open_list(&rt, alloc, List::of(Vec::new(alloc)), 2)?;
+    sees_puts::<Brand, _>(&rt, alloc, unnamed)
+}
+
+/// Whether each of 10,000 entries gives a snapshot.
+fn always_enters<J: Index>(alloc: Global, pass: Option<Pass<J>>) -> bool {
+    let Some(mut pass) = pass else {
+        return false;
+    };
+    for _ in 0..10_000 {
+        if pass.enter(alloc).is_err() {
+            return false;
+        }
+    }
+    true
+}
+
+/// Puts batches of one game, each under the lock.
+fn put_many<J: Index, R: Wait>(
+    rt: &R,
+    alloc: Global,
+    desk: &Mutex<Publisher<J>>,
+) -> Result<(), Fail> {
+    for _ in 0..PUTS {
+        let mut publisher = desk.lock(rt);
+        let note = put(rt, alloc, &mut *publisher);
+        MutexGuard::unlock(publisher);
+        let _note = note?;
+    }
+    Ok(())
+}
+
+fn enters_during_puts<J: Index + Send + Sync, R: Threads + Wait + Abort + Sync>(
+    rt: &R,
+    alloc: Global,
+    unnamed: Unnamed,
+) -> Result<(), Fail>
+    requires { unnamed.name ≡ J.name }
+{
+    let (publisher, mut passes) = named::<J, R>(rt, alloc, unnamed)?;
+    let first = passes.pop();
+    let second = passes.pop();
+    let desk = Mutex::new(publisher);
+    let (entered, put) = join(
+        rt,
+        || join(
+            rt,
+            || always_enters(alloc, first),
+            || always_enters(alloc, second),
+        ),
+        || put_many(rt, alloc, &desk),
+    );
+    let publisher = desk.into_inner();
+    let batches = publisher.list().batches();
+    publisher.close(rt);
+    put?;
+    assert_eq!(rt; entered, (true, true));
+    assert_eq!(rt; batches, PUTS);
+    Ok(())
+}
+
+#[test]
+fn each_enter_gives_a_snapshot_while_another_thread_puts(rt: HostRuntime) -> Result<(), Fail> {
+    let alloc: Global = rt.alloc();
+    let unnamed = open_list(&rt, alloc, List::of(Vec::new(alloc)), 2)?;
+    enters_during_puts::<Brand, _>(&rt, alloc, unnamed)
+}
+
+/// The two segments of the list as one.
+fn joined<R: Threads + Sync>(rt: &R, alloc: Global, list: &List) -> Result<SharedSegment, Fail>
+    ensures { IfOk result (λ segment. CanJoin list.now 0 (arc_value segment)) }
+{
+    let segments = list.segments();
+    if segments.len() != 2 {
+        return Err(Fail::from("not two segments"));
+    }
+    let whole = merged(rt, alloc, &segments[0], &segments[1], 2, &FreeGate)?;
+    Ok(Arc::new(alloc, whole)?)
+}
+
+/// How many segments a snapshot has that was entered before the segments were joined, and how many
+/// segments and batches one has that was entered behind it.
+fn join_while_held<J: Index, R: Threads + Wait + Sync>(
+    rt: &R,
+    alloc: Global,
+    publisher: &mut Publisher<J>,
+    mut passes: Vec<Pass<J>>,
+) -> Result<(usize, usize, u32), Fail> {
+    let mut pass = passes.pop().ok_or("a pass")?;
+    put(rt, alloc, publisher)?;
+    put(rt, alloc, publisher)?;
+    let before = pass.enter(alloc)?;
+    join_both(rt, alloc, publisher)?;
+    let behind = pass.enter(alloc)?;
+    Ok((
+        before.segments().len(),
+        behind.segments().len(),
+        behind.batches(),
+    ))
+}
+
+/// Publishes both segments of the list as one.
+fn join_both<J: Index, R: Threads + Wait + Sync>(
+    rt: &R,
+    alloc: Global,
+    publisher: &mut Publisher<J>,
+) -> Result<Note<J>, Fail> {
+    publisher.retry(rt)?;
+    let whole = joined(rt, alloc, publisher.list())?;
+    Ok(publisher.replace(rt, 0, whole)?)
+}
+
+fn keeps_segments<J: Index, R: Threads + Wait + Abort + Sync>(
+    rt: &R,
+    alloc: Global,
+    unnamed: Unnamed,
+) -> Result<(), Fail>
+    requires { unnamed.name ≡ J.name }
+{
+    let (mut publisher, passes) = named::<J, R>(rt, alloc, unnamed)?;
+    let seen = join_while_held(rt, alloc, &mut publisher, passes);
+    publisher.close(rt);
+    assert_eq!(rt; seen?, (2, 1, 2));
+    Ok(())
+}
+
+#[test]
+fn snapshot_keeps_its_segments_when_they_are_joined(rt: HostRuntime) -> Result<(), Fail> {
+    let alloc: Global = rt.alloc();
+    let unnamed = open_list(&rt, alloc, List::of(Vec::new(alloc)), 1)?;
+    keeps_segments::<Brand, _>(&rt, alloc, unnamed)
+}
