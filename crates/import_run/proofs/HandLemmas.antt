@@ -1,0 +1,279 @@
+-- From one commit of a group to the next.
+use Rattle.std.proofs.Common.{◌≡◌, ◌<◌, ◌≤◌, ◌+◌, inl, inr, ℕ, Bool, true, false, cond, List, [], ◌∷◌, length, map, filter, get_or, Option, None, Some, Result, Ok, Err, refl, sym, ap, ◌∙◌, subst, arith, zero, suc, add-one}
+use Rattle.std.proofs.lemmas.List.{length-map}
+use Rattle.std.specs.List.{All, AllByRecursion, AllZip}
+use Rattle.std.specs.Prelude.{OnErr, is_none}
+use Rattle.arrayvec.specs.ArrayVec.{ArrayVec}
+use Rattle.explorer_model.specs.declared.archive.Batch.{Batch}
+use Rattle.explorer_model.specs.declared.archive.Game.{Game}
+use Rattle.explorer_model.specs.declared.archive.Placed.{Placed}
+use Rattle.explorer_model.specs.declared.fault.Refusal.{Refusal}
+use Rattle.explorer_model.specs.Cuts.{Cut}
+use Rattle.explorer_model.specs.Imports.{Candidate, Numbering, batch_of, candidates, numbers_of, refusals, verdicts}
+use Rattle.published_index.specs.Changes.{Change}
+use Rattle.tally_rows.specs.Tally.{Counted}
+use Rattle.batch_tally.specs.Tallying.{IsExaminationOfText, IsTallying, IsTallyMade, Counts}
+use Rattle.batch_tally.specs.declared.tallying.Tallying.{Tallying}
+use Rattle.ingest_desk.specs.Causes.{HasIds, IsClosed, cause, cause_by}
+use Rattle.ingest_desk.specs.Clashes.{and_clash, clashes_from, clashes_of, ids_of}
+use Rattle.ingest_desk.specs.Commits.{Refuses}
+use Rattle.ingest_desk.specs.declared.clashing.Clashing.{Clashing}
+use Rattle.ingest_desk.specs.declared.fault.CommitFault.{CommitFault}
+use Rattle.ingest_desk.specs.declared.fault.CommitFault.TheVariants as faults
+use Rattle.ingest_desk.specs.declared.receipt.Receipt.{Receipt}
+use Rattle.import_run.specs.declared.settle.Done.{Done}
+use Rattle.import_run.specs.declared.text_group.TalliedGroup.{TalliedGroup}
+use Rattle.import_run.specs.Committing.{Commits, Known, Store, store_of}
+use Rattle.import_run.specs.Grouping.{Ascend, IsTallied, merged}
+use Rattle.import_run.specs.Hand.{InHand}
+use Rattle.import_run.specs.Rounds.{IsAnswer, IsDecided, IsStill, MayHaveMore, Rounds, Settles, size_of, stored_by}
+use Rattle.import_run.specs.Settling.{AreRead, Fresh, id_of, kept, left_by, lost, named_by, placed}
+use Rattle.import_run.proofs.VerdictLemmas.{OneGame, again, ascends, exact, fewer_fresh, fewer_read, found, found_right, fresh, kept-left, kept_found, merged_lost, same_settled, settled_none}
+
+-- ---- the tally of candidates
+
+pub batch_texts : (cs : List Candidate) (batch : Batch) → batch_of cs ≡ Some batch → batch.texts ≡ map (λ c. c.text) cs
+batch_texts [] batch e = absurd (none_some batch e)
+  where
+    none_some : (b : Batch) → None ≡ Some b → ⊥
+    none_some b e = cc
+batch_texts (c ∷ cs) batch e = ap (λ (b : Batch). b.texts) (sym (same_some _ _ e))
+  where
+    same_some : (a b : Batch) → Some a ≡ Some b → a ≡ b
+    same_some a b e = cc
+
+classes_ids : (cs : List Candidate) → ids_of (map (λ c. c.game.classes) cs) ≡ map id_of cs
+classes_ids [] = refl
+classes_ids (c ∷ cs) = ap (λ (l : List (List ℕ)). id_of c ∷ l) (classes_ids cs)
+
+pub counted_ids : (cs : List Candidate) (counted : Counted) → Counts cs counted → ids_of counted.classes ≡ map id_of cs
+counted_ids cs counted counts = ap ids_of counts.classes ∙ classes_ids cs
+
+pub size_is : (cs : List Candidate) (tally : Option Counted) → IsTallyMade cs tally → size_of tally ≡ length cs
+size_is cs None made = ap length (sym made)
+size_is cs (Some counted) made = ap length (batch_texts cs counted.batch made.batch) ∙ length-map cs (λ (c : Candidate). c.text)
+
+-- ---- the rest is shorter
+
+left_le : (number : Numbering) (cs : List Candidate) → length (left_by number cs) ≤ length cs
+left_le number [] = omega arith
+left_le number (c ∷ cs) = by_number (number (id_of c)) (left_le number cs)
+  where
+    by_number : (o : Option ℕ) → length (left_by number cs) ≤ length cs → length (cond (is_none o) (c ∷ left_by number cs) (left_by number cs)) ≤ length (c ∷ cs)
+    by_number None le = omega (arith, le)
+    by_number (Some n) le = omega (arith, le)
+
+pub left_lt : (number : Numbering) (at : ℕ) (cs : List Candidate) → (clashes_from at number (map id_of cs) ≡ [] → ⊥) → length (left_by number cs) < length cs
+left_lt number at [] some = absurd (some refl)
+left_lt number at (c ∷ cs) some = by_number (number (id_of c)) some (left_lt number (at + 1) cs) (left_le number cs)
+  where
+    by_number : (o : Option ℕ) → (and_clash at o (clashes_from (at + 1) number (map id_of cs)) ≡ [] → ⊥) → ((clashes_from (at + 1) number (map id_of cs) ≡ [] → ⊥) → length (left_by number cs) < length cs)
+        → length (left_by number cs) ≤ length cs → length (cond (is_none o) (c ∷ left_by number cs) (left_by number cs)) < length (c ∷ cs)
+    by_number None some later le = omega (arith, later some)
+    by_number (Some n) some later le = omega (arith, le)
+
+short_rec : (P : List ℕ → Type 0) (cs : List Candidate) → All P (map (λ c. c.text) cs) → AllByRecursion (λ c. P c.text) cs
+short_rec P [] all = tt
+short_rec P (c ∷ cs) all = (all 0 c.text (omega arith), short_rec P cs (λ k d lt. let h : P (get_or (map (λ (c : Candidate). c.text) (c ∷ cs)) (k + 1) d) = all (k + 1) d (omega arith) in rw add-one at h))
+
+short_left : (P : List ℕ → Type 0) (p : Candidate → Bool) (cs : List Candidate) → AllByRecursion (λ c. P c.text) cs → AllByRecursion (λ c. P c.text) (filter p cs)
+short_left P p [] h = tt
+short_left P p (c ∷ cs) h = by_test (p c) (short_left P p cs h.1)
+  where
+    by_test : (b : Bool) → AllByRecursion (λ c. P c.text) (filter p cs) → AllByRecursion (λ c. P c.text) (cond b (c ∷ filter p cs) (filter p cs))
+    by_test true later = (h.0, later)
+    by_test false later = later
+
+short_all : (P : List ℕ → Type 0) (cs : List Candidate) → AllByRecursion (λ c. P c.text) cs → All (λ (t : Placed). P t.bytes) (map placed cs)
+short_all P [] h k d lt = absurd (omega (arith, lt))
+short_all P (c ∷ cs) h zero d lt = h.0
+short_all P (c ∷ cs) h (suc k) d lt = short_all P cs h.1 k d (omega (arith, lt))
+
+pub short : (P : List ℕ → Type 0) (number : Numbering) (cs : List Candidate) → All P (map (λ c. c.text) cs) → All (λ (t : Placed). P t.bytes) (map placed (left_by number cs))
+short P number cs all = short_all P (left_by number cs) (short_left P (λ c. is_none (number (id_of c))) cs (short_rec P cs all))
+
+-- ---- rounds
+
+-- the candidates that are kept are in hand
+pub hand : (told : Option Store) (cuts : List Cut) (counted : Counted) (places : List ℕ) (refused : List Refusal) (now : Option Store) → Rounds told cuts (Some counted) places refused now → InHand counted places
+hand told cuts counted places refused now r =
+    let all = fresh cuts [] r.examinations r.are_examinations in
+    let same = kept-left r.stored (verdicts r.examinations) in
+    let P : List Candidate → Type 0 = λ cs. AreRead cs in
+    let Q : List Candidate → Type 0 = λ cs. Fresh [] cs in
+    record {
+      candidates = kept r.stored (verdicts r.examinations);
+      counts = r.made;
+      places_are = r.places_are;
+      read = subst P (sym same) (fewer_read (λ c. is_none (r.stored (id_of c))) (candidates (verdicts r.examinations)) all.1);
+      fresh = subst Q (sym same) (fewer_fresh (λ c. is_none (r.stored (id_of c))) [] (candidates (verdicts r.examinations)) all.0);
+    }
+
+-- some more ids were found to be stored
+pub more : OneGame → (told : Option Store) (cuts : List Cut) (counted : Counted) (places : List ℕ) (refused : List Refusal) (now : Option Store) (r : Rounds told cuts (Some counted) places refused now)
+    (number : Numbering) (named refused' : List Refusal) (rest : List Placed) (next : Tallying) (now' : Option Store)
+    → named ≡ named_by number (kept r.stored (verdicts r.examinations)) → rest ≡ map placed (left_by number (kept r.stored (verdicts r.examinations)))
+    → refused' ≡ merged refused named → IsTallying rest next
+    → ((known : Known) → told ≡ Some (store_of known) → IsStill known now')
+    → ((known : Known) → told ≡ Some (store_of known) → (id : List ℕ) (n : ℕ) → number id ≡ Some n → stored_by known.fault known.games id ≡ Some n)
+    → Rounds told cuts next.tally next.places.items refused' now'
+unfolding hand
+more one told cuts counted places refused now r number named refused' rest next now' named_are rest_are refused_are made still right =
+    let cs = kept r.stored (verdicts r.examinations) in
+    let h = hand told cuts counted places refused now r in
+    let left = left_by number cs in
+    let each : AllZip IsExaminationOfText (map placed left) made.examinations = let P : List Placed → Type 0 = λ l. AllZip IsExaminationOfText l made.examinations in subst P rest_are made.are_examinations in
+    let both = again one left made.examinations (fewer_read (λ c. is_none (number (id_of c))) cs h.read) (fewer_fresh (λ c. is_none (number (id_of c))) [] cs h.fresh) each in
+    let now_kept : candidates (verdicts made.examinations) ≡ kept (found r.stored number) (verdicts r.examinations) = both.0 ∙ sym (kept_found r.stored number (verdicts r.examinations)) in
+    let P : List Candidate → Type 0 = λ cs. IsTallyMade cs next.tally in
+    record {
+      ascend = r.ascend;
+      examinations = r.examinations;
+      are_examinations = r.are_examinations;
+      stored = found r.stored number;
+      refused_are = refused_are ∙ ap (λ l. merged l named) r.refused_are ∙ ap (merged (lost r.stored (verdicts r.examinations))) named_are
+          ∙ merged_lost r.stored number 0 (verdicts r.examinations) (ascends 0 cuts [] r.examinations r.ascend r.are_examinations);
+      places_are = made.places ∙ ap (map (λ (c : Candidate). c.place)) now_kept;
+      made = subst P now_kept made.tally;
+      still = still;
+      right = λ known is id n e. found_right (r.stored id) (number id) n (stored_by known.fault known.games id) (r.right known is id n) (right known is id n) e;
+    }
+
+-- ---- what is known of the store
+
+some_none : {A : Type 0} (x : A) → Some x ≡ None → ⊥
+some_none x e = cc
+
+module _ {J : Type 0} where
+  pub decided : (fault : CommitFault J) → ((handed : Counted) (pairs : ArrayVec Clashing) (note : List Batch) → fault ≡ faults.Clash handed pairs note → ⊥)
+      → ((stored : Bool) → fault ≡ faults.OutOfMemory stored → ⊥) → IsDecided {J = J} (Err fault)
+  decided (faults.Closed before after mark) clash memory = tt
+  decided (faults.Clash handed pairs note) clash memory = clash handed pairs note refl
+  decided (faults.Full games bytes note) clash memory = tt
+  decided (faults.DiskFault before after mark) clash memory = tt
+  decided (faults.OutOfMemory stored) clash memory = memory stored refl
+
+  no_pairs : (answer : Result (Receipt J) (CommitFault J)) (pairs : List Clashing) (journal : List Batch) (tally : Counted) (held : Option Change) → IsDecided answer
+      → Refuses answer (cause_by pairs journal tally.batch) tally held → pairs ≡ []
+  no_pairs answer [] journal tally held never refused = refl
+  no_pairs (Ok receipt) (p ∷ pairs) journal tally held never refused = absurd (some_none _ refused)
+  no_pairs (Err (faults.Closed before after mark)) (p ∷ pairs) journal tally held never refused = cc
+  no_pairs (Err (faults.Clash handed named note)) (p ∷ pairs) journal tally held never refused = absurd never
+  no_pairs (Err (faults.Full g b note)) (p ∷ pairs) journal tally held never refused = cc
+  no_pairs (Err (faults.DiskFault before after mark)) (p ∷ pairs) journal tally held never refused = absurd (some_none _ refused)
+  no_pairs (Err (faults.OutOfMemory stored)) (p ∷ pairs) journal tally held never refused = absurd never
+
+none_head : (at : ℕ) (o : Option ℕ) (rest : List Clashing) → and_clash at o rest ≡ [] → o ≡ None
+none_head at None rest e = refl
+none_head at (Some n) rest e = cc
+
+none_rest : (at : ℕ) (o : Option ℕ) (rest : List Clashing) → and_clash at o rest ≡ [] → rest ≡ []
+none_rest at None rest e = e
+none_rest at (Some n) rest e = cc
+
+kept_none : (number : Numbering) (at : ℕ) (cs : List Candidate) → clashes_from at number (map id_of cs) ≡ [] → AllByRecursion (λ c. number (id_of c) ≡ None) cs
+kept_none number at [] none = tt
+kept_none number at (c ∷ cs) none =
+    (none_head at (number (id_of c)) (clashes_from (at + 1) number (map id_of cs)) none, kept_none number (at + 1) cs (none_rest at (number (id_of c)) (clashes_from (at + 1) number (map id_of cs)) none))
+
+all_none : (cs : List Candidate) → AllByRecursion (λ c. (let o : Option ℕ = None in o) ≡ None) cs
+all_none [] = tt
+all_none (c ∷ cs) = (refl, all_none cs)
+
+closed_clash : (f : ℕ × ℕ) (pairs : List Clashing) → Some (IsClosed f.0 f.1) ≡ Some (HasIds pairs) → ⊥
+closed_clash f pairs e = cc
+
+module _ {J : Type 0} where
+  kept_unnamed : (fault : Option (ℕ × ℕ)) (games : List Game) (journal : List Batch) (answer : Result (Receipt J) (CommitFault J)) (counted : Counted) (held : Option Change) (cs : List Candidate) → Counts cs counted → IsDecided answer
+      → Refuses answer (cause fault games journal counted) counted held → AllByRecursion (λ c. stored_by fault games (id_of c) ≡ None) cs
+  kept_unnamed (Some f) games journal answer counted held cs counts never refused = all_none cs
+  kept_unnamed None games journal answer counted held cs counts never refused =
+      kept_none (numbers_of games) 0 cs (ap (clashes_from 0 (numbers_of games)) (sym (counted_ids cs counted counts)) ∙ no_pairs answer (clashes_of (numbers_of games) counted.classes) journal counted held never refused)
+
+  -- a clash leaves the store as it was
+  pub still_clash : (known : Known) (handed counted : Counted) (pairs : ArrayVec Clashing) (note : List Batch) (now now' : Option Store) → IsStill known now
+      → ((k : Known) → now ≡ Some (store_of k) → Commits {J = J} (Err (faults.Clash handed pairs note)) k counted now') → IsStill known now'
+  still_clash known handed counted pairs note now now' is holds =
+      let commits = holds known is in
+      commits.still ∙ (λ i. Some (record { journal = commits.stores i; fault = commits.fault i }))
+
+  -- what a clash names is stored
+  pub right_clash : (known : Known) (handed counted : Counted) (pairs : ArrayVec Clashing) (note : List Batch) (now now' : Option Store) (games : List Game) → IsStill known now
+      → ((k : Known) → now ≡ Some (store_of k) → Commits {J = J} (Err (faults.Clash handed pairs note)) k counted now') → ((k : Known) → now ≡ Some (store_of k) → k.games ≡ games)
+      → (id : List ℕ) (n : ℕ) → numbers_of games id ≡ Some n → stored_by known.fault known.games id ≡ Some n
+  right_clash known handed counted pairs note now now' games is holds same id n e =
+      by_fault known.fault refl (ap (λ (g : List Game). numbers_of g id) (same known is) ∙ e)
+    where
+      by_fault : (fault : Option (ℕ × ℕ)) → known.fault ≡ fault → numbers_of known.games id ≡ Some n → stored_by fault known.games id ≡ Some n
+      by_fault None at here = here
+      by_fault (Some f) at here =
+          let P : Option (ℕ × ℕ) → Type 0 = λ k. cause k known.games known.journal counted ≡ Some (HasIds pairs.items) in
+          absurd (closed_clash f pairs.items (subst P at (holds known is).refused.0))
+
+  -- ---- the end of a group
+
+  pub settles : (known : Known) (cuts : List Cut) (places : List ℕ) (refused : List Refusal) (now : Option Store) (counted : Counted) (r : Rounds (Some (store_of known)) cuts (Some counted) places refused now)
+      (answer : Result (Receipt J) (CommitFault J)) (done : Done J) (now' : Option Store) → IsDecided answer
+      → ((k : Known) → now ≡ Some (store_of k) → Commits answer k counted now') → done.answer ≡ Some answer → done.refused.items ≡ refused → Settles known cuts done now'
+  settles known cuts places refused now counted r answer done now' never holds answer_is refused_is =
+      let still = r.still known refl in
+      let commits = holds known still in
+      let N = stored_by known.fault known.games in
+      let none = kept_unnamed known.fault known.games known.journal answer counted commits.held (kept r.stored (verdicts r.examinations)) r.made never commits.refused in
+      let same = same_settled r.stored N (verdicts r.examinations) (exact r.stored N (verdicts r.examinations) (r.right known refl) none) in
+      let P : List Candidate → Type 0 = λ cs. Counts cs counted in
+      let Q : Option (Result (Receipt J) (CommitFault J)) → Type 0 = λ a. IsAnswer known (kept N (verdicts r.examinations)) a now' in
+      record {
+        examinations = r.examinations;
+        are_examinations = r.are_examinations;
+        refused = refused_is ∙ r.refused_are ∙ ap refusals same;
+        answer = subst Q (sym answer_is) (counted, subst P (ap candidates same) r.made, commits);
+      }
+
+  pub settles_none : (known : Known) (cuts : List Cut) (places : List ℕ) (refused : List Refusal) (now : Option Store) (r : Rounds (Some (store_of known)) cuts None places refused now) (done : Done J)
+      → done.answer ≡ None → done.refused.items ≡ refused → Settles known cuts done now
+  settles_none known cuts places refused now r done answer_is refused_is =
+      let N = stored_by known.fault known.games in
+      let R : List Candidate → Type 0 = λ cs. AllByRecursion (λ c. N (id_of c) ≡ None) cs in
+      let same = same_settled r.stored N (verdicts r.examinations) (exact r.stored N (verdicts r.examinations) (r.right known refl) (subst R (sym r.made) tt)) in
+      let Q : Option (Result (Receipt J) (CommitFault J)) → Type 0 = λ a. IsAnswer known (kept N (verdicts r.examinations)) a now in
+      record {
+        examinations = r.examinations;
+        are_examinations = r.are_examinations;
+        refused = refused_is ∙ r.refused_are ∙ ap refusals same;
+        answer = subst Q (sym answer_is) (sym (ap candidates same) ∙ r.made, r.still known refl);
+      }
+
+  -- ---- want of memory
+
+  pub lacks_commit : (known : Known) (stored : Bool) (counted : Counted) (now' : Option Store) → Commits {J = J} (Err (faults.OutOfMemory stored)) known counted now' → MayHaveMore known now'
+  lacks_commit known true counted now' commits = record { new = commits.new; still = commits.still; fault = commits.fault; journal = inr (counted.batch, commits.stores) }
+  lacks_commit known false counted now' commits = record { new = commits.new; still = commits.still; fault = commits.fault; journal = inl commits.stores }
+
+pub on_err : {T E : Type 0} (result : Result T E) {P : Type 0} → P → OnErr result P
+on_err (Ok t) p = tt
+on_err (Err e) p = p
+
+pub lacks_still : (known : Known) (now : Option Store) → IsStill known now → MayHaveMore known now
+lacks_still known now still = record { new = store_of known; still = still; fault = refl; journal = inl refl }
+
+-- the group as it was tallied first
+pub first : (told : Option Store) (cuts : List Cut) (made : TalliedGroup) → Ascend cuts → IsTallied cuts made → Rounds told cuts made.tally made.places.items made.refused.items told
+first told cuts made ascend is =
+    let none : Numbering = λ id. None in
+    let same = settled_none (verdicts is.examinations) in
+    let P : List Candidate → Type 0 = λ cs. IsTallyMade cs made.tally in
+    record {
+      ascend = ascend;
+      examinations = is.examinations;
+      are_examinations = is.are_examinations;
+      stored = none;
+      refused_are = is.refused ∙ ap refusals (sym same);
+      places_are = is.places ∙ ap (λ fs. map (λ (c : Candidate). c.place) (candidates fs)) (sym same);
+      made = subst P (ap candidates (sym same)) is.tally;
+      still = λ known e. e;
+      right = λ known e id n found. absurd (none_some n found);
+    }
+  where
+    none_some : (n : ℕ) → (let o : Option ℕ = None in o) ≡ Some n → ⊥
+    none_some n e = cc

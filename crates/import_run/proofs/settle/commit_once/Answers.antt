@@ -1,0 +1,153 @@
+use Rattle.std.proofs.Common.{arith, ◌≤◌, ℕ, List, [], Some, Ok, Err, length, ap, ◌∙◌, subst, refl}
+use Rattle.std.proofs.lemmas.List.{length-map}
+use Rattle.std.specs.List.{All, AllZip}
+use Rattle.std.specs.Prelude.{is_none}
+use Rattle.explorer_model.specs.declared.archive.Placed.{Placed}
+use Rattle.explorer_model.specs.Cuts.{Cut, text_limit}
+use Rattle.import_run.specs.Committing.{Known, store_of}
+use Rattle.explorer_model.specs.Imports.{Candidate, candidates, numbers_of, verdicts}
+use Rattle.batch_tally.specs.Tallying.{IsExaminationOfText}
+use Rattle.ingest_desk.specs.Clashes.{clashes_from}
+use Rattle.import_run.specs.Grouping.{merged}
+use Rattle.import_run.specs.Rounds.{Rounds}
+use Rattle.import_run.specs.Settling.{id_of, kept, left_by, placed}
+use Rattle.import_run.proofs.HandLemmas.{batch_texts, counted_ids, decided, lacks_commit, lacks_still, left_lt, more, on_err, right_clash, settles, short, size_is, still_clash}
+use Rattle.import_run.proofs.VerdictLemmas.{again, fewer_fresh, fewer_read, hand_made}
+use Rattle.import_run.proofs.settle.commit_once.Goals as goal
+
+pub name-requires-clause-few : goal.name-requires-clause-few
+name-requires-clause-few g c =
+    let x = c.in-Clash in
+    let cl = rw x.is at c.in-Err.ensures.clash in
+    let same = ap (λ b. length b.texts) c.into_parts-batch.ensures.batch in
+    omega (arith, same, c.into_parts-batch.ensures.counted.batch.few)
+
+pub name-requires-clause-long : goal.name-requires-clause-long
+name-requires-clause-long g c =
+    let h = c.requires.hand in
+    let x = c.in-Clash in
+    let cl = rw x.is at c.in-Err.ensures.clash in
+    let N = numbers_of cl.1.1.0 in
+    let theirs = batch_texts h.candidates c.args.counted.batch h.counts.batch in
+    let texts = ap (λ b. b.texts) (c.into_parts-batch.ensures.batch ∙ ap (λ t. t.batch) cl.0) ∙ theirs in
+    let pairs = cl.1.1.1.1.0 ∙ ap (clashes_from 0 N) (counted_ids h.candidates c.args.counted h.counts) in
+    let size = ap length texts in
+    let long = ap length (c.as_slice.ensures.value ∙ h.places_are) in
+    omega (arith, size, long, length-map h.candidates (λ (a : Candidate). a.text), length-map h.candidates (λ (a : Candidate). a.place))
+
+pub tally-requires-clause-few : goal.tally-requires-clause-few
+tally-requires-clause-few g c =
+    let h = c.requires.hand in
+    let x = c.in-Clash in
+    let cl = rw x.is at c.in-Err.ensures.clash in
+    let N = numbers_of cl.1.1.0 in
+    let theirs = batch_texts h.candidates c.args.counted.batch h.counts.batch in
+    let texts = ap (λ b. b.texts) (c.into_parts-batch.ensures.batch ∙ ap (λ t. t.batch) cl.0) ∙ theirs in
+    let pairs = cl.1.1.1.1.0 ∙ ap (clashes_from 0 N) (counted_ids h.candidates c.args.counted h.counts) in
+    let named = c.in_ok-named-in-Clash.ensures h.candidates N texts (c.as_slice.ensures.value ∙ h.places_are) (c.as_slice-in-Clash.ensures.value ∙ pairs) in
+    let less = left_lt N 0 h.candidates (λ e. cl.1.0 (pairs ∙ e)) in
+    let size = size_is h.candidates (Some c.args.counted) h.counts in
+    let counted = rw cl.0 at c.into_parts-batch.ensures.counted in
+    rw named.1 (omega (arith, less, size, counted.batch.few, length-map (left_by N h.candidates) placed))
+
+pub tally-requires-clause-short : goal.tally-requires-clause-short
+tally-requires-clause-short g c =
+    let h = c.requires.hand in
+    let x = c.in-Clash in
+    let cl = rw x.is at c.in-Err.ensures.clash in
+    let N = numbers_of cl.1.1.0 in
+    let theirs = batch_texts h.candidates c.args.counted.batch h.counts.batch in
+    let texts = ap (λ b. b.texts) (c.into_parts-batch.ensures.batch ∙ ap (λ t. t.batch) cl.0) ∙ theirs in
+    let pairs = cl.1.1.1.1.0 ∙ ap (clashes_from 0 N) (counted_ids h.candidates c.args.counted h.counts) in
+    let named = c.in_ok-named-in-Clash.ensures h.candidates N texts (c.as_slice.ensures.value ∙ h.places_are) (c.as_slice-in-Clash.ensures.value ∙ pairs) in
+    let counted = rw cl.0 at c.into_parts-batch.ensures.counted in
+    let P : List (List ℕ) → Type 0 = λ l. All (λ (t : List ℕ). length t ≤ text_limit) l in
+    rw named.1 (λ κs le. short (λ (t : List ℕ). length t ≤ text_limit) N h.candidates (subst P theirs counted.batch.short))
+
+pub returns-in-Clash-clause-again : goal.returns-in-Clash-clause-again
+returns-in-Clash-clause-again g c = λ told cuts r.
+    let cs = kept r.stored (verdicts r.examinations) in
+    let x = c.in-Clash in
+    let cl = rw x.is at c.in-Err.ensures.clash in
+    let N = numbers_of cl.1.1.0 in
+    let theirs = batch_texts cs c.args.counted.batch r.made.batch in
+    let texts = ap (λ b. b.texts) (c.into_parts-batch.ensures.batch ∙ ap (λ t. t.batch) cl.0) ∙ theirs in
+    let pairs = cl.1.1.1.1.0 ∙ ap (clashes_from 0 N) (counted_ids cs c.args.counted r.made) in
+    let known = rw x.is at c.in-Err.ensures.told in
+    let named = c.in_ok-named-in-Clash.ensures cs N texts (c.as_slice.ensures.value ∙ r.places_are) (c.as_slice-in-Clash.ensures.value ∙ pairs) in
+    let refused = c.in_ok-refused-in-Clash.ensures ∙ ap (λ l. merged l c.as_slice-in-Clash-3.result.now) c.as_slice-in-Clash-2.ensures.value ∙ ap (merged c.args.refused.items) c.as_slice-in-Clash-3.ensures.value in
+    let before = g.C.Committer.told c.args.committer.now in
+    let after = g.C.Committer.told c.commit.new.self in
+    more c.game_is_determined.ensures told cuts c.args.counted c.args.places.items c.args.refused.items before r
+    N c.in_ok-named-in-Clash.named.refused.items c.in_ok-refused-in-Clash.refused.items c.in_ok-named-in-Clash.named.rest.items c.in_ok-again-in-Clash.again after
+    named.0 named.1 refused c.in_ok-again-in-Clash.ensures
+    (λ k e. still_clash k x.tally c.args.counted x.pairs x.note before after (r.still k e) known)
+    (λ k e. right_clash k x.tally c.args.counted x.pairs x.note before after cl.1.1.0 (r.still k e) known cl.1.1.1.1.1)
+
+pub returns-in-Clash-clause-hand : goal.returns-in-Clash-clause-hand
+returns-in-Clash-clause-hand g c = hand_made c.in_ok-named-in-Clash.named.rest.items c.in_ok-again-in-Clash.again c.in_ok-again-in-Clash.ensures
+
+pub returns-in-Clash-clause-fewer : goal.returns-in-Clash-clause-fewer
+returns-in-Clash-clause-fewer g c =
+    let h = c.requires.hand in
+    let x = c.in-Clash in
+    let cl = rw x.is at c.in-Err.ensures.clash in
+    let N = numbers_of cl.1.1.0 in
+    let theirs = batch_texts h.candidates c.args.counted.batch h.counts.batch in
+    let texts = ap (λ b. b.texts) (c.into_parts-batch.ensures.batch ∙ ap (λ t. t.batch) cl.0) ∙ theirs in
+    let pairs = cl.1.1.1.1.0 ∙ ap (clashes_from 0 N) (counted_ids h.candidates c.args.counted h.counts) in
+    let named = c.in_ok-named-in-Clash.ensures h.candidates N texts (c.as_slice.ensures.value ∙ h.places_are) (c.as_slice-in-Clash.ensures.value ∙ pairs) in
+    let less = left_lt N 0 h.candidates (λ e. cl.1.0 (pairs ∙ e)) in
+    let size = size_is h.candidates (Some c.args.counted) h.counts in
+    let made = c.in_ok-again-in-Clash.ensures in
+    let P : List Placed → Type 0 = λ l. AllZip IsExaminationOfText l made.examinations in
+    let both = again c.game_is_determined.ensures (left_by N h.candidates) made.examinations (fewer_read (λ a. is_none (N (id_of a))) h.candidates h.read)
+    (fewer_fresh (λ a. is_none (N (id_of a))) [] h.candidates h.fresh) (subst P named.1 made.are_examinations) in
+    let after = size_is (candidates (verdicts made.examinations)) c.in_ok-again-in-Clash.again.tally made.tally ∙ ap length both.0 in
+    omega (arith, less, size, after)
+
+pub returns-in-Ok-clause-ended : goal.returns-in-Ok-clause-ended
+returns-in-Ok-clause-ended g c = λ known cuts r.
+    settles known cuts c.args.places.items c.args.refused.items (g.C.Committer.told c.args.committer.now) c.args.counted r (Ok c.in-Ok.receipt) _ (g.C.Committer.told c.commit.new.self)
+    tt c.in-Ok.ensures.told refl refl
+
+pub returns-in_err-reserve-clause-memory : goal.returns-in_err-reserve-clause-memory
+returns-in_err-reserve-clause-memory g c = on_err c.from_residual.result (λ (known : Known) (cuts : List Cut) (r : Rounds (Some (store_of known)) cuts (Some c.args.counted) c.args.places.items c.args.refused.items (g.C.Committer.told c.args.committer.now)). lacks_still known (g.C.Committer.told c.args.committer.now) (r.still known refl))
+
+pub returns-in_err-named-in-Clash-clause-memory : goal.returns-in_err-named-in-Clash-clause-memory
+returns-in_err-named-in-Clash-clause-memory g c = on_err c.from_residual-in_err-named-in-Clash.result (λ (known : Known) (cuts : List Cut) (r : Rounds (Some (store_of known)) cuts (Some c.args.counted) c.args.places.items c.args.refused.items (g.C.Committer.told c.args.committer.now)).
+    let x = c.in-Clash in
+    let after = g.C.Committer.told c.commit.new.self in
+    lacks_still known after (still_clash known x.tally c.args.counted x.pairs x.note (g.C.Committer.told c.args.committer.now) after (r.still known refl) (rw x.is at c.in-Err.ensures.told)))
+
+pub returns-in_err-refused-in-Clash-clause-memory : goal.returns-in_err-refused-in-Clash-clause-memory
+returns-in_err-refused-in-Clash-clause-memory g c = on_err c.from_residual-in_err-refused-in-Clash.result (λ (known : Known) (cuts : List Cut) (r : Rounds (Some (store_of known)) cuts (Some c.args.counted) c.args.places.items c.args.refused.items (g.C.Committer.told c.args.committer.now)).
+    let x = c.in-Clash in
+    let after = g.C.Committer.told c.commit.new.self in
+    lacks_still known after (still_clash known x.tally c.args.counted x.pairs x.note (g.C.Committer.told c.args.committer.now) after (r.still known refl) (rw x.is at c.in-Err.ensures.told)))
+
+pub returns-in_err-again-in-Clash-clause-memory : goal.returns-in_err-again-in-Clash-clause-memory
+returns-in_err-again-in-Clash-clause-memory g c = on_err c.from_residual-in_err-again-in-Clash.result (λ (known : Known) (cuts : List Cut) (r : Rounds (Some (store_of known)) cuts (Some c.args.counted) c.args.places.items c.args.refused.items (g.C.Committer.told c.args.committer.now)).
+    let x = c.in-Clash in
+    let after = g.C.Committer.told c.commit.new.self in
+    lacks_still known after (still_clash known x.tally c.args.counted x.pairs x.note (g.C.Committer.told c.args.committer.now) after (r.still known refl) (rw x.is at c.in-Err.ensures.told)))
+
+pub returns-in-OutOfMemory-clause-memory : goal.returns-in-OutOfMemory-clause-memory
+returns-in-OutOfMemory-clause-memory g c = λ known cuts r.
+    let x = c.in-OutOfMemory in
+    let told = rw x.is at c.in-Err.ensures.told in
+    lacks_commit known x.stored c.args.counted (g.C.Committer.told c.commit.new.self) (told known (r.still known refl))
+
+pub returns : goal.returns
+returns g c =
+    let never = decided c.in-Err.fault c.in_default.not-Clash c.in_default.not-OutOfMemory in
+    record {
+      again = tt;
+      hand = tt;
+      fewer = tt;
+      ended = λ known cuts r.
+          settles known cuts c.args.places.items c.args.refused.items (g.C.Committer.told c.args.committer.now) c.args.counted r (Err c.in-Err.fault) _ (g.C.Committer.told c.commit.new.self)
+          never c.in-Err.ensures.told refl refl;
+      decided = never;
+      memory = tt;
+    }

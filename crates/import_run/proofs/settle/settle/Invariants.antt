@@ -1,0 +1,17 @@
+use Rattle.std.proofs.Common.{List}
+use Rattle.std.specs.Prelude.{IfSome}
+use Rattle.explorer_model.specs.Cuts.{Cut}
+use Rattle.import_run.specs.Grouping.{Ascend, IsGroupOf}
+use Rattle.import_run.specs.Hand.{InHand}
+use Rattle.import_run.specs.Rounds.{Rounds, size_of}
+use Rattle.import_run.proofs.settle.settle.Given as goal
+
+abbrev pub invariant-settling : goal.invariant-settling
+invariant-settling g l = record {
+  hand : IfSome l.state.tally (λ counted. InHand counted l.state.places.items);
+  rounds : (cuts : List Cut) → Ascend cuts → IsGroupOf cuts l.fn.group
+      → Rounds (g.C.Committer.told l.fn.committer) cuts l.state.tally l.state.places.items l.state.refused.items (g.C.Committer.told l.committer);
+}
+
+abbrev pub decreases-settling : goal.decreases-settling
+decreases-settling g l = size_of l.state.tally

@@ -1,0 +1,39 @@
+-- Bridge: how a group ends an import.
+use Rattle.std.specs.Prelude.{◌≡◌, List, Option, Some, Err}
+use Rattle.explorer_model.specs.declared.fault.Stop.{Stop}
+use Rattle.explorer_model.specs.declared.fault.Stop.TheVariants as stops
+use Rattle.explorer_model.specs.Cuts.{Cut}
+use Rattle.ingest_desk.specs.declared.fault.CommitFault.{CommitFault}
+use Rattle.ingest_desk.specs.declared.fault.CommitFault.TheVariants as faults
+use Rattle.ingest_desk.specs.declared.report.End.{End}
+use Rattle.ingest_desk.specs.declared.report.End.TheVariants as ends
+use Rattle.import_run.specs.declared.groups.Stopped.{Stopped}
+use Rattle.import_run.specs.Committing.{Known, Store}
+use Rattle.import_run.specs.Rounds.{IsDecided, Settles}
+
+-- the end of an import whose batch was refused so
+abbrev pub IsEndOf : {J : Type 0} → CommitFault J → End J → Type 0
+IsEndOf (faults.Closed before after mark) end = end ≡ ends.Closed before after mark
+IsEndOf (faults.Clash handed pairs note) end = end ≡ ends.OutOfMemory
+IsEndOf (faults.Full games bytes note) end = end ≡ ends.Full games bytes note
+IsEndOf (faults.DiskFault before after mark) end = end ≡ ends.DiskFault before after mark
+IsEndOf (faults.OutOfMemory stored) end = end ≡ ends.OutOfMemory
+
+-- the fact holds where a commit ended the import
+abbrev pub WhereStopped : {J : Type 0} → Stop (Stopped J) → (Stopped J → Type 0) → Type 0
+WhereStopped (stops.Fault stopped) P = P stopped
+WhereStopped stops.OutOfMemory P = Unit {0}
+
+-- the fact holds where memory was wanting
+abbrev pub WhereLacking : {J : Type 0} → Stop (Stopped J) → Type 0 → Type 0
+WhereLacking (stops.Fault stopped) P = Unit {0}
+WhereLacking stops.OutOfMemory P = P
+
+-- a commit of the group's new texts ended the import
+pub record StopsAt {J : Type 0} (known : Known) (hand : List Cut) (stopped : Stopped J)
+    (told : Option Store) : Type 0 where
+  pub fault : CommitFault J
+  pub is_end : IsEndOf fault stopped.end
+  pub decided : IsDecided {J = J} (Err fault)
+  pub settled : Settles known hand
+      (record { answer = Some (Err fault); refused = stopped.refused }) told

@@ -1,0 +1,147 @@
+//! Groups are stored one after another.
+ghost use Rattle.std.specs.Prelude.{◌≡◌, ◌≤◌, ◌++◌, ◌∷◌, [], List, Some, length, IfErr, OnErr, OnOk};
+ghost use Rattle.std.specs.List.{All};
+ghost use Rattle.explorer_model.specs.Cuts.{Cut as ACut, text_limit};
+ghost use Rattle.explorer_model.specs.Imports.{group_limit};
+ghost use Rattle.import_run.specs.Committing.{Known, store_of};
+ghost use Rattle.import_run.specs.Grouping.{Ascend, IsGroupOf};
+ghost use Rattle.import_run.specs.Importing.{IsEndOf, StopsAt, WhereLacking, WhereStopped};
+ghost use Rattle.import_run.specs.Progress.{Progress};
+ghost use Rattle.import_run.specs.Rounds.{MayHaveMore};
+
+use crate::committer::Committer;
+use crate::merging::merge_due;
+use crate::settle::{Done, settle};
+use crate::text_group::TextGroup;
+use explorer_model::fault::{Refusal, Stop};
+use ingest_desk::{CommitFault, End, Receipt};
+use outside::Gate;
+use published_index::{Index, Note};
+use std::alloc::Global;
+use std::mem;
+use std::sync::Wait;
+use std::thread::Threads;
+
+/// A commit ended an import.
+#[derive(Drop)]
+pub struct Stopped<J: Index> {
+    pub end: End<J>,
+    /// Why texts of the group in hand are refused.
+    pub refused: Vec<Refusal>,
+}
+
+/// An import in its stream: the group in hand, and what became of those before it.
+#[derive(Drop)]
+pub struct OpenImport<J: Index> {
+    pub group: TextGroup,
+    pub receipts: Vec<Receipt<J>>,
+    pub refused: Vec<Refusal>,
+    pub clashes: Vec<Note<J>>,
+}
+
+impl<J: Index> OpenImport<J> {
+    /// Nothing came, and nothing is in hand.
+    pub fn new(alloc: Global) -> Self
+        ensures group { IsGroupOf [] result.group }
+        ensures none { result.group.texts.items ≡ [] }
+        ensures receipts { result.receipts.items ≡ [] }
+        ensures refused { result.refused.items ≡ [] }
+    {
+        OpenImport {
+            group: TextGroup::new(alloc),
+            receipts: Vec::new(alloc),
+            refused: Vec::new(alloc),
+            clashes: Vec::new(alloc),
+        }
+    }
+
+    /// Settles the group in hand: its new texts are stored, and all else of it is refused.
+    pub fn close<C: Committer<J, R>, R: Wait + Threads + Sync, G: Gate>(
+        &mut self,
+        rt: &R,
+        alloc: Global,
+        committer: &mut C,
+        workers: usize,
+        gate: &G,
+    ) -> Result<(), Stop<Stopped<J>>>
+        requires some_workers { 1 ≤ workers }
+        requires few_workers { workers ≤ 16 }
+        requires few { length self.old.group.texts.items ≤ group_limit }
+        requires short { All (λ text. length text.bytes ≤ text_limit) self.old.group.texts.items }
+        ensures group { OnOk result (IsGroupOf [] self.new.group) }
+        ensures none { OnOk result (self.new.group.texts.items ≡ []) }
+        ensures closes { OnOk result ((start : Known) (closed : List (List ACut)) (hand : List ACut)
+            → Ascend hand → IsGroupOf hand self.old.group
+            → Progress start closed self.old.receipts.items self.old.refused.items
+            (C.told committer.old)
+            → Progress start (closed ++ hand ∷ []) self.new.receipts.items self.new.refused.items
+            (C.told committer.new)) }
+        ensures stops { IfErr result (λ stop. WhereStopped stop (λ stopped. (known : Known)
+            (hand : List ACut) → Ascend hand → IsGroupOf hand self.old.group
+            → C.told committer.old ≡ Some (store_of known)
+            → StopsAt known hand stopped (C.told committer.new))) }
+        ensures lacks { IfErr result (λ stop. WhereLacking stop ((known : Known)
+            (hand : List ACut) → Ascend hand → IsGroupOf hand self.old.group
+            → C.told committer.old ≡ Some (store_of known)
+            → MayHaveMore known (C.told committer.new))) }
+        ensures receipts { OnErr result (self.new.receipts.items ≡ self.old.receipts.items) }
+        ensures refused { OnErr result (self.new.refused.items ≡ self.old.refused.items) }
+    {
+        let group = mem::replace(&mut self.group, TextGroup::new(alloc));
+        self.receipts.reserve(1)?;
+        let Done { answer, refused } = settle(
+            rt,
+            alloc,
+            committer,
+            group,
+            &mut self.clashes,
+            workers,
+            gate,
+        )?;
+        let Some(answer) = answer else {
+            self.refused.extend_from_slice(refused.as_slice())?;
+            return Ok(());
+        };
+        let fault = match answer {
+            Ok(receipt) => {
+                self.refused.extend_from_slice(refused.as_slice())?;
+                self.receipts.push_reserved(receipt);
+                merge_due(rt, alloc, committer, workers, gate);
+                return Ok(());
+            }
+            Err(fault) => fault,
+        };
+        Err(Stop::Fault(Stopped {
+            end: end_of(fault),
+            refused,
+        }))
+    }
+}
+
+/// The end of an import whose batch is not stored for this fault.
+fn end_of<J: Index>(fault: CommitFault<J>) -> End<J>
+    ensures { IsEndOf fault result }
+{
+    match fault {
+        CommitFault::Closed {
+            before,
+            after,
+            mark,
+        } => End::Closed {
+            before,
+            after,
+            mark,
+        },
+        CommitFault::DiskFault {
+            before,
+            after,
+            mark,
+        } => End::DiskFault {
+            before,
+            after,
+            mark,
+        },
+        CommitFault::Full { games, bytes, note } => End::Full { games, bytes, note },
+        CommitFault::Clash { .. } | CommitFault::OutOfMemory { .. } => End::OutOfMemory,
+    }
+}

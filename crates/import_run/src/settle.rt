@@ -1,0 +1,148 @@
+//! A group is settled: its new texts are stored as one batch.
+ghost use Rattle.std.specs.Prelude.{◌≡◌, ◌<◌, ◌≤◌, List, Option, Some, length, IfOk, IfSome, OnErr};
+ghost use Rattle.std.specs.List.{All};
+ghost use Rattle.explorer_model.specs.Cuts.{Cut as ACut, text_limit};
+ghost use Rattle.explorer_model.specs.Imports.{group_limit};
+ghost use Rattle.import_run.specs.Committing.{Known, Store, store_of};
+ghost use Rattle.import_run.specs.Grouping.{Ascend, IsGroupOf};
+ghost use Rattle.import_run.specs.Hand.{InHand};
+ghost use Rattle.import_run.specs.Rounds.{AnswerDecided, IsAgain, IsEnded, MayHaveMore, Rounds, Settles, size_of};
+
+use crate::committer::Committer;
+use crate::naming::name;
+use crate::text_group::{TalliedGroup, TextGroup, merge};
+use explorer_model::fault::Refusal;
+use game_replay::laws::game_is_determined;
+use ingest_desk::{CommitFault, Receipt};
+use outside::Gate;
+use published_index::{Index, Note};
+use std::alloc::{AllocError, Global};
+use std::sync::Wait;
+use std::thread::Threads;
+use tally_rows::Tally;
+
+/// What became of a group: what was answered to its commit, if it has a batch, and what is refused.
+#[derive(Drop)]
+pub struct Done<J: Index> {
+    pub answer: Option<Result<Receipt<J>, CommitFault<J>>>,
+    pub refused: Vec<Refusal>,
+}
+
+/// What became of a tally that was handed to its commit.
+#[derive(Drop)]
+pub enum Round<J: Index> {
+    Ended(Done<J>),
+    /// Some ids are stored: the rest is tallied again.
+    Again(TalliedGroup),
+}
+
+/// Settles a group of texts that stand in a stream in this order. The notes are those of the clashes.
+pub fn settle<C: Committer<J, R>, J: Index, R: Wait + Threads + Sync, G: Gate>(
+    rt: &R,
+    alloc: Global,
+    committer: &mut C,
+    group: TextGroup,
+    clashes: &mut Vec<Note<J>>,
+    workers: usize,
+    gate: &G,
+) -> Result<Done<J>, AllocError>
+    requires some_workers { 1 ≤ workers }
+    requires few_workers { workers ≤ 16 }
+    requires few { length group.texts.items ≤ group_limit }
+    requires short { All (λ text. length text.bytes ≤ text_limit) group.texts.items }
+    ensures settles { IfOk result (λ done. (known : Known) (cuts : List ACut) → Ascend cuts
+        → IsGroupOf cuts group → C.told committer.old ≡ Some (store_of known)
+        → Settles known cuts done (C.told committer.new)) }
+    ensures decided { IfOk result (λ done. AnswerDecided done.answer) }
+    ensures memory { OnErr result ((known : Known) (cuts : List ACut) → Ascend cuts
+        → IsGroupOf cuts group → C.told committer.old ≡ Some (store_of known)
+        → MayHaveMore known (C.told committer.new)) }
+{
+    game_is_determined();
+    let mut state = group.tally(alloc, workers, gate)?;
+    'settling: loop {
+        let TalliedGroup {
+            tally,
+            places,
+            refused,
+        } = state;
+        let Some(counted) = tally else {
+            return Ok(Done {
+                answer: None,
+                refused,
+            });
+        };
+        match commit_once(
+            rt, alloc, committer, counted, places, refused, clashes, workers, gate,
+        )? {
+            Round::Again(next) => state = next,
+            Round::Ended(done) => return Ok(done),
+        }
+    }
+}
+
+/// Commits a tally. Where ids clash, those texts are refused, and the rest is tallied again.
+fn commit_once<C: Committer<J, R>, J: Index, R: Wait + Threads + Sync, G: Gate>(
+    rt: &R,
+    alloc: Global,
+    committer: &mut C,
+    counted: Tally,
+    places: Vec<u64>,
+    refused: Vec<Refusal>,
+    clashes: &mut Vec<Note<J>>,
+    workers: usize,
+    gate: &G,
+) -> Result<Round<J>, AllocError>
+    requires some_workers { 1 ≤ workers }
+    requires few_workers { workers ≤ 16 }
+    requires hand { InHand counted places.items }
+    ensures again { IfOk result (λ round. IsAgain round (λ state. (told : Option Store)
+        (cuts : List ACut)
+        → Rounds told cuts (Some counted) places.items refused.items (C.told committer.old)
+        → Rounds told cuts state.tally state.places.items state.refused.items
+        (C.told committer.new))) }
+    ensures hand { IfOk result (λ round. IsAgain round (λ state. IfSome state.tally (λ next.
+        InHand next state.places.items))) }
+    ensures fewer { IfOk result (λ round.
+        IsAgain round (λ state. size_of state.tally < size_of (Some counted))) }
+    ensures ended { IfOk result (λ round. IsEnded round (λ done. (known : Known) (cuts : List ACut)
+        → Rounds (Some (store_of known)) cuts (Some counted) places.items refused.items
+        (C.told committer.old)
+        → Settles known cuts done (C.told committer.new))) }
+    ensures decided { IfOk result (λ round. IsEnded round (λ done. AnswerDecided done.answer)) }
+    ensures memory { OnErr result ((known : Known) (cuts : List ACut)
+        → Rounds (Some (store_of known)) cuts (Some counted) places.items refused.items
+        (C.told committer.old)
+        → MayHaveMore known (C.told committer.new)) }
+{
+    game_is_determined();
+    clashes.reserve(1)?;
+    let fault = match committer.commit(rt, alloc, counted) {
+        Ok(receipt) => {
+            return Ok(Round::Ended(Done {
+                answer: Some(Ok(receipt)),
+                refused,
+            }));
+        }
+        Err(fault) => fault,
+    };
+    match fault {
+        CommitFault::Clash { tally, pairs, note } => {
+            clashes.push_reserved(note);
+            let (batch, _classes, _rows) = tally.into_parts();
+            let named = name(alloc, batch, places.as_slice(), pairs.as_slice())?;
+            let refused = merge(alloc, refused.as_slice(), named.refused.as_slice())?;
+            let again = batch_tally::tally(alloc, named.rest, workers, gate)?;
+            Ok(Round::Again(TalliedGroup {
+                tally: again.tally,
+                places: again.places,
+                refused,
+            }))
+        }
+        CommitFault::OutOfMemory { .. } => Err(AllocError),
+        fault => Ok(Round::Ended(Done {
+            answer: Some(Err(fault)),
+            refused,
+        })),
+    }
+}

@@ -1,0 +1,124 @@
+//! Groups of cuts: what is held until a group is whole, and what becomes of it.
+ghost use Rattle.std.specs.Prelude.{◌≡◌, ◌+◌, ◌≤◌, List, [], ◌∷◌, ◌++◌, length, IfOk, IfSome, OnOk};
+ghost use Rattle.std.specs.List.{All};
+ghost use Rattle.explorer_model.specs.Cuts.{Cut as ACut, text_limit};
+ghost use Rattle.explorer_model.specs.Imports.{group_limit};
+ghost use Rattle.pgn_cut.specs.Cut.{meaning};
+ghost use Rattle.import_run.specs.Grouping.{Ascend, IsGroupOf, IsShort, IsTallied, merged};
+ghost use Rattle.import_run.specs.Hand.{InHand};
+
+use batch_tally::tally;
+use explorer_model::archive::Placed;
+use explorer_model::fault::{Refusal, Why};
+use outside::Gate;
+use pgn_cut::cut::Cut;
+use std::alloc::{AllocError, Global};
+use tally_rows::Tally;
+
+/// How many texts a whole group has.
+pub const GROUP_LIMIT: usize = 512;
+
+/// The cuts of a group so far: its texts, and why each other cut is refused.
+#[derive(Debug, Drop)]
+pub struct TextGroup {
+    pub texts: Vec<Placed>,
+    pub unread: Vec<Refusal>,
+}
+
+/// A group of which each text was replayed.
+#[derive(Debug, Drop)]
+pub struct TalliedGroup {
+    /// The texts that are accepted; none where no text is.
+    pub tally: Option<Tally>,
+    /// The place of each accepted text, in order.
+    pub places: Vec<u64>,
+    /// Why each other cut is refused, in the order of the stream.
+    pub refused: Vec<Refusal>,
+}
+
+impl TextGroup {
+    /// A group without cuts.
+    pub fn new(alloc: Global) -> Self
+        ensures group { IsGroupOf [] result }
+        ensures none { result.texts.items ≡ [] }
+    {
+        TextGroup {
+            texts: Vec::new(alloc),
+            unread: Vec::new(alloc),
+        }
+    }
+
+    /// Puts a cut behind the others.
+    pub fn push(&mut self, cut: Cut) -> Result<(), AllocError>
+        requires short { IsShort (meaning cut) }
+        ensures group { OnOk result ((cuts : List ACut)
+            → IsGroupOf cuts self.old → IsGroupOf (cuts ++ meaning cut ∷ []) self.new) }
+        ensures more { OnOk result (length self.new.texts.items ≤ length self.old.texts.items + 1) }
+        ensures short { All (λ text. length text.bytes ≤ text_limit) self.old.texts.items
+            → OnOk result (All (λ text. length text.bytes ≤ text_limit) self.new.texts.items) }
+    {
+        match cut {
+            Cut::Text(text) => self.texts.push(text)?,
+            Cut::TooLong { place, length } => self.unread.push(Refusal {
+                place,
+                why: Why::TooLong { length },
+            })?,
+            Cut::Preamble { place } => self.unread.push(Refusal {
+                place,
+                why: Why::Preamble,
+            })?,
+        }
+        Ok(())
+    }
+
+    /// Replays and tallies the texts. On how many workers do that, nothing depends.
+    pub fn tally<G: Gate>(
+        self,
+        alloc: Global,
+        workers: usize,
+        gate: &G,
+    ) -> Result<TalliedGroup, AllocError>
+        requires some_workers { 1 ≤ workers }
+        requires few_workers { workers ≤ 16 }
+        requires few { length self.texts.items ≤ group_limit }
+        requires short { All (λ text. length text.bytes ≤ text_limit) self.texts.items }
+        ensures tallied { IfOk result (λ tallied. (cuts : List ACut)
+            → Ascend cuts → IsGroupOf cuts self → IsTallied cuts tallied) }
+        ensures hand { IfOk result (λ tallied. IfSome tallied.tally (λ counted.
+            InHand counted tallied.places.items)) }
+    {
+        let TextGroup { texts, unread } = self;
+        let tallying = tally(alloc, texts, workers, gate)?;
+        let refused = merge(alloc, tallying.refused.as_slice(), unread.as_slice())?;
+        Ok(TalliedGroup {
+            tally: tallying.tally,
+            places: tallying.places,
+            refused,
+        })
+    }
+}
+
+/// Two lists of refusals in one, where each has them by their places.
+pub fn merge(
+    alloc: Global,
+    texts: &[Refusal],
+    unread: &[Refusal],
+) -> Result<Vec<Refusal>, AllocError>
+    ensures { IfOk result (λ all. all.items ≡ merged texts.now unread.now) }
+{
+    let mut all = Vec::new(alloc);
+    let mut at = 0;
+    let mut next = 0;
+    'merging: while at < texts.len() && next < unread.len() {
+        if texts[at].place < unread[next].place {
+            all.push(texts[at])?;
+            at += 1;
+        } else {
+            all.push(unread[next])?;
+            next += 1;
+        }
+    }
+    all.extend_from_slice(&texts[at..])?;
+    all.extend_from_slice(&unread[next..])?;
+    Ok(all)
+}
