@@ -1,6 +1,6 @@
 use crate::naming::name;
 use crate::text_group::merge;
-use explorer_model::archive::{Batch, Bytes, Placed, Texts};
+use explorer_model::archive::{Batch, Bytes, Texts};
 use explorer_model::fault::{Refusal, Why};
 use ingest_desk::Clashing;
 use std::test::Fail;
@@ -22,12 +22,10 @@ fn named_text_is_refused_and_the_other_stays(rt: HostRuntime) -> Result<(), Fail
         place: 40,
         why: Why::Repeated { number: 700 },
     }];
-    let rest = [Placed {
-        place: 10,
-        bytes: Bytes::from_vec(b"one".to_vec(rt.alloc())?),
-    }];
     assert!(rt; named.refused.as_slice() == refused.as_slice());
-    assert!(rt; named.rest.as_slice() == rest.as_slice());
+    assert_eq!(rt; named.rest.len(), 1);
+    assert_eq!(rt; named.rest[0].place, 10);
+    assert!(rt; named.rest[0].bytes.as_slice() == b"one".as_slice());
     Ok(())
 }
 
