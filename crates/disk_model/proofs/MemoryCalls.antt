@@ -89,6 +89,14 @@ pub durable-synced : (calls after : List DiskCall) → after ≡ Synced ∷ call
 durable-synced calls after is image left =
     ap Some (content-synced calls after is ∙ sym (synced-only calls after is image left))
 
+-- a disk whose newest call is a sync
+pub durable-already : (calls : List DiskCall) → is_synced calls ≡ true
+    → (image : List ℕ) → WasImage calls (length calls) image → Some (content_of calls) ≡ Some image
+unfolding content_of
+durable-already [] never image left = absurd (cc (never))
+durable-already (Wrote at piece done ∷ calls) never image left = absurd (cc (never))
+durable-already (Synced ∷ calls) is image left = durable-synced calls (Synced ∷ calls) refl image left
+
 -- ---- a crash
 
 -- a piece written again, torn
@@ -144,13 +152,13 @@ none_fail = record { failing = []; calls = 0 }
 
 pub left-synced : (old : MemoryDisk) (calls after : List DiskCall) (image : List ℕ) (plan : FailurePlan)
     → after ≡ Synced ∷ calls → content_of calls ≡ image → IsImage old.calls image → plan ≡ none_fail
-    → IsLeft old (record { calls = after; room = old.room; plan = plan; faults = 0 })
+    → IsLeft old (record { calls = after; room = old.room; plan = plan; faults = 0; short_of_memory = false })
 left-synced old calls after image plan is content left none =
     let same = content-synced calls after is in
     record {
       left = subst (λ (l : List ℕ). WasImage old.calls (length old.calls) l) (sym (same ∙ content)) (since old.calls (length old.calls) image left);
       synced = ap is_synced is;
-      rest = λ i. record { calls = after; room = old.room; plan = none i; faults = 0 };
+      rest = λ i. record { calls = after; room = old.room; plan = none i; faults = 0; short_of_memory = false };
     }
 
 -- ---- what the calls do to the state

@@ -1,6 +1,7 @@
-ghost use Rattle.std.specs.Prelude.{◌≡◌, ◌≤◌, ◌+◌, ◌<◌, false, [], ◌∷◌, max, length, reverse, vec_len, vec_capacity, IfOk, OnOk, OnErr};
-ghost use Rattle.disk_model.specs.Disk.{written};
-ghost use Rattle.disk_model.specs.Memory.{content_of, IsImage, is_synced, IsLeft};
+ghost use Rattle.std.specs.Prelude.{◌≡◌, ◌≤◌, ◌+◌, ◌<◌, ◌^◌, ◌↔◌, true, false, [], ◌∷◌, max, length, reverse, vec_len, vec_capacity, IsTrue, IsErr, IfOk, OnOk, OnErr};
+ghost use Rattle.outside.specs.Memory.{fails_next, after_call};
+ghost use Rattle.disk_model.specs.Disk.{Stays, Fails, Reads, Writes, FailsToWrite, Torn, Same, Elapses, IsDurable, written};
+ghost use Rattle.disk_model.specs.Memory.{content_of, IsImage, is_synced, with_sync, state_of, left_since, HasWriteFault, IsLeft};
 ghost use Rattle.disk_model.specs.declared.call.DiskCall.TheVariants.{Wrote, Synced};
 
 use crate::call::DiskCall;
@@ -11,7 +12,7 @@ use std::alloc::{AllocError, Global};
 use std::marker::Model;
 
 /// A disk in memory, some of whose calls fail. It remembers its writes and syncs, and with them
-/// what a crash may leave.
+/// what a crash may leave. A sync that follows a sync is not remembered apart.
 #[derive(Drop)]
 pub struct MemDisk {
     alloc: Global,
@@ -20,6 +21,7 @@ pub struct MemDisk {
     room: usize,
     plan: FailurePlan,
     faults: u64,
+    short_of_memory: bool,
 }
 
 impl Model for MemDisk {
@@ -33,6 +35,7 @@ impl Model for MemDisk {
       room = d.room;
       plan = d.plan;
       faults = d.faults;
+      short_of_memory = d.short_of_memory;
     } };
 
     ghost invariant = { λ d. (content_of (reverse d.calls.items) ≡ d.bytes.items)
@@ -50,6 +53,7 @@ impl MemDisk {
           room = room;
           plan = record { failing = failing.items; calls = 0 };
           faults = 0;
+          short_of_memory = false;
         }) }
     {
         Ok(MemDisk {
@@ -59,6 +63,7 @@ impl MemDisk {
             room,
             plan: FailurePlan::new(failing),
             faults: 0,
+            short_of_memory: false,
         })
     }
 
@@ -86,7 +91,15 @@ impl MemDisk {
             room,
             plan,
             faults: 0,
+            short_of_memory: false,
         }
+    }
+
+    /// Whether the newest call failed for want of memory for its record. Only a write can.
+    pub fn short_of_memory(&self) -> bool
+        ensures { result ≡ self.now.short_of_memory }
+    {
+        self.short_of_memory
     }
 }
 
@@ -98,14 +111,42 @@ impl Disk for MemDisk {
 
     ghost left_since = { memory.left_since };
 
-    fn size(&mut self) -> Result<u64, Failed> {
+    /// Fails exactly as it is planned.
+    fn size(&mut self) -> Result<u64, Failed>
+        ensures told { IfOk result (λ size. size ≡ (state_of self.old).size) }
+        ensures done { OnOk result (Stays (state_of self.old) (state_of self.new)) }
+        ensures fails { OnErr result (Fails (state_of self.old) (state_of self.new)) }
+        ensures crash { Elapses state_of left_since Same self.old self.new }
+
+        ensures planned { IsErr result ↔ IsTrue (fails_next self.old.plan) }
+        ensures rest { self.new ≡ record self.old {
+          plan = after_call self.old.plan;
+          faults = self.new.faults;
+          short_of_memory = false;
+        } }
+    {
+        self.short_of_memory = false;
         if self.plan.next_fails() {
             return Err(raise(&mut self.faults));
         }
         Ok(self.bytes.len() as u64)
     }
 
-    fn read_at(&mut self, at: u64, into: &mut [u8]) -> Result<(), Failed> {
+    /// Fails exactly as it is planned.
+    fn read_at(&mut self, at: u64, into: &mut [u8]) -> Result<(), Failed>
+        requires inside { at + length into.old ≤ (state_of self.old).size }
+        ensures done { OnOk result (Reads at into.new (state_of self.old) (state_of self.new)) }
+        ensures fails { OnErr result (Fails (state_of self.old) (state_of self.new)) }
+        ensures crash { Elapses state_of left_since Same self.old self.new }
+
+        ensures planned { IsErr result ↔ IsTrue (fails_next self.old.plan) }
+        ensures rest { self.new ≡ record self.old {
+          plan = after_call self.old.plan;
+          faults = self.new.faults;
+          short_of_memory = false;
+        } }
+    {
+        self.short_of_memory = false;
         if self.plan.next_fails() {
             return Err(raise(&mut self.faults));
         }
@@ -114,12 +155,32 @@ impl Disk for MemDisk {
         Ok(())
     }
 
-    fn write_at(&mut self, at: u64, piece: &[u8]) -> Result<(), Failed> {
+    /// Fails as it is planned, past the room, and where its record finds no memory. Such a write
+    /// does nothing, but a crash may tear one that was planned to fail.
+    fn write_at(&mut self, at: u64, piece: &[u8]) -> Result<(), Failed>
+        requires no_gap { at ≤ (state_of self.old).size }
+        requires low { at + length piece.now ≤ 2 ^ 40 }
+        ensures done { OnOk result (Writes at piece.now (state_of self.old) (state_of self.new)) }
+        ensures fails { OnErr result
+            (FailsToWrite at (length piece.now) (state_of self.old) (state_of self.new)) }
+        ensures crash { Elapses state_of left_since (Torn at (length piece.now)) self.old self.new }
+
+        ensures planned { IsErr result ↔ HasWriteFault at (length piece.now) self.old self.new }
+        ensures undone { OnErr result (content_of self.new.calls ≡ content_of self.old.calls) }
+        ensures rest { self.new ≡ record self.old {
+          calls = self.new.calls;
+          plan = after_call self.old.plan;
+          faults = self.new.faults;
+          short_of_memory = self.new.short_of_memory;
+        } }
+    {
+        self.short_of_memory = false;
         let fails = self.plan.next_fails();
         if piece.len() > self.room - at as usize {
             return Err(raise(&mut self.faults));
         }
         let Ok(()) = note_write(&mut self.calls, self.alloc, at, piece, !fails) else {
+            self.short_of_memory = true;
             return Err(raise(&mut self.faults));
         };
         if fails {
@@ -129,11 +190,30 @@ impl Disk for MemDisk {
         Ok(())
     }
 
-    fn sync(&mut self) -> Result<(), Failed> {
-        if self.plan.next_fails() || self.calls.reserve(1).is_err() {
+    /// Fails exactly as it is planned.
+    fn sync(&mut self) -> Result<(), Failed>
+        ensures done { OnOk result (Stays (state_of self.old) (state_of self.new)) }
+        ensures durable { OnOk result (IsDurable state_of left_since self.new) }
+        ensures fails { OnErr result (Fails (state_of self.old) (state_of self.new)) }
+        ensures crash { Elapses state_of left_since Same self.old self.new }
+
+        ensures planned { IsErr result ↔ IsTrue (fails_next self.old.plan) }
+        ensures recorded { OnOk result (self.new.calls ≡ with_sync self.old.calls) }
+        ensures undone { OnErr result (self.new.calls ≡ self.old.calls) }
+        ensures rest { self.new ≡ record self.old {
+          calls = self.new.calls;
+          plan = after_call self.old.plan;
+          faults = self.new.faults;
+          short_of_memory = false;
+        } }
+    {
+        self.short_of_memory = false;
+        if self.plan.next_fails() {
             return Err(raise(&mut self.faults));
         }
-        self.calls.push_reserved(DiskCall::Synced);
+        if !ends_in_sync(&self.calls) {
+            self.calls.push_reserved(DiskCall::Synced);
+        }
         Ok(())
     }
 
@@ -146,6 +226,13 @@ impl Disk for MemDisk {
     ghost told_left = { images.told_left };
 
     ghost counts_now = { images.counts_now };
+}
+
+/// Whether the newest call is a sync.
+fn ends_in_sync(calls: &[DiskCall]) -> bool
+    ensures { result ≡ is_synced (reverse calls.now) }
+{
+    matches!(calls.last(), Some(DiskCall::Synced))
 }
 
 /// Notes a write. Without memory for it nothing changes.

@@ -41,6 +41,7 @@ fn disk_in_memory_fails_where_listed_and_past_its_room(rt: HostRuntime) -> Resul
     assert_eq!(rt; disk.sync(), Ok(()));
     assert_eq!(rt; disk.size(), Err(Failed));
     assert_eq!(rt; put(&mut disk, 2, b"def"), Err(Failed));
+    assert_eq!(rt; disk.short_of_memory(), false);
     assert_eq!(rt; put(&mut disk, 2, b"de"), Err(Failed));
     assert_eq!(rt; disk.sync(), Err(Failed));
     assert_eq!(rt; disk.faults(), 4);

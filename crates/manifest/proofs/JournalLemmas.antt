@@ -141,7 +141,7 @@ module _ {D : Type 0} (disk : D → DiskState) (left_since : D → ℕ → List 
     module _ (bytes : List ℕ) (is : bytes ≡ payload_of batch) where
       -- an append that was done, or was not
       pub stored-by : (result : Result (Unit {0}) AppendFault)
-          → MatchResult result (λ _. Adds (length bytes) old new) (λ fault. IsNotAdded disk fault old new)
+          → MatchResult result (λ _. Adds disk (length bytes) old new) (λ fault. IsNotAdded disk fault old new)
           → OnOk result ((payloads : List (List ℕ)) → IsLogOf disk left_since payloads old → IsLogOf disk left_since (payloads ++ bytes ∷ []) new)
           → OnOk result ((journal : List Batch) → IsManifestOf disk left_since journal old → IsManifestOf disk left_since (journal ++ batch ∷ []) new)
       stored-by (Ok x) adds added = λ journal holds.

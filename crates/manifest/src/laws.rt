@@ -38,12 +38,14 @@ pub fn opening_is_determined<D: Disk>()
 /// A store has one answer, unless a call of the disk fails or memory is wanting: the next gate, or
 /// the counts with which the manifest was closed.
 pub fn storing_is_determined<D: Disk>()
-    ensures stored { (count : ℕ) (old new after : Log D) → Adds count old new → Adds count old after
+    ensures stored { (count : ℕ) (old new after : Log D)
+        → Adds D.disk count old new → Adds D.disk count old after
         → (new.gate ≡ after.gate) × (new.format ≡ after.format) × (new.fault ≡ after.fault) }
     ensures closed { (before after earlier later : ℕ) (old new other : Log D)
         → IsNotAdded D.disk (append.Closed before after) old new
         → IsNotAdded D.disk (append.Closed earlier later) old other
         → (before ≡ earlier) × (after ≡ later) × (new ≡ other) }
     ensures either { (before after count : ℕ) (old new other : Log D)
-        → IsNotAdded D.disk (append.Closed before after) old new → Adds count old other → ⊥ }
+        → IsNotAdded D.disk (append.Closed before after) old new
+        → Adds D.disk count old other → ⊥ }
 {}

@@ -28,7 +28,7 @@ impl<D: Disk> Manifest<D> {
             (IsWithOrWithoutBatch journal batch.now) }
 
         ensures cases { MatchResult result
-            (λ _. Adds (length (payload_of batch.now)) self.old self.new)
+            (λ _. Adds D.disk (length (payload_of batch.now)) self.old self.new)
             (λ fault. IsNotAdded D.disk fault self.old self.new) }
         ensures closed { (before after : ℕ) → (result ≡ Err (AppendFault.Closed before after))
             ↔ (self.old.fault ≡ Some (before, after)) }

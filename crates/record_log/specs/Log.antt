@@ -70,9 +70,10 @@ pub record IsFault (before after : ℕ) (old new : DiskState) : Type 0 where
 
 -- ---- append
 
--- a payload of so many bytes was added
-pub record Adds {D : Type 0} (count : ℕ) (old new : Log D) : Type 0 where
+-- a payload of so many bytes was added, and no call of the disk failed
+pub record Adds {D : Type 0} (disk : D → DiskState) (count : ℕ) (old new : Log D) : Type 0 where
   pub sound : old.fault ≡ None
+  pub no_fault : (disk new.disk).faults ≡ (disk old.disk).faults
   pub rest : new ≡ record old { disk = new.disk; gate = old.gate + 5 + count }
 
 -- nothing was written

@@ -25,7 +25,7 @@ impl<D: Disk> RecordLog<D> {
             → LeavesOnly D.disk D.left_since self.old.disk self.new.disk
             (IsWithOrWithout self.old.format payloads payload.now) }
 
-        ensures cases { MatchResult result (λ _. Adds (length payload.now) self.old self.new)
+        ensures cases { MatchResult result (λ _. Adds D.disk (length payload.now) self.old self.new)
             (λ fault. IsNotAdded D.disk fault self.old self.new) }
         ensures closed { (before after : ℕ) → (result ≡ Err (AppendFault.Closed before after))
             ↔ (self.old.fault ≡ Some (before, after)) }

@@ -126,33 +126,43 @@ fn bytes_that_are_no_log_are_refused(rt: HostRuntime) -> Result<(), Fail> {
     Ok(())
 }
 
-#[test]
-fn log_is_cut_at_every_byte(rt: HostRuntime) -> Result<(), Fail> {
-    let alloc: Global = rt.alloc();
+/// A log of payloads of these sizes, and where its gates stand.
+fn log_of(alloc: Global, sizes: &[usize]) -> Result<(Vec<u8>, Vec<usize>), Fail> {
     let Ok(mut log) = create(MemDisk::new(alloc, 2047, Vec::new(alloc))?, FIRST) else {
         return Err(Fail::from("not created"));
     };
-    let gates = [12, 24, 30, 1035, 2040];
-    for size in [7, 1, 1000, 1000] {
-        let payload = vec![in alloc; 1; size]?;
-        assert_eq!(rt; add(alloc, &mut log, &payload), Ok(()));
+    let mut gates = vec![in alloc; 12]?;
+    for size in sizes {
+        let payload = vec![in alloc; 1; *size]?;
+        if add(alloc, &mut log, &payload).is_err() {
+            return Err(Fail::from("not added"));
+        }
+        gates.push(log.gate() as usize)?;
     }
-    assert_eq!(rt; log.gate(), 2040);
-    let bytes = bytes_of(alloc, &mut log.into_disk())?;
-    for size in 0..bytes.len() {
-        let fault = match gates.iter().rev().find(|gate| **gate < size) {
-            Some(gate) if size > 12 => LogFault::Damaged { at: *gate as u64 },
-            _ => LogFault::NotALog,
-        };
-        let disk = disk_with(alloc, &bytes[..size], Vec::new(alloc))?;
-        assert_eq!(rt; count_of(alloc, disk), Err(OpenFault::Log(fault)));
+    Ok((bytes_of(alloc, &mut log.into_disk())?, gates))
+}
+
+#[test]
+fn log_is_cut_at_every_byte(rt: HostRuntime) -> Result<(), Fail> {
+    let alloc: Global = rt.alloc();
+    let logs: [&[usize]; 5] = [&[], &[7], &[1, 1, 1], &[255, 256, 257], &[7, 1, 1000, 1000]];
+    for sizes in logs {
+        let (bytes, gates) = log_of(alloc, sizes)?;
+        for size in 0..bytes.len() + 1 {
+            let answer = match gates.iter().rev().find(|gate| **gate < size) {
+                None => Err(OpenFault::Log(LogFault::NotALog)),
+                Some(_) if size == bytes.len() => Ok(sizes.len()),
+                Some(gate) => Err(OpenFault::Log(LogFault::Damaged { at: *gate as u64 })),
+            };
+            let disk = disk_with(alloc, &bytes[..size], Vec::new(alloc))?;
+            assert_eq!(rt; count_of(alloc, disk), answer, "{size} of {sizes:?}");
+        }
     }
-    assert_eq!(rt;
-        count_of(alloc, disk_with(alloc, &bytes, Vec::new(alloc))?),
-        Ok(4)
-    );
     Ok(())
 }
+
+/// How many payloads there are where the second one's gate is torn: to 1, 0, 1, 1, 1, 2, 1 and 3.
+const GATES_TORN: [usize; 8] = [2, 1, 2, 2, 2, 1, 2, 1];
 
 /// What an append to the log `ONE` answers whose disk call of this number fails, what a second one
 /// does, and how many payloads a crash leaves then. The opening makes the calls 2 to 9, and the
@@ -187,13 +197,11 @@ fn stop_at(alloc: Global, call: u64, choice: u64) -> Result<Stopped, Fail> {
 #[test]
 fn crash_leaves_the_payload_or_not(rt: HostRuntime) -> Result<(), Fail> {
     let alloc: Global = rt.alloc();
-    // The gate's write is torn to 1, 0, 1, 1, 1, 2, 1 and 3.
-    let torn = [2, 1, 2, 2, 2, 1, 2, 1];
     let table = [
         (10, [1; 8]),
         (11, [1; 8]),
-        (12, torn),
-        (13, torn),
+        (12, GATES_TORN),
+        (13, GATES_TORN),
         (14, [2; 8]),
     ];
     let before = 0;
@@ -233,6 +241,40 @@ fn each_call_of_an_opening_may_fail(rt: HostRuntime) -> Result<(), Fail> {
     }
     let disk = disk_with(alloc, &ONE, vec![in alloc; 10]?)?;
     assert_eq!(rt; count_of(alloc, disk), Ok(1));
+    Ok(())
+}
+
+/// What an opening answers whose disk call of this number fails, and how many payloads a crash
+/// leaves then. The log is `ONE` and a payload whose gate is written but not synced, by an append
+/// that failed at the call 13. The opening makes the calls 14 to 24.
+fn stop_opening_at(alloc: Global, call: u64, choice: u64) -> Result<(OpenFault, usize), Fail> {
+    let disk = disk_with(alloc, &ONE, vec![in alloc; 13, call]?)?;
+    let Ok(opened) = open(alloc, disk, FIRST) else {
+        return Err(Fail::from("not opened"));
+    };
+    let mut log = opened.log;
+    if add(alloc, &mut log, b"abc").is_ok() {
+        return Err(Fail::from("added"));
+    }
+    match open(alloc, log.into_disk(), FIRST) {
+        Ok(_) => Err(Fail::from("opened")),
+        Err(back) => Ok((back.fault, count_of(alloc, back.disk.crashed(choice))?)),
+    }
+}
+
+#[test]
+fn opening_leaves_what_a_crash_could_have_left(rt: HostRuntime) -> Result<(), Fail> {
+    let alloc: Global = rt.alloc();
+    let before = 1;
+    let after = 2;
+    for call in 14..25 {
+        // The first call syncs the gate, which is torn up to there.
+        let counts = if call == 14 { GATES_TORN } else { [2; 8] };
+        for (choice, count) in counts.iter().enumerate() {
+            let stopped = stop_opening_at(alloc, call, choice as u64)?;
+            assert_eq!(rt; stopped, (OpenFault::DiskFault { before, after }, *count));
+        }
+    }
     Ok(())
 }
 

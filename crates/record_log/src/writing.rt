@@ -46,6 +46,7 @@ pub(crate) fn write_record<D: Disk>(disk: &mut D, gate: u64, behind: &[u8]) -> R
         → LeavesOnly D.disk D.left_since disk.old disk.new
         (IsShutWithOrWithout front payload) }
 
+    ensures counts { OnOk result ((D.disk disk.new).faults ≡ (D.disk disk.old).faults) }
     ensures room { OnOk result (gate + length behind.now < (D.disk disk.new).size) }
     ensures no_smaller { (D.disk disk.old).size ≤ (D.disk disk.new).size }
     ensures fails { OnErr result (Rises (D.disk disk.old).faults (D.disk disk.new).faults) }

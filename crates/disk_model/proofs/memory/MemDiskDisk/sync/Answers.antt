@@ -1,25 +1,33 @@
-use Rattle.std.proofs.Common.{◌∙◌}
+use Rattle.std.proofs.Common.{◌≡◌, ◌∙◌, List, reverse, ap, refl, sym}
+use Rattle.disk_model.specs.Memory.{is_synced}
+use Rattle.disk_model.specs.declared.call.DiskCall.{DiskCall}
 use Rattle.disk_model.specs.declared.call.DiskCall.TheVariants.{Synced}
-use Rattle.disk_model.proofs.MemoryCalls.{pushed, no_more, content-synced, stays-synced, elapses-synced, durable-synced}
+use Rattle.disk_model.proofs.MemoryCalls.{pushed, no_more, content-synced, stays-synced, elapses-synced, durable-synced, durable-already}
 use Rattle.disk_model.proofs.memory.MemDiskDisk.sync.Goals as goal
 
-pub invariant_of-self-2 : goal.invariant_of-self-2
-invariant_of-self-2 c =
-    let is = pushed c.self.inside.calls.items _ _ Synced c.reserve.ensures.items c.push_reserved.ensures.items in
+pub invariant_of-self-then-not-ends_in_sync : goal.invariant_of-self-then-not-ends_in_sync
+invariant_of-self-then-not-ends_in_sync c =
+    let is = pushed c.self.inside.calls.items _ _ Synced refl c.push_reserved.ensures.items in
     let was = c.self.invariant in
     (content-synced _ _ is ∙ was.0, was.1, was.2, no_more _ _ _ _ is)
 
-pub returns-clause-done : goal.returns-clause-done
-returns-clause-done c =
-    let is = pushed c.self.inside.calls.items _ _ Synced c.reserve.ensures.items c.push_reserved.ensures.items in
+pub returns-then-not-ends_in_sync-clause-done : goal.returns-then-not-ends_in_sync-clause-done
+returns-then-not-ends_in_sync-clause-done c =
+    let is = pushed c.self.inside.calls.items _ _ Synced refl c.push_reserved.ensures.items in
     rw (← c.self.view_is) (stays-synced _ _ _ is)
 
-pub returns-clause-durable : goal.returns-clause-durable
-returns-clause-durable c =
-    let is = pushed c.self.inside.calls.items _ _ Synced c.reserve.ensures.items c.push_reserved.ensures.items in
+pub returns-then-not-ends_in_sync-clause-durable : goal.returns-then-not-ends_in_sync-clause-durable
+returns-then-not-ends_in_sync-clause-durable c =
+    let is = pushed c.self.inside.calls.items _ _ Synced refl c.push_reserved.ensures.items in
     durable-synced _ _ is
 
-pub returns-clause-crash : goal.returns-clause-crash
-returns-clause-crash c =
-    let is = pushed c.self.inside.calls.items _ _ Synced c.reserve.ensures.items c.push_reserved.ensures.items in
+pub returns-then-not-ends_in_sync-clause-crash : goal.returns-then-not-ends_in_sync-clause-crash
+returns-then-not-ends_in_sync-clause-crash c =
+    let is = pushed c.self.inside.calls.items _ _ Synced refl c.push_reserved.ensures.items in
     rw (← c.self.view_is) (elapses-synced _ _ is)
+
+pub returns-else-not-ends_in_sync-clause-durable : goal.returns-else-not-ends_in_sync-clause-durable
+returns-else-not-ends_in_sync-clause-durable c =
+    let calls : is_synced (reverse c.self.inside.calls.items) ≡ is_synced (reverse c.deref.result.now) =
+    ap (λ (l : List DiskCall). is_synced (reverse l)) (sym c.deref.ensures.value) in
+    durable-already _ (calls ∙ sym c.if-not-ends_in_sync.ensures)

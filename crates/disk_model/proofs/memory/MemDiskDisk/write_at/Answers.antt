@@ -16,6 +16,11 @@ returns-then-fails-clause-fails c =
     (fails-same _ _ _ c.args.at _ _ (content-failed _ _ _ _ _ noted.2 (ap not c.if-fails.true))
     c.raise-then-fails.ensures)
 
+pub returns-then-fails-clause-undone : goal.returns-then-fails-clause-undone
+returns-then-fails-clause-undone c =
+    let noted = c.in-Ok.ensures.noted in
+    rw (← c.self.view_is) (content-failed _ _ _ _ _ noted.2 (ap not c.if-fails.true))
+
 pub returns-then-fails-clause-crash : goal.returns-then-fails-clause-crash
 returns-then-fails-clause-crash c =
     let noted = c.in-Ok.ensures.noted in
