@@ -1,6 +1,6 @@
 -- One more item of a list that completes another.
-use Rattle.std.proofs.Common.{◌≡◌, ◌++◌, ◌+◌, suc, length, arith, List, [], ◌∷◌, map, sym, ap, ◌∙◌, subst}
-use Rattle.std.proofs.lemmas.List.{append_assoc, append-nil, nil_from_length, length-append}
+use Rattle.std.proofs.Common.{◌≡◌, ◌++◌, suc, length, arith, List, [], ◌∷◌, map, sym, ap, ◌∙◌, subst}
+use Rattle.std.proofs.lemmas.List.{append_assoc, append-nil, nil_from_length}
 use Rattle.std.specs.List.{AllZip, All}
 
 -- the items so far, with those that the rest gives, are those of all
@@ -29,14 +29,6 @@ pub short-rest : {A : Type 0} (P : A → Type 0) (left more : List A) (x : A) �
 short-rest {A} P left more x first each =
     let L : List A → Type 0 = λ xs. All P xs in
     λ k d below. subst L first each (suc k) d (omega (arith, below))
-
--- an item goes from what is left to what is done
-pub one-less : {A B : Type 0} (all left more : List A) (x : A) (done next : List B) (y : B) → left ≡ x ∷ more → next ≡ done ++ y ∷ []
-    → length done + length left ≡ length all → length next + length more ≡ length all
-one-less all left more x done next y first pushed whole =
-    let a = ap (λ l. length l) first in
-    let b = ap (λ l. length l) pushed ∙ length-append done (y ∷ []) in
-    omega (arith, a, b, whole)
 
 -- what is made of the items so far, and of those that are left
 pub one-made : {A B : Type 0} (f : A → B) (all left more : List A) (x : A) (done next : List B) → left ≡ x ∷ more → next ≡ done ++ f x ∷ []

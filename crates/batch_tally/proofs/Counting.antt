@@ -13,20 +13,20 @@ use Rattle.tally_rows.specs.Track as tracks
 use Rattle.tally_rows.specs.Track.{Track}
 use Rattle.batch_tally.specs.declared.accepting.Accepted.{Accepted}
 use Rattle.batch_tally.specs.declared.step.Step.{Step}
-use Rattle.batch_tally.specs.Singles.{IsCountOf}
+use Rattle.batch_tally.specs.Singles.{IsCountFrom}
 use Rattle.batch_tally.specs.Steps.{step_as, IsStepAt, stages_within}
 use Rattle.batch_tally.proofs.Stages.{next-place}
 
 abbrev pub games_of : List Accepted → List Game
 games_of accepted = map (λ a. a.game) accepted
 
--- the games before index are counted
-pub record Counting (games : List Accepted) (singles : List Single) (number index : ℕ) : Type 0 where
+-- the games before index are counted, with numbers from the first one's on
+pub record Counting (first : ℕ) (games : List Accepted) (singles : List Single) (number index : ℕ) : Type 0 where
   pub tracks : List Track
   pub are_tracks : AllZip IsTrackOf (games_of (take index games)) tracks
-  pub singles_are : singles ≡ singles_from 0 tracks
+  pub singles_are : singles ≡ singles_from first tracks
   pub count : length tracks ≡ index
-  pub numbered : number ≡ index
+  pub numbered : number ≡ first + index
   pub few : length singles ≤ 51 * index
 
 -- ---- a track
@@ -80,17 +80,17 @@ zip-push R [] (b ∷ ys) x y each is = absurd each
 zip-push R (a ∷ xs) [] x y each is = absurd each
 zip-push R (a ∷ xs) (b ∷ ys) x y each is = (each.0, zip-push R xs ys x y each.1 is)
 
-pub starts-counting : (games : List Accepted) (singles : List Single) → singles ≡ [] → Counting games singles 0 0
-starts-counting games singles none =
-    record { tracks = []; are_tracks = tt; singles_are = none; count = refl; numbered = refl; few = (let e = ap (λ l. length l) none in omega (arith, e)) }
+pub starts-counting : (first : ℕ) (games : List Accepted) (singles : List Single) → singles ≡ [] → Counting first games singles first 0
+starts-counting first games singles none =
+    record { tracks = []; are_tracks = tt; singles_are = none; count = refl; numbered = omega arith; few = (let e = ap (λ l. length l) none in omega (arith, e)) }
 
-pub one-game : (games : List Accepted) (singles more : List Single) (number next index : ℕ) (accepted : Accepted) (steps : List Step)
+pub one-game : (first : ℕ) (games : List Accepted) (singles more : List Single) (number next index : ℕ) (accepted : Accepted) (steps : List Step)
     → index < length games → get_or games index accepted ≡ accepted
     → AllZip IsStepAt (stages_within stage_limit start accepted.game.moves) steps
     → more ≡ singles ++ map (single_at accepted.game.classes number) (first_steps [] (map step_as steps))
     → next ≡ number + 1
-    → Counting games singles number index → Counting games more next (index + 1)
-one-game games singles more number next index accepted steps below is stepped pushed grown counting =
+    → Counting first games singles number index → Counting first games more next (index + 1)
+one-game first games singles more number next index accepted steps below is stepped pushed grown counting =
     let track : Track = record { classes = accepted.game.classes; steps = map step_as steps } in
     let taken : take (index + 1) games ≡ take index games ++ accepted ∷ [] =
     ap (λ n. take n games) (sym (next-place index)) ∙ take-suc games index accepted below ∙ ap (λ a. take index games ++ a ∷ []) is in
@@ -98,7 +98,7 @@ one-game games singles more number next index accepted steps below is stepped pu
     let games_are : games_of (take (index + 1) games) ≡ games_of (take index games) ++ accepted.game ∷ [] =
     ap games_of taken ∙ map_push (λ a. a.game) (take index games) accepted in
     let is_track : IsTrackOf accepted.game track = record { classes = refl; steps = are-steps (counted_stages accepted.game) steps stepped } in
-    let last : number ≡ 0 + length counting.tracks = (let c = counting.count in let n = counting.numbered in omega (arith, c, n)) in
+    let last : number ≡ first + length counting.tracks = (let c = counting.count in let n = counting.numbered in omega (arith, c, n)) in
     let steps_few : length steps ≤ 51 = (let e = few-steps (stages_within stage_limit start accepted.game.moves) steps stepped in
     let f = length-take-le stage_limit (stages start accepted.game.moves) in omega (arith, e, f)) in
     let firsts = first-steps-le [] (map step_as steps) in
@@ -110,8 +110,8 @@ one-game games singles more number next index accepted steps below is stepped pu
       are_tracks = subst Z (sym games_are) (zip-push IsTrackOf (games_of (take index games)) counting.tracks accepted.game track counting.are_tracks is_track);
       singles_are = pushed
           ∙ ap (λ l. l ++ game_singles number track) counting.singles_are
-          ∙ ap (λ n. singles_from 0 counting.tracks ++ game_singles n track) last
-          ∙ sym (singles-push 0 counting.tracks track);
+          ∙ ap (λ n. singles_from first counting.tracks ++ game_singles n track) last
+          ∙ sym (singles-push first counting.tracks track);
       count = (let e = length-append counting.tracks (track ∷ []) in let c = counting.count in omega (arith, e, c));
       numbered = (let n = counting.numbered in omega (arith, grown, n));
       few = (let e = ap (λ l. length l) pushed in
@@ -119,7 +119,14 @@ one-game games singles more number next index accepted steps below is stepped pu
           let g = counting.few in omega (arith, e, f, g, singles_few));
     }
 
-pub all-counted : (games : List Accepted) (singles : List Single) (number index : ℕ) → take index games ≡ games → Counting games singles number index → IsCountOf games singles
-all-counted games singles number index whole counting =
+pub all-counted : (first : ℕ) (games : List Accepted) (singles : List Single) (number index : ℕ) → take index games ≡ games → index ≤ length games
+    → Counting first games singles number index → IsCountFrom first games singles
+all-counted first games singles number index whole within counting =
     let Z : List Accepted → Type 0 = λ gs. AllZip IsTrackOf (games_of gs) counting.tracks in
-    record { tracks = counting.tracks; are_tracks = subst Z whole counting.are_tracks; singles_are = counting.singles_are }
+    let few = counting.few in
+    record {
+      tracks = counting.tracks;
+      are_tracks = subst Z whole counting.are_tracks;
+      singles_are = counting.singles_are;
+      few = omega (arith, few, within);
+    }

@@ -3,6 +3,8 @@ pub mod Verdicts
 pub mod Stages
 pub mod Pushing
 pub mod Counting
+pub mod LeafLemmas
+pub mod ShareLemmas
 pub mod Candidates
 pub mod Made
 pub mod Whole

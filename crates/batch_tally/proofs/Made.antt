@@ -18,7 +18,7 @@ use Rattle.tally_rows.specs.Tally.{IsTrackOf, IsCounted}
 use Rattle.tally_rows.specs.Track.{Track}
 use Rattle.batch_tally.specs.declared.accepting.Accepted.{Accepted}
 use Rattle.batch_tally.specs.Accepting.{candidate_as, AreCandidates}
-use Rattle.batch_tally.specs.Singles.{IsCountOf}
+use Rattle.batch_tally.specs.Singles.{IsCountFrom}
 use Rattle.batch_tally.specs.Tallying.{Counts}
 
 -- ---- the moves of games are legal
@@ -68,7 +68,7 @@ pub record IsMade (accepted : List Accepted) (singles : List Single) (texts : Li
   pub known : AreCandidates accepted
   pub texts_are : texts ≡ map (λ a. a.text) accepted
   pub classes_are : classes ≡ map (λ a. a.game.classes) accepted
-  pub count : IsCountOf accepted singles
+  pub count : IsCountFrom 0 accepted singles
   pub rows_are : (tracks : List Track) → AreSingles tracks singles → Tallied tracks rows
   pub law : (tracks : List Track) → AreSingles tracks (singles_from 0 tracks)
 
@@ -133,12 +133,12 @@ pub made-of : (accepted lent : List Accepted) (singles : List Single) (texts mad
     → accepted ≢ [] → AreCandidates accepted → lent ≡ accepted
     → texts ≡ made_texts → made_texts ≡ map (λ a. a.text) accepted
     → classes ≡ made_classes → made_classes ≡ map (λ a. a.game.classes) accepted
-    → IsCountOf lent singles
+    → IsCountFrom 0 lent singles
     → rows ≡ made_rows → ((tracks : List Track) → AreSingles tracks singles → Tallied tracks made_rows)
     → ((tracks : List Track) → AreSingles tracks (singles_from 0 tracks))
     → IsMade accepted singles texts classes rows
 made-of accepted lent singles texts made_texts classes made_classes rows made_rows some known borrowed t texts_are k classes_are count r rows_are law =
-    let C : List Accepted → Type 0 = λ l. IsCountOf l singles in
+    let C : List Accepted → Type 0 = λ l. IsCountFrom 0 l singles in
     record {
       some = some;
       known = known;

@@ -1,4 +1,5 @@
 pub mod Accepting
+pub mod Leaves
 pub mod Reading
 pub mod Singles
 pub mod Steps

@@ -3,6 +3,7 @@
 
 mod accepting;
 pub mod laws;
+mod leaves;
 mod reading;
 mod singles;
 mod step;

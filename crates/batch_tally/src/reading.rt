@@ -1,15 +1,21 @@
 //! Texts and the games that they hold.
-ghost use Rattle.std.specs.Prelude.{◌≤◌, ◌≡◌, length, IfOk};
+ghost use Rattle.std.specs.Prelude.{◌<◌, ◌≤◌, ◌≡◌, ℕ, Result, Vec, length, slice_index_or, IfOk};
 ghost use Rattle.std.specs.List.{All, AllZip};
 ghost use Rattle.explorer_model.specs.Cuts.{text_limit};
-ghost use Rattle.explorer_model.specs.Imports.{group_limit};
+ghost use Rattle.batch_tally.specs.Leaves.{texts_of};
 ghost use Rattle.batch_tally.specs.Reading.{IsReadingOf};
+ghost use Rattle.batch_tally.specs.declared.reading.Leaf.{Leaf};
+ghost use Rattle.batch_tally.specs.declared.reading.Reading.{Reading};
+ghost use Rattle.std.specs.declared.alloc.AllocError.{AllocError};
+ghost use Rattle.std.specs.declared.alloc.Global.{Global};
 
+use crate::leaves::{all_made, joined};
 use explorer_model::archive::{Bytes, Game, Placed};
 use explorer_model::fault::{GameFault, Stop};
 use game_replay::replay;
 use outside::Gate;
 use std::alloc::{AllocError, Global};
+use std::thread::{Threads, map_vec};
 
 /// A text with its game, or the first of its faults.
 #[derive(Debug, Drop)]
@@ -20,29 +26,89 @@ pub struct Reading {
     pub game: Result<Game, GameFault>,
 }
 
-/// Each text of at most 65,536 bytes, replayed. The texts go to as many leaves as there are workers, one leaf after another, and each
-/// leaf goes through the gate before its first text.
-pub fn read_all<G: Gate>(
+/// The texts of one leaf.
+#[derive(Debug, Drop)]
+pub struct Leaf {
+    /// Counted from 1.
+    pub number: usize,
+    pub texts: Vec<Placed>,
+}
+
+/// Each text of at most 65,536 bytes, replayed. The texts go to as many leaves as there are workers, in order. The leaves work side
+/// by side, and each goes through the gate before its first text.
+pub fn read_all<R: Threads + Sync, G: Gate>(
+    rt: &R,
     alloc: Global,
     texts: Vec<Placed>,
     workers: usize,
     gate: &G,
 ) -> Result<Vec<Reading>, AllocError>
     requires some_workers { 1 ≤ workers }
-    requires few { length texts.items ≤ group_limit }
     requires short { All (λ text. length text.bytes ≤ text_limit) texts.items }
     ensures { IfOk result (λ readings. AllZip IsReadingOf texts.items readings.items) }
 {
-    let share = texts.len().div_ceil(workers).max(1);
-    let mut readings = Vec::with_capacity(alloc, texts.len())?;
-    for text in texts {
-        if readings.len() % share == 0 {
-            gate.pass(readings.len() / share + 1);
-        }
-        readings.push(read(alloc, text)?)?;
+    let leaves = leaves_of(alloc, texts, workers)?;
+    let results = read_leaves(rt, alloc, leaves, gate)?;
+    let parts = all_made(alloc, results)?;
+    joined(alloc, parts)
+}
+
+/// The texts in leaves, of which each has as many as the others or, at the end, fewer.
+fn leaves_of(alloc: Global, texts: Vec<Placed>, workers: usize) -> Result<Vec<Leaf>, AllocError>
+    requires { 1 ≤ workers }
+    ensures { IfOk result (λ leaves. texts_of leaves.items ≡ texts.items) }
+{
+    let share = texts.len().div_ceil(workers);
+    let mut leaves = Vec::with_capacity(alloc, workers)?;
+    let mut rest = texts;
+    for number in 1..workers {
+        let behind = rest.split_off(share.min(rest.len()))?;
+        leaves.push(Leaf {
+            number,
+            texts: rest,
+        })?;
+        rest = behind;
     }
-    for leaf in readings.len().div_ceil(share)..workers {
-        gate.pass(leaf + 1);
+    leaves.push(Leaf {
+        number: workers,
+        texts: rest,
+    })?;
+    Ok(leaves)
+}
+
+/// What each leaf makes of its texts.
+fn read_leaves<R: Threads + Sync, G: Gate>(
+    rt: &R,
+    alloc: Global,
+    leaves: Vec<Leaf>,
+    gate: &G,
+) -> Result<Vec<Result<Vec<Reading>, AllocError>>, AllocError>
+    requires { All (λ leaf. All (λ text. length text.bytes ≤ text_limit) leaf.texts.items)
+        leaves.items }
+    ensures count { IfOk result (λ results. length results.items ≡ length leaves.items) }
+    ensures results { IfOk result (λ results.
+        (n : ℕ) (d : Result (Vec Reading Global) AllocError) (l : Leaf) → n < length leaves.items
+        → IfOk (slice_index_or results.items n d) (λ readings.
+        AllZip IsReadingOf (slice_index_or leaves.items n l).texts.items readings.items)) }
+{
+    let read_one = |leaf: Leaf| -> Result<Vec<Reading>, AllocError>
+        requires { All (λ text. length text.bytes ≤ text_limit) leaf.texts.items }
+        ensures { IfOk result (λ readings. AllZip IsReadingOf leaf.texts.items readings.items) }
+    { read_leaf(alloc, leaf, gate) };
+    let results = map_vec(rt, leaves, &read_one)?;
+    let _count = results.as_slice().len();
+    Ok(results)
+}
+
+/// Goes through the gate, and then replays the texts of the leaf.
+fn read_leaf<G: Gate>(alloc: Global, leaf: Leaf, gate: &G) -> Result<Vec<Reading>, AllocError>
+    requires { All (λ text. length text.bytes ≤ text_limit) leaf.texts.items }
+    ensures { IfOk result (λ readings. AllZip IsReadingOf leaf.texts.items readings.items) }
+{
+    gate.pass(leaf.number);
+    let mut readings = Vec::with_capacity(alloc, leaf.texts.len())?;
+    for text in leaf.texts {
+        readings.push(read(alloc, text)?)?;
     }
     Ok(readings)
 }

@@ -14,6 +14,7 @@ use explorer_model::fault::Refusal;
 use explorer_model::list::Items;
 use outside::Gate;
 use std::alloc::{AllocError, Global};
+use std::thread::Threads;
 use tally_rows::{Tally, rows_of};
 
 /// What becomes of a list of texts.
@@ -28,8 +29,9 @@ pub struct Tallying {
 }
 
 /// Replays, accepts and counts up to 512 texts of at most 65,536 bytes each. The texts go to as many leaves as there are workers,
-/// in order; each leaf goes through the gate before its first text.
-pub fn tally<G: Gate>(
+/// in order, and the leaves work side by side; each goes through the gate before its first text.
+pub fn tally<R: Threads + Sync, G: Gate>(
+    rt: &R,
     alloc: Global,
     texts: Vec<Placed>,
     workers: usize,
@@ -41,10 +43,10 @@ pub fn tally<G: Gate>(
     requires short { All (λ text. length text.bytes ≤ text_limit) texts.items }
     ensures { IfOk result (λ tallying. IsTallying texts.items tallying) }
 {
-    let readings = read_all(alloc, texts, workers, gate)?;
+    let readings = read_all(rt, alloc, texts, workers, gate)?;
     let group = accept(alloc, readings)?;
     let places = places_of(alloc, group.accepted.as_slice())?;
-    let tally = tally_of(alloc, group.accepted)?;
+    let tally = tally_of(rt, alloc, group.accepted, workers)?;
     Ok(Tallying {
         tally,
         places,
@@ -65,15 +67,21 @@ fn places_of(alloc: Global, accepted: &[Accepted]) -> Result<Vec<u64>, AllocErro
 }
 
 /// The tally of accepted texts.
-fn tally_of(alloc: Global, accepted: Vec<Accepted>) -> Result<Option<Tally>, AllocError>
-    requires { AreCandidates accepted.items }
+fn tally_of<R: Threads + Sync>(
+    rt: &R,
+    alloc: Global,
+    accepted: Vec<Accepted>,
+    workers: usize,
+) -> Result<Option<Tally>, AllocError>
+    requires some_workers { 1 ≤ workers }
+    requires candidates { AreCandidates accepted.items }
     ensures { IfOk result (λ tally. IsTallyMade (map candidate_as accepted.items) tally) }
 {
     if accepted.is_empty() {
         return Ok(None);
     }
     tally_rows::laws::singles_of_first_visits();
-    let singles = singles_of(alloc, accepted.as_slice())?;
+    let singles = singles_of(rt, alloc, accepted.as_slice(), workers)?;
     let rows = rows_of(alloc, singles)?;
     let (texts, classes) = texts_and_classes(alloc, accepted)?;
     Ok(Some(Tally::new(

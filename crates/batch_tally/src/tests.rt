@@ -8,6 +8,7 @@ use outside::{FreeGate, Gate};
 use std::alloc::{AllocError, Global};
 use std::sync::atomic::{AtomicU64, Ordering};
 use std::test::Fail;
+use std::thread::Threads;
 
 /// A worked game with this id, and this movetext, which ends with `1-0`.
 fn text(alloc: Global, place: u64, id: &str, movetext: &str) -> Result<Placed, AllocError> {
@@ -23,7 +24,8 @@ fn text(alloc: Global, place: u64, id: &str, movetext: &str) -> Result<Placed, A
 }
 
 /// The tally of the texts, where they are few and short enough to be tallied.
-fn tallied<G: Gate>(
+fn tallied<R: Threads + Sync, G: Gate>(
+    rt: &R,
     alloc: Global,
     texts: Vec<Placed>,
     workers: usize,
@@ -32,7 +34,7 @@ fn tallied<G: Gate>(
     if workers == 0 || 16 < workers || 512 < texts.len() || !are_short(texts.as_slice()) {
         return Ok(None);
     }
-    Ok(Some(tally(alloc, texts, workers, gate)?))
+    Ok(Some(tally(rt, alloc, texts, workers, gate)?))
 }
 
 fn are_short(texts: &[Placed]) -> bool
@@ -70,7 +72,7 @@ fn counts_a_game_once_in_each_position(rt: HostRuntime) -> Result<(), Fail> {
     for (movetext, rows) in table {
         let mut texts = Vec::new(rt.alloc());
         texts.push(text(rt.alloc(), 0, "aaaaaaa1", movetext)?)?;
-        let tallying = tallied(rt.alloc(), texts, 1, &FreeGate)?;
+        let tallying = tallied(&rt, rt.alloc(), texts, 1, &FreeGate)?;
         assert_eq!(rt; row_count(&tallying), rows);
     }
     Ok(())
@@ -90,7 +92,7 @@ fn mixed(alloc: Global) -> Result<Vec<Placed>, AllocError> {
 fn refuses_the_second_text_with_an_id(rt: HostRuntime) -> Result<(), Fail> {
     for workers in [1, 2, 8, 16] {
         let texts = mixed(rt.alloc())?;
-        let Some(tallying) = tallied(rt.alloc(), texts, workers, &FreeGate)? else {
+        let Some(tallying) = tallied(&rt, rt.alloc(), texts, workers, &FreeGate)? else {
             assert!(rt; false);
             return Ok(());
         };
@@ -115,6 +117,54 @@ fn refuses_the_second_text_with_an_id(rt: HostRuntime) -> Result<(), Fail> {
     Ok(())
 }
 
+/// A hundred games of five openings, one of which is refused. The last thirty have the ids of the first.
+fn repeating(alloc: Global) -> Result<Vec<Placed>, AllocError> {
+    let openings = [
+        "1. e4 e5 1-0",
+        "1. e4 c5 1-0",
+        "1. e5 1-0",
+        "1. d4 d5 2. c4 1-0",
+        "1. Nf3 Nf6 2. Ng1 Ng8 3. e4 1-0",
+    ];
+    let mut texts = Vec::new(alloc);
+    for number in 0..100u64 {
+        let id = format!(in alloc; "{:08}", number % 70)?;
+        let movetext = openings[number as usize % openings.len()];
+        texts.push(text(alloc, number, id.as_str(), movetext)?)?;
+    }
+    Ok(texts)
+}
+
+/// Whether both have the same games, rows and refusals.
+fn are_same(first: &Tallying, second: &Tallying) -> bool {
+    let (Some(tally), Some(other)) = (&first.tally, &second.tally) else {
+        return false;
+    };
+    tally.rows() == other.rows()
+        && tally.classes().len() == other.classes().len()
+        && first.places.as_slice() == second.places.as_slice()
+        && first.refused.as_slice() == second.refused.as_slice()
+}
+
+#[test]
+fn tallies_alike_with_every_number_of_workers(rt: HostRuntime) -> Result<(), Fail> {
+    let texts = repeating(rt.alloc())?;
+    let Some(alone) = tallied(&rt, rt.alloc(), texts, 1, &FreeGate)? else {
+        return Err(Fail::from("too much"));
+    };
+    // Of 100 texts 20 have no game, and 24 of the last 30 the id of an accepted one.
+    assert_eq!(rt; (alone.places.len(), alone.refused.len()), (56, 44));
+    for workers in [2, 8, 16] {
+        let texts = repeating(rt.alloc())?;
+        let tallying = tallied(&rt, rt.alloc(), texts, workers, &FreeGate)?;
+        assert!(rt;
+            matches!(&tallying, Some(t) if are_same(t, &alone)),
+            "with {workers} workers"
+        );
+    }
+    Ok(())
+}
+
 #[test]
 fn tallies_as_many_texts_as_a_batch_has(rt: HostRuntime) -> Result<(), Fail> {
     let mut texts = Vec::new(rt.alloc());
@@ -122,7 +172,7 @@ fn tallies_as_many_texts_as_a_batch_has(rt: HostRuntime) -> Result<(), Fail> {
         let id = format!(in rt.alloc(); "{number:08}")?;
         texts.push(text(rt.alloc(), number, id.as_str(), "1. e4 e5 1-0")?)?;
     }
-    let tallying = tallied(rt.alloc(), texts, 8, &FreeGate)?;
+    let tallying = tallied(&rt, rt.alloc(), texts, 8, &FreeGate)?;
     assert_eq!(rt; row_count(&tallying), 3);
     assert!(rt; matches!(&tallying, Some(t) if t.places.len() == 512));
     Ok(())
@@ -137,7 +187,7 @@ fn tallies_the_longest_game(rt: HostRuntime) -> Result<(), Fail> {
     moves.push_str("1-0")?;
     let mut texts = Vec::new(rt.alloc());
     texts.push(text(rt.alloc(), 0, "aaaaaaa1", moves.as_str())?)?;
-    let tallying = tallied(rt.alloc(), texts, 4, &FreeGate)?;
+    let tallying = tallied(&rt, rt.alloc(), texts, 4, &FreeGate)?;
     // Four positions, each with the move that is played there first.
     assert_eq!(rt; row_count(&tallying), 4);
     Ok(())
@@ -147,7 +197,7 @@ fn tallies_the_longest_game(rt: HostRuntime) -> Result<(), Fail> {
 fn makes_no_batch_of_refused_texts(rt: HostRuntime) -> Result<(), Fail> {
     let mut texts = Vec::new(rt.alloc());
     texts.push(text(rt.alloc(), 7, "aaaaaaa1", "1. e5 1-0")?)?;
-    let tallying = tallied(rt.alloc(), texts, 2, &FreeGate)?;
+    let tallying = tallied(&rt, rt.alloc(), texts, 2, &FreeGate)?;
     assert!(rt; matches!(&tallying, Some(t) if t.tally.is_none() && t.refused.len() == 1));
     Ok(())
 }
@@ -182,10 +232,44 @@ fn each_leaf_passes_the_gate_once(rt: HostRuntime) -> Result<(), Fail> {
                 passes: AtomicU64::new(0),
                 leaves: AtomicU64::new(0),
             };
-            let _ = tallied(rt.alloc(), texts, workers, &gate)?;
+            let _ = tallied(&rt, rt.alloc(), texts, workers, &gate)?;
             assert_eq!(rt; gate.passes.load(Ordering::SeqCst), workers as u64);
             assert_eq!(rt; gate.leaves.load(Ordering::SeqCst), leaves);
         }
     }
+    Ok(())
+}
+
+/// A gate that marks each leaf. It holds leaf 1 until leaf 2 has come, or a million turns are over.
+#[derive(Drop)]
+struct HoldingGate {
+    leaves: AtomicU64,
+}
+
+impl Gate for HoldingGate {
+    fn pass(&self, leaf: usize) {
+        if leaf == 1 {
+            for _ in 0..1_000_000u32 {
+                if self.leaves.load(Ordering::SeqCst) & 4 == 4 {
+                    // Leaf 2 has come while leaf 1 was here: both are marked.
+                    self.leaves.fetch_or(1, Ordering::SeqCst);
+                    break;
+                }
+            }
+        }
+        self.leaves.fetch_or(1u64 << (leaf % 64), Ordering::SeqCst);
+    }
+}
+
+#[test]
+fn two_leaves_run_at_once(rt: HostRuntime) -> Result<(), Fail> {
+    let texts = mixed(rt.alloc())?;
+    let gate = HoldingGate {
+        leaves: AtomicU64::new(0),
+    };
+    let tallying = tallied(&rt, rt.alloc(), texts, 2, &gate)?;
+    // The mark of both, and leaves 1 and 2.
+    assert_eq!(rt; gate.leaves.load(Ordering::SeqCst), 0b111);
+    assert!(rt; matches!(&tallying, Some(t) if t.places.as_slice() == [200, 400].as_slice()));
     Ok(())
 }

@@ -1,14 +1,25 @@
-use Rattle.std.proofs.Common.{sym, ◌∙◌, length, ◌≤◌}
+use Rattle.std.proofs.Common.{◌≤◌, List, length, sym, subst}
+use Rattle.std.specs.List.{AllZip, flat_map}
+use Rattle.explorer_model.specs.declared.archive.Placed.{Placed}
+use Rattle.batch_tally.specs.declared.reading.Reading.{Reading}
 use Rattle.batch_tally.specs.Reading.{IsReadingOf}
-use Rattle.batch_tally.proofs.Completing.{one-more, all-done, short-rest, nothing-left, one-less}
+use Rattle.batch_tally.proofs.LeafLemmas.{if-ok, joined-zip, made-each, parts-all}
 use Rattle.batch_tally.proofs.reading.read_all.Goals as goal
 
-pub loop-text-preserved : goal.loop-text-preserved
-loop-text-preserved g c = (
-  one-more IsReadingOf c.args.texts.items _ _ _ _ _ _ c.in-Some.ensures.steps.0 c.in_ok-push.ensures.items c.in_ok-read.ensures c.loop-text.invariant.0,
-  short-rest (λ text. length text.bytes ≤ 65536) _ _ _ c.in-Some.ensures.steps.0 c.loop-text.invariant.1,
-  one-less c.args.texts.items _ _ _ _ _ _ c.in-Some.ensures.steps.0 c.in_ok-push.ensures.items c.loop-text.invariant.2,
-)
+pub read_leaves-requires-after_bounds : goal.read_leaves-requires-after_bounds
+read_leaves-requires-after_bounds g c κs within =
+    parts-all (λ text. length text.bytes ≤ 65536) (λ leaf. leaf.texts.items) c.in_ok-leaves.leaves.items c.args.texts.items
+    c.in_ok-leaves.ensures c.requires.short
 
 pub returns : goal.returns
-returns g c = all-done IsReadingOf c.args.texts.items _ _ (nothing-left _ (sym c.loop-text.text-iterator.rest.ok.0 ∙ c.in-None.ensures.steps.0)) c.loop-text.invariant.0
+returns g c =
+    let leaves = c.in_ok-leaves.leaves.items in
+    let parts = c.in_ok-parts.parts.items in
+    let results = c.in_ok-results in
+    let each = made-each (λ leaf readings. AllZip IsReadingOf leaf.texts.items readings.items) leaves results.results.items parts
+    c.in_ok-parts.ensures results.ensures.count results.ensures.results in
+    let whole = joined-zip IsReadingOf (λ leaf. leaf.texts.items) (λ part. part.items) leaves parts each in
+    if-ok _ _ c.joined.result (λ all is.
+    subst (λ (readings : List Reading). AllZip IsReadingOf c.args.texts.items readings) (sym is)
+    (subst (λ (texts : List Placed). AllZip IsReadingOf texts (flat_map (λ part. part.items) parts)) c.in_ok-leaves.ensures whole))
+    c.joined.ensures

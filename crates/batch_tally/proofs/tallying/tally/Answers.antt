@@ -1,8 +1,8 @@
 use Rattle.batch_tally.proofs.Whole.{are-candidates, is-tallying}
 use Rattle.batch_tally.proofs.tallying.tally.Goals as goal
 
-pub tally_of-requires : goal.tally_of-requires
-tally_of-requires g c =
+pub tally_of-requires-clause-candidates : goal.tally_of-requires-clause-candidates
+tally_of-requires-clause-candidates g c = λ κs within.
     are-candidates c.args.texts.items c.in_ok-readings.readings.items c.in_ok-group.group.accepted.items
     c.requires.few c.requires.short c.in_ok-readings.ensures c.in_ok-group.ensures.accepted
 

@@ -1,12 +1,11 @@
-use Rattle.std.proofs.Common.{◌≡◌, ◌≤◌, ◌+◌, length}
+use Rattle.std.proofs.Common.{◌≤◌, length}
 use Rattle.std.specs.List.{All}
 use Rattle.batch_tally.specs.Reading.{IsReadingOf}
 use Rattle.batch_tally.proofs.Completing.{Completes}
-use Rattle.batch_tally.proofs.reading.read_all.Given as goal
+use Rattle.batch_tally.proofs.reading.read_leaf.Given as goal
 
 -- the readings of the rest complete those of all texts
 abbrev pub invariant-loop-text : goal.invariant-loop-text
 invariant-loop-text g l =
-    Completes IsReadingOf l.fn.texts.items l.readings.items l.text-iterator.rest.items
+    Completes IsReadingOf l.fn.leaf.texts.items l.readings.items l.text-iterator.rest.items
     × All (λ text. length text.bytes ≤ 65536) l.text-iterator.rest.items
-    × (length l.readings.items + length l.text-iterator.rest.items ≡ length l.fn.texts.items)
