@@ -110,7 +110,7 @@ hand told cuts counted places refused now r =
     }
 
 -- some more ids were found to be stored
-pub more : OneGame → (told : Option Store) (cuts : List Cut) (counted : Counted) (places : List ℕ) (refused : List Refusal) (now : Option Store) (r : Rounds told cuts (Some counted) places refused now)
+unfoldable pub more : OneGame → (told : Option Store) (cuts : List Cut) (counted : Counted) (places : List ℕ) (refused : List Refusal) (now : Option Store) (r : Rounds told cuts (Some counted) places refused now)
     (number : Numbering) (named refused' : List Refusal) (rest : List Placed) (next : Tallying) (now' : Option Store)
     → named ≡ named_by number (kept r.stored (verdicts r.examinations)) → rest ≡ map placed (left_by number (kept r.stored (verdicts r.examinations)))
     → refused' ≡ merged refused named → IsTallying rest next
@@ -171,7 +171,7 @@ none_rest : (at : ℕ) (o : Option ℕ) (rest : List Clashing) → and_clash at 
 none_rest at None rest e = e
 none_rest at (Some n) rest e = cc
 
-kept_none : (number : Numbering) (at : ℕ) (cs : List Candidate) → clashes_from at number (map id_of cs) ≡ [] → AllByRecursion (λ c. number (id_of c) ≡ None) cs
+pub kept_none : (number : Numbering) (at : ℕ) (cs : List Candidate) → clashes_from at number (map id_of cs) ≡ [] → AllByRecursion (λ c. number (id_of c) ≡ None) cs
 kept_none number at [] none = tt
 kept_none number at (c ∷ cs) none =
     (none_head at (number (id_of c)) (clashes_from (at + 1) number (map id_of cs)) none, kept_none number (at + 1) cs (none_rest at (number (id_of c)) (clashes_from (at + 1) number (map id_of cs)) none))
@@ -258,7 +258,7 @@ pub lacks_still : (known : Known) (now : Option Store) → IsStill known now →
 lacks_still known now still = record { new = store_of known; still = still; fault = refl; journal = inl refl }
 
 -- the group as it was tallied first
-pub first : (told : Option Store) (cuts : List Cut) (made : TalliedGroup) → Ascend cuts → IsTallied cuts made → Rounds told cuts made.tally made.places.items made.refused.items told
+unfoldable pub first : (told : Option Store) (cuts : List Cut) (made : TalliedGroup) → Ascend cuts → IsTallied cuts made → Rounds told cuts made.tally made.places.items made.refused.items told
 first told cuts made ascend is =
     let none : Numbering = λ id. None in
     let same = settled_none (verdicts is.examinations) in

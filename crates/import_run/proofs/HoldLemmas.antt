@@ -1,5 +1,5 @@
 -- What a group in hand holds of cuts.
-use Rattle.std.proofs.Common.{◌≡◌, ℕ, List, [], ◌∷◌, ◌++◌, sym, ap, subst, ◌∙◌}
+use Rattle.std.proofs.Common.{◌≡◌, ℕ, ◌≤◌, ◌<◌, List, [], ◌∷◌, ◌++◌, length, filter_map, refl, sym, ap, subst, ◌∙◌, arith}
 use Rattle.std.specs.List.{cons_option}
 use Rattle.std.proofs.lemmas.List.{append-nil}
 use Rattle.std.proofs.lemmas.List.Elements.{filter_map-append}
@@ -10,8 +10,10 @@ use Rattle.explorer_model.specs.declared.fault.Why.TheVariants as causes
 use Rattle.pgn_cut.specs.Cut.{meaning}
 use Rattle.pgn_cut.specs.declared.cut.Cut as given
 use Rattle.pgn_cut.specs.declared.cut.Cut.TheVariants as kinds
+use Rattle.import_run.specs.SoFar.{IsWhole}
 use Rattle.import_run.specs.Grouping.{IsGroupOf, text_of, unread_of}
 use Rattle.import_run.specs.declared.text_group.TextGroup.{TextGroup}
+use Rattle.import_run.proofs.GroupLemmas.{texts_in, texts-append, texts-cons}
 
 -- one more cut
 holds_more : (cuts : List Cut) (cut : Cut) (old new : TextGroup) → IsGroupOf cuts old
@@ -38,3 +40,23 @@ pub holds_preamble : (cuts : List Cut) (cut : given.Cut) (place : ℕ) (old new 
 holds_preamble cuts cut place old new is texts unread group =
     let P : given.Cut → Type 0 = λ cut. IsGroupOf (cuts ++ meaning cut ∷ []) new in
     subst P (sym is) (holds_more cuts (Preamble place) old new group (texts ∙ sym (append-nil old.texts.items)) unread)
+
+pub texts_held : (cuts : List Cut) → length (filter_map text_of cuts) ≡ texts_in cuts
+texts_held [] = refl
+texts_held (Text text ∷ cuts) = omega (arith, texts_held cuts, texts-cons (Text text) cuts)
+texts_held (TooLong place long ∷ cuts) = omega (arith, texts_held cuts, texts-cons (TooLong place long) cuts)
+texts_held (Preamble place ∷ cuts) = omega (arith, texts_held cuts, texts-cons (Preamble place) cuts)
+
+pub holds_texts : (cuts : List Cut) (group : TextGroup) → IsGroupOf cuts group → length group.texts.items ≡ texts_in cuts
+holds_texts cuts group holds = ap length holds.texts ∙ texts_held cuts
+
+-- the last text that a group may have makes it whole
+pub is_whole : (cuts : List Cut) (cut : Cut) → texts_in cuts < 512 → 512 ≤ texts_in (cuts ++ cut ∷ []) → IsWhole (cuts ++ cut ∷ [])
+is_whole cuts (Text text) few full = record {
+  front = cuts;
+  text = text;
+  ends = refl;
+  texts = omega (arith, few, full, texts-append cuts (Text text ∷ []), texts-cons (Text text) []);
+}
+is_whole cuts (TooLong place long) few full = absurd (omega (arith, few, full, texts-append cuts (TooLong place long ∷ []), texts-cons (TooLong place long) []))
+is_whole cuts (Preamble place) few full = absurd (omega (arith, few, full, texts-append cuts (Preamble place ∷ []), texts-cons (Preamble place) []))

@@ -2,7 +2,7 @@
 use Rattle.std.proofs.Common.{◌≡◌, ◌⊎◌, inl, inr, ℕ, List, [], ◌∷◌, ◌++◌, map, Option, None, Some, Result, Ok, Err, refl, sym, ap, ◌∙◌, subst, append_assoc}
 use Rattle.std.proofs.lemmas.List.{append-nil}
 use Rattle.std.specs.List.{AllByRecursion, AllZip, cons_option}
-use Rattle.std.specs.Prelude.{IfErr, is_none}
+use Rattle.std.specs.Prelude.{IfErr, IsSome, is_none}
 use Rattle.explorer_model.specs.declared.archive.Batch.{Batch}
 use Rattle.explorer_model.specs.declared.archive.Game.{Game}
 use Rattle.explorer_model.specs.declared.fault.Refusal.{Refusal}
@@ -17,7 +17,7 @@ use Rattle.tally_rows.specs.Tally.{Counted}
 use Rattle.published_index.specs.Changes.{Change}
 use Rattle.import_run.specs.declared.settle.Done.{Done}
 use Rattle.import_run.specs.Committing.{Known, Store}
-use Rattle.import_run.specs.Progress.{AreReceiptsOf, Progress, and_games}
+use Rattle.import_run.specs.Progress.{AreReceiptsOf, HasNoCandidate, Progress, and_games}
 use Rattle.import_run.specs.Rounds.{IsAnswer, MayHaveMore, Settles, stored_by}
 use Rattle.import_run.proofs.HandLemmas.{lacks_still}
 use Rattle.import_run.specs.Importing.{WhereLacking}
@@ -61,6 +61,22 @@ same_behind (Some f) games vs (inr none) =
     let empty : candidates vs ≡ [] = sym (ap candidates (settled_none vs)) ∙ none in
     same_settled (stored_by (Some f) games) (numbers_of games) vs (subst R (sym empty) tt)
 
+-- in a closed store no candidate is kept only where there is none
+none_kept : (fault : Option (ℕ × ℕ)) (games : List Game) (vs : List Verdict) → IsSome fault → kept (stored_by fault games) vs ≡ [] → candidates vs ≡ []
+none_kept None games vs some none = cc
+none_kept (Some f) games vs some none = sym (ap candidates (settled_none vs)) ∙ none
+
+is_some_by : (fault now : Option (ℕ × ℕ)) → now ≡ fault → IsSome fault → IsSome now
+is_some_by fault now is some = subst (λ (o : Option (ℕ × ℕ)). IsSome o) (sym is) some
+
+none_some : (fault : Option (ℕ × ℕ)) → IsSome fault → fault ≡ None → ⊥
+none_some None some is = cc
+none_some (Some f) some is = cc
+
+none_more : (groups : List (List Examination)) (group : List Examination) → AllByRecursion HasNoCandidate groups → HasNoCandidate group → AllByRecursion HasNoCandidate (groups ++ group ∷ [])
+none_more [] group none last = (last, tt)
+none_more (first ∷ groups) group none last = (none.0, none_more groups group none.1 last)
+
 module _ {J : Type 0} where
   receipts_more : (journal : List Batch) (receipts : List (Receipt J)) (batches : List Batch) (receipt : Receipt J) (batch : Batch) → AreReceiptsOf journal receipts batches
       → IsReceiptOf receipt (journal ++ batches) batch → receipt.note ≡ (journal ++ batches) ++ batch ∷ [] → AreReceiptsOf journal (receipts ++ receipt ∷ []) (batches ++ batch ∷ [])
@@ -85,12 +101,12 @@ module _ {J : Type 0} where
 
 module _ {J : Type 0} (start : Known) (groups : List (List Cut)) (receipts receipts' : List (Receipt J)) (refused refused' : List Refusal) (told told' : Option Store) (cuts : List Cut) (p : Progress start groups receipts refused told) where
   -- the batch of the group, or none
-  step : (examinations : List Examination) → AllZip IsExaminationOf cuts examinations → refused' ≡ refused ++ refusals (verdicts_behind (numbers_of p.known.games) examinations)
+  step : (examinations : List Examination) → AllZip IsExaminationOf cuts examinations → (IsSome start.fault → HasNoCandidate examinations) → refused' ≡ refused ++ refusals (verdicts_behind (numbers_of p.known.games) examinations)
       → (o : Option Batch) → batch_of (candidates (verdicts_behind (numbers_of p.known.games) examinations)) ≡ o → AreReceiptsOf start.journal receipts' (p.batches ++ cons_option o [])
       → told' ≡ Some (record { journal = p.known.journal ++ cons_option o []; fault = p.known.fault })
       → Progress start (groups ++ cuts ∷ []) receipts' refused' told'
   unfolding one_more
-  step examinations each refused_is o is receipts_are still =
+  step examinations each closed refused_is o is receipts_are still =
       let more = one_more start.games groups p.batches refused p.accounted cuts examinations each in
       let B : List Game → Option Batch = λ g. batch_of (candidates (verdicts_behind (numbers_of g) examinations)) in
       let R : List Game → List Refusal = λ g. refusals (verdicts_behind (numbers_of g) examinations) in
@@ -111,6 +127,7 @@ module _ {J : Type 0} (start : Known) (groups : List (List Cut)) (receipts recei
         journal = ap (λ (j : List Batch). j ++ cons_option o []) p.journal ∙ append_assoc start.journal p.batches (cons_option o []);
         games = ap (λ (g : List Game). and_games g examinations) p.games ∙ sym (games-after start.games p.accounted.examinations examinations);
         fault = p.fault;
+        closed = λ some. none_more p.accounted.examinations examinations (p.closed some) (closed some);
       }
 
   pub no_batch : (done : Done J) → Settles p.known cuts done told' → done.answer ≡ None → refused' ≡ refused ++ done.refused.items → receipts' ≡ receipts
@@ -123,7 +140,7 @@ module _ {J : Type 0} (start : Known) (groups : List (List Cut)) (receipts recei
       let Q : List (Receipt J) → List Batch → Type 0 = λ r b. AreReceiptsOf start.journal r b in
       let C : List (Receipt J) → Type 0 = λ r. AreReceiptsOf start.journal r (p.batches ++ []) in
       let D : List Batch → Type 0 = λ b. AreReceiptsOf start.journal receipts b in
-      step s.examinations s.are_examinations
+      step s.examinations s.are_examinations (λ some. none_kept p.known.fault p.known.games vs (is_some_by start.fault p.known.fault p.fault some) a.0)
       (refused_is ∙ ap (λ (l : List Refusal). refused ++ l) (s.refused ∙ ap refusals same))
       None (ap (λ (v : List Verdict). batch_of (candidates v)) (sym same) ∙ ap batch_of a.0)
       (subst C (sym receipts_is) (subst D (sym (append-nil p.batches)) p.receipts_are))
@@ -139,7 +156,7 @@ module _ {J : Type 0} (start : Known) (groups : List (List Cut)) (receipts recei
       let same = same_behind p.known.fault p.known.games vs (inl (not_closed receipt p.known.fault p.known.games p.known.journal a.0 commits.held commits.refused)) in
       let C : List (Receipt J) → Type 0 = λ r. AreReceiptsOf start.journal r (p.batches ++ a.0.batch ∷ []) in
       let I : List Batch → Type 0 = λ j. IsReceiptOf receipt j a.0.batch in
-      step s.examinations s.are_examinations
+      step s.examinations s.are_examinations (λ some. absurd (none_some p.known.fault (is_some_by start.fault p.known.fault p.fault some) (not_closed receipt p.known.fault p.known.games p.known.journal a.0 commits.held commits.refused)))
       (refused_is ∙ ap (λ (l : List Refusal). refused ++ l) (s.refused ∙ ap refusals same))
       (Some a.0.batch) (ap (λ (v : List Verdict). batch_of (candidates v)) (sym same) ∙ a.1.batch)
       (subst C (sym receipts_is) (receipts_more start.journal receipts p.batches receipt a.0.batch p.receipts_are (subst I p.journal commits.receives.0)

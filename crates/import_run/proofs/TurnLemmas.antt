@@ -53,7 +53,7 @@ read_zip : (cs : List Candidate) → AreRead cs → AllZip IsTextOf (map (λ c. 
 read_zip [] read = tt
 read_zip (c ∷ cs) read = (read.0, read_zip cs read.1)
 
-texts_more : (journal : List Batch) (batch : Batch) → texts_of (journal ++ batch ∷ []) ≡ texts_of journal ++ batch.texts
+pub texts_more : (journal : List Batch) (batch : Batch) → texts_of (journal ++ batch ∷ []) ≡ texts_of journal ++ batch.texts
 texts_more journal batch =
     flat_map-append (λ (b : Batch). b.texts) journal (batch ∷ [])
     ∙ ap (λ (l : List (List ℕ)). texts_of journal ++ l) (append-nil batch.texts)

@@ -1,7 +1,17 @@
 pub mod Grouping
+pub mod SoFar
 pub mod Settling
 pub mod Hand
 pub mod Committing
 pub mod Rounds
+pub mod Beside
+pub mod EndingBeside
 pub mod Progress
 pub mod Importing
+pub mod Ending
+pub mod Since
+pub mod SinceLaws
+pub mod Taking
+pub mod Alone
+pub mod Faultless
+pub mod Counting

@@ -1,10 +1,11 @@
 -- How far an import has come, where the store at its beginning is known.
-use Rattle.std.specs.Prelude.{◌≡◌, ⊤, List, [], ◌∷◌, ◌++◌, map, Option, Some}
+use Rattle.std.specs.Prelude.{◌≡◌, ⊤, List, [], ◌∷◌, ◌++◌, map, IsSome, Option, Some}
+use Rattle.std.specs.List.{AllByRecursion}
 use Rattle.explorer_model.specs.declared.archive.Batch.{Batch}
 use Rattle.explorer_model.specs.declared.archive.Game.{Game}
 use Rattle.explorer_model.specs.declared.fault.Refusal.{Refusal}
 use Rattle.explorer_model.specs.Cuts.{Cut}
-use Rattle.explorer_model.specs.Imports.{Accounted, Examination, candidates, numbers_of, verdicts_behind}
+use Rattle.explorer_model.specs.Imports.{Accounted, Examination, candidates, numbers_of, verdicts, verdicts_behind}
 use Rattle.ingest_desk.specs.Commits.{IsReceiptOf}
 use Rattle.ingest_desk.specs.declared.receipt.Receipt.{Receipt}
 use Rattle.import_run.specs.Committing.{Known, Store, store_of}
@@ -29,8 +30,11 @@ AreReceiptsOf journal (receipt ∷ receipts) (batch ∷ batches) =
 AreReceiptsOf journal [] (batch ∷ batches) = ⊥
 AreReceiptsOf journal (receipt ∷ receipts) [] = ⊥
 
+abbrev pub HasNoCandidate : List Examination → Type 0
+HasNoCandidate group = candidates (verdicts group) ≡ []
+
 -- The groups are accounted by the batches behind the journal, one for each receipt, and by the
--- refusals.
+-- refusals. Where the store is closed, none of them has a candidate.
 pub record Progress {J : Type 0} (start : Known) (groups : List (List Cut))
     (receipts : List (Receipt J)) (refused : List Refusal) (told : Option Store)
     : Type 0 where
@@ -42,3 +46,4 @@ pub record Progress {J : Type 0} (start : Known) (groups : List (List Cut))
   pub journal : known.journal ≡ start.journal ++ batches
   pub games : known.games ≡ games_after start.games accounted.examinations
   pub fault : known.fault ≡ start.fault
+  pub closed : IsSome start.fault → AllByRecursion HasNoCandidate accounted.examinations

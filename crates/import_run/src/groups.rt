@@ -1,13 +1,13 @@
 //! Groups are stored one after another.
-ghost use Rattle.std.specs.Prelude.{◌≡◌, ◌≤◌, ◌++◌, ◌∷◌, [], List, Some, length, IfErr, OnErr, OnOk};
+ghost use Rattle.std.specs.Prelude.{◌≡◌, ◌≤◌, ◌++◌, ◌∷◌, [], List, Option, length, IfErr, OnOk};
 ghost use Rattle.std.specs.List.{All};
 ghost use Rattle.explorer_model.specs.Cuts.{Cut as ACut, text_limit};
 ghost use Rattle.explorer_model.specs.Imports.{group_limit};
-ghost use Rattle.import_run.specs.Committing.{Known, store_of};
+ghost use Rattle.import_run.specs.Beside.{last_batches};
+ghost use Rattle.import_run.specs.Committing.{Store};
 ghost use Rattle.import_run.specs.Grouping.{Ascend, IsGroupOf};
-ghost use Rattle.import_run.specs.Importing.{IsEndOf, StopsAt, WhereLacking, WhereStopped};
-ghost use Rattle.import_run.specs.Progress.{Progress};
-ghost use Rattle.import_run.specs.Rounds.{MayHaveMore};
+ghost use Rattle.import_run.specs.Importing.{IsEndOf, WhereLacking, WhereStopped};
+ghost use Rattle.import_run.specs.Taking.{IsSettledSo, LacksBehind, StopsBehind};
 
 use crate::committer::Committer;
 use crate::merging::merge_due;
@@ -46,6 +46,7 @@ impl<J: Index> OpenImport<J> {
         ensures none { result.group.texts.items ≡ [] }
         ensures receipts { result.receipts.items ≡ [] }
         ensures refused { result.refused.items ≡ [] }
+        ensures clashes { result.clashes.items ≡ [] }
     {
         OpenImport {
             group: TextGroup::new(alloc),
@@ -56,7 +57,7 @@ impl<J: Index> OpenImport<J> {
     }
 
     /// Settles the group in hand: its new texts are stored, and all else of it is refused.
-    pub fn close<C: Committer<J, R>, R: Wait + Threads + Sync, G: Gate>(
+    pub fn close<C: Committer<J>, R: Wait + Threads + Sync, G: Gate>(
         &mut self,
         rt: &R,
         alloc: Global,
@@ -70,25 +71,26 @@ impl<J: Index> OpenImport<J> {
         requires short { All (λ text. length text.bytes ≤ text_limit) self.old.group.texts.items }
         ensures group { OnOk result (IsGroupOf [] self.new.group) }
         ensures none { OnOk result (self.new.group.texts.items ≡ []) }
-        ensures closes { OnOk result ((start : Known) (closed : List (List ACut)) (hand : List ACut)
-            → Ascend hand → IsGroupOf hand self.old.group
-            → Progress start closed self.old.receipts.items self.old.refused.items
-            (C.told committer.old)
-            → Progress start (closed ++ hand ∷ []) self.new.receipts.items self.new.refused.items
-            (C.told committer.new)) }
-        ensures stops { IfErr result (λ stop. WhereStopped stop (λ stopped. (known : Known)
+        ensures closes { OnOk result ((start : Option Store) (closed : List (List ACut))
             (hand : List ACut) → Ascend hand → IsGroupOf hand self.old.group
-            → C.told committer.old ≡ Some (store_of known)
-            → StopsAt known hand stopped (C.told committer.new))) }
-        ensures lacks { IfErr result (λ stop. WhereLacking stop ((known : Known)
-            (hand : List ACut) → Ascend hand → IsGroupOf hand self.old.group
-            → C.told committer.old ≡ Some (store_of known)
-            → MayHaveMore known (C.told committer.new))) }
-        ensures receipts { OnErr result (self.new.receipts.items ≡ self.old.receipts.items) }
-        ensures refused { OnErr result (self.new.refused.items ≡ self.old.refused.items) }
+            → IsSettledSo start closed self.old (C.told committer.old)
+            → IsSettledSo start (closed ++ hand ∷ []) self.new (C.told committer.new)) }
+        ensures stops { IfErr result (λ stop. WhereStopped stop (λ stopped.
+            (start : Option Store) (closed : List (List ACut)) (hand : List ACut) → Ascend hand
+            → IsGroupOf hand self.old.group
+            → IsSettledSo start closed self.old (C.told committer.old)
+            → StopsBehind start closed hand self.new stopped (C.told committer.new))) }
+        ensures lacks { IfErr result (λ stop. WhereLacking stop ((start : Option Store)
+            (closed : List (List ACut)) (hand : List ACut) → Ascend hand
+            → IsGroupOf hand self.old.group
+            → IsSettledSo start closed self.old (C.told committer.old)
+            → LacksBehind start closed self.new (C.told committer.new))) }
+        ensures since { C.since committer.old committer.new }
     {
         let group = mem::replace(&mut self.group, TextGroup::new(alloc));
         self.receipts.reserve(1)?;
+        self.refused
+            .reserve(group.texts.len() + group.unread.len())?;
         let Done { answer, refused } = settle(
             rt,
             alloc,
@@ -104,6 +106,10 @@ impl<J: Index> OpenImport<J> {
         };
         let fault = match answer {
             Ok(receipt) => {
+                // A receipt tells of the journal that its commit found: the numbers ascend.
+                if receipt.batches() <= last_batches(self.receipts.as_slice()) {
+                    return Err(Stop::OutOfMemory);
+                }
                 self.refused.extend_from_slice(refused.as_slice())?;
                 self.receipts.push_reserved(receipt);
                 merge_due(rt, alloc, committer, workers, gate);
@@ -115,6 +121,16 @@ impl<J: Index> OpenImport<J> {
             end: end_of(fault),
             refused,
         }))
+    }
+}
+
+/// How many batches the journal of the last receipt has; none where there is no receipt.
+fn last_batches<J: Index>(receipts: &[Receipt<J>]) -> u32
+    ensures { result ≡ last_batches 0 receipts.now }
+{
+    match receipts.last() {
+        Some(receipt) => receipt.batches(),
+        None => 0,
     }
 }
 

@@ -1,16 +1,30 @@
-//! Groups of an import: their new texts are stored as batches, and all else of them is refused, each
-//! with its cause.
+//! Imports of streams: the new texts of each group are stored as one batch, and all else of it is
+//! refused, each with its cause.
 #![tactic(auto)]
 
+mod alone;
 mod committer;
+mod desk;
+mod draining;
+mod ends;
 mod groups;
+mod handles;
+mod importing;
+pub mod laws;
 mod merging;
 mod naming;
 mod settle;
+mod stream;
 #[cfg(test)]
 mod tests;
 mod text_group;
 
+pub use alone::import_alone;
 pub use committer::Committer;
+pub use draining::{Drained, drain, drain_alone};
+pub use ends::ending_of;
 pub use groups::{OpenImport, Stopped};
+pub use handles::{DeskHandle, OwnIngest};
+pub use importing::import;
+pub use stream::{INPUT_LIMIT, import_bytes, import_stream};
 pub use text_group::TextGroup;

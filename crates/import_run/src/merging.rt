@@ -11,7 +11,7 @@ use std::thread::Threads;
 
 /// Merges the neighbours that are due, if there are any. It is left where memory is wanting, or
 /// where others were first.
-pub fn merge_due<C: Committer<J, R>, J: Index, R: Wait + Threads + Sync, G: Gate>(
+pub fn merge_due<C: Committer<J>, J: Index, R: Wait + Threads + Sync, G: Gate>(
     rt: &R,
     alloc: Global,
     committer: &mut C,
@@ -21,6 +21,7 @@ pub fn merge_due<C: Committer<J, R>, J: Index, R: Wait + Threads + Sync, G: Gate
     requires some_workers { 1 ≤ workers }
     requires few_workers { workers ≤ 16 }
     ensures told { C.told committer.new ≡ C.told committer.old }
+    ensures since { C.since committer.old committer.new }
 {
     let Ok(Some(job)) = committer.pick(rt) else {
         return;

@@ -3,6 +3,8 @@ ghost use Rattle.std.specs.Prelude.{◌≡◌, ◌<◌, ◌≤◌, List, Option,
 ghost use Rattle.std.specs.List.{All};
 ghost use Rattle.explorer_model.specs.Cuts.{Cut as ACut, text_limit};
 ghost use Rattle.explorer_model.specs.Imports.{group_limit};
+ghost use Rattle.explorer_model.specs.Timeline.{IsPrefix};
+ghost use Rattle.import_run.specs.Beside.{RoundsBeside, SettlesBeside};
 ghost use Rattle.import_run.specs.Committing.{Known, Store, store_of};
 ghost use Rattle.import_run.specs.Grouping.{Ascend, IsGroupOf};
 ghost use Rattle.import_run.specs.Hand.{InHand};
@@ -37,7 +39,7 @@ pub enum Round<J: Index> {
 }
 
 /// Settles a group of texts that stand in a stream in this order. The notes are those of the clashes.
-pub fn settle<C: Committer<J, R>, J: Index, R: Wait + Threads + Sync, G: Gate>(
+pub fn settle<C: Committer<J>, J: Index, R: Wait + Threads + Sync, G: Gate>(
     rt: &R,
     alloc: Global,
     committer: &mut C,
@@ -57,9 +59,13 @@ pub fn settle<C: Committer<J, R>, J: Index, R: Wait + Threads + Sync, G: Gate>(
     ensures memory { OnErr result ((known : Known) (cuts : List ACut) → Ascend cuts
         → IsGroupOf cuts group → C.told committer.old ≡ Some (store_of known)
         → MayHaveMore known (C.told committer.new)) }
+    ensures beside { IfOk result (λ done. (cuts : List ACut) → Ascend cuts → IsGroupOf cuts group
+        → SettlesBeside cuts done clashes.new.items) }
+    ensures notes { IsPrefix clashes.old.items clashes.new.items }
+    ensures since { C.since committer.old committer.new }
 {
     game_is_determined();
-    let mut state = group.tally(alloc, workers, gate)?;
+    let mut state = group.tally(rt, alloc, workers, gate)?;
     'settling: loop {
         let TalliedGroup {
             tally,
@@ -82,7 +88,7 @@ pub fn settle<C: Committer<J, R>, J: Index, R: Wait + Threads + Sync, G: Gate>(
 }
 
 /// Commits a tally. Where ids clash, those texts are refused, and the rest is tallied again.
-fn commit_once<C: Committer<J, R>, J: Index, R: Wait + Threads + Sync, G: Gate>(
+fn commit_once<C: Committer<J>, J: Index, R: Wait + Threads + Sync, G: Gate>(
     rt: &R,
     alloc: Global,
     committer: &mut C,
@@ -114,6 +120,15 @@ fn commit_once<C: Committer<J, R>, J: Index, R: Wait + Threads + Sync, G: Gate>(
         → Rounds (Some (store_of known)) cuts (Some counted) places.items refused.items
         (C.told committer.old)
         → MayHaveMore known (C.told committer.new)) }
+    ensures again_beside { IfOk result (λ round. IsAgain round (λ state. (cuts : List ACut)
+        → RoundsBeside cuts (Some counted) places.items refused.items clashes.old.items
+        → RoundsBeside cuts state.tally state.places.items state.refused.items
+        clashes.new.items)) }
+    ensures ended_beside { IfOk result (λ round. IsEnded round (λ done. (cuts : List ACut)
+        → RoundsBeside cuts (Some counted) places.items refused.items clashes.old.items
+        → SettlesBeside cuts done clashes.new.items)) }
+    ensures notes { IsPrefix clashes.old.items clashes.new.items }
+    ensures since { C.since committer.old committer.new }
 {
     game_is_determined();
     clashes.reserve(1)?;
@@ -132,7 +147,7 @@ fn commit_once<C: Committer<J, R>, J: Index, R: Wait + Threads + Sync, G: Gate>(
             let (batch, _classes, _rows) = tally.into_parts();
             let named = name(alloc, batch, places.as_slice(), pairs.as_slice())?;
             let refused = merge(alloc, refused.as_slice(), named.refused.as_slice())?;
-            let again = batch_tally::tally(alloc, named.rest, workers, gate)?;
+            let again = batch_tally::tally(rt, alloc, named.rest, workers, gate)?;
             Ok(Round::Again(TalliedGroup {
                 tally: again.tally,
                 places: again.places,

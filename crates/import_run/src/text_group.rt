@@ -13,6 +13,7 @@ use explorer_model::fault::{Refusal, Why};
 use outside::Gate;
 use pgn_cut::cut::Cut;
 use std::alloc::{AllocError, Global};
+use std::thread::Threads;
 use tally_rows::Tally;
 
 /// How many texts a whole group has.
@@ -72,8 +73,9 @@ impl TextGroup {
     }
 
     /// Replays and tallies the texts. On how many workers do that, nothing depends.
-    pub fn tally<G: Gate>(
+    pub fn tally<R: Threads + Sync, G: Gate>(
         self,
+        rt: &R,
         alloc: Global,
         workers: usize,
         gate: &G,
@@ -88,7 +90,7 @@ impl TextGroup {
             InHand counted tallied.places.items)) }
     {
         let TextGroup { texts, unread } = self;
-        let tallying = tally(alloc, texts, workers, gate)?;
+        let tallying = tally(rt, alloc, texts, workers, gate)?;
         let refused = merge(alloc, tallying.refused.as_slice(), unread.as_slice())?;
         Ok(TalliedGroup {
             tally: tallying.tally,

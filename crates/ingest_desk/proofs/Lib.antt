@@ -1,6 +1,7 @@
 pub mod IdLemmas
 pub mod RegisterLemmas
 pub mod KeptLemmas
+pub mod AnswerLemmas
 pub mod PickingLemmas
 pub mod TallyingLemmas
 pub mod RecountLemmas

@@ -46,8 +46,9 @@ Stores (Err _) batch old new = new ≡ old
 -- what is left of the manifest: a disk fault closes it, and nothing else does
 abbrev pub Leaves : {D J : Type 0} → (D → DiskState)
     → Result (Receipt J) (CommitFault J) → Batch → Log D → Log D → Type 0
-Leaves disk (Ok receipt) batch old new = Adds (length (payload_of batch)) old new
-Leaves disk (Err (faults.OutOfMemory true)) batch old new = Adds (length (payload_of batch)) old new
+Leaves disk (Ok receipt) batch old new = Adds disk (length (payload_of batch)) old new
+Leaves disk (Err (faults.OutOfMemory true)) batch old new =
+    Adds disk (length (payload_of batch)) old new
 Leaves disk (Err (faults.DiskFault before after mark)) batch old new =
     Breaks disk before after old new
 Leaves disk (Err _) batch old new = new ≡ old

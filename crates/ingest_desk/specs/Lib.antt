@@ -6,6 +6,7 @@ pub mod Marking
 pub mod Stored
 pub mod Kept
 pub mod Commits
+pub mod Answers
 pub mod Picking
 pub mod Reporting
 pub mod Importers

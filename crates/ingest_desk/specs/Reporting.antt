@@ -1,13 +1,14 @@
 -- Statement: what an import reports of a stream whose groups others may store beside.
-use Rattle.std.specs.Prelude.{◌≡◌, ◌≢◌, ⊤, ℕ, ◌+◌, ◌≤◌, List, [], ◌∷◌, ◌++◌, length, take, sum_by, slice_get, Option, None, Some}
+use Rattle.std.specs.Prelude.{◌≡◌, ◌≢◌, ⊤, ℕ, ◌+◌, ◌≤◌, List, [], ◌∷◌, ◌++◌, length, take, count_by, sum_by, slice_get, Option, None, Some}
 use Rattle.std.specs.List.{All, AllZip, Contains}
 use Rattle.explorer_model.specs.declared.archive.Batch.{Batch}
 use Rattle.explorer_model.specs.declared.archive.Game.{Game}
 use Rattle.explorer_model.specs.declared.fault.Refusal.{Refusal}
 use Rattle.explorer_model.specs.declared.fault.Why.{Why}
-use Rattle.explorer_model.specs.declared.fault.Why.TheVariants.{Repeated}
+use Rattle.explorer_model.specs.declared.fault.Why.TheVariants.{Repeated, TooLong}
 use Rattle.explorer_model.specs.Cuts.{Cut, Text, cuts}
-use Rattle.explorer_model.specs.Imports.{AccountedBeside, Candidate, Examination, IsExaminationOf, Numbering, candidates, groups, numbers_of, refusals, verdicts_behind}
+use Rattle.explorer_model.specs.Cuts as pieces
+use Rattle.explorer_model.specs.Imports.{AccountedBeside, Candidate, Examination, IsExaminationOf, Numbering, candidates, group_limit, groups, is_text, numbers_of, refusals, verdicts_behind}
 use Rattle.explorer_model.specs.Journal.{AreWithin, byte_count, game_count}
 use Rattle.explorer_model.specs.Visits.{AreGamesOf, IsTextOf, texts_of}
 use Rattle.ingest_desk.specs.declared.mark.MarkKind.TheVariants as kinds
@@ -61,6 +62,27 @@ RepeatsBy cuts journals place _ = ⊤
 
 -- ---- how far an import came
 
+-- the refusal of a text that is too long
+abbrev pub IsTooLong : Cut → Refusal → Type 0
+IsTooLong (pieces.TooLong place length) refusal =
+    refusal ≡ record { place = place; why = TooLong length }
+IsTooLong _ refusal = ⊥
+
+-- What an import that ends early has left unread of a group: behind the last text that the group may
+-- have, texts of the stream that are too long. Their refusals are not listed.
+pub record LeftUnread (group : List Cut) (unread : List Refusal) : Type 0 where
+  pub read : List Cut
+  pub behind : List Cut
+  pub group_is : group ≡ read ++ behind
+  pub whole : behind ≢ [] → count_by is_text read ≡ group_limit
+  pub too_long : AllZip IsTooLong behind unread
+
+-- what is left unread of the last of some groups
+abbrev pub LeftUnreadIn : List (List Cut) → List Refusal → Type 0
+LeftUnreadIn [] unread = unread ≡ []
+LeftUnreadIn (group ∷ []) unread = LeftUnread group unread
+LeftUnreadIn (group ∷ next ∷ rest) unread = LeftUnreadIn (next ∷ rest) unread
+
 -- the groups before one of them are accounted by the batches and the refusals
 pub record AccountsUpTo (finished : ℕ) (groups : List (List Cut)) (batches : List Batch)
     (refused : List Refusal) : Type 0 where
@@ -77,7 +99,7 @@ pub record IsJudged (group : List Cut) (left : List Candidate) (refused : List R
   pub refused_are : refused ≡ refusals (verdicts_behind number examinations)
 
 -- An import broke off at a group of the stream, some of whose texts are left to be stored: the
--- groups before it are accounted, and its refusals are listed behind theirs.
+-- groups before it are accounted, and its refusals are listed behind theirs, as far as it was read.
 pub record BreaksAt (groups : List (List Cut)) (batches : List Batch) (refused : List Refusal)
     (left : List Candidate) : Type 0 where
   pub finished : ℕ
@@ -88,7 +110,9 @@ pub record BreaksAt (groups : List (List Cut)) (batches : List Batch) (refused :
   pub hand : List Refusal
   pub judged : IsJudged group left hand
   pub some_left : left ≢ []
-  pub refused_are : refused ≡ before ++ hand
+  pub unread : List Refusal
+  pub left_unread : LeftUnread group unread
+  pub refused_are : refused ++ unread ≡ before ++ hand
 
 -- the journal has so many games and bytes; none of its games has an id of the candidates, and with
 -- these it would pass a limit
@@ -113,7 +137,8 @@ AccountsTo (ends.Full games bytes note) groups batches refused =
     (left : List Candidate) × BreaksAt groups batches refused left
     × FindsNoRoom note games bytes left
 AccountsTo _ groups batches refused =
-    (finished : ℕ) × AccountsUpTo finished groups batches refused
+    (finished : ℕ) × ((unread : List Refusal) × LeftUnreadIn (take finished groups) unread
+    × AccountsUpTo finished groups batches (refused ++ unread))
 
 -- ---- reports
 

@@ -1,5 +1,6 @@
 //! Importers: who stores a body for a connection.
 ghost use Rattle.std.specs.Prelude.{◌≤◌, ◌<◌, ◌^◌, ◌∷◌, [], length};
+ghost use Rattle.std.specs.Thread.{IsSync};
 ghost use Rattle.explorer_model.specs.Cuts.{cuts};
 ghost use Rattle.explorer_model.specs.Wire.{body_limit};
 ghost use Rattle.ingest_desk.specs.Importers.{
@@ -14,6 +15,9 @@ ghost use Rattle.ingest_desk.specs.Reporting.{Reports, games_of};
 
 use crate::report::Report;
 use published_index::Index;
+use std::alloc::Global;
+use std::sync::Wait;
+use std::thread::Threads;
 
 /// One session's handle on a store.
 pub trait Importer<J: Index> {
@@ -21,8 +25,9 @@ pub trait Importer<J: Index> {
     ghost importer: { Self → ImporterState };
 
     /// Imports the texts of a body. It may wait for other imports.
-    fn import(&mut self, body: &[u8]) -> Report<J>
-        requires { length body.now ≤ body_limit }
+    fn import<R: Wait + Threads + Sync>(&mut self, rt: &R, alloc: Global, body: &[u8]) -> Report<J>
+        requires shares { IsSync R.row }
+        requires few { length body.now ≤ body_limit }
         ensures reports { Reports (cuts body.now) result }
         ensures in_memory { EndsInMemory (ending_of result.end) }
         ensures few { games_of result.receipts.items < 2 ^ 32 }

@@ -3,6 +3,7 @@ ghost use Rattle.std.specs.Prelude.{◌≡◌, None, IsOk, OnOk, length};
 ghost use Rattle.published_index.specs.Cover.{journal_of};
 ghost use Rattle.published_index.specs.Calls.{Retries};
 ghost use Rattle.explorer_model.specs.Journal.{IsSound};
+ghost use Rattle.ingest_desk.specs.Kept.{Keeps};
 ghost use Rattle.ingest_desk.specs.Stored.{journal};
 
 use crate::register::Register;
@@ -42,6 +43,7 @@ impl<D: Disk, J: Index> Ingest<D, J> {
     pub fn batches(&self) -> u32
         ensures batches { result ≡ length (journal self.now) }
         ensures sound { IsSound (journal self.now) }
+        ensures keeps { Keeps D.disk D.left_since (journal self.now) self.now.manifest }
     {
         self.register.batches()
     }

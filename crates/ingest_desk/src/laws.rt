@@ -1,9 +1,29 @@
 //! Laws of commits and of jobs. Each is the contract of a function that has nothing to do.
-ghost use Rattle.std.specs.Prelude.{◌≡◌, ℕ, List};
+ghost use Rattle.std.specs.Prelude.{◌≡◌, ℕ, List, Option, Result};
 ghost use Rattle.explorer_model.specs.declared.archive.Batch.{Batch};
+ghost use Rattle.explorer_model.specs.declared.archive.Game.{Game};
+ghost use Rattle.record_log.specs.Log.{Log};
+ghost use Rattle.tally_rows.specs.Tally.{Counted};
 ghost use Rattle.segment_blocks.specs.Segment.{CountedSpan};
+ghost use Rattle.published_index.specs.Changes.{Change};
+ghost use Rattle.ingest_desk.specs.Answers.{HadMemory, IsAnswer};
+ghost use Rattle.ingest_desk.specs.declared.fault.CommitFault.{CommitFault};
+ghost use Rattle.ingest_desk.specs.declared.receipt.Receipt.{Receipt};
 ghost use Rattle.ingest_desk.specs.Picking.{HasNoneDue, IsPicked};
 ghost use Rattle.ingest_desk.specs.Recounts.{IsUnsoundAt};
+
+use disk_model::Disk;
+use published_index::Index;
+
+/// A commit has one answer, want of memory aside, unless a call of the disk fails in one of two runs
+/// and not in the other, which the manifest's fault tells.
+pub fn commit_is_determined<D: Disk, J: Index>()
+    ensures { (tally : Counted) (games : List Game) (journal : List Batch) (held : Option Change)
+        (old new after : Log D) (answer other : Result (Receipt J) (CommitFault J))
+        → IsAnswer D.disk tally games journal held old new answer
+        → IsAnswer D.disk tally games journal held old after other
+        → new.fault ≡ after.fault → HadMemory answer → HadMemory other → answer ≡ other }
+{}
 
 /// A list has one pair that is to become one, or none.
 pub fn picking_is_determined()

@@ -46,7 +46,7 @@ pub(crate) fn recount<R: Threads + Sync>(
     let mut gate = 12;
     for batch in journal {
         let size = payload_size(&batch);
-        let Some(segment) = count(alloc, &mut register, batch, workers)? else {
+        let Some(segment) = count(rt, alloc, &mut register, batch, workers)? else {
             return Err(Stop::Fault(gate));
         };
         segments.reserve(1)?;
@@ -59,7 +59,8 @@ pub(crate) fn recount<R: Threads + Sync>(
 
 /// Counts one batch more, and puts it in. There is no segment where the journal is not sound with
 /// it.
-fn count(
+fn count<R: Threads + Sync>(
+    rt: &R,
     alloc: Global,
     register: &mut Register,
     batch: Batch,
@@ -79,7 +80,7 @@ fn count(
         tally: counted,
         places: _places,
         refused,
-    } = tally(alloc, texts, workers, &FreeGate)?;
+    } = tally(rt, alloc, texts, workers, &FreeGate)?;
     if !refused.is_empty() {
         return Ok(None);
     }

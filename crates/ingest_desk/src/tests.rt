@@ -30,7 +30,7 @@ fn text(alloc: Global, id: &str) -> Result<Bytes, AllocError> {
 }
 
 /// The tally of games with these ids.
-fn counted(alloc: Global, ids: &[&str]) -> Result<Tally, Fail> {
+fn counted<R: Threads + Sync>(rt: &R, alloc: Global, ids: &[&str]) -> Result<Tally, Fail> {
     let mut texts = Vec::new(alloc);
     for id in ids {
         texts.push(Placed {
@@ -41,7 +41,7 @@ fn counted(alloc: Global, ids: &[&str]) -> Result<Tally, Fail> {
     if 512 < texts.len() || !are_short(texts.as_slice()) {
         return Err(Fail::from("too much"));
     }
-    let tallying = tally(alloc, texts, 1, &FreeGate)?;
+    let tallying = tally(rt, alloc, texts, 1, &FreeGate)?;
     Ok(tallying.tally.ok_or("each text has a game")?)
 }
 
@@ -70,9 +70,9 @@ fn new_store<R: Wait>(rt: &R, alloc: Global, failing: Vec<u64>) -> Result<Unname
 #[test]
 fn batches_are_stored_published_and_joined(rt: HostRuntime) -> Result<(), Fail> {
     let alloc: Global = rt.alloc();
-    let first = counted(alloc, &["aaaaaaa1"])?;
-    let again = counted(alloc, &["aaaaaaa2", "aaaaaaa1"])?;
-    let second = counted(alloc, &["aaaaaaa2", "aaaaaaa3"])?;
+    let first = counted(&rt, alloc, &["aaaaaaa1"])?;
+    let again = counted(&rt, alloc, &["aaaaaaa2", "aaaaaaa1"])?;
+    let second = counted(&rt, alloc, &["aaaaaaa2", "aaaaaaa3"])?;
     let unnamed = new_store(&rt, alloc, Vec::new(alloc))?;
     let disk = stores_three::<Brand, _>(&rt, alloc, unnamed, first, again, second)?;
     let Ok(unnamed) = open(&rt, alloc, disk, 2, 1) else {
@@ -209,9 +209,9 @@ fn holds<J: Index, R: Wait + Abort>(
 fn first_sync_of_the_second_commit_fails(rt: HostRuntime) -> Result<(), Fail> {
     let alloc: Global = rt.alloc();
     // The disk's calls: three of the creation, four of the first commit, and a write before the sync.
-    let first = counted(alloc, &["aaaaaaa1"])?;
-    let second = counted(alloc, &["aaaaaaa2"])?;
-    let third = counted(alloc, &["aaaaaaa3"])?;
+    let first = counted(&rt, alloc, &["aaaaaaa1"])?;
+    let second = counted(&rt, alloc, &["aaaaaaa2"])?;
+    let third = counted(&rt, alloc, &["aaaaaaa3"])?;
     let unnamed = new_store(&rt, alloc, vec![in alloc; 8]?)?;
     let _disk = breaks::<Brand, _>(&rt, alloc, unnamed, first, second, third)?;
     Ok(())

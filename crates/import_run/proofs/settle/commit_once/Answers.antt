@@ -1,4 +1,4 @@
-use Rattle.std.proofs.Common.{arith, ◌≤◌, ℕ, List, [], Some, Ok, Err, length, ap, ◌∙◌, subst, refl}
+use Rattle.std.proofs.Common.{arith, ◌≤◌, ℕ, List, [], ◌∷◌, Some, Ok, Err, length, ap, ◌∙◌, subst, refl}
 use Rattle.std.proofs.lemmas.List.{length-map}
 use Rattle.std.specs.List.{All, AllZip}
 use Rattle.std.specs.Prelude.{is_none}
@@ -12,6 +12,8 @@ use Rattle.import_run.specs.Grouping.{merged}
 use Rattle.import_run.specs.Rounds.{Rounds}
 use Rattle.import_run.specs.Settling.{id_of, kept, left_by, placed}
 use Rattle.import_run.proofs.HandLemmas.{batch_texts, counted_ids, decided, lacks_commit, lacks_still, left_lt, more, on_err, right_clash, settles, short, size_is, still_clash}
+use Rattle.import_run.proofs.BesideLemmas.{more_beside, settles_beside}
+use Rattle.import_run.proofs.CloseLemmas.{clash_names, extended, notes_one, notes_same}
 use Rattle.import_run.proofs.VerdictLemmas.{again, fewer_fresh, fewer_read, hand_made}
 use Rattle.import_run.proofs.settle.commit_once.Goals as goal
 
@@ -84,6 +86,24 @@ returns-in-Clash-clause-again g c = λ told cuts r.
     (λ k e. still_clash k x.tally c.args.counted x.pairs x.note before after (r.still k e) known)
     (λ k e. right_clash k x.tally c.args.counted x.pairs x.note before after cl.1.1.0 (r.still k e) known cl.1.1.1.1.1)
 
+pub returns-in-Clash-clause-again_beside : goal.returns-in-Clash-clause-again_beside
+returns-in-Clash-clause-again_beside g c = λ cuts r.
+    let cs = kept r.rounds.stored (verdicts r.rounds.examinations) in
+    let x = c.in-Clash in
+    let cl = rw x.is at c.in-Err.ensures.clash in
+    let N = numbers_of cl.1.1.0 in
+    let theirs = batch_texts cs c.args.counted.batch r.rounds.made.batch in
+    let texts = ap (λ b. b.texts) (c.into_parts-batch.ensures.batch ∙ ap (λ t. t.batch) cl.0) ∙ theirs in
+    let pairs = cl.1.1.1.1.0 ∙ ap (clashes_from 0 N) (counted_ids cs c.args.counted r.rounds.made) in
+    let named = c.in_ok-named-in-Clash.ensures cs N texts (c.as_slice.ensures.value ∙ r.rounds.places_are) (c.as_slice-in-Clash.ensures.value ∙ pairs) in
+    let refused = c.in_ok-refused-in-Clash.ensures ∙ ap (λ l. merged l c.as_slice-in-Clash-3.result.now) c.as_slice-in-Clash-2.ensures.value ∙ ap (merged c.args.refused.items) c.as_slice-in-Clash-3.ensures.value in
+    let notes = extended c.push_reserved.new.self.items c.reserve.new.self.items (x.note ∷ []) c.args.clashes.now.items (x.note ∷ []) c.push_reserved.ensures.items c.reserve.ensures.items refl in
+    more_beside c.game_is_determined.ensures cuts c.args.counted c.args.places.items c.args.refused.items c.args.clashes.now.items c.push_reserved.new.self.items r
+    N c.in_ok-named-in-Clash.named.refused.items c.in_ok-refused-in-Clash.refused.items c.in_ok-named-in-Clash.named.rest.items c.in_ok-again-in-Clash.again
+    (notes_one c.args.clashes.now.items c.push_reserved.new.self.items x.note notes)
+    (clash_names c.args.clashes.now.items c.push_reserved.new.self.items x.note cl.1.1.0 notes cl.1.1.1.0)
+    named.0 named.1 refused c.in_ok-again-in-Clash.ensures
+
 pub returns-in-Clash-clause-hand : goal.returns-in-Clash-clause-hand
 returns-in-Clash-clause-hand g c = hand_made c.in_ok-named-in-Clash.named.rest.items c.in_ok-again-in-Clash.again c.in_ok-again-in-Clash.ensures
 
@@ -110,6 +130,11 @@ pub returns-in-Ok-clause-ended : goal.returns-in-Ok-clause-ended
 returns-in-Ok-clause-ended g c = λ known cuts r.
     settles known cuts c.args.places.items c.args.refused.items (g.C.Committer.told c.args.committer.now) c.args.counted r (Ok c.in-Ok.receipt) _ (g.C.Committer.told c.commit.new.self)
     tt c.in-Ok.ensures.told refl refl
+
+pub returns-in-Ok-clause-ended_beside : goal.returns-in-Ok-clause-ended_beside
+returns-in-Ok-clause-ended_beside g c = λ cuts r.
+    settles_beside cuts c.args.counted c.args.places.items c.args.refused.items c.args.clashes.now.items c.reserve.new.self.items r (Ok c.in-Ok.receipt) _
+    (notes_same c.args.clashes.now.items c.reserve.new.self.items c.reserve.ensures.items) c.in-Ok.ensures.answers refl refl
 
 pub returns-in_err-reserve-clause-memory : goal.returns-in_err-reserve-clause-memory
 returns-in_err-reserve-clause-memory g c = on_err c.from_residual.result (λ (known : Known) (cuts : List Cut) (r : Rounds (Some (store_of known)) cuts (Some c.args.counted) c.args.places.items c.args.refused.items (g.C.Committer.told c.args.committer.now)). lacks_still known (g.C.Committer.told c.args.committer.now) (r.still known refl))
@@ -150,4 +175,10 @@ returns g c =
           never c.in-Err.ensures.told refl refl;
       decided = never;
       memory = tt;
+      again_beside = tt;
+      ended_beside = λ cuts r.
+          settles_beside cuts c.args.counted c.args.places.items c.args.refused.items c.args.clashes.now.items c.reserve.new.self.items r (Err c.in-Err.fault) _
+          (notes_same c.args.clashes.now.items c.reserve.new.self.items c.reserve.ensures.items) c.in-Err.ensures.answers refl refl;
+      notes = notes_same c.args.clashes.now.items c.reserve.new.self.items c.reserve.ensures.items;
+      since = c.commit.ensures.since;
     }

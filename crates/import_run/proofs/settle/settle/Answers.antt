@@ -2,6 +2,9 @@ use Rattle.std.proofs.Common.{refl, subst, Option, None}
 use Rattle.tally_rows.specs.Tally.{Counted}
 use Rattle.import_run.specs.Committing.{Store}
 use Rattle.import_run.specs.Rounds.{Rounds}
+use Rattle.explorer_model.proofs.Timelines.{prefix-self, prefix-trans}
+use Rattle.import_run.specs.Beside.{RoundsBeside}
+use Rattle.import_run.proofs.BesideLemmas.{first_beside, settles_none_beside}
 use Rattle.import_run.proofs.HandLemmas.{first, settles_none}
 use Rattle.import_run.proofs.settle.settle.Goals as goal
 
@@ -9,7 +12,31 @@ pub settling-init : goal.settling-init
 settling-init g c = record {
   hand = c.in_ok-state.ensures.hand;
   rounds = λ cuts ascend holds. first (g.C.Committer.told c.args.committer.now) cuts c.in_ok-state.state ascend (c.in_ok-state.ensures.tallied cuts ascend holds);
+  since = g.met.C.Committer.since_then c.args.committer.now;
+  beside = λ cuts ascend holds. first_beside cuts c.in_ok-state.state c.args.clashes.now.items ascend (c.in_ok-state.ensures.tallied cuts ascend holds);
+  notes = prefix-self c.args.clashes.now.items;
 }
+
+pub settling-preserved : goal.settling-preserved
+settling-preserved g c =
+    let l = c.settling in
+    let x = c.in-Again in
+    let told = g.C.Committer.told c.args.committer.now in
+    let now = g.C.Committer.told l.committer in
+    let hand = rw x.is at c.in_ok-next.ensures.hand in
+    let again = rw x.is at c.in_ok-next.ensures.again in
+    let beside = rw x.is at c.in_ok-next.ensures.again_beside in
+    record {
+      hand = hand;
+      rounds = λ cuts ascend holds.
+          let P : Option Counted → Type 0 = λ t. Rounds told cuts t l.state.places.items l.state.refused.items now in
+          again told cuts (subst P c.in-Some.is (l.invariant.rounds cuts ascend holds));
+      since = g.met.C.Committer.since_before c.args.committer.now l.committer c.commit_once.new.committer l.invariant.since c.commit_once.ensures.since;
+      beside = λ cuts ascend holds.
+          let P : Option Counted → Type 0 = λ t. RoundsBeside cuts t l.state.places.items l.state.refused.items l.clashes.items in
+          beside cuts (subst P c.in-Some.is (l.invariant.beside cuts ascend holds));
+      notes = prefix-trans c.args.clashes.now.items l.clashes.items c.commit_once.new.clashes.items l.invariant.notes c.commit_once.ensures.notes;
+    }
 
 pub returns-in_default-clause-settles : goal.returns-in_default-clause-settles
 returns-in_default-clause-settles g c = λ known cuts ascend holds is.
@@ -18,3 +45,9 @@ returns-in_default-clause-settles g c = λ known cuts ascend holds is.
     let P : Option Counted → Type 0 = λ t. Rounds (g.C.Committer.told c.args.committer.now) cuts t l.state.places.items l.state.refused.items now in
     let Q : Option Store → Type 0 = λ k. Rounds k cuts None l.state.places.items l.state.refused.items now in
     settles_none known cuts l.state.places.items l.state.refused.items now (subst Q is (subst P c.in_default.is (l.invariant.rounds cuts ascend holds))) _ refl refl
+
+pub returns-in_default-clause-beside : goal.returns-in_default-clause-beside
+returns-in_default-clause-beside g c = λ cuts ascend holds.
+    let l = c.settling in
+    let P : Option Counted → Type 0 = λ t. RoundsBeside cuts t l.state.places.items l.state.refused.items l.clashes.items in
+    settles_none_beside cuts l.state.places.items l.state.refused.items l.clashes.items (subst P c.in_default.is (l.invariant.beside cuts ascend holds)) _ refl refl

@@ -1,6 +1,8 @@
 use Rattle.std.proofs.Common.{List}
 use Rattle.std.specs.Prelude.{IfSome}
 use Rattle.explorer_model.specs.Cuts.{Cut}
+use Rattle.explorer_model.specs.Timeline.{IsPrefix}
+use Rattle.import_run.specs.Beside.{RoundsBeside}
 use Rattle.import_run.specs.Grouping.{Ascend, IsGroupOf}
 use Rattle.import_run.specs.Hand.{InHand}
 use Rattle.import_run.specs.Rounds.{Rounds, size_of}
@@ -11,6 +13,10 @@ invariant-settling g l = record {
   hand : IfSome l.state.tally (λ counted. InHand counted l.state.places.items);
   rounds : (cuts : List Cut) → Ascend cuts → IsGroupOf cuts l.fn.group
       → Rounds (g.C.Committer.told l.fn.committer) cuts l.state.tally l.state.places.items l.state.refused.items (g.C.Committer.told l.committer);
+  since : g.C.Committer.since l.fn.committer l.committer;
+  beside : (cuts : List Cut) → Ascend cuts → IsGroupOf cuts l.fn.group
+      → RoundsBeside cuts l.state.tally l.state.places.items l.state.refused.items l.clashes.items;
+  notes : IsPrefix l.fn.clashes.items l.clashes.items;
 }
 
 abbrev pub decreases-settling : goal.decreases-settling

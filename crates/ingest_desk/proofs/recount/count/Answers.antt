@@ -13,11 +13,11 @@ use Rattle.ingest_desk.proofs.TallyingLemmas.{counts_none}
 use Rattle.ingest_desk.proofs.recount.count.Goals as goal
 
 pub tally-requires-clause-short : goal.tally-requires-clause-short
-tally-requires-clause-short c = λ κs k d lt.
+tally-requires-clause-short g c = λ κs within k d lt.
     short_texts c.in_ok-texts.texts.items c.args.batch c.in_ok-texts.ensures c.requires.storable k d lt
 
 pub returns-then-not-is_empty : goal.returns-then-not-is_empty
-returns-then-not-is_empty c = λ journal is sound.
+returns-then-not-is_empty g c = λ journal is sound.
     let tallying = c.in_ok-counted.field-0 in
     let refused = tallying.refused in
     some_in refused.items _ (omega (arith, refused.ok.0))
@@ -26,7 +26,7 @@ returns-then-not-is_empty c = λ journal is sound.
     c.in_ok-texts.ensures c.in_ok-counted.ensures sound)
 
 pub returns-in_default : goal.returns-in_default
-returns-in_default c = λ journal is sound.
+returns-in_default g c = λ journal is sound.
     let texts = c.in_ok-texts.texts.items in
     let tallying = c.in_ok-counted.field-0 in
     let refused = tallying.refused in
@@ -36,7 +36,7 @@ returns-in_default c = λ journal is sound.
     absurd (omega (arith, c.requires.storable.texts.0, ap length (sym c.in_ok-texts.ensures ∙ empty)))
 
 pub returns-in_default-judge : goal.returns-in_default-judge
-returns-in_default-judge c = λ journal is sound.
+returns-in_default-judge g c = λ journal is sound.
     let texts = c.in_ok-texts.texts.items in
     let tallying = c.in_ok-counted.field-0 in
     let refused = tallying.refused in
@@ -52,7 +52,7 @@ returns-in_default-judge c = λ journal is sound.
     (no_cause_of c.game_is_determined.ensures journal tally is.sound counted whole) c.in_default-judge.not-Fits
 
 pub share_of-requires : goal.share_of-requires
-share_of-requires c =
+share_of-requires g c =
     let is = c.requires.knows.1 in
     let sound = is.sound in
     omega (
@@ -65,7 +65,7 @@ share_of-requires c =
     )
 
 pub enter-requires-clause-fits : goal.enter-requires-clause-fits
-enter-requires-clause-fits c =
+enter-requires-clause-fits g c =
     let journal = c.requires.knows.0 in
     let is = c.requires.knows.1 in
     let old = c.args.register.now in
@@ -86,7 +86,7 @@ enter-requires-clause-fits c =
     }
 
 pub returns : goal.returns
-returns c = λ journal is.
+returns g c = λ journal is.
     let texts = c.in_ok-texts.texts.items in
     let tallying = c.in_ok-counted.field-0 in
     let refused = tallying.refused in

@@ -1,55 +1,131 @@
-use Rattle.std.proofs.Common.{◌≡◌, ◌++◌, ◌∷◌, [], List, Option, Some, ap, sym, subst, ◌∙◌}
+use Rattle.std.proofs.Common.{◌≡◌, ◌++◌, ◌∷◌, [], ◌∙◌, ◌+◌, ◌<◌, ◌≤◌, ℕ, List, Option, Some, ap, sym, subst, refl, arith, length}
+use Rattle.std.specs.Prelude.{vec_capacity, vec_len}
 use Rattle.explorer_model.specs.Cuts.{Cut}
 use Rattle.explorer_model.specs.declared.fault.Refusal.{Refusal}
+use Rattle.import_run.specs.Beside.{last_batches}
 use Rattle.import_run.specs.Committing.{Known, Store, store_of}
 use Rattle.import_run.specs.Grouping.{Ascend, IsGroupOf}
 use Rattle.import_run.specs.Progress.{Progress}
 use Rattle.import_run.specs.Rounds.{AnswerDecided, Settles}
+use Rattle.import_run.specs.Taking.{IsSettledSo}
+use Rattle.import_run.proofs.BesideLemmas.{none_beside, one_beside, stops_beside}
+use Rattle.import_run.proofs.CloseLemmas.{above_last, extended, few_refused, lacks_behind, notes_same, stops_behind}
+use Rattle.import_run.proofs.HandLemmas.{lacks_still}
 use Rattle.import_run.proofs.NextLemmas.{lacking, lacks_none, lacks_one, no_batch, one_batch}
 use Rattle.import_run.proofs.groups.OpenImport.close.Goals as goal
+
+pub returns-in_err-reserve-clause-lacks : goal.returns-in_err-reserve-clause-lacks
+returns-in_err-reserve-clause-lacks g c =
+    let told = g.C.Committer.told c.args.committer.now in
+    lacking c.from_residual.result
+    (λ (start : Option Store) (closed : List (List Cut)) (hand : List Cut) (ascend : Ascend hand) (holds : IsGroupOf hand c.args.self.now.group) (s : IsSettledSo start closed c.args.self.now told).
+    lacks_behind start closed c.args.self.now _ c.reserve.ensures.items refl (notes_same _ _ refl) told told s (λ known is. lacks_still known told is))
+
+pub returns-in_err-reserve-2-clause-lacks : goal.returns-in_err-reserve-2-clause-lacks
+returns-in_err-reserve-2-clause-lacks g c =
+    let told = g.C.Committer.told c.args.committer.now in
+    lacking c.from_residual-in_err-reserve-2.result
+    (λ (start : Option Store) (closed : List (List Cut)) (hand : List Cut) (ascend : Ascend hand) (holds : IsGroupOf hand c.args.self.now.group) (s : IsSettledSo start closed c.args.self.now told).
+    lacks_behind start closed c.args.self.now _ c.reserve.ensures.items c.reserve-2.ensures.items (notes_same _ _ refl) told told s (λ known is. lacks_still known told is))
+
+pub returns-in_err-answer-clause-lacks : goal.returns-in_err-answer-clause-lacks
+returns-in_err-answer-clause-lacks g c =
+    let told = g.C.Committer.told c.args.committer.now in
+    lacking c.from_residual-in_err-answer.result
+    (λ (start : Option Store) (closed : List (List Cut)) (hand : List Cut) (ascend : Ascend hand) (holds : IsGroupOf hand c.args.self.now.group) (s : IsSettledSo start closed c.args.self.now told).
+    let mine = subst (λ group. IsGroupOf hand group) (sym c.replace-group.ensures.value) holds in
+    lacks_behind start closed c.args.self.now _ c.reserve.ensures.items c.reserve-2.ensures.items c.settle.ensures.notes told (g.C.Committer.told c.settle.new.committer) s
+    (λ known is. c.in_err-answer.ensures.memory known hand ascend mine is))
 
 pub returns-in_err-extend_from_slice-clause-lacks : goal.returns-in_err-extend_from_slice-clause-lacks
 returns-in_err-extend_from_slice-clause-lacks g c =
     let d = c.in_ok-answer in
+    let told = g.C.Committer.told c.args.committer.now in
+    let told' = g.C.Committer.told c.settle.new.committer in
     lacking c.from_residual-in_err-extend_from_slice.result
-    (λ (known : Known) (hand : List Cut) (ascend : Ascend hand) (holds : IsGroupOf hand c.args.self.now.group) (is : g.C.Committer.told c.args.committer.now ≡ Some (store_of known)).
-    lacks_none known hand d.field-0 (g.C.Committer.told c.settle.new.committer) (d.ensures.settles known hand ascend (subst (λ group. IsGroupOf hand group) (sym c.replace-group.ensures.value) holds) is) c.in_default.is)
+    (λ (start : Option Store) (closed : List (List Cut)) (hand : List Cut) (ascend : Ascend hand) (holds : IsGroupOf hand c.args.self.now.group) (s : IsSettledSo start closed c.args.self.now told).
+    let mine = subst (λ group. IsGroupOf hand group) (sym c.replace-group.ensures.value) holds in
+    lacks_behind start closed c.args.self.now _ c.reserve.ensures.items (c.in_err-extend_from_slice.ensures.items ∙ c.reserve-2.ensures.items) c.settle.ensures.notes told told' s
+    (λ known is. lacks_none known hand d.field-0 told' (d.ensures.settles known hand ascend mine is) c.in_default.is))
 
 pub returns-in_default-clause-closes : goal.returns-in_default-clause-closes
-returns-in_default-clause-closes g c = λ start closed hand ascend holds p.
+returns-in_default-clause-closes g c = λ start closed hand ascend holds s.
     let d = c.in_ok-answer in
     let old = c.args.self.now in
-    no_batch start closed old.receipts.items c.reserve.new.self.items old.refused.items c.extend_from_slice.new.self.items (g.C.Committer.told c.args.committer.now) (g.C.Committer.told c.settle.new.committer) hand p
-    d.field-0 (d.ensures.settles p.known hand ascend (subst (λ group. IsGroupOf hand group) (sym c.replace-group.ensures.value) holds) p.still) c.in_default.is
-    (c.in_ok-extend_from_slice.ensures.items ∙ ap (λ (l : List Refusal). old.refused.items ++ l) c.as_slice.ensures.value)
-    c.reserve.ensures.items
+    let told = g.C.Committer.told c.args.committer.now in
+    let told' = g.C.Committer.told c.settle.new.committer in
+    let mine = subst (λ group. IsGroupOf hand group) (sym c.replace-group.ensures.value) holds in
+    let refused = extended c.extend_from_slice.new.self.items c.reserve-2.new.self.items c.as_slice.result.now old.refused.items d.field-0.refused.items c.in_ok-extend_from_slice.ensures.items c.reserve-2.ensures.items c.as_slice.ensures.value in
+    record {
+      beside = none_beside closed old _ hand d.field-0 s.beside (d.ensures.beside hand ascend mine) c.settle.ensures.notes refused c.in_default.is c.reserve.ensures.items;
+      alone = λ known is.
+          let p = s.alone known is in
+          no_batch known closed old.receipts.items c.reserve.new.self.items old.refused.items c.extend_from_slice.new.self.items told told' hand p
+          d.field-0 (d.ensures.settles p.known hand ascend mine p.still) c.in_default.is refused c.reserve.ensures.items;
+    }
+
+pub returns-then-batches-last_batches-clause-lacks : goal.returns-then-batches-last_batches-clause-lacks
+returns-then-batches-last_batches-clause-lacks g c =
+    let d = c.in_ok-answer in
+    let told = g.C.Committer.told c.args.committer.now in
+    let told' = g.C.Committer.told c.settle.new.committer in
+    λ start closed hand ascend holds s.
+    let mine = subst (λ group. IsGroupOf hand group) (sym c.replace-group.ensures.value) holds in
+    lacks_behind start closed c.args.self.now _ c.reserve.ensures.items c.reserve-2.ensures.items c.settle.ensures.notes told told' s
+    (λ known is. lacks_one known hand d.field-0 c.in-Ok.receipt told' (d.ensures.settles known hand ascend mine is) (c.in-Some.is ∙ ap Some c.in-Ok.is))
 
 pub returns-in_err-extend_from_slice-in-Ok-clause-lacks : goal.returns-in_err-extend_from_slice-in-Ok-clause-lacks
 returns-in_err-extend_from_slice-in-Ok-clause-lacks g c =
     let d = c.in_ok-answer in
+    let told = g.C.Committer.told c.args.committer.now in
+    let told' = g.C.Committer.told c.settle.new.committer in
     lacking c.from_residual-in_err-extend_from_slice-in-Ok.result
-    (λ (known : Known) (hand : List Cut) (ascend : Ascend hand) (holds : IsGroupOf hand c.args.self.now.group) (is : g.C.Committer.told c.args.committer.now ≡ Some (store_of known)).
-    lacks_one known hand d.field-0 c.in-Ok.receipt (g.C.Committer.told c.settle.new.committer) (d.ensures.settles known hand ascend (subst (λ group. IsGroupOf hand group) (sym c.replace-group.ensures.value) holds) is) (c.in-Some.is ∙ ap Some c.in-Ok.is))
+    (λ (start : Option Store) (closed : List (List Cut)) (hand : List Cut) (ascend : Ascend hand) (holds : IsGroupOf hand c.args.self.now.group) (s : IsSettledSo start closed c.args.self.now told).
+    let mine = subst (λ group. IsGroupOf hand group) (sym c.replace-group.ensures.value) holds in
+    lacks_behind start closed c.args.self.now _ c.reserve.ensures.items (c.in_err-extend_from_slice-in-Ok.ensures.items ∙ c.reserve-2.ensures.items) c.settle.ensures.notes told told' s
+    (λ known is. lacks_one known hand d.field-0 c.in-Ok.receipt told' (d.ensures.settles known hand ascend mine is) (c.in-Some.is ∙ ap Some c.in-Ok.is)))
 
 pub returns-in-Ok-clause-closes : goal.returns-in-Ok-clause-closes
-returns-in-Ok-clause-closes g c = λ start closed hand ascend holds p.
+returns-in-Ok-clause-closes g c = λ start closed hand ascend holds s.
     let d = c.in_ok-answer in
     let old = c.args.self.now in
-    let P : Option Store → Type 0 = λ told. Progress start (closed ++ hand ∷ []) c.push_reserved.new.self.items c.extend_from_slice-in-Ok.new.self.items told in
-    subst P (sym c.merge_due.ensures.told)
-    (one_batch start closed old.receipts.items c.push_reserved.new.self.items old.refused.items c.extend_from_slice-in-Ok.new.self.items (g.C.Committer.told c.args.committer.now) (g.C.Committer.told c.settle.new.committer) hand p
-    d.field-0 c.in-Ok.receipt (d.ensures.settles p.known hand ascend (subst (λ group. IsGroupOf hand group) (sym c.replace-group.ensures.value) holds) p.still) (c.in-Some.is ∙ ap Some c.in-Ok.is)
-    (c.in_ok-extend_from_slice-in-Ok.ensures.items ∙ ap (λ (l : List Refusal). old.refused.items ++ l) c.as_slice-in-Ok.ensures.value)
-    (c.push_reserved.ensures.items ∙ ap (λ l. l ++ c.in-Ok.receipt ∷ []) c.reserve.ensures.items))
+    let told = g.C.Committer.told c.args.committer.now in
+    let told' = g.C.Committer.told c.settle.new.committer in
+    let mine = subst (λ group. IsGroupOf hand group) (sym c.replace-group.ensures.value) holds in
+    let answer = c.in-Some.is ∙ ap Some c.in-Ok.is in
+    let refused = extended c.extend_from_slice-in-Ok.new.self.items c.reserve-2.new.self.items c.as_slice-in-Ok-2.result.now old.refused.items d.field-0.refused.items c.in_ok-extend_from_slice-in-Ok.ensures.items c.reserve-2.ensures.items c.as_slice-in-Ok-2.ensures.value in
+    let receipts = extended c.push_reserved.new.self.items c.reserve.new.self.items (c.in-Ok.receipt ∷ []) old.receipts.items (c.in-Ok.receipt ∷ []) c.push_reserved.ensures.items c.reserve.ensures.items refl in
+    let last = c.last_batches.ensures ∙ ap (λ l. last_batches 0 l) (c.as_slice-in-Ok.ensures.value ∙ c.reserve.ensures.items) in
+    let above : last_batches 0 old.receipts.items < c.in-Ok.receipt.batches = above_last c.batches.result c.last_batches.result c.in-Ok.receipt.batches (last_batches 0 old.receipts.items) c.if-batches-last_batches.false c.batches.ensures last in
+    record {
+      beside = one_beside closed old _ hand d.field-0 s.beside (d.ensures.beside hand ascend mine) c.settle.ensures.notes refused c.in-Ok.receipt answer above receipts;
+      alone = λ known is.
+          let p = s.alone known is in
+          let P : Option Store → Type 0 = λ told. Progress known (closed ++ hand ∷ []) c.push_reserved.new.self.items c.extend_from_slice-in-Ok.new.self.items told in
+          subst P (sym c.merge_due.ensures.told)
+          (one_batch known closed old.receipts.items c.push_reserved.new.self.items old.refused.items c.extend_from_slice-in-Ok.new.self.items told told' hand p
+          d.field-0 c.in-Ok.receipt (d.ensures.settles p.known hand ascend mine p.still) answer refused receipts);
+    }
 
 pub returns-clause-stops : goal.returns-clause-stops
-returns-clause-stops g c = λ known hand ascend holds is.
+returns-clause-stops g c = λ start closed hand ascend holds s.
     let d = c.in_ok-answer in
     let answer = c.in-Some.is ∙ ap Some c.in-Err.is in
-    let settled = d.ensures.settles known hand ascend (subst (λ group. IsGroupOf hand group) (sym c.replace-group.ensures.value) holds) is in
+    let told = g.C.Committer.told c.args.committer.now in
+    let told' = g.C.Committer.told c.settle.new.committer in
+    let mine = subst (λ group. IsGroupOf hand group) (sym c.replace-group.ensures.value) holds in
+    let beside = d.ensures.beside hand ascend mine in
+    let decided = subst (λ a. AnswerDecided a) answer d.ensures.decided in
+    let few = few_refused hand c.replace-group.result beside.examinations beside.number mine beside.are_examinations in
+    let long = ap (λ (l : List Refusal). length l) beside.refused in
+    stops_behind start closed c.args.self.now _ c.reserve.ensures.items c.reserve-2.ensures.items c.settle.ensures.notes told told' hand _ s
+    (stops_beside hand d.field-0 c.settle.new.clashes.items beside c.in-Err.fault _ answer decided c.end_of.ensures refl)
+    (λ known is.
+    let settled = d.ensures.settles known hand ascend mine is in
     record {
       fault = c.in-Err.fault;
       is_end = c.end_of.ensures;
-      decided = subst (λ a. AnswerDecided a) answer d.ensures.decided;
-      settled = subst (λ a. Settles known hand (record { answer = a; refused = d.field-0.refused }) (g.C.Committer.told c.settle.new.committer)) answer settled;
-    }
+      decided = decided;
+      settled = subst (λ a. Settles known hand (record { answer = a; refused = d.field-0.refused }) told') answer settled;
+    })
+    (omega (arith, few, long, c.in_ok-reserve-2.ensures.ok, c.len.ensures, c.len-2.ensures, c.replace-group.result.texts.ok.0, c.replace-group.result.unread.ok.0))

@@ -1,0 +1,299 @@
+-- Groups that are settled, whoever else stores beside.
+use Rattle.std.proofs.Common.{◌≡◌, ◌≢◌, ◌∙◌, ◌+◌, ◌<◌, ◌≤◌, ◌||◌, ℕ, Bool, true, false, List, [], ◌∷◌, ◌++◌, length, map, filter_map, Option, None, Some, Result, Ok, Err, refl, sym, ap, subst, zero, suc, arith, nat_lt, length-append}
+use Rattle.std.specs.Option.{option_or}
+use Rattle.std.specs.Prelude.{sum_by}
+use Rattle.std.specs.List.{All, AllByRecursion, AllZip, Contains, cons_option, flat_map}
+use Rattle.std.proofs.lemmas.Bool.Decides.{nat_tests}
+use Rattle.std.proofs.lemmas.Grind.{flat_map-append}
+use Rattle.std.proofs.lemmas.List.{append-nil, length-map}
+use Rattle.std.proofs.lemmas.List.Elements.{All-append, All-from_recursion, Contains-append_left, Contains-append_right, filter_map-append}
+use Rattle.std.proofs.lemmas.List.Sums.{sum_by-append}
+use Rattle.explorer_model.specs.declared.archive.Batch.{Batch}
+use Rattle.explorer_model.specs.declared.archive.Game.{Game}
+use Rattle.explorer_model.specs.declared.archive.Placed.{Placed}
+use Rattle.explorer_model.specs.declared.fault.Refusal.{Refusal}
+use Rattle.explorer_model.specs.Cuts.{Cut}
+use Rattle.explorer_model.specs.Imports.{AccountedBeside, AreExaminations, Candidate, Examination, IsExaminationOf, Numbering, Verdict, batch_of, candidates, numbers_of, refusals, verdict_behind, verdicts, verdicts_behind, verdicts_by}
+use Rattle.explorer_model.specs.Journal.{AreWithin, byte_count, byte_limit, game_count, game_limit}
+use Rattle.explorer_model.specs.Timeline.{IsPrefix}
+use Rattle.explorer_model.specs.Visits.{texts_of}
+use Rattle.explorer_model.proofs.Lists.{zip-append}
+use Rattle.tally_rows.specs.Tally.{Counted}
+use Rattle.tally_rows.proofs.Sums.{sum_by-map}
+use Rattle.batch_tally.specs.Tallying.{Counts, IsTallyMade, IsTallying}
+use Rattle.batch_tally.specs.declared.tallying.Tallying.{Tallying}
+use Rattle.ingest_desk.specs.Causes.{has_no_room, is_over}
+use Rattle.ingest_desk.specs.Clashes.{clashes_from}
+use Rattle.ingest_desk.specs.Reporting.{AreReceipts, FindsNoRoom, IsReceipt, RepeatsBy}
+use Rattle.ingest_desk.specs.declared.fault.CommitFault.{CommitFault}
+use Rattle.ingest_desk.specs.declared.fault.CommitFault.TheVariants as faults
+use Rattle.ingest_desk.specs.declared.receipt.Receipt.{Receipt}
+use Rattle.ingest_desk.specs.declared.report.End.{End}
+use Rattle.ingest_desk.specs.declared.report.End.TheVariants as ends
+use Rattle.import_run.specs.declared.groups.OpenImport.{OpenImport}
+use Rattle.import_run.specs.declared.groups.Stopped.{Stopped}
+use Rattle.import_run.specs.declared.settle.Done.{Done}
+use Rattle.import_run.specs.declared.text_group.TalliedGroup.{TalliedGroup}
+use Rattle.import_run.specs.Beside.{AnswersFor, AnswersTo, AreNamed, AreRepeats, EndsBeside, IsFullFor, ProgressBeside, RoundsBeside, SettlesBeside, StopsBeside, last_batches}
+use Rattle.import_run.specs.Committing.{Known, Store, store_of}
+use Rattle.import_run.specs.Grouping.{Ascend, IsTallied, merged}
+use Rattle.import_run.specs.Importing.{IsEndOf}
+use Rattle.import_run.specs.Rounds.{IsDecided, IsStill, Rounds, stored_by}
+use Rattle.import_run.specs.Settling.{id_of, kept, left_by, lost, named_by, placed}
+use Rattle.import_run.proofs.HandLemmas.{batch_texts, counted_ids, first, kept_none, more}
+use Rattle.import_run.proofs.RepeatLemmas.{all-repeats-grow, named-grow, repeats}
+use Rattle.import_run.proofs.TurnLemmas.{texts_more}
+use Rattle.import_run.proofs.VerdictLemmas.{OneGame, found}
+
+-- ---- rounds
+
+pub untold : (known : Known) → (let o : Option Store = None in o) ≡ Some (store_of known) → ⊥
+untold known e = cc
+
+no_number : (n : ℕ) → (let o : Option ℕ = None in o) ≡ Some n → ⊥
+no_number n e = cc
+
+-- the group as it was tallied first
+pub first_beside : (cuts : List Cut) (made : TalliedGroup) (clashes : List (List Batch)) → Ascend cuts → IsTallied cuts made
+    → RoundsBeside cuts made.tally made.places.items made.refused.items clashes
+unfolding first
+first_beside cuts made clashes ascend is = record {
+  rounds = first None cuts made ascend is;
+  named = λ id n e. absurd (no_number n e);
+}
+
+by_both : (o p : Option ℕ) (n : ℕ) (P : Type 0) → (o ≡ Some n → P) → (p ≡ Some n → P) → option_or o p ≡ Some n → P
+by_both None p n P from then e = then e
+by_both (Some m) p n P from then e = from e
+
+-- what was named before, or is named in the journal of one clash more
+found_named : (stored number : Numbering) (clashes clashes' : List (List Batch)) → IsPrefix clashes clashes' → AreNamed clashes stored → AreNamed clashes' number → AreNamed clashes' (found stored number)
+found_named stored number clashes clashes' grew named more id n e =
+    by_both (stored id) (number id) n _ (λ here. named-grow clashes clashes' stored grew named id n here) (λ there. more id n there) e
+
+pub more_beside : OneGame → (cuts : List Cut) (counted : Counted) (places : List ℕ) (refused : List Refusal) (clashes clashes' : List (List Batch)) (r : RoundsBeside cuts (Some counted) places refused clashes)
+    (number : Numbering) (named refused' : List Refusal) (rest : List Placed) (next : Tallying) → IsPrefix clashes clashes' → AreNamed clashes' number
+    → named ≡ named_by number (kept r.rounds.stored (verdicts r.rounds.examinations)) → rest ≡ map placed (left_by number (kept r.rounds.stored (verdicts r.rounds.examinations)))
+    → refused' ≡ merged refused named → IsTallying rest next → RoundsBeside cuts next.tally next.places.items refused' clashes'
+unfolding more
+more_beside one cuts counted places refused clashes clashes' r number named refused' rest next grew theirs named_are rest_are refused_are made = record {
+  rounds = more one None cuts counted places refused None r.rounds number named refused' rest next None named_are rest_are refused_are made
+      (λ k e. absurd (untold k e)) (λ k e. absurd (untold k e));
+  named = found_named r.rounds.stored number clashes clashes' grew r.named theirs;
+}
+
+-- ---- the end of a group
+
+module _ {J : Type 0} where
+  pub settles_beside : (cuts : List Cut) (counted : Counted) (places : List ℕ) (refused : List Refusal) (clashes clashes' : List (List Batch)) (r : RoundsBeside cuts (Some counted) places refused clashes)
+      (answer : Result (Receipt J) (CommitFault J)) (done : Done J) → IsPrefix clashes clashes' → AnswersTo answer counted → done.answer ≡ Some answer → done.refused.items ≡ refused → SettlesBeside cuts done clashes'
+  settles_beside cuts counted places refused clashes clashes' r answer done grew answers answer_is refused_is =
+      let P : Option (Result (Receipt J) (CommitFault J)) → Type 0 = λ a. AnswersFor (kept r.rounds.stored (verdicts r.rounds.examinations)) a in
+      record {
+        examinations = r.rounds.examinations;
+        are_examinations = r.rounds.are_examinations;
+        number = r.rounds.stored;
+        named = named-grow clashes clashes' r.rounds.stored grew r.named;
+        refused = refused_is ∙ r.rounds.refused_are;
+        answer = subst P (sym answer_is) (counted, r.rounds.made, answers);
+      }
+
+  pub settles_none_beside : (cuts : List Cut) (places : List ℕ) (refused : List Refusal) (clashes : List (List Batch)) (r : RoundsBeside cuts None places refused clashes) (done : Done J)
+      → done.answer ≡ None → done.refused.items ≡ refused → SettlesBeside cuts done clashes
+  settles_none_beside cuts places refused clashes r done answer_is refused_is =
+      let P : Option (Result (Receipt J) (CommitFault J)) → Type 0 = λ a. AnswersFor (kept r.rounds.stored (verdicts r.rounds.examinations)) a in
+      record {
+        examinations = r.rounds.examinations;
+        are_examinations = r.rounds.are_examinations;
+        number = r.rounds.stored;
+        named = r.named;
+        refused = refused_is ∙ r.rounds.refused_are;
+        answer = subst P (sym answer_is) r.rounds.made;
+      }
+
+-- ---- one more group
+
+zip_length : (groups : List (List Cut)) (examinations : List (List Examination)) → AreExaminations groups examinations → length examinations ≡ length groups
+zip_length [] [] each = refl
+zip_length [] (e ∷ es) each = absurd each
+zip_length (g ∷ gs) [] each = absurd each
+zip_length (g ∷ gs) (e ∷ es) each = ap suc (zip_length gs es each.1)
+
+by-more : (numbers : List Numbering) (groups : List (List Examination)) (number : Numbering) (group : List Examination) → length numbers ≡ length groups
+    → verdicts_by (numbers ++ number ∷ []) (groups ++ group ∷ []) ≡ verdicts_by numbers groups ++ verdicts_behind number group ∷ []
+by-more [] [] number group same = refl
+by-more [] (g ∷ groups) number group same = absurd (omega (arith, same))
+by-more (n ∷ numbers) [] number group same = absurd (omega (arith, same))
+by-more (n ∷ numbers) (g ∷ groups) number group same = ap (λ (l : List (List Verdict)). verdicts_behind n g ∷ l) (by-more numbers groups number group (omega (arith, same)))
+
+abbrev batch_in : List Verdict → Option Batch
+batch_in group = batch_of (candidates group)
+
+accounted_more : (groups : List (List Cut)) (batches batches' : List Batch) (refused refused' : List Refusal) (done : AccountedBeside groups batches refused) (cuts : List Cut) (examinations : List Examination) (number : Numbering)
+    → AllZip IsExaminationOf cuts examinations → batches' ≡ batches ++ cons_option (batch_of (kept number (verdicts examinations))) [] → refused' ≡ refused ++ lost number (verdicts examinations)
+    → AccountedBeside (groups ++ cuts ∷ []) batches' refused'
+accounted_more groups batches batches' refused refused' done cuts examinations number each batches_are refused_are =
+    let here = verdicts_behind number examinations in
+    let so_far = verdicts_by done.numbers done.examinations in
+    let size = done.one_each ∙ sym (zip_length groups done.examinations done.are_examinations) in
+    let turn = by-more done.numbers done.examinations number examinations size in
+    record {
+      examinations = done.examinations ++ examinations ∷ [];
+      are_examinations = zip-append (AllZip IsExaminationOf) groups (cuts ∷ []) done.examinations (examinations ∷ []) done.are_examinations (each, tt);
+      numbers = done.numbers ++ number ∷ [];
+      one_each = both_longer done.numbers groups done.one_each;
+      yields = record {
+        batches_are = batches_are ∙ ap (λ (l : List Batch). l ++ cons_option (batch_of (candidates here)) []) done.yields.batches_are
+            ∙ sym (ap (filter_map batch_in) turn ∙ filter_map-append batch_in so_far (here ∷ []));
+        refused_are = refused_are ∙ ap (λ (l : List Refusal). l ++ refusals here) done.yields.refused_are
+            ∙ sym (ap (flat_map refusals) turn ∙ flat_map-append refusals so_far (here ∷ []) ∙ ap (λ (l : List Refusal). flat_map refusals so_far ++ l) (append-nil (refusals here)));
+      };
+    }
+  where
+    both_longer : (ns : List Numbering) (gs : List (List Cut)) → length ns ≡ length gs → length (ns ++ number ∷ []) ≡ length (gs ++ cuts ∷ [])
+    both_longer [] [] same = refl
+    both_longer [] (g ∷ gs) same = absurd (omega (arith, same))
+    both_longer (n ∷ ns) [] same = absurd (omega (arith, same))
+    both_longer (n ∷ ns) (g ∷ gs) same = ap suc (both_longer ns gs (omega (arith, same)))
+
+-- ---- receipts
+
+module _ {J : Type 0} where
+  receipts_more : (least : ℕ) (receipts : List (Receipt J)) (batches : List Batch) (receipt : Receipt J) (batch : Batch) (place : ℕ) → AreReceipts least receipts batches → IsReceipt receipt place batch
+      → last_batches least receipts ≤ place → AreReceipts least (receipts ++ receipt ∷ []) (batches ++ batch ∷ [])
+  receipts_more least [] [] receipt batch place are is above = (place, above, is, tt)
+  receipts_more least [] (b ∷ batches) receipt batch place are is above = absurd are
+  receipts_more least (r ∷ receipts) [] receipt batch place are is above = absurd are
+  receipts_more least (r ∷ receipts) (b ∷ batches) receipt batch place are is above =
+      let P : ℕ → Type 0 = λ n. last_batches n receipts ≤ place in
+      (are.0, are.1, are.2, receipts_more (are.0 + 1) receipts batches receipt batch place are.3 is (subst P are.2.batches above))
+
+-- ---- one more group of an import
+
+all_cuts_more : (groups : List (List Cut)) (cuts : List Cut) → flat_map (λ (g : List Cut). g) (groups ++ cuts ∷ []) ≡ flat_map (λ (g : List Cut). g) groups ++ cuts
+all_cuts_more groups cuts = flat_map-append (λ (g : List Cut). g) groups (cuts ∷ []) ∙ ap (λ (l : List Cut). flat_map (λ (g : List Cut). g) groups ++ l) (append-nil cuts)
+
+module _ {J : Type 0} (groups : List (List Cut)) (old new : OpenImport J) (cuts : List Cut) (done : Done J) (p : ProgressBeside groups old) (s : SettlesBeside cuts done new.clashes.items)
+    (grew : IsPrefix old.clashes.items new.clashes.items) (refused_is : new.refused.items ≡ old.refused.items ++ done.refused.items) where
+  more_repeats : AreRepeats (flat_map (λ group. group) (groups ++ cuts ∷ [])) new.clashes.items new.refused.items
+  more_repeats =
+      let all = flat_map (λ (g : List Cut). g) (groups ++ cuts ∷ []) in
+      let before = flat_map (λ (g : List Cut). g) groups in
+      let same = all_cuts_more groups cuts in
+      let C : Cut → List Cut → Type 0 = λ cut l. Contains l cut in
+      let P : Refusal → Type 0 = λ r. RepeatsBy all new.clashes.items r.place r.why in
+      let earlier = all-repeats-grow before all old.clashes.items new.clashes.items old.refused.items
+      (λ cut c. subst (C cut) (sym same) (Contains-append_left before cuts cut c)) grew p.repeats in
+      let Q : List Refusal → Type 0 = λ l. AreRepeats cuts new.clashes.items l in
+      let here = subst Q (sym s.refused) (repeats cuts new.clashes.items s.number s.examinations s.named s.are_examinations) in
+      let mine = all-repeats-grow cuts all new.clashes.items new.clashes.items done.refused.items
+      (λ cut c. subst (C cut) (sym same) (Contains-append_right before cuts cut c)) (record { rest = []; is = sym (append-nil new.clashes.items) }) here in
+      subst (λ (l : List Refusal). All P l) (sym refused_is) (All-append P old.refused.items done.refused.items earlier mine)
+
+  step : (o : Option Batch) → batch_of (kept s.number (verdicts s.examinations)) ≡ o → AreReceipts 0 new.receipts.items (p.batches ++ cons_option o []) → ProgressBeside (groups ++ cuts ∷ []) new
+  step o is receipts = record {
+    batches = p.batches ++ cons_option o [];
+    are_receipts = receipts;
+    accounted = accounted_more groups p.batches (p.batches ++ cons_option o []) old.refused.items new.refused.items p.accounted cuts s.examinations s.number s.are_examinations
+        (ap (λ (o : Option Batch). p.batches ++ cons_option o []) (sym is))
+        (refused_is ∙ ap (λ (l : List Refusal). old.refused.items ++ l) s.refused);
+    repeats = more_repeats;
+  }
+
+  pub none_beside : done.answer ≡ None → new.receipts.items ≡ old.receipts.items → ProgressBeside (groups ++ cuts ∷ []) new
+  none_beside answer_is receipts_are =
+      let P : Option (Result (Receipt J) (CommitFault J)) → Type 0 = λ a. AnswersFor (kept s.number (verdicts s.examinations)) a in
+      let a = subst P answer_is s.answer in
+      let Q : List (Receipt J) → Type 0 = λ r. AreReceipts 0 r (p.batches ++ []) in
+      let R : List Batch → Type 0 = λ b. AreReceipts 0 old.receipts.items b in
+      step None (ap batch_of a) (subst Q (sym receipts_are) (subst R (sym (append-nil p.batches)) p.are_receipts))
+
+  pub one_beside : (receipt : Receipt J) → done.answer ≡ Some (Ok receipt) → last_batches 0 old.receipts.items < receipt.batches → new.receipts.items ≡ old.receipts.items ++ receipt ∷ [] → ProgressBeside (groups ++ cuts ∷ []) new
+  one_beside receipt answer_is above receipts_are =
+      let P : Option (Result (Receipt J) (CommitFault J)) → Type 0 = λ a. AnswersFor (kept s.number (verdicts s.examinations)) a in
+      let a = subst P answer_is s.answer in
+      let is = a.2.is in
+      let place : last_batches 0 old.receipts.items ≤ a.2.place = (let e = is.batches in omega (arith, e, above)) in
+      let Q : List (Receipt J) → Type 0 = λ r. AreReceipts 0 r (p.batches ++ a.0.batch ∷ []) in
+      step (Some a.0.batch) a.1.batch (subst Q (sym receipts_are) (receipts_more 0 old.receipts.items p.batches receipt a.0.batch a.2.place p.are_receipts is place))
+
+-- ---- a group that ended an import
+
+no_batch : (b : Batch) → (let o : Option Batch = None in o) ≡ Some b → ⊥
+no_batch b e = cc
+
+some_candidates : (cs : List Candidate) (batch : Batch) → batch_of cs ≡ Some batch → cs ≢ []
+some_candidates [] batch is none = no_batch batch is
+some_candidates (c ∷ cs) batch is none = cons_none c cs none
+  where
+    cons_none : (c : Candidate) (cs : List Candidate) → c ∷ cs ≡ [] → ⊥
+    cons_none c cs e = cc
+
+sizes : (cs : List Candidate) → sum_by (λ (t : List ℕ). length t) (map (λ (c : Candidate). c.text) cs) ≡ sum_by (λ (c : Candidate). length c.text) cs
+sizes cs = sum_by-map (λ (t : List ℕ). length t) (λ (c : Candidate). c.text) cs
+
+over_not_within : (games bytes : ℕ) → is_over games bytes ≡ true → AreWithin games bytes → ⊥
+over_not_within games bytes over within = by (nat_lt 131072 games) (nat_lt 268435456 bytes) refl refl over
+  where
+    by : (g b : Bool) → nat_lt 131072 games ≡ g → nat_lt 268435456 bytes ≡ b → (g || b) ≡ true → ⊥
+    by true b gs bs e =
+        let more : 131072 < games = grind (arith, nat_tests) in omega (arith, more, within.0)
+    by false true gs bs e =
+        let more : 268435456 < bytes = grind (arith, nat_tests) in omega (arith, more, within.1)
+    by false false gs bs e = cc
+
+full_left : (note : List Batch) (games bytes : ℕ) (cs : List Candidate) (counted : Counted) → Counts cs counted → IsFullFor note games bytes counted → FindsNoRoom note games bytes cs
+full_left note games bytes cs counted counts full =
+    let texts = batch_texts cs counted.batch counts.batch in
+    let more = texts_more note counted.batch ∙ ap (λ (l : List (List ℕ)). texts_of note ++ l) texts in
+    let games_sum : game_count (note ++ counted.batch ∷ []) ≡ games + length cs =
+    ap (λ (l : List (List ℕ)). length l) more ∙ length_both (texts_of note) cs ∙ ap (λ n. n + length cs) (sym full.games_are) in
+    let bytes_sum : byte_count (note ++ counted.batch ∷ []) ≡ bytes + sum_by (λ (c : Candidate). length c.text) cs =
+    ap (λ (l : List (List ℕ)). sum_by (λ (t : List ℕ). length t) l) more
+    ∙ sum_by-append (λ (t : List ℕ). length t) (texts_of note) (map (λ (c : Candidate). c.text) cs)
+    ∙ ap (λ n. byte_count note + n) (sizes cs)
+    ∙ ap (λ n. n + sum_by (λ (c : Candidate). length c.text) cs) (sym full.bytes_are) in
+    let P : ℕ → Type 0 = λ n. is_over n (byte_count (note ++ counted.batch ∷ [])) ≡ true in
+    let Q : ℕ → Type 0 = λ n. is_over (games + length cs) n ≡ true in
+    let over = subst Q bytes_sum (subst P games_sum full.passes) in
+    record {
+      games_are = full.games_are;
+      bytes_are = full.bytes_are;
+      stored = full.stored;
+      are_stored = full.are_stored;
+      new = All-from_recursion (λ (c : Candidate). numbers_of full.stored c.game.classes.id.bytes ≡ None) cs
+          (kept_none (numbers_of full.stored) 0 cs (ap (clashes_from 0 (numbers_of full.stored)) (sym (counted_ids cs counted counts)) ∙ full.new));
+      passes = over_not_within (games + length cs) (bytes + sum_by (λ (c : Candidate). length c.text) cs) over;
+    }
+  where
+    length_both : (ts : List (List ℕ)) (cs : List Candidate) → length (ts ++ map (λ (c : Candidate). c.text) cs) ≡ length ts + length cs
+    length_both ts cs = length-append ts (map (λ (c : Candidate). c.text) cs) ∙ ap (λ n. length ts + n) (length-map cs (λ (c : Candidate). c.text))
+
+module _ {J : Type 0} where
+  ends_beside : (fault : CommitFault J) (end : End J) (cs : List Candidate) (counted : Counted) → Counts cs counted → AnswersTo (Err fault) counted → IsEndOf fault end → IsDecided {J = J} (Err fault) → EndsBeside end cs
+  ends_beside (faults.Closed before after mark) end cs counted counts answers is never = subst (λ (e : End J). EndsBeside e cs) (sym is) answers
+  ends_beside (faults.DiskFault before after mark) end cs counted counts answers is never = subst (λ (e : End J). EndsBeside e cs) (sym is) answers
+  ends_beside (faults.Full games bytes note) end cs counted counts answers is never = subst (λ (e : End J). EndsBeside e cs) (sym is) (full_left note games bytes cs counted counts answers)
+  ends_beside (faults.Clash handed pairs note) end cs counted counts answers is never = absurd never
+  ends_beside (faults.OutOfMemory out) end cs counted counts answers is never = absurd never
+
+  pub stops_beside : (cuts : List Cut) (done : Done J) (clashes : List (List Batch)) (s : SettlesBeside cuts done clashes) (fault : CommitFault J) (stopped : Stopped J)
+      → done.answer ≡ Some (Err fault) → IsDecided {J = J} (Err fault) → IsEndOf fault stopped.end → stopped.refused ≡ done.refused → StopsBeside cuts clashes stopped
+  stops_beside cuts done clashes s fault stopped answer_is never is_end same =
+      let P : Option (Result (Receipt J) (CommitFault J)) → Type 0 = λ a. AnswersFor (kept s.number (verdicts s.examinations)) a in
+      let a = subst P answer_is s.answer in
+      let refused = ap (λ r. r.items) same ∙ s.refused in
+      let Q : List Refusal → Type 0 = λ l. AreRepeats cuts clashes l in
+      record {
+        left = kept s.number (verdicts s.examinations);
+        judged = record {
+          examinations = s.examinations;
+          are_examinations = s.are_examinations;
+          number = s.number;
+          left_are = refl;
+          refused_are = refused;
+        };
+        some_left = some_candidates (kept s.number (verdicts s.examinations)) a.0.batch a.1.batch;
+        ends = ends_beside fault stopped.end (kept s.number (verdicts s.examinations)) a.0 a.1 a.2 is_end never;
+        repeats = subst Q (sym refused) (repeats cuts clashes s.number s.examinations s.named s.are_examinations);
+      }

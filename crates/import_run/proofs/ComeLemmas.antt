@@ -1,0 +1,228 @@
+-- What an import comes to, by its end, where the store is known.
+use Rattle.std.proofs.Common.{◌≡◌, ◌≢◌, ◌⊎◌, inl, inr, ℕ, ◌+◌, ◌-◌, ◌<◌, ◌≤◌, Bool, true, false, ◌||◌, nat_lt, if◌then◌else◌, List, [], ◌∷◌, ◌++◌, Option, None, Some, Result, Ok, Err, length, map, sum_by, take, refl, sym, ap, subst, ◌∙◌, append_assoc, length-append, arith}
+use Rattle.std.specs.Io.KnownBytes.{IsAtEnd}
+use Rattle.std.specs.List.{All, AllByRecursion, AllZip}
+use Rattle.std.proofs.lemmas.List.{append-nil, length-map}
+use Rattle.outside.specs.Stream.{Stream, Rises}
+use Rattle.explorer_model.specs.declared.archive.Batch.{Batch}
+use Rattle.explorer_model.specs.declared.archive.Game.{Game}
+use Rattle.explorer_model.specs.declared.fault.Refusal.{Refusal}
+use Rattle.explorer_model.specs.Cuts.{Cut, cuts}
+use Rattle.explorer_model.specs.Imports.{Accounted, Candidate, Examination, groups, verdicts}
+use Rattle.explorer_model.specs.Journal.{input_limit}
+use Rattle.ingest_desk.specs.declared.fault.CommitFault.{CommitFault}
+use Rattle.ingest_desk.specs.declared.fault.CommitFault.TheVariants as faults
+use Rattle.ingest_desk.specs.declared.receipt.Receipt.{Receipt}
+use Rattle.ingest_desk.specs.declared.report.End.{End}
+use Rattle.ingest_desk.specs.declared.report.End.TheVariants as ends
+use Rattle.ingest_desk.specs.declared.report.Report.{Report}
+use Rattle.import_run.specs.declared.groups.OpenImport.{OpenImport}
+use Rattle.import_run.specs.declared.groups.Stopped.{Stopped}
+use Rattle.import_run.specs.Committing.{Known, Store, store_of}
+use Rattle.import_run.specs.Ending.{AreSettled, EndsAt, ReadFaultsAre, StandsAt, StoresBy}
+use Rattle.import_run.specs.Progress.{AreReceiptsOf, Progress}
+use Rattle.import_run.specs.Rounds.{MayHaveMore}
+use Rattle.import_run.specs.SoFar.{AreAllGroups, AreGroupsSoFar, AreInGroups, ended_cuts}
+use Rattle.import_run.specs.Taking.{ComesQuietly, ComesTo, CutSoFar, IsReady, IsWholeSettled, LacksAtEnd, LacksBehind, LacksWithin, StopsAtEnd, StopsBehind, StopsWithin, TakenAll}
+use Rattle.import_run.proofs.AccountLemmas.{alike}
+use Rattle.import_run.proofs.GroupLemmas.{all_cuts}
+use Rattle.import_run.proofs.HoldLemmas.{holds_texts}
+use Rattle.import_run.proofs.SoFarLemmas.{each-append, ended_front, ended_taken, in_groups, regroup, regroup_all}
+use Rattle.import_run.proofs.StopLemmas.{EndsSo, ends_so}
+
+module _ {J : Type 0} (start : Known) (report : Report J) (stream : List ℕ) (left_over : Option (List ℕ)) (told : Option Store) where
+  comes_by : (end : End J) → report.end ≡ end → (batches : List Batch) → AreReceiptsOf start.journal report.receipts.items batches
+      → StandsAt end start stream left_over batches report.refused.items → (new : Store) → told ≡ Some new → StoresBy end (start.journal ++ batches) start.fault new
+      → ComesTo start stream left_over report told
+  comes_by end is batches receipts stands new still stores =
+      let P : End J → Type 0 = λ e. StandsAt e start stream left_over batches report.refused.items in
+      let Q : End J → Type 0 = λ e. StoresBy e (start.journal ++ batches) start.fault new in
+      record { batches = batches; receipts = receipts; stands = subst P (sym is) stands; new = new; still = still; stores = subst Q (sym is) stores }
+
+  quietly : (end : End J) → report.end ≡ end → ((old new : Stream) → new.read_faults ≡ old.read_faults → ReadFaultsAre end old new) → ComesTo start stream left_over report told
+      → ComesQuietly start stream left_over report told
+  quietly end is quiet comes =
+      let P : End J → Type 0 = λ e. (old new : Stream) → new.read_faults ≡ old.read_faults → ReadFaultsAre e old new in
+      record { comes = comes; quiet = subst P (sym is) quiet }
+
+  settled_by : (groups : List (List Cut)) (receipts : List (Receipt J)) (refused : List Refusal) (now : Option Store) → (p : Progress start groups receipts refused now) → AreSettled start groups p.batches refused
+  settled_by groups receipts refused now p = record { accounted = p.accounted; closed = p.closed }
+
+  -- ---- streams that break off
+
+  -- a read failed
+  pub comes_cut_off : (before after : ℕ) → report.end ≡ ends.ReadFault before after → length stream < input_limit → IsWholeSettled start stream report.receipts.items report.refused.items told
+      → ComesTo start stream left_over report told
+  comes_cut_off before after is below w =
+      let p = w.progress in
+      comes_by (ends.ReadFault before after) is p.batches p.receipts_are
+      (record { below = below; whole = w.whole; hand = w.hand; in_groups = w.in_groups; settled = settled_by w.whole report.receipts.items report.refused.items told p })
+      (store_of p.known) p.still (p.journal, p.fault)
+
+  -- the bound was reached
+  pub comes_too_much : (bytes : ℕ) → report.end ≡ ends.TooMuch bytes → bytes ≡ length stream → length stream ≡ input_limit → (front : List ℕ) (last : ℕ) → stream ≡ front ++ last ∷ []
+      → IsWholeSettled start front report.receipts.items report.refused.items told → ComesTo start stream left_over report told
+  comes_too_much bytes is long at front last front_is w =
+      let p = w.progress in
+      comes_by (ends.TooMuch bytes) is p.batches p.receipts_are
+      (long, record { at = at; front = front; last = last; front_is = front_is; whole = w.whole; hand = w.hand; in_groups = w.in_groups; settled = settled_by w.whole report.receipts.items report.refused.items told p })
+      (store_of p.known) p.still (p.journal, p.fault)
+
+  -- ---- the end of a stream
+
+  all_settled : (closed : List (List Cut)) (hand : List Cut) (batches : List Batch) (refused : List Refusal) → AreInGroups (cuts stream) closed hand → AreSettled start (closed ++ hand ∷ []) batches refused
+      → AreSettled start (groups (cuts stream)) batches refused
+  all_settled closed hand batches refused are s =
+      let a = alike start.games closed hand s.accounted.examinations are.each (omega (arith, are.few)) s.accounted.are_examinations in
+      let P : List Cut → Type 0 = λ l. AreSettled start (groups l) batches refused in
+      subst P (sym are.all) (record {
+        accounted = record {
+          examinations = a.others;
+          are_examinations = a.are;
+          yields = record { batches_are = s.accounted.yields.batches_are ∙ sym a.batches; refused_are = s.accounted.yields.refused_are ∙ sym a.refused };
+        };
+        closed = λ some. a.none (s.closed some);
+      })
+
+  -- all of it was settled
+  pub comes_whole : (import : OpenImport J) → report.end ≡ ends.Whole → report.receipts.items ≡ import.receipts.items → report.refused.items ≡ import.refused.items → IsAtEnd left_over → length stream < input_limit
+      → (taken : List Cut) → taken ≡ cuts stream → TakenAll (Some (store_of start)) taken import told → ComesQuietly start stream left_over report told
+  comes_whole import is receipts refused at_end below taken all done =
+      let p = done.settled.alone start refl in
+      let R : List (Receipt J) → Type 0 = λ l. AreReceiptsOf start.journal l p.batches in
+      let S : List Refusal → Type 0 = λ l. AreSettled start (groups (cuts stream)) p.batches l in
+      let G : List Cut → Type 0 = λ l. AreInGroups l done.closed done.hand in
+      quietly ends.Whole is (λ old new same. same)
+      (comes_by ends.Whole is p.batches (subst R (sym receipts) p.receipts_are)
+      (at_end, below, subst S (sym refused) (all_settled done.closed done.hand p.batches import.refused.items (subst G all done.in_groups) (record { accounted = p.accounted; closed = p.closed })))
+      (store_of p.known) p.still (p.journal, p.fault))
+
+  -- ---- want of memory
+
+  module _ (import : OpenImport J) (is : report.end ≡ ends.OutOfMemory) (receipts : report.receipts.items ≡ import.receipts.items) (refused : report.refused.items ≡ import.refused.items)
+      (below : length stream < input_limit) where
+    comes_lacking : (so_far done rest : List (List Cut)) → AreGroupsSoFar stream left_over so_far → so_far ≡ done ++ rest → LacksBehind (Some (store_of start)) done import told → ComesQuietly start stream left_over report told
+    comes_lacking so_far done rest are so_far_is b =
+        let p = b.settled.alone start refl in
+        let m = b.alone start refl in
+        let R : List (Receipt J) → Type 0 = λ l. AreReceiptsOf start.journal l p.batches in
+        let S : List Refusal → Type 0 = λ l. AreSettled start done p.batches l in
+        quietly ends.OutOfMemory is (λ old new same. same)
+        (comes_by ends.OutOfMemory is p.batches (subst R (sym receipts) p.receipts_are)
+        (record { below = below; so_far = so_far; are_so_far = are; done = done; rest = rest; so_far_is = so_far_is; settled = subst S (sym refused) (record { accounted = p.accounted; closed = p.closed }) })
+        m.new m.still (by_journal m.new.journal p.known.journal p.batches p.journal m.journal, m.fault ∙ p.fault))
+      where
+        by_journal : (new known batches : List Batch) → known ≡ start.journal ++ batches → (new ≡ known) ⊎ ((batch : Batch) × (new ≡ known ++ batch ∷ []))
+            → (new ≡ start.journal ++ batches) ⊎ ((batch : Batch) × (new ≡ (start.journal ++ batches) ++ batch ∷ []))
+        by_journal new known batches journal (inl same) = inl (same ∙ journal)
+        by_journal new known batches journal (inr (batch, more)) = inr (batch, more ∙ ap (λ (l : List Batch). l ++ batch ∷ []) journal)
+
+    -- within a stream that may go on
+    pub lacking_within : LacksWithin (Some (store_of start)) stream import told → ComesQuietly start stream left_over report told
+    lacking_within w = by_more w.more w.cut w.begun
+      where
+        some_ended : (more : List Cut) → w.taken ++ more ≡ cuts stream → 0 < length more → ComesQuietly start stream left_over report told
+        some_ended more cut some =
+            let l = w.lacks in
+            let later = in_groups (l.hand ++ take (length more - 1) more) in
+            comes_lacking (l.closed ++ later.whole) l.closed later.whole
+            (inl (
+              later.hand,
+              record {
+                all =
+                    ended_front stream w.taken more cut some
+                    ∙ ap (λ (k : List Cut). k ++ take (length more - 1) more) l.all
+                    ∙ append_assoc (all_cuts l.closed) l.hand (take (length more - 1) more)
+                    ∙ ap (λ (k : List Cut). all_cuts l.closed ++ k) later.are.all
+                    ∙ regroup_all l.closed later.whole later.hand;
+                each = each-append l.closed later.whole l.each later.are.each;
+                few = later.are.few;
+              },
+            ))
+            refl l.behind
+
+        none_ended : (taken : List Cut) (closed : List (List Cut)) → taken ≡ w.taken → closed ≡ w.lacks.closed → w.taken ++ [] ≡ cuts stream → (0 < length w.taken → ⊥) → ComesQuietly start stream left_over report told
+        none_ended (cut ∷ taken) closed is_taken is_closed cut_is none = absurd (none (omega (arith, ap length is_taken)))
+        none_ended [] closed is_taken is_closed cut_is none =
+            let l = w.lacks in
+            let empty : ended_cuts stream ≡ [] = ap (λ (k : List Cut). take (length k - 1) k) (sym cut_is ∙ ap (λ (k : List Cut). k ++ []) (sym is_taken)) in
+            let all : [] ≡ all_cuts l.closed ++ l.hand = is_taken ∙ l.all in
+            let later = in_groups l.hand in
+            comes_lacking (l.closed ++ later.whole) l.closed later.whole
+            (inl (
+              later.hand,
+              record {
+                all = empty ∙ all ∙ ap (λ (k : List Cut). all_cuts l.closed ++ k) later.are.all ∙ regroup_all l.closed later.whole later.hand;
+                each = each-append l.closed later.whole l.each later.are.each;
+                few = later.are.few;
+              },
+            ))
+            refl l.behind
+
+        by_more : (more : List Cut) → w.taken ++ more ≡ cuts stream → (0 < length w.taken → 0 < length more) → ComesQuietly start stream left_over report told
+        by_more [] cut begun = none_ended w.taken w.lacks.closed refl refl cut (λ some. absurd (omega (arith, begun some)))
+        by_more (one ∷ more) cut begun = some_ended (one ∷ more) cut (omega arith)
+
+    -- at the end of a stream
+    pub lacking_at_end : IsAtEnd left_over → (taken : List Cut) → taken ≡ cuts stream → LacksAtEnd (Some (store_of start)) taken import told → ComesQuietly start stream left_over report told
+    lacking_at_end at_end taken all l =
+        let G : List Cut → Type 0 = λ k. AreAllGroups k (l.done ++ l.rest) in
+        comes_lacking (l.done ++ l.rest) l.done l.rest (inr (at_end, subst G all l.all)) refl l.behind
+
+  -- ---- a commit that ended the import
+
+  module _ (import : OpenImport J) (stopped : Stopped J) (is : report.end ≡ stopped.end) (receipts : report.receipts.items ≡ import.receipts.items)
+      (refused : report.refused.items ≡ import.refused.items ++ stopped.refused.items) (below : length stream < input_limit) where
+    comes_stopped : (so_far done rest : List (List Cut)) (next : List Cut) → AreGroupsSoFar stream left_over so_far → so_far ≡ done ++ next ∷ rest → StopsBehind (Some (store_of start)) done next import stopped told
+        → ComesQuietly start stream left_over report told
+    comes_stopped so_far done rest next are so_far_is b =
+        let p = b.settled.alone start refl in
+        let R : List (Receipt J) → Type 0 = λ l. AreReceiptsOf start.journal l p.batches in
+        let S : List Refusal → Type 0 = λ l. EndsSo start stream left_over p.batches l told stopped.end in
+        let so = subst S (sym refused) (ends_so start stream left_over done rest next import.receipts.items import.refused.items b.before p stopped told so_far below are so_far_is (b.alone start refl)) in
+        quietly stopped.end is so.quiet
+        (comes_by stopped.end is p.batches (subst R (sym receipts) p.receipts_are) so.stands so.new so.still so.stores)
+
+    -- within a stream that may go on
+    pub stopped_within : StopsWithin (Some (store_of start)) stream import stopped told → ComesQuietly start stream left_over report told
+    stopped_within w =
+        let s = w.stops in
+        let later = in_groups (take (length w.more - 1) w.more) in
+        comes_stopped (s.closed ++ s.next ∷ later.whole) s.closed later.whole s.next
+        (inl (
+          later.hand,
+          record {
+            all =
+                ended_front stream w.taken w.more w.cut w.some
+                ∙ ap (λ (l : List Cut). l ++ take (length w.more - 1) w.more) s.all
+                ∙ ap (λ (l : List Cut). (all_cuts s.closed ++ s.next) ++ l) later.are.all
+                ∙ regroup s.closed s.next later.whole later.hand;
+            each = each-append s.closed (s.next ∷ later.whole) s.each (s.whole, later.are.each);
+            few = later.are.few;
+          },
+        ))
+        refl s.behind
+
+    -- at the end of a stream
+    pub stopped_at_end : IsAtEnd left_over → (taken : List Cut) → taken ≡ cuts stream → StopsAtEnd (Some (store_of start)) taken import stopped told → ComesQuietly start stream left_over report told
+    stopped_at_end at_end taken all s =
+        let G : List Cut → Type 0 = λ k. AreAllGroups k (s.done ++ s.next ∷ s.rest) in
+        comes_stopped (s.done ++ s.next ∷ s.rest) s.done s.rest s.next (inr (at_end, subst G all s.all)) refl s.behind
+
+-- the whole groups of a stream are settled, where no more than one cut has begun
+pub whole_settled : {J : Type 0} (start : Known) (stream : List ℕ) (after : List ℕ → List Cut) (last : List Cut) (import : OpenImport J) (told : Option Store) (receipts : List (Receipt J)) (refused : List Refusal)
+    → last ≡ after [] → length last ≤ 1 → IsReady import → CutSoFar (Some (store_of start)) stream after import told → receipts ≡ import.receipts.items → refused ≡ import.refused.items
+    → IsWholeSettled start stream receipts refused told
+whole_settled {J} start stream after last import told receipts refused is few ready so_far receipts_are refused_are =
+    let all : so_far.taken ++ last ≡ cuts stream = ap (λ (l : List Cut). so_far.taken ++ l) is ∙ so_far.cut [] ∙ ap cuts (append-nil stream) in
+    let long = ap (λ (l : List Cut). length l) is in
+    let ended = ended_taken stream so_far.taken last all few (λ some. let begun = so_far.begun some [] in omega (arith, begun, long)) in
+    let t = so_far.so_far in
+    let P : List Refusal → Type 0 = λ l. Progress start t.closed receipts l told in
+    let Q : List (Receipt J) → Type 0 = λ l. Progress start t.closed l import.refused.items told in
+    record {
+      whole = t.closed;
+      hand = t.hand;
+      in_groups = record { all = ended ∙ t.all; each = t.each; few = omega (arith, ready.few, holds_texts t.hand import.group t.group) };
+      progress = subst P (sym refused_are) (subst Q (sym receipts_are) (t.settled.alone start refl));
+    }

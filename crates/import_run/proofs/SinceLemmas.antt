@@ -1,0 +1,64 @@
+-- What one commit does to a store on a disk.
+use Rattle.std.proofs.Common.{◌≡◌, ℕ, ◌≤◌, true, false, List, [], ◌∷◌, ◌++◌, Option, None, Some, Result, Ok, Err, length, refl, sym, ap, subst, ◌∙◌}
+use Rattle.std.proofs.lemmas.List.{append-nil}
+use Rattle.disk_model.specs.Disk.{DiskState, LeavesOnly, MayLeave}
+use Rattle.explorer_model.specs.declared.archive.Batch.{Batch}
+use Rattle.explorer_model.specs.StoreFile.{payload_of}
+use Rattle.record_log.specs.Log.{Adds, Breaks, EachImage, Log}
+use Rattle.manifest.specs.Manifest.{HasJournal, IsWithOrWithoutBatch}
+use Rattle.ingest_desk.specs.Commits.{Leaves, Stores}
+use Rattle.ingest_desk.specs.Kept.{Keeps, KeepsBy}
+use Rattle.ingest_desk.specs.Stored.{Stored, journal}
+use Rattle.ingest_desk.specs.declared.fault.CommitFault.{CommitFault}
+use Rattle.ingest_desk.specs.declared.fault.CommitFault.TheVariants as faults
+use Rattle.ingest_desk.specs.declared.receipt.Receipt.{Receipt}
+use Rattle.import_run.specs.Since.{Closes, Goes, HasFrontOf, IsSince, StaysOpen}
+use Rattle.import_run.specs.SinceLaws.{one_front, since_same, weaker}
+
+module _ {D : Type 0} (disk : D → DiskState) (left_since : D → ℕ → List ℕ → Type 0) where
+  module _ (counts_now : (it : D) (t : ℕ) (image : List ℕ) → t ≤ (disk it).moment → MayLeave disk left_since it image → left_since it t image) (old new : Stored D) (batch : Batch)
+      (keeps : Keeps disk left_since (journal new) new.manifest)
+      (crash : old.manifest.fault ≡ None → LeavesOnly disk left_since old.manifest.disk new.manifest.disk (IsWithOrWithoutBatch (journal old) batch)) where
+    since_stored : journal new ≡ journal old ++ batch ∷ [] → Adds disk (length (payload_of batch)) old.manifest new.manifest → IsSince disk left_since old new
+    since_stored more adds =
+        let same : new.manifest.fault ≡ None = ap (λ (l : Log D). l.fault) adds.rest ∙ adds.sound in
+        let K : Option (ℕ × ℕ) → Type 0 = λ f. KeepsBy disk left_since (journal new) new.manifest f in
+        let kept = subst K same keeps in
+        let I : List Batch → Type 0 = λ j. EachImage disk left_since new.manifest.disk (HasJournal j) in
+        let F : Option (ℕ × ℕ) → Type 0 = λ f. Goes disk left_since (journal old) (batch ∷ []) f new.manifest.fault old.manifest new.manifest in
+        let G : Option (ℕ × ℕ) → Type 0 = λ f. Goes disk left_since (journal old) (batch ∷ []) None f old.manifest new.manifest in
+        let opens : StaysOpen disk left_since (journal old) (batch ∷ []) old.manifest.disk new.manifest.disk = record {
+          no_fault = adds.no_fault;
+          crash = λ each. record {
+            now = subst I more kept.images;
+            meanwhile = weaker disk left_since old.manifest.disk new.manifest.disk (IsWithOrWithoutBatch (journal old) batch) (HasFrontOf (journal old) (batch ∷ [])) (λ image h. one_front (journal old) batch image h) (crash adds.sound);
+          };
+        } in
+        record { batches = batch ∷ []; journal_is = more; manifest = subst F (sym adds.sound) (subst G (sym same) opens) }
+
+    since_broken : (before after : ℕ) → journal new ≡ journal old → Breaks disk before after old.manifest new.manifest → IsSince disk left_since old new
+    since_broken before after same breaks =
+        let is : new.manifest.fault ≡ Some (before, after) = ap (λ (l : Log D). l.fault) breaks.rest in
+        let leaves = crash breaks.sound in
+        let I : List Batch → Type 0 = λ j. EachImage disk left_since new.manifest.disk (IsWithOrWithoutBatch j batch) in
+        let F : Option (ℕ × ℕ) → Type 0 = λ f. Goes disk left_since (journal old) [] f new.manifest.fault old.manifest new.manifest in
+        let G : Option (ℕ × ℕ) → Type 0 = λ f. Goes disk left_since (journal old) [] None f old.manifest new.manifest in
+        let closes : Closes disk left_since (before, after) (journal old) [] old.manifest.disk new.manifest.disk = record {
+          fault = breaks.counts;
+          crash = λ each. record {
+            last = batch;
+            now = subst I (sym (append-nil (journal old))) (λ image left. leaves.each image (counts_now new.manifest.disk (disk old.manifest.disk).moment image leaves.later left));
+            meanwhile = weaker disk left_since old.manifest.disk new.manifest.disk (IsWithOrWithoutBatch (journal old) batch) (HasFrontOf (journal old) (batch ∷ [])) (λ image h. one_front (journal old) batch image h) leaves;
+          };
+        } in
+        record { batches = []; journal_is = same ∙ sym (append-nil (journal old)); manifest = subst F (sym breaks.sound) (subst G (sym is) closes) }
+
+    module _ {J : Type 0} where
+      pub commit_since : (result : Result (Receipt J) (CommitFault J)) → Leaves disk result batch old.manifest new.manifest → Stores result batch (journal old) (journal new) → IsSince disk left_since old new
+      commit_since (Ok receipt) leaves stores = since_stored stores leaves
+      commit_since (Err (faults.OutOfMemory true)) leaves stores = since_stored stores leaves
+      commit_since (Err (faults.OutOfMemory false)) leaves stores = since_same disk left_since old new stores leaves
+      commit_since (Err (faults.DiskFault before after mark)) leaves stores = since_broken before after stores leaves
+      commit_since (Err (faults.Closed before after mark)) leaves stores = since_same disk left_since old new stores leaves
+      commit_since (Err (faults.Clash handed pairs note)) leaves stores = since_same disk left_since old new stores leaves
+      commit_since (Err (faults.Full games bytes note)) leaves stores = since_same disk left_since old new stores leaves

@@ -1,0 +1,79 @@
+use Rattle.std.proofs.Common.{◌≡◌, ◌+◌, ◌-◌, ℕ, List, Option, [], ◌++◌, take, drop, length, length-drop, ap, sym, ◌∙◌, arith}
+use Rattle.std.proofs.lemmas.List.{append-nil, take_rest}
+use Rattle.pgn_cut.specs.Cut.{cuts_in}
+use Rattle.pgn_cut.specs.Cutter.{cuts_of_rest}
+use Rattle.import_run.specs.Committing.{Store}
+use Rattle.import_run.specs.Taking.{CutSoFar}
+use Rattle.import_run.proofs.CutLemmas.{cut_ascends, cut_bytes, cut_whole, lacks_within, next_cut, opens_more, some_taken, stops_within}
+use Rattle.import_run.proofs.NextLemmas.{lacking}
+use Rattle.import_run.proofs.ShortLemmas.{short_first}
+use Rattle.import_run.proofs.TakingLemmas.{lacks_now, where_lacking, where_stopped}
+use Rattle.import_run.proofs.groups.OpenImport.feed.Goals as goal
+
+pub feeding-init : goal.feeding-init
+feeding-init g c = record {
+  within = omega arith;
+  so_far = omega arith;
+  ready = c.requires.ready;
+  cut = λ start past so_far. cut_bytes start _ _ _ _ _ (sym (append-nil past)) so_far;
+  since = g.met.C.Committer.since_then c.args.committer.now;
+}
+
+pub take-requires-clause-short : goal.take-requires-clause-short
+take-requires-clause-short g c = λ κs within.
+    short_first c.in_ok-fed.fed.cut c.feeding.cutter (take c.in_ok-fed.fed.taken (take (length c.args.bytes.now - c.feeding.at) (drop c.feeding.at c.args.bytes.now)) ++ []) (cuts_of_rest c.feed.new.self [])
+    (c.in_ok-fed.ensures.cuts [])
+
+pub feeding-preserved : goal.feeding-preserved
+feeding-preserved g c =
+    let before = c.feeding.invariant in
+    let whole : length (take (length c.args.bytes.now - c.feeding.at) (drop c.feeding.at c.args.bytes.now)) ≡ length c.args.bytes.now - c.feeding.at = ap length (take_rest c.args.bytes.now c.feeding.at) ∙ length-drop c.feeding.at c.args.bytes.now in
+    record {
+      within = omega (arith, whole, c.in_ok-fed.ensures.taken, before.within);
+      so_far = omega (arith, c.in_ok-fed.ensures.came, before.so_far);
+      ready = c.in-Ok.ensures.ready;
+      cut = λ start past began.
+          let so_far = before.cut start past began in
+          let cut = next_cut past c.args.bytes.now c.feeding.at c.in_ok-fed.fed.taken so_far.taken (cuts_in c.in_ok-fed.fed.cut) (cuts_of_rest c.feeding.cutter) (cuts_of_rest c.feed.new.self) so_far.cut c.in_ok-fed.ensures.cuts in
+          record {
+            taken = so_far.taken ++ cuts_in c.in_ok-fed.fed.cut;
+            cut = cut;
+            begun = opens_more c.in_ok-fed.fed.cut c.feed.new.self so_far.taken (cuts_of_rest c.feeding.cutter) _ c.in_ok-fed.ensures.cuts c.in_ok-fed.ensures.stops so_far.begun;
+            so_far = c.in-Ok.ensures.taken start so_far.taken (cut_ascends _ (cuts_of_rest c.feed.new.self) _ cut) so_far.so_far;
+          };
+      since = g.met.C.Committer.since_before c.args.committer.now c.feeding.committer c.take.new.committer before.since c.take.ensures.since;
+    }
+
+pub returns-clause-cut : goal.returns-clause-cut
+returns-clause-cut g c = λ start past began. cut_whole start _ past c.args.bytes.now c.feeding.at (cuts_of_rest c.feeding.cutter) c.feeding.self c.feeding-test.false (c.feeding.invariant.cut start past began)
+
+pub returns-in_err-fed-clause-lacks : goal.returns-in_err-fed-clause-lacks
+returns-in_err-fed-clause-lacks g c =
+    let told = g.C.Committer.told c.feeding.committer in
+    lacking c.from_residual.result
+    (λ (start : Option Store) (past : List ℕ) (began : CutSoFar start past (cuts_of_rest c.args.cutter.now) c.args.self.now (g.C.Committer.told c.args.committer.now)).
+    let so_far = c.feeding.invariant.cut start past began in
+    lacks_within start told past c.args.bytes.now c.feeding.at so_far.taken (cuts_of_rest c.feeding.cutter) c.feeding.self so_far.cut so_far.begun (lacks_now start so_far.taken c.feeding.self told so_far.so_far))
+
+pub returns-in-Err-clause-stops : goal.returns-in-Err-clause-stops
+returns-in-Err-clause-stops g c = where_stopped c.in-Err.stop _ _ (λ stopped ends start past began.
+    let so_far = c.feeding.invariant.cut start past began in
+    let cut = next_cut past c.args.bytes.now c.feeding.at c.in_ok-fed.fed.taken so_far.taken (cuts_in c.in_ok-fed.fed.cut) (cuts_of_rest c.feeding.cutter) (cuts_of_rest c.feed.new.self) so_far.cut c.in_ok-fed.ensures.cuts in
+    let stops = ends start so_far.taken (cut_ascends _ (cuts_of_rest c.feed.new.self) _ cut) so_far.so_far in
+    let told = g.C.Committer.told c.take.new.committer in
+    stops_within start told past c.args.bytes.now (c.feeding.at + c.in_ok-fed.fed.taken) so_far.taken c.in_ok-fed.fed.cut c.feed.new.self c.take.new.self stopped cut
+    (opens_more c.in_ok-fed.fed.cut c.feed.new.self so_far.taken (cuts_of_rest c.feeding.cutter) _ c.in_ok-fed.ensures.cuts c.in_ok-fed.ensures.stops so_far.begun (some_taken start told _ c.take.new.self stopped stops)) stops) c.in-Err.ensures.stops
+
+pub returns-in-Err-clause-lacks : goal.returns-in-Err-clause-lacks
+returns-in-Err-clause-lacks g c = where_lacking c.in-Err.stop _ _ (λ lacks start past began.
+    let so_far = c.feeding.invariant.cut start past began in
+    let cut = next_cut past c.args.bytes.now c.feeding.at c.in_ok-fed.fed.taken so_far.taken (cuts_in c.in_ok-fed.fed.cut) (cuts_of_rest c.feeding.cutter) (cuts_of_rest c.feed.new.self) so_far.cut c.in_ok-fed.ensures.cuts in
+    lacks_within start (g.C.Committer.told c.take.new.committer) past c.args.bytes.now (c.feeding.at + c.in_ok-fed.fed.taken) (so_far.taken ++ cuts_in c.in_ok-fed.fed.cut) (cuts_of_rest c.feed.new.self) c.take.new.self cut
+    (opens_more c.in_ok-fed.fed.cut c.feed.new.self so_far.taken (cuts_of_rest c.feeding.cutter) _ c.in_ok-fed.ensures.cuts c.in_ok-fed.ensures.stops so_far.begun)
+    (lacks start so_far.taken (cut_ascends _ (cuts_of_rest c.feed.new.self) _ cut) so_far.so_far)) c.in-Err.ensures.lacks
+
+pub returns-in_err-fed-clause-since : goal.returns-in_err-fed-clause-since
+returns-in_err-fed-clause-since g c = c.feeding.invariant.since
+
+pub returns-in-Err-clause-since : goal.returns-in-Err-clause-since
+returns-in-Err-clause-since g c = g.met.C.Committer.since_before c.args.committer.now c.feeding.committer c.take.new.committer c.feeding.invariant.since c.take.ensures.since

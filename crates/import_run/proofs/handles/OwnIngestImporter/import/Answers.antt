@@ -1,0 +1,22 @@
+use Rattle.std.proofs.Common.{◌≡◌}
+use Rattle.explorer_model.specs.Imports.{groups}
+use Rattle.explorer_model.specs.Cuts.{cuts}
+use Rattle.import_run.proofs.ComeBesideLemmas.{ends_in_memory, few_games, marked_so}
+use Rattle.import_run.proofs.handles.OwnIngestImporter.import.Goals as goal
+
+pub add-requires : goal.add-requires
+add-requires g c =
+    let r = c.import_bytes-report.ensures.beside.comes.reports in
+    marked_so c.import_bytes-report.result.end (groups (cuts c.args.body.now)) r.batches c.import_bytes-report.result.refused.items r.accounts
+
+pub returns-clause-reports : goal.returns-clause-reports
+returns-clause-reports g c = c.import_bytes-report.ensures.beside.comes.reports
+
+pub returns-clause-in_memory : goal.returns-clause-in_memory
+returns-clause-in_memory g c = ends_in_memory c.args.body.now c.import_bytes-report.result c.requires.few c.import_bytes-report.ensures.beside
+
+pub returns-clause-few : goal.returns-clause-few
+returns-clause-few g c = few_games c.args.body.now c.import_bytes-report.result c.requires.few c.import_bytes-report.ensures.beside
+
+pub with_call-requires : goal.with_call-requires
+with_call-requires g c = few_games c.args.body.now c.import_bytes-report.result c.requires.few c.import_bytes-report.ensures.beside

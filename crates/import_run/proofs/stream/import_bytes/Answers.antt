@@ -1,0 +1,36 @@
+use Rattle.std.proofs.Common.{◌≡◌, ◌<◌, ℕ, List, [], Some, length, refl, sym, subst, arith}
+use Rattle.pgn_cut.specs.Cutter.{cuts_of_rest}
+use Rattle.explorer_model.specs.Journal.{input_limit}
+use Rattle.import_run.specs.Taking.{CutSoFar, LacksWithin, StopsWithin}
+use Rattle.import_run.proofs.ComeBesideLemmas.{lacking_within_beside}
+use Rattle.import_run.proofs.TakingLemmas.{taken_none}
+use Rattle.import_run.proofs.stream.import_bytes.Goals as goal
+
+pub returns-in-Ok-clause-beside : goal.returns-in-Ok-clause-beside
+returns-in-Ok-clause-beside g c =
+    let told = g.C.Committer.told c.args.committer.now in
+    let below : length c.args.bytes.now < input_limit = omega (arith, c.requires.few) in
+    let start : CutSoFar told [] (cuts_of_rest c.new-cutter.result) c.new-import.result told =
+    record { taken = []; cut = c.new-cutter.ensures.cuts; begun = λ some. absurd (omega (arith, some)); so_far = taken_none told c.new-import.result c.new-import.ensures.group c.new-import.ensures.receipts c.new-import.ensures.refused } in
+    c.end.ensures.beside told c.args.bytes.now (Some []) refl below (c.in-Ok.ensures.cut told [] start)
+
+pub returns-in-Err-Fault-clause-beside : goal.returns-in-Err-Fault-clause-beside
+returns-in-Err-Fault-clause-beside g c =
+    let told = g.C.Committer.told c.args.committer.now in
+    let told' = g.C.Committer.told c.feed.new.committer in
+    let below : length c.args.bytes.now < input_limit = omega (arith, c.requires.few) in
+    let start : CutSoFar told [] (cuts_of_rest c.new-cutter.result) c.new-import.result told =
+    record { taken = []; cut = c.new-cutter.ensures.cuts; begun = λ some. absurd (omega (arith, some)); so_far = taken_none told c.new-import.result c.new-import.ensures.group c.new-import.ensures.receipts c.new-import.ensures.refused } in
+    let stops : StopsWithin told c.args.bytes.now c.feed.new.self c.in-Err-Fault.stopped told' = (rw c.in-Err-Fault.field-0-is at c.in-Err-Fault.ensures.stops) told [] start in
+    c.stopped.ensures.beside_within told c.args.bytes.now (Some []) told' below
+    (subst (λ stopped. StopsWithin told c.args.bytes.now c.feed.new.self stopped told') (sym c.in-Err-Fault.stopped-is) stops)
+
+pub returns-clause-beside : goal.returns-clause-beside
+returns-clause-beside g c =
+    let told = g.C.Committer.told c.args.committer.now in
+    let told' = g.C.Committer.told c.feed.new.committer in
+    let below : length c.args.bytes.now < input_limit = omega (arith, c.requires.few) in
+    let start : CutSoFar told [] (cuts_of_rest c.new-cutter.result) c.new-import.result told =
+    record { taken = []; cut = c.new-cutter.ensures.cuts; begun = λ some. absurd (omega (arith, some)); so_far = taken_none told c.new-import.result c.new-import.ensures.group c.new-import.ensures.receipts c.new-import.ensures.refused } in
+    let lacks : LacksWithin told c.args.bytes.now c.feed.new.self told' = (rw c.in-Err-OutOfMemory.field-0-is at c.in-Err-OutOfMemory.ensures.lacks) told [] start in
+    lacking_within_beside c.args.bytes.now (Some []) c.report.result c.feed.new.self c.report.ensures.receipts c.report.ensures.clashes below c.report.ensures.refused told told' c.report.ensures.end lacks

@@ -1,0 +1,145 @@
+-- Statement: where an import ends, and what has become of the groups before, where nobody else
+-- stores anything.
+use Rattle.std.specs.Prelude.{◌≡◌, ◌≢◌, ◌⊎◌, ◌<◌, ◌+◌, ℕ, List, [], ◌∷◌, ◌++◌, length, sum_by, IsSome, Option, None, Some}
+use Rattle.std.specs.Io.KnownBytes.{IsAtEnd}
+use Rattle.std.specs.List.{AllByRecursion, AllZip}
+use Rattle.outside.specs.Stream.{Stream, Rises}
+use Rattle.explorer_model.specs.declared.archive.Batch.{Batch}
+use Rattle.explorer_model.specs.declared.fault.Refusal.{Refusal}
+use Rattle.explorer_model.specs.Cuts.{Cut, cuts}
+use Rattle.explorer_model.specs.Imports.{Accounted, Candidate, Examination, IsExaminationOf, groups, verdicts}
+use Rattle.explorer_model.specs.Journal.{AreWithin, byte_count, game_count, input_limit}
+use Rattle.ingest_desk.specs.Reporting.{FindsNoRoom}
+use Rattle.ingest_desk.specs.declared.mark.MarkKind.TheVariants as kinds
+use Rattle.ingest_desk.specs.declared.report.End.{End}
+use Rattle.ingest_desk.specs.declared.report.End.TheVariants as ends
+use Rattle.import_run.specs.Committing.{Known, Store}
+use Rattle.import_run.specs.Progress.{HasNoCandidate}
+use Rattle.import_run.specs.Rounds.{stored_by}
+use Rattle.import_run.specs.Settling.{kept, lost}
+use Rattle.import_run.specs.SoFar.{AreGroupsSoFar, AreInGroups, ended_cuts}
+
+-- ---- groups that are settled
+
+-- The groups are accounted behind the stored games. Where the store was closed before, none of
+-- them has a candidate.
+pub record AreSettled (start : Known) (groups : List (List Cut)) (batches : List Batch)
+    (refused : List Refusal) : Type 0 where
+  pub accounted : Accounted start.games groups batches refused
+  pub closed : IsSome start.fault → AllByRecursion HasNoCandidate accounted.examinations
+
+-- ---- streams that break off
+
+-- the stream was cut off below the bound: all whole groups are settled
+pub record IsCutOff (start : Known) (stream : List ℕ) (batches : List Batch)
+    (refused : List Refusal) : Type 0 where
+  pub below : length stream < input_limit
+  pub whole : List (List Cut)
+  pub hand : List Cut
+  pub in_groups : AreInGroups (ended_cuts stream) whole hand
+  pub settled : AreSettled start whole batches refused
+
+-- the stream came to the bound: all groups that are whole before its last byte are settled
+pub record IsTooMuch (start : Known) (stream : List ℕ) (batches : List Batch)
+    (refused : List Refusal) : Type 0 where
+  pub at : length stream ≡ input_limit
+  pub front : List ℕ
+  pub last : ℕ
+  pub front_is : stream ≡ front ++ last ∷ []
+  pub whole : List (List Cut)
+  pub hand : List Cut
+  pub in_groups : AreInGroups (ended_cuts front) whole hand
+  pub settled : AreSettled start whole batches refused
+
+-- ---- groups at which an import ends
+
+-- The import ended at a group, of which these candidates are left to be stored: those whose ids are
+-- not stored, or all where the store is closed. The groups before it are settled, and what is
+-- refused of it stands last.
+pub record EndsIn (start : Known) (so_far : List (List Cut)) (batches : List Batch)
+    (refused : List Refusal) (left : List Candidate) : Type 0 where
+  pub done : List (List Cut)
+  pub next : List Cut
+  pub rest : List (List Cut)
+  pub so_far_is : so_far ≡ done ++ next ∷ rest
+  pub earlier : List Refusal
+  pub settled : AreSettled start done batches earlier
+  pub known : Known
+  pub journal_is : known.journal ≡ start.journal ++ batches
+  pub fault_is : known.fault ≡ start.fault
+  pub examinations : List Examination
+  pub are_examinations : AllZip IsExaminationOf next examinations
+  pub left_are : left ≡ kept (stored_by known.fault known.games) (verdicts examinations)
+  pub some_left : left ≢ []
+  pub refused_are :
+      refused ≡ earlier ++ lost (stored_by known.fault known.games) (verdicts examinations)
+
+-- it is a group of the stream, below the bound
+pub record EndsAt (start : Known) (stream : List ℕ) (left_over : Option (List ℕ))
+    (batches : List Batch) (refused : List Refusal) : Type 0 where
+  pub below : length stream < input_limit
+  pub so_far : List (List Cut)
+  pub are_so_far : AreGroupsSoFar stream left_over so_far
+  pub left : List Candidate
+  pub ends : EndsIn start so_far batches refused left
+
+-- the journal passes no limit with the candidates
+abbrev pub HasRoomFor : List Batch → List Candidate → Type 0
+HasRoomFor journal left = AreWithin (game_count journal + length left)
+    (byte_count journal + sum_by (λ candidate. length candidate.text) left)
+
+-- memory was wanting: some of the groups so far are settled
+pub record Lacks (start : Known) (stream : List ℕ) (left_over : Option (List ℕ))
+    (batches : List Batch) (refused : List Refusal) : Type 0 where
+  pub below : length stream < input_limit
+  pub so_far : List (List Cut)
+  pub are_so_far : AreGroupsSoFar stream left_over so_far
+  pub done : List (List Cut)
+  pub rest : List (List Cut)
+  pub so_far_is : so_far ≡ done ++ rest
+  pub settled : AreSettled start done batches refused
+
+-- ---- the ends of an import
+
+-- how an import stands with the bytes that it took, by its end
+abbrev pub StandsAt : {J : Type 0} → End J → Known → List ℕ → Option (List ℕ) → List Batch
+    → List Refusal → Type 0
+StandsAt ends.Whole start stream left_over batches refused =
+    IsAtEnd left_over × (length stream < input_limit)
+    × AreSettled start (groups (cuts stream)) batches refused
+StandsAt (ends.ReadFault before after) start stream left_over batches refused =
+    IsCutOff start stream batches refused
+StandsAt (ends.TooMuch bytes) start stream left_over batches refused =
+    (bytes ≡ length stream) × IsTooMuch start stream batches refused
+StandsAt (ends.DiskFault before after mark) start stream left_over batches refused =
+    (mark.kind ≡ kinds.DiskFault) × (start.fault ≡ None)
+    × ((ends : EndsAt start stream left_over batches refused)
+    × HasRoomFor (start.journal ++ batches) ends.left)
+StandsAt (ends.Closed before after mark) start stream left_over batches refused =
+    (mark.kind ≡ kinds.Closed) × (start.fault ≡ Some (before, after))
+    × EndsAt start stream left_over batches refused
+StandsAt (ends.Full games bytes note) start stream left_over batches refused =
+    (start.fault ≡ None) × (note ≡ start.journal ++ batches)
+    × ((ends : EndsAt start stream left_over batches refused)
+    × FindsNoRoom note games bytes ends.left)
+StandsAt ends.OutOfMemory start stream left_over batches refused =
+    Lacks start stream left_over batches refused
+
+-- a read failed exactly where the end says so
+abbrev pub ReadFaultsAre : {J : Type 0} → End J → Stream → Stream → Type 0
+ReadFaultsAre (ends.ReadFault before after) old new =
+    (before ≡ old.read_faults) × (after ≡ new.read_faults) × Rises before after
+ReadFaultsAre _ old new = new.read_faults ≡ old.read_faults
+
+-- the stored journal, with one batch more or without it
+abbrev pub HasMaybeOneMore : List Batch → List Batch → Type 0
+HasMaybeOneMore journal new = (new ≡ journal) ⊎ ((batch : Batch) × (new ≡ journal ++ batch ∷ []))
+
+-- What is stored afterwards, and the counts of the fault that closed the store: the batches stand
+-- behind the journal. Where memory was wanting, there may be one more.
+abbrev pub StoresBy : {J : Type 0} → End J → List Batch → Option (ℕ × ℕ) → Store → Type 0
+StoresBy (ends.DiskFault before after mark) journal fault new =
+    (new.journal ≡ journal) × (new.fault ≡ Some (before, after))
+StoresBy ends.OutOfMemory journal fault new =
+    HasMaybeOneMore journal new.journal × (new.fault ≡ fault)
+StoresBy _ journal fault new = (new.journal ≡ journal) × (new.fault ≡ fault)

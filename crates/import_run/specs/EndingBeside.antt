@@ -1,0 +1,59 @@
+-- Statement: what an import of a source comes to, whoever else stores beside it.
+use Rattle.std.specs.Prelude.{◌≡◌, ◌<◌, ◌≤◌, ℕ, List, [], ◌∷◌, ◌++◌, length, Option}
+use Rattle.std.specs.Io.KnownBytes.{IsAtEnd}
+use Rattle.outside.specs.Stream.{Stream, Reads}
+use Rattle.explorer_model.specs.declared.archive.Batch.{Batch}
+use Rattle.explorer_model.specs.declared.fault.Refusal.{Refusal}
+use Rattle.explorer_model.specs.Cuts.{Cut, cuts}
+use Rattle.explorer_model.specs.Imports.{AccountedBeside}
+use Rattle.explorer_model.specs.Journal.{input_limit}
+use Rattle.ingest_desk.specs.Reporting.{Reports, games_of}
+use Rattle.ingest_desk.specs.declared.report.End.{End}
+use Rattle.ingest_desk.specs.declared.report.End.TheVariants as ends
+use Rattle.ingest_desk.specs.declared.report.Report.{Report}
+use Rattle.import_run.specs.Ending.{ReadFaultsAre}
+use Rattle.import_run.specs.SoFar.{AreInGroups, ended_cuts}
+
+-- all groups that are whole in the cuts that have ended are accounted
+pub record IsCutBeside (stream : List ℕ) (batches : List Batch) (refused : List Refusal)
+    : Type 0 where
+  pub whole : List (List Cut)
+  pub hand : List Cut
+  pub in_groups : AreInGroups (ended_cuts stream) whole hand
+  pub accounted : AccountedBeside whole batches refused
+
+-- all groups are accounted that are whole before the last byte that an import takes
+pub record IsTooMuchBeside (stream : List ℕ) (batches : List Batch) (refused : List Refusal)
+    : Type 0 where
+  pub at : length stream ≡ input_limit
+  pub front : List ℕ
+  pub last : ℕ
+  pub front_is : stream ≡ front ++ last ∷ []
+  pub cut : IsCutBeside front batches refused
+
+-- how an import stands with the bytes that it took, by its end
+abbrev pub StandsBeside : {J : Type 0} → End J → List ℕ → Option (List ℕ) → List Batch
+    → List Refusal → Type 0
+StandsBeside ends.Whole stream left_over batches refused =
+    IsAtEnd left_over × (length stream < input_limit)
+StandsBeside (ends.ReadFault before after) stream left_over batches refused =
+    (length stream < input_limit) × IsCutBeside stream batches refused
+StandsBeside (ends.TooMuch bytes) stream left_over batches refused =
+    (bytes ≡ length stream) × IsTooMuchBeside stream batches refused
+StandsBeside _ stream left_over batches refused = length stream < input_limit
+
+-- the report of an import that took these bytes
+pub record ComesBeside {J : Type 0} (stream : List ℕ) (left_over : Option (List ℕ))
+    (report : Report J) : Type 0 where
+  pub reports : Reports (cuts stream) report
+  pub stands : StandsBeside report.end stream left_over reports.batches report.refused.items
+  -- each game that is stored is a text of its own
+  pub few : games_of report.receipts.items ≤ length (cuts stream)
+
+-- What an import comes to by its report, from the bytes that it took of its source: to a read fault
+-- only where a read failed, and to no other end where one did.
+pub record ImportsBeside {J : Type 0} (before after : Stream) (report : Report J) : Type 0 where
+  pub stream : List ℕ
+  pub reads : Reads stream before after
+  pub faults : ReadFaultsAre report.end before after
+  pub comes : ComesBeside stream after.left report

@@ -1,0 +1,165 @@
+//! Importers of bodies: a handle on a desk, and an ingest of one's own.
+ghost use Rattle.std.specs.Prelude.{◌≡◌, ◌<◌, ◌≤◌, ◌^◌, ◌∷◌, [], None, Some, length, option_map};
+ghost use Rattle.ingest_desk.specs.Importers.{TellsAll, call_of};
+ghost use Rattle.ingest_desk.specs.Reporting.{games_of};
+ghost use Rattle.import_run.specs.Counting.{counts_of};
+
+use crate::desk::Seat;
+use crate::ends::{EndCounts, ending_of};
+use crate::stream::import_bytes;
+use disk_model::Disk;
+use explorer_model::archive::Bytes;
+use ingest_desk::{Desk, ImportCall, Importer, Ingest, Receipt, Report};
+use outside::FreeGate;
+use published_index::Index;
+use std::alloc::Global;
+use std::sync::Wait;
+use std::thread::Threads;
+
+/// An importer at a desk that others use too.
+#[derive(Drop)]
+pub struct DeskHandle<'a, D: Disk, J: Index> {
+    desk: &'a Desk<D, J>,
+    workers: usize,
+    counts: EndCounts,
+    ghost some_workers: { 1 ≤ workers },
+    ghost few_workers: { workers ≤ 16 },
+}
+
+impl<'a, D: Disk, J: Index> DeskHandle<'a, D, J> {
+    /// A handle that replays and merges on so many workers, 1 to 16.
+    pub fn new(desk: &'a Desk<D, J>, workers: usize) -> Self
+        requires some_workers { 1 ≤ workers }
+        requires few_workers { workers ≤ 16 }
+        ensures { counts_of result.counts ≡ record { disk_faults = 0; closed = 0; full = 0 } }
+    {
+        DeskHandle {
+            desk,
+            workers,
+            counts: EndCounts::new(),
+        }
+    }
+}
+
+impl<'a, D: Disk, J: Index> Importer<J> for DeskHandle<'a, D, J> {
+    ghost importer = { λ handle. record { counts = counts_of handle.counts; calls = None } };
+
+    fn import<R: Wait + Threads + Sync>(
+        &mut self,
+        rt: &R,
+        alloc: Global,
+        body: &[u8],
+    ) -> Report<J> {
+        let mut seat = Seat::new(self.desk);
+        let report = import_bytes(rt, alloc, body, &mut seat, self.workers, &FreeGate);
+        self.counts.add(&report.end);
+        report
+    }
+}
+
+/// An importer over an ingest that nobody else uses. It tells its calls, until it finds no memory to
+/// keep one. It is not `Drop`: end it by `into_ingest`.
+pub struct OwnIngest<D: Disk, J: Index> {
+    ingest: Ingest<D, J>,
+    workers: usize,
+    counts: EndCounts,
+    calls: Option<Vec<ImportCall>>,
+    ghost some_workers: { 1 ≤ workers },
+    ghost few_workers: { workers ≤ 16 },
+}
+
+impl<D: Disk, J: Index> OwnIngest<D, J> {
+    /// An importer that replays and merges on so many workers, 1 to 16.
+    pub fn new(alloc: Global, ingest: Ingest<D, J>, workers: usize) -> Self
+        requires some_workers { 1 ≤ workers }
+        requires few_workers { workers ≤ 16 }
+        ensures counts { counts_of result.counts
+            ≡ record { disk_faults = 0; closed = 0; full = 0 } }
+        ensures calls { option_map (λ calls. calls.items) result.calls ≡ Some [] }
+        ensures ingest { result.ingest ≡ ingest }
+    {
+        OwnIngest {
+            ingest,
+            workers,
+            counts: EndCounts::new(),
+            calls: Some(Vec::new(alloc)),
+        }
+    }
+
+    /// The calls so far; none where one could not be kept.
+    pub fn calls(&self) -> Option<&[ImportCall]>
+        ensures { option_map (λ calls. calls.now) result
+            ≡ option_map (λ calls. calls.items) self.now.calls }
+    {
+        match &self.calls {
+            Some(calls) => Some(calls.as_slice()),
+            None => None,
+        }
+    }
+
+    pub fn into_ingest(self) -> Ingest<D, J>
+        ensures { result ≡ self.ingest }
+    {
+        let OwnIngest {
+            ingest,
+            workers: _workers,
+            counts: _counts,
+            calls: _calls,
+        } = self;
+        ingest
+    }
+}
+
+impl<D: Disk, J: Index> Importer<J> for OwnIngest<D, J> {
+    ghost importer = { λ own. record {
+      counts = counts_of own.counts;
+      calls = option_map (λ calls. calls.items) own.calls;
+    } };
+
+    fn import<R: Wait + Threads + Sync>(
+        &mut self,
+        rt: &R,
+        alloc: Global,
+        body: &[u8],
+    ) -> Report<J> {
+        let report = import_bytes(rt, alloc, body, &mut self.ingest, self.workers, &FreeGate);
+        self.counts.add(&report.end);
+        let calls = self.calls.take();
+        self.calls = with_call(alloc, calls, body, &report);
+        report
+    }
+}
+
+/// The calls with one more, while there is memory for it.
+fn with_call<J: Index>(
+    alloc: Global,
+    calls: Option<Vec<ImportCall>>,
+    body: &[u8],
+    report: &Report<J>,
+) -> Option<Vec<ImportCall>>
+    requires { games_of report.now.receipts.items < 2 ^ 32 }
+    ensures { TellsAll (option_map (λ calls. calls.items) calls)
+        (option_map (λ calls. calls.items) result) (call_of body.now report.now ∷ []) }
+{
+    let mut calls = calls?;
+    let body = body.to_vec(alloc).ok()?;
+    let call = ImportCall {
+        body: Bytes::from_vec(body),
+        ending: ending_of(&report.end),
+        games: count_games(report.receipts.as_slice()),
+    };
+    calls.push(call).ok()?;
+    Some(calls)
+}
+
+/// How many games the receipts have together.
+fn count_games<J: Index>(receipts: &[Receipt<J>]) -> u32
+    requires { games_of receipts.now < 2 ^ 32 }
+    ensures { result ≡ games_of receipts.now }
+{
+    let mut games = 0;
+    for receipt in receipts {
+        games += receipt.games();
+    }
+    games
+}

@@ -1,0 +1,31 @@
+//! Imports into the store of a desk.
+ghost use Rattle.std.specs.Prelude.{◌≤◌};
+ghost use Rattle.import_run.specs.EndingBeside.{ImportsBeside};
+
+use crate::desk::Seat;
+use crate::stream::import_stream;
+use disk_model::Disk;
+use ingest_desk::{Desk, Report};
+use outside::{Gate, Source};
+use published_index::Index;
+use std::alloc::Global;
+use std::sync::Wait;
+use std::thread::Threads;
+
+/// Imports the texts of a source into the store of a desk, beside all others that use it. It waits for
+/// the lock at each of its steps. After each commit it merges one job, without the lock.
+pub fn import<S: Source, D: Disk, J: Index, G: Gate, R: Wait + Threads + Sync>(
+    rt: &R,
+    alloc: Global,
+    source: &mut S,
+    desk: &Desk<D, J>,
+    workers: usize,
+    gate: &G,
+) -> Report<J>
+    requires some_workers { 1 ≤ workers }
+    requires few_workers { workers ≤ 16 }
+    ensures { ImportsBeside (S.source source.old) (S.source source.new) result }
+{
+    let mut seat = Seat::new(desk);
+    import_stream(rt, alloc, source, &mut seat, workers, gate)
+}

@@ -1,0 +1,70 @@
+//! Laws of imports. Each is the contract of a function that has nothing to do.
+ghost use Rattle.std.specs.Prelude.{◌≡◌, ℕ, List, None, Some};
+ghost use Rattle.explorer_model.specs.declared.archive.Batch.{Batch};
+ghost use Rattle.manifest.specs.Manifest.{HasJournal, IsWithOrWithoutBatch};
+ghost use Rattle.ingest_desk.specs.Kept.{Keeps};
+ghost use Rattle.outside.specs.Stream.{Stream};
+ghost use Rattle.ingest_desk.specs.Stored.{Stored, journal};
+ghost use Rattle.ingest_desk.specs.declared.report.Report.{Report};
+ghost use Rattle.ingest_desk.specs.declared.report.End.TheVariants as ends;
+ghost use Rattle.import_run.specs.Alone.{ImportsAlone};
+ghost use Rattle.import_run.specs.Faultless.{CanEnd, EndsWithoutFault, IsFaultless};
+
+use batch_tally::laws::accounting_is_determined;
+use disk_model::Disk;
+use game_replay::laws::game_is_determined;
+use published_index::Index;
+
+/// An import of a told stream below the bound into a store that is open, of which no read and no
+/// call of the disk fails, settles all of the stream, unless a group finds no room or memory is
+/// wanting.
+pub fn an_import_without_faults_ends<D: Disk, J: Index>()
+    ensures { (source source_after : Stream) (before after : Stored D) (report : Report J)
+        → ImportsAlone D.disk D.left_since source before source_after after report
+        → CanEnd D.disk source before → IsFaultless D.disk source source_after before after
+        → EndsWithoutFault report.end }
+{}
+
+/// Two imports into one store store the same batches and refuse the same texts: where both come to
+/// the end of one told stream; and where both took the same bytes, and a read failed behind them or
+/// they came to the bound.
+pub fn imports_are_determined<D: Disk, J: Index>()
+    ensures whole { (bytes : List ℕ) (source source_after source_other : Stream)
+        (before after other_after : Stored D) (report other : Report J)
+        → source.left ≡ Some bytes
+        → (first : ImportsAlone D.disk D.left_since source before source_after after report)
+        → (second : ImportsAlone D.disk D.left_since source before source_other other_after other)
+        → report.end ≡ ends.Whole → other.end ≡ ends.Whole
+        → (first.batches ≡ second.batches) × (report.refused.items ≡ other.refused.items) }
+    ensures cut_off { (source source_after source_other : Stream)
+        (before after other_after : Stored D) (report other : Report J) (a b a' b' : ℕ)
+        → (first : ImportsAlone D.disk D.left_since source before source_after after report)
+        → (second : ImportsAlone D.disk D.left_since source before source_other other_after other)
+        → first.stream ≡ second.stream
+        → report.end ≡ ends.ReadFault a b → other.end ≡ ends.ReadFault a' b'
+        → (first.batches ≡ second.batches) × (report.refused.items ≡ other.refused.items) }
+    ensures too_much { (source source_after source_other : Stream)
+        (before after other_after : Stored D) (report other : Report J) (n n' : ℕ)
+        → (first : ImportsAlone D.disk D.left_since source before source_after after report)
+        → (second : ImportsAlone D.disk D.left_since source before source_other other_after other)
+        → first.stream ≡ second.stream
+        → report.end ≡ ends.TooMuch n → other.end ≡ ends.TooMuch n'
+        → (first.batches ≡ second.batches) × (report.refused.items ≡ other.refused.items) }
+{
+    game_is_determined();
+    accounting_is_determined();
+}
+
+/// What is read of a disk that tells its content is the stored journal. After a disk fault the batch
+/// that failed may stand behind it.
+pub fn a_told_disk_has_the_journal<D: Disk>()
+    ensures sound { (store : Stored D) (file : List ℕ)
+        → (D.disk store.manifest.disk).content ≡ Some file
+        → Keeps D.disk D.left_since (journal store) store.manifest
+        → store.manifest.fault ≡ None → HasJournal (journal store) file }
+    ensures closed { (store : Stored D) (file : List ℕ) (before after : ℕ)
+        → (D.disk store.manifest.disk).content ≡ Some file
+        → Keeps D.disk D.left_since (journal store) store.manifest
+        → store.manifest.fault ≡ Some (before, after)
+        → (batch : Batch) × IsWithOrWithoutBatch (journal store) batch file }
+{}

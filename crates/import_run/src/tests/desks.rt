@@ -1,0 +1,198 @@
+//! Imports over a desk.
+ghost use Rattle.std.specs.Prelude.{◌≡◌};
+ghost use Rattle.std.specs.Thread.{IsSync};
+
+use super::{Stream, Told, games, summary_of};
+use crate::draining::{Drained, drain};
+use crate::handles::{DeskHandle, OwnIngest};
+use crate::importing::import;
+use disk_model::MemDisk;
+use explorer_model::fault::Why;
+use ingest_desk::{Desk, ImportEnding, Importer, Unnamed, fresh};
+use manifest::create;
+use outside::{FreeGate, MemSource};
+use published_index::Index;
+use std::alloc::{AllocError, Global};
+use std::marker::Brand;
+use std::process::Abort;
+use std::sync::{Mutex, Wait};
+use std::test::Fail;
+use std::thread::{Threads, join};
+
+/// A new store on a disk, of whose calls these fail.
+fn new_store<R: Wait>(rt: &R, alloc: Global, failing: Vec<u64>) -> Result<Unnamed<MemDisk>, Fail> {
+    let Ok(manifest) = create(MemDisk::new(alloc, 1_000_000, failing)?) else {
+        return Err(Fail::from("not created"));
+    };
+    match fresh(rt, alloc, manifest, 1) {
+        Ok(unnamed) => Ok(unnamed),
+        Err(_) => Err(Fail::from("no room")),
+    }
+}
+
+#[test]
+fn two_threads_store_common_games_once(rt: HostRuntime) -> Result<(), Fail> {
+    let alloc: Global = rt.alloc();
+    let first = games(alloc, 0, 900)?;
+    let second = games(alloc, 300, 900)?;
+    let unnamed = new_store(&rt, alloc, Vec::new(alloc))?;
+    let (one, two) = import_two::<Brand, _>(&rt, alloc, unnamed, first, second)?;
+    assert_eq!(rt;
+        (one.ending, two.ending),
+        (ImportEnding::Whole, ImportEnding::Whole)
+    );
+    // Of 1,800 games 600 are in both streams: each is stored once, and refused once.
+    assert_eq!(rt; stored(&one).saturating_add(stored(&two)), 1200);
+    assert_eq!(rt; one.refused.len().saturating_add(two.refused.len()), 600);
+    for refusal in one.refused.as_slice() {
+        assert!(rt; matches!(refusal.why, Why::Repeated { .. }));
+    }
+    for refusal in two.refused.as_slice() {
+        assert!(rt; matches!(refusal.why, Why::Repeated { .. }));
+    }
+    Ok(())
+}
+
+/// How many games a report's batches have.
+fn stored(told: &Told) -> u32 {
+    let mut games = 0u32;
+    for batch in told.batches.as_slice() {
+        games = games.saturating_add(batch.2);
+    }
+    games
+}
+
+/// Imports two streams from two threads.
+fn import_two<J: Index + Send + Sync, R: Threads + Wait + Abort + Sync>(
+    rt: &R,
+    alloc: Global,
+    unnamed: Unnamed<MemDisk>,
+    first: Stream,
+    second: Stream,
+) -> Result<(Told, Told), Fail>
+    requires { unnamed.index.name ≡ J.name }
+{
+    let (ingest, _passes) = match unnamed.named::<J>(alloc) {
+        Ok(named) => named,
+        Err(unnamed) => {
+            let _disk = unnamed.into_disk(rt);
+            return Err(Fail::from("no room for the passes"));
+        }
+    };
+    let desk = Mutex::new(ingest);
+    let (one, two) = join(
+        rt,
+        || -> Result<Told, AllocError>
+            requires { IsSync R.row }
+        { import_one(rt, alloc, &desk, first) },
+        || -> Result<Told, AllocError>
+            requires { IsSync R.row }
+        { import_one(rt, alloc, &desk, second) },
+    );
+    let drained = drain(rt, alloc, &desk, 2);
+    let _disk = desk.into_inner().into_disk(rt);
+    assert_eq!(rt; drained, Drained::Idle);
+    Ok((one?, two?))
+}
+
+fn import_one<J: Index, R: Threads + Wait + Sync>(
+    rt: &R,
+    alloc: Global,
+    desk: &Desk<MemDisk, J>,
+    stream: Stream,
+) -> Result<Told, AllocError> {
+    let most = stream.most.max(1);
+    let mut source = MemSource::new(stream.bytes, most, stream.failing);
+    let report = import(rt, alloc, &mut source, desk, 2, &FreeGate);
+    summary_of(alloc, report)
+}
+
+#[test]
+fn a_handle_and_an_ingest_of_its_own_import_alike(rt: HostRuntime) -> Result<(), Fail> {
+    let alloc: Global = rt.alloc();
+    // The disk's calls: three of the creation, and four of each commit. The third commit fails.
+    let failing = vec![in alloc; 12]?;
+    let shared = over_a_desk::<Brand, _>(&rt, alloc, new_store(&rt, alloc, failing)?)?;
+    let failing = vec![in alloc; 12]?;
+    let own = over_an_ingest::<Brand, _>(&rt, alloc, new_store(&rt, alloc, failing)?)?;
+    for told in [shared, own] {
+        let [first, second, third] = told.as_slice() else {
+            return Err(Fail::from("three bodies have three reports"));
+        };
+        assert_eq!(rt; first.ending, ImportEnding::Whole);
+        assert!(rt; first.batches.as_slice() == [(1, 0, 1)].as_slice());
+        assert_eq!(rt; first.refused.len(), 0);
+        assert!(rt; second.batches.as_slice() == [(2, 1, 1)].as_slice());
+        assert_eq!(rt; second.refused.len(), 1);
+        assert_eq!(rt; second.refused[0].place, 0);
+        assert_eq!(rt; second.refused[0].why, Why::Repeated { number: 0 });
+        assert_eq!(rt;
+            third.ending,
+            ImportEnding::DiskFault {
+                before: 0,
+                after: 1
+            }
+        );
+    }
+    Ok(())
+}
+
+/// Imports three bodies: a game, the same with another one, and one more.
+fn import_bodies<J: Index, I: Importer<J>, R: Threads + Wait + Sync>(
+    rt: &R,
+    alloc: Global,
+    importer: &mut I,
+) -> Result<Vec<Told>, Fail> {
+    let mut told = Vec::new(alloc);
+    for (first, count) in [(0, 1), (0, 2), (3, 1)] {
+        let body = games(alloc, first, count)?.bytes;
+        if body.len() > 4_194_304 {
+            return Err(Fail::from("too long"));
+        }
+        let report = importer.import(rt, alloc, body.as_slice());
+        told.push(summary_of(alloc, report)?)?;
+    }
+    Ok(told)
+}
+
+fn over_a_desk<J: Index, R: Threads + Wait + Abort + Sync>(
+    rt: &R,
+    alloc: Global,
+    unnamed: Unnamed<MemDisk>,
+) -> Result<Vec<Told>, Fail>
+    requires { unnamed.index.name ≡ J.name }
+{
+    let (ingest, _passes) = match unnamed.named::<J>(alloc) {
+        Ok(named) => named,
+        Err(unnamed) => {
+            let _disk = unnamed.into_disk(rt);
+            return Err(Fail::from("no room for the passes"));
+        }
+    };
+    let desk = Mutex::new(ingest);
+    let told = import_bodies(rt, alloc, &mut DeskHandle::new(&desk, 2));
+    let _disk = desk.into_inner().into_disk(rt);
+    told
+}
+
+fn over_an_ingest<J: Index, R: Threads + Wait + Abort + Sync>(
+    rt: &R,
+    alloc: Global,
+    unnamed: Unnamed<MemDisk>,
+) -> Result<Vec<Told>, Fail>
+    requires { unnamed.index.name ≡ J.name }
+{
+    let (ingest, _passes) = match unnamed.named::<J>(alloc) {
+        Ok(named) => named,
+        Err(unnamed) => {
+            let _disk = unnamed.into_disk(rt);
+            return Err(Fail::from("no room for the passes"));
+        }
+    };
+    let mut own = OwnIngest::new(alloc, ingest, 2);
+    let told = import_bodies(rt, alloc, &mut own);
+    let calls = own.calls().map_or(0, |calls| calls.len());
+    let _disk = own.into_ingest().into_disk(rt);
+    assert_eq!(rt; calls, 3);
+    told
+}

@@ -1,0 +1,133 @@
+-- A commit has one answer.
+use Rattle.std.proofs.Common.{◌≡◌, ℕ, List, Option, Some, None, Result, Ok, Err, sym, ap, ◌∙◌}
+use Rattle.arrayvec.specs.ArrayVec.{ArrayVec}
+use Rattle.disk_model.specs.Disk.{DiskState}
+use Rattle.explorer_model.specs.declared.archive.Batch.{Batch}
+use Rattle.explorer_model.specs.declared.archive.Game.{Game}
+use Rattle.record_log.specs.Log.{Log, Adds, Breaks}
+use Rattle.tally_rows.specs.Tally.{Counted}
+use Rattle.published_index.specs.Changes.{Change}
+use Rattle.ingest_desk.specs.Answers.{IsAnswer, HadMemory}
+use Rattle.ingest_desk.specs.Causes.{Cause, HasIds, HasNoRoom, IsClosed, cause}
+use Rattle.ingest_desk.specs.declared.clashing.Clashing.{Clashing}
+use Rattle.ingest_desk.specs.declared.fault.CommitFault.{CommitFault}
+use Rattle.ingest_desk.specs.declared.fault.CommitFault.TheVariants as faults
+use Rattle.ingest_desk.specs.declared.mark.Mark.{Mark}
+use Rattle.ingest_desk.specs.declared.receipt.Receipt.{Receipt}
+
+-- ---- one cause
+
+clash : {why a b : Option Cause} → why ≡ a → why ≡ b → a ≡ b
+clash first second = sym first ∙ second
+
+module _ {D : Type 0} (disk : D → DiskState) (old log : Log D) where
+  stored-open : (count : ℕ) → Adds disk count old log → log.fault ≡ None
+  stored-open count adds = ap (λ (l : Log D). l.fault) adds.rest ∙ adds.sound
+
+  broken : (b a : ℕ) → Breaks disk b a old log → ◌≡◌ {A = Option (ℕ × ℕ)} log.fault (Some (b, a))
+  broken b a breaks = ap (λ (l : Log D). l.fault) breaks.rest
+
+closed-counts : (b a b' a' : ℕ) → Some (IsClosed b a) ≡ Some (IsClosed b' a') → (b ≡ b') × (a ≡ a')
+closed-counts b a b' a' is = (cc, cc)
+
+room-counts : (g b g' b' : ℕ) → Some (HasNoRoom g b) ≡ Some (HasNoRoom g' b') → (g ≡ g') × (b ≡ b')
+room-counts g b g' b' is = (cc, cc)
+
+one-pair : (x y : ℕ × ℕ) → ◌≡◌ {A = Option (ℕ × ℕ)} (Some x) (Some y) → x ≡ y
+one-pair x y is = cc
+
+fault-counts : (b a b' a' : ℕ) → ◌≡◌ {A = Option (ℕ × ℕ)} (Some (b, a)) (Some (b', a')) → (b ≡ b') × (a ≡ a')
+fault-counts b a b' a' is =
+    let same = one-pair (b, a) (b', a') is in
+    (ap (λ (p : ℕ × ℕ). p.0) same, ap (λ (p : ℕ × ℕ). p.1) same)
+
+same-ids : (pairs others : List Clashing) → Some (HasIds pairs) ≡ Some (HasIds others) → pairs ≡ others
+same-ids pairs others is = cc
+
+one-mark : {J : Type 0} (mark other : Mark J) → mark.kind ≡ other.kind → mark ≡ other
+one-mark mark other is = λ i. record { kind = is i; of = mark.of }
+
+module _ {D J : Type 0} (disk : D → DiskState) (tally : Counted) (games : List Game) (journal : List Batch) (held : Option Change)
+    (old new after : Log D) (same : new.fault ≡ after.fault) where
+  abbrev First : Result (Receipt J) (CommitFault J) → Type 0
+  First answer = IsAnswer disk tally games journal held old new answer
+
+  abbrev Second : Result (Receipt J) (CommitFault J) → Type 0
+  Second answer = IsAnswer disk tally games journal held old after answer
+
+  one-ok : (receipt : Receipt J) (other : Result (Receipt J) (CommitFault J)) → First (Ok receipt) → Second other
+      → HadMemory other → Ok receipt ≡ other
+  one-ok receipt (Ok r) a b had =
+      let batches = a.receipt.batches ∙ sym b.receipt.batches in
+      let first = a.receipt.first ∙ sym b.receipt.first in
+      let count = a.receipt.games ∙ sym b.receipt.games in
+      let note = a.told.0 ∙ a.stores ∙ sym b.stores ∙ sym b.told.0 in
+      λ i. Ok (record { batches = batches i; first = first i; games = count i; note = note i })
+  one-ok receipt (Err (faults.Closed before later mark)) a b had = absurd (cc (clash a.refused b.refused))
+  one-ok receipt (Err (faults.Clash handed pairs note)) a b had = absurd (cc (clash a.refused b.refused.0))
+  one-ok receipt (Err (faults.Full g bytes note)) a b had = absurd (cc (clash a.refused b.refused))
+  one-ok receipt (Err (faults.DiskFault before later mark)) a b had =
+      let never : ◌≡◌ {A = Option (ℕ × ℕ)} None (Some (before, later)) = sym (stored-open disk old new _ a.leaves) ∙ same ∙ broken disk old after before later b.leaves in
+      absurd (cc (never))
+  one-ok receipt (Err (faults.OutOfMemory stored)) a b had = absurd had
+
+  one-closed : (before later : ℕ) (mark : Mark J) (other : Result (Receipt J) (CommitFault J))
+      → First (Err (faults.Closed before later mark)) → Second other → HadMemory other → Err (faults.Closed before later mark) ≡ other
+  one-closed before later mark (Ok r) a b had = absurd (cc (clash a.refused b.refused))
+  one-closed before later mark (Err (faults.Closed before' later' mark')) a b had =
+      let counts = closed-counts before later before' later' (clash a.refused b.refused) in
+      let marks = one-mark mark mark' (a.marked ∙ sym b.marked) in
+      λ i. Err (faults.Closed (counts.0 i) (counts.1 i) (marks i))
+  one-closed before later mark (Err (faults.Clash handed pairs note)) a b had = absurd (cc (clash a.refused b.refused.0))
+  one-closed before later mark (Err (faults.Full g bytes note)) a b had = absurd (cc (clash a.refused b.refused))
+  one-closed before later mark (Err (faults.DiskFault before' later' mark')) a b had = absurd (cc (clash a.refused b.refused))
+  one-closed before later mark (Err (faults.OutOfMemory stored)) a b had = absurd had
+
+  one-clash : (handed : Counted) (pairs : ArrayVec Clashing) (note : List Batch) (other : Result (Receipt J) (CommitFault J))
+      → First (Err (faults.Clash handed pairs note)) → Second other → HadMemory other → Err (faults.Clash handed pairs note) ≡ other
+  one-clash handed pairs note (Ok r) a b had = absurd (cc (clash a.refused.0 b.refused))
+  one-clash handed pairs note (Err (faults.Closed before later mark)) a b had = absurd (cc (clash a.refused.0 b.refused))
+  one-clash handed pairs note (Err (faults.Clash handed' pairs' note')) a b had =
+      let tallies = a.refused.1 ∙ sym b.refused.1 in
+      let ids = same-ids pairs.items pairs'.items (clash a.refused.0 b.refused.0) in
+      let notes = a.told.0 ∙ a.stores ∙ sym b.stores ∙ sym b.told.0 in
+      λ i. Err (faults.Clash (tallies i) (record { items = ids i }) (notes i))
+  one-clash handed pairs note (Err (faults.Full g bytes note')) a b had = absurd (cc (clash a.refused.0 b.refused))
+  one-clash handed pairs note (Err (faults.DiskFault before later mark)) a b had = absurd (cc (clash a.refused.0 b.refused))
+  one-clash handed pairs note (Err (faults.OutOfMemory stored)) a b had = absurd had
+
+  one-full : (g bytes : ℕ) (note : List Batch) (other : Result (Receipt J) (CommitFault J))
+      → First (Err (faults.Full g bytes note)) → Second other → HadMemory other → Err (faults.Full g bytes note) ≡ other
+  one-full g bytes note (Ok r) a b had = absurd (cc (clash a.refused b.refused))
+  one-full g bytes note (Err (faults.Closed before later mark)) a b had = absurd (cc (clash a.refused b.refused))
+  one-full g bytes note (Err (faults.Clash handed pairs note')) a b had = absurd (cc (clash a.refused b.refused.0))
+  one-full g bytes note (Err (faults.Full g' bytes' note')) a b had =
+      let counts = room-counts g bytes g' bytes' (clash a.refused b.refused) in
+      let notes = a.told.0 ∙ a.stores ∙ sym b.stores ∙ sym b.told.0 in
+      λ i. Err (faults.Full (counts.0 i) (counts.1 i) (notes i))
+  one-full g bytes note (Err (faults.DiskFault before later mark)) a b had = absurd (cc (clash a.refused b.refused))
+  one-full g bytes note (Err (faults.OutOfMemory stored)) a b had = absurd had
+
+  one-fault : (before later : ℕ) (mark : Mark J) (other : Result (Receipt J) (CommitFault J))
+      → First (Err (faults.DiskFault before later mark)) → Second other → HadMemory other → Err (faults.DiskFault before later mark) ≡ other
+  one-fault before later mark (Ok r) a b had =
+      let never : ◌≡◌ {A = Option (ℕ × ℕ)} None (Some (before, later)) = sym (stored-open disk old after _ b.leaves) ∙ sym same ∙ broken disk old new before later a.leaves in
+      absurd (cc (never))
+  one-fault before later mark (Err (faults.Closed before' later' mark')) a b had = absurd (cc (clash a.refused b.refused))
+  one-fault before later mark (Err (faults.Clash handed pairs note)) a b had = absurd (cc (clash a.refused b.refused.0))
+  one-fault before later mark (Err (faults.Full g bytes note)) a b had = absurd (cc (clash a.refused b.refused))
+  one-fault before later mark (Err (faults.DiskFault before' later' mark')) a b had =
+      let counts = fault-counts before later before' later'
+      (sym (broken disk old new before later a.leaves) ∙ same ∙ broken disk old after before' later' b.leaves) in
+      let marks = one-mark mark mark' (a.marked ∙ sym b.marked) in
+      λ i. Err (faults.DiskFault (counts.0 i) (counts.1 i) (marks i))
+  one-fault before later mark (Err (faults.OutOfMemory stored)) a b had = absurd had
+
+  pub one-answer : (answer other : Result (Receipt J) (CommitFault J)) → First answer → Second other
+      → HadMemory answer → HadMemory other → answer ≡ other
+  one-answer (Ok receipt) other a b has had = one-ok receipt other a b had
+  one-answer (Err (faults.Closed before later mark)) other a b has had = one-closed before later mark other a b had
+  one-answer (Err (faults.Clash handed pairs note)) other a b has had = one-clash handed pairs note other a b had
+  one-answer (Err (faults.Full g bytes note)) other a b has had = one-full g bytes note other a b had
+  one-answer (Err (faults.DiskFault before later mark)) other a b has had = one-fault before later mark other a b had
+  one-answer (Err (faults.OutOfMemory stored)) other a b has had = absurd has
