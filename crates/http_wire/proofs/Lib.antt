@@ -4,5 +4,6 @@ mod Growing
 mod Numbers
 mod Places
 mod Requests
+mod RunLemmas
 mod Sending
 mod Verdicts

@@ -6,6 +6,7 @@ mod body;
 mod fields;
 mod head;
 mod judging;
+pub mod laws;
 mod reply;
 mod wire;
 

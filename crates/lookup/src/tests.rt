@@ -18,6 +18,7 @@ use std::str;
 use std::sync::Arc;
 use std::sync::ledger::{Blank, Ledger};
 use std::test::Fail;
+use std::thread::Threads;
 use tally_rows::Tally;
 
 /// A game, told apart by White's name of three letters.
@@ -57,7 +58,11 @@ fn are_short(texts: &[Placed]) -> bool
     true
 }
 
-fn tally_of(alloc: Global, games: &[Played]) -> Result<Option<Tally>, AllocError> {
+fn tally_of<R: Threads + Sync>(
+    rt: &R,
+    alloc: Global,
+    games: &[Played],
+) -> Result<Option<Tally>, AllocError> {
     let mut texts = Vec::new(alloc);
     for game in games {
         texts.push(text_of(alloc, game)?)?;
@@ -65,7 +70,7 @@ fn tally_of(alloc: Global, games: &[Played]) -> Result<Option<Tally>, AllocError
     if 512 < texts.len() || !are_short(texts.as_slice()) {
         return Ok(None);
     }
-    Ok(tally(alloc, texts, 1, &FreeGate)?.tally)
+    Ok(tally(rt, alloc, texts, 1, &FreeGate)?.tally)
 }
 
 /// Both, where they are as small as batches are.
@@ -227,13 +232,13 @@ fn eve() -> Played<'static> {
     }
 }
 
-fn two_batches(alloc: Global) -> Result<Option<[Tally; 2]>, AllocError>
+fn two_batches<R: Threads + Sync>(rt: &R, alloc: Global) -> Result<Option<[Tally; 2]>, AllocError>
     ensures { IfOk result (λ made. IfSome made
         (λ tallies. sum_by (λ tally. length tally.classes) tallies ≤ game_limit)) }
 {
     match (
-        tally_of(alloc, &[ann(), bea()])?,
-        tally_of(alloc, &[cid(), dan(), eve()])?,
+        tally_of(rt, alloc, &[ann(), bea()])?,
+        tally_of(rt, alloc, &[cid(), dan(), eve()])?,
     ) {
         (Some(first), Some(second)) => Ok(both(first, second)),
         _ => Ok(None),
@@ -275,7 +280,7 @@ const SINCE_JANUARY: &str = "3/0/1; moves e4 1567 2/0/1; top Bea Dan Ann; recent
 
 #[test]
 fn two_batches_with_every_filter(rt: HostRuntime) -> Result<(), Fail> {
-    let Some(tallies) = two_batches(rt.alloc())? else {
+    let Some(tallies) = two_batches(&rt, rt.alloc())? else {
         assert!(rt; false);
         return Ok(());
     };
@@ -315,7 +320,11 @@ fn two_batches_with_every_filter(rt: HostRuntime) -> Result<(), Fail> {
 
 /// Segments of so many of the five games, one segment after another; None where a batch is refused
 /// or the games are too few.
-fn segments_of(alloc: Global, sizes: &[usize]) -> Result<Option<Vec<Arc<Segment>>>, AllocError> {
+fn segments_of<R: Threads + Sync>(
+    rt: &R,
+    alloc: Global,
+    sizes: &[usize],
+) -> Result<Option<Vec<Arc<Segment>>>, AllocError> {
     let games = [ann(), bea(), cid(), dan(), eve()];
     let mut segments = Vec::new(alloc);
     let mut from = 0;
@@ -324,7 +333,7 @@ fn segments_of(alloc: Global, sizes: &[usize]) -> Result<Option<Vec<Arc<Segment>
         if 4 < first || 5 < from || 5 - from < *size {
             return Ok(None);
         }
-        let Some(tally) = tally_of(alloc, &games[from..from + *size])? else {
+        let Some(tally) = tally_of(rt, alloc, &games[from..from + *size])? else {
             return Ok(None);
         };
         segments.push(Arc::new(alloc, Segment::of(alloc, first, tally)?)?)?;
@@ -354,8 +363,13 @@ fn told_by_segments<L: Ledger>(
 }
 
 /// What is found in the journal of the five games in segments of these sizes.
-fn told_by_cut(alloc: Global, sizes: &[usize], asked: &Asked) -> Result<String, AllocError> {
-    match segments_of(alloc, sizes)? {
+fn told_by_cut<R: Threads + Sync>(
+    rt: &R,
+    alloc: Global,
+    sizes: &[usize],
+    asked: &Asked,
+) -> Result<String, AllocError> {
+    match segments_of(rt, alloc, sizes)? {
         Some(segments) => {
             told_by_segments::<Brand>(alloc, segments.as_slice(), asked, Blank::new(1))
         }
@@ -371,11 +385,11 @@ fn one_two_and_five_segments_answer_alike(rt: HostRuntime) -> Result<(), Fail> {
         (since, SINCE_JANUARY),
     ];
     for (asked, answer) in &table {
-        let one = told_by_cut(rt.alloc(), &[5], asked)?;
+        let one = told_by_cut(&rt, rt.alloc(), &[5], asked)?;
         assert_eq!(rt; one.as_str(), *answer);
-        let two = told_by_cut(rt.alloc(), &[2, 3], asked)?;
+        let two = told_by_cut(&rt, rt.alloc(), &[2, 3], asked)?;
         assert_eq!(rt; two.as_str(), *answer);
-        let five = told_by_cut(rt.alloc(), &[1, 1, 1, 1, 1], asked)?;
+        let five = told_by_cut(&rt, rt.alloc(), &[1, 1, 1, 1, 1], asked)?;
         assert_eq!(rt; five.as_str(), *answer);
     }
     Ok(())

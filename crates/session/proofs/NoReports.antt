@@ -38,7 +38,7 @@ pub reports-nothing : {J : Type 0} (body : List ℕ) (report : Report J) → rep
     → report.end ≡ ends.OutOfMemory → Reports (cuts body) report
 reports-nothing {J} body report receipts refused end =
     reports (cuts body) report receipts refused
-    (subst (λ (e : End J). AccountsTo e (groups (cuts body)) [] []) (sym end) (0, record { within = omega arith; accounted = none-beside }))
+    (subst (λ (e : End J). AccountsTo e (groups (cuts body)) [] []) (sym end) (0, ([], refl, record { within = omega arith; accounted = none-beside })))
 
 pub reports-empty : {J : Type 0} (body : List ℕ) (report : Report J) → body ≡ [] → report.receipts.items ≡ []
     → report.refused.items ≡ [] → report.end ≡ ends.Whole → Reports (cuts body) report

@@ -11,7 +11,7 @@ use Rattle.explorer_model.specs.declared.fault.Why.TheVariants.{Preamble, TooLon
 use Rattle.explorer_model.specs.declared.wire.Reply.{Reply}
 use Rattle.explorer_model.specs.declared.wire.Reply.TheVariants as replies
 use Rattle.explorer_model.specs.Cuts.{Cut, cuts}
-use Rattle.explorer_model.specs.Imports.{Candidate, groups}
+use Rattle.explorer_model.specs.Imports.{AccountedBeside, Candidate, groups}
 use Rattle.explorer_model.specs.Journal.{game_count}
 use Rattle.explorer_model.specs.Replies.{stored_body}
 use Rattle.explorer_model.specs.Timeline.{IsPrefix}
@@ -165,3 +165,17 @@ pub import-replied : {J : Type 0} (body : List ℕ) (report : Report J) (journal
 import-replied body report journal reply r knows notes told by =
     replies-to body report.receipts.items report.refused.items report.clashes.items journal reply knows notes
     report.end r.batches r.are_receipts r.accounts r.repeats told by
+
+-- a whole import stored its body in a journal that has all that was told
+pub has-stored-body : {J : Type 0} (body : List ℕ) (report : Report J) (journal : List Batch)
+    → (reports : Reports (cuts body) report)
+    → AccountedBeside (groups (cuts body)) reports.batches report.refused.items
+    → KnowsReceipts report.receipts.items journal → KnowsNotes report.clashes.items journal
+    → HasStoredBody journal body (games_of report.receipts.items) report.refused.items
+has-stored-body body report journal reports accounts knows notes = record {
+  batches = reports.batches;
+  stand = receipts-stand 0 report.receipts.items reports.batches journal reports.are_receipts knows;
+  count = receipts-count 0 report.receipts.items reports.batches reports.are_receipts;
+  accounted = accounts;
+  repeats = repeats-known (cuts body) report.clashes.items report.refused.items journal notes reports.repeats;
+}

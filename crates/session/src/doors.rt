@@ -7,6 +7,8 @@ use ingest_desk::Importer;
 use outside::{Door, Failed};
 use published_index::{Index, Pass};
 use std::alloc::Global;
+use std::sync::Wait;
+use std::thread::Threads;
 
 /// How the serving of a door ended.
 #[derive(Clone, Copy, Debug, PartialEq, Eq)]
@@ -18,7 +20,8 @@ pub enum DoorEnd {
 
 /// Serves the connections of a door, one after another, and gives each back to it. It may wait for
 /// a peer.
-pub fn serve_door<J: Index, D: Door, I: Importer<J>>(
+pub fn serve_door<J: Index, D: Door, I: Importer<J>, R: Wait + Threads + Sync>(
+    rt: &R,
     alloc: Global,
     door: &mut D,
     pass: &mut Pass<J>,
@@ -32,7 +35,7 @@ pub fn serve_door<J: Index, D: Door, I: Importer<J>>(
         match door.accept() {
             Ok(Some(link)) => {
                 let mut link = link;
-                let _ = serve_connection(alloc, &mut link, pass, importer);
+                let _ = serve_connection(rt, alloc, &mut link, pass, importer);
                 door.finish(link);
             }
             Ok(None) => return DoorEnd::Whole,

@@ -22,9 +22,12 @@ use explorer_model::wire::Reply;
 use ingest_desk::{End, Importer, Receipt, Report};
 use published_index::{Index, Note, Pass};
 use std::alloc::{AllocError, Global};
+use std::sync::Wait;
+use std::thread::Threads;
 
 /// Imports a body, lets the pass learn all that the report tells, and gives the reply.
-pub fn import<J: Index, I: Importer<J>>(
+pub fn import<J: Index, I: Importer<J>, R: Wait + Threads + Sync>(
+    rt: &R,
     alloc: Global,
     pass: &mut Pass<J>,
     importer: &mut I,
@@ -36,7 +39,7 @@ pub fn import<J: Index, I: Importer<J>>(
     ensures learnt { HasLearnt J body.now (I.importer importer.old) (I.importer importer.new)
         pass.new.seen }
 {
-    let report = importer.import(body);
+    let report = importer.import(rt, alloc, body);
     let Report {
         receipts,
         refused,
@@ -61,7 +64,8 @@ fn count_games<J: Index>(receipts: &[Receipt<J>]) -> u32
     games
 }
 
-fn learn_receipts<J: Index>(pass: &mut Pass<J>, receipts: Vec<Receipt<J>>)
+/// The pass learns the notes of receipts.
+pub fn learn_receipts<J: Index>(pass: &mut Pass<J>, receipts: Vec<Receipt<J>>)
     ensures knows { KnowsReceipts receipts.items pass.new.seen }
     ensures grew { IsPrefix pass.old.seen pass.new.seen }
     ensures readings { readings_of pass.new ≡ readings_of pass.old }
@@ -72,7 +76,8 @@ fn learn_receipts<J: Index>(pass: &mut Pass<J>, receipts: Vec<Receipt<J>>)
     }
 }
 
-fn learn_notes<J: Index>(pass: &mut Pass<J>, notes: Vec<Note<J>>)
+/// The pass learns notes of journals.
+pub fn learn_notes<J: Index>(pass: &mut Pass<J>, notes: Vec<Note<J>>)
     ensures knows { KnowsNotes notes.items pass.new.seen }
     ensures grew { IsPrefix pass.old.seen pass.new.seen }
     ensures readings { readings_of pass.new ≡ readings_of pass.old }

@@ -10,6 +10,7 @@ mod serving;
 
 pub use answering::answer;
 pub use doors::{DoorEnd, serve_door};
+pub use importing::{learn_notes, learn_receipts};
 pub use serving::{Ended, serve_connection};
 
 #[cfg(test)]

@@ -12,6 +12,8 @@ use explorer_model::wire::{Asked, Method, Path, Reply, Request, RequestFault};
 use ingest_desk::Importer;
 use published_index::{Index, Pass};
 use std::alloc::Global;
+use std::sync::Wait;
+use std::thread::Threads;
 
 /// Whether the connection is closed behind the reply.
 pub fn closes(asked: &Asked) -> bool
@@ -24,7 +26,8 @@ pub fn closes(asked: &Asked) -> bool
 }
 
 /// The reply to what is asked.
-pub fn reply_to<J: Index, I: Importer<J>>(
+pub fn reply_to<J: Index, I: Importer<J>, R: Wait + Threads + Sync>(
+    rt: &R,
     alloc: Global,
     asked: &Asked,
     pass: &mut Pass<J>,
@@ -35,7 +38,7 @@ pub fn reply_to<J: Index, I: Importer<J>>(
         (backend pass.new (I.importer importer.new)) }
 {
     match asked {
-        Asked::Wanted(request) => reply_to_request(alloc, request, pass, importer),
+        Asked::Wanted(request) => reply_to_request(rt, alloc, request, pass, importer),
         Asked::Refused(fault) => refusal_reply(*fault),
         Asked::NoMemory => Reply::NoMemory,
         Asked::Done | Asked::Cut | Asked::ReadFault => unreachable!(),
@@ -52,7 +55,8 @@ fn refusal_reply(fault: RequestFault) -> Reply
     }
 }
 
-fn reply_to_request<J: Index, I: Importer<J>>(
+fn reply_to_request<J: Index, I: Importer<J>, R: Wait + Threads + Sync>(
+    rt: &R,
     alloc: Global,
     request: &Request,
     pass: &mut Pass<J>,
@@ -68,7 +72,7 @@ fn reply_to_request<J: Index, I: Importer<J>>(
             _ => Reply::NotAllowed { allow: Method::Get },
         },
         Path::Import => match request.method {
-            Method::Post => import(alloc, pass, importer, request.body.as_slice()),
+            Method::Post => import(rt, alloc, pass, importer, request.body.as_slice()),
             _ => Reply::NotAllowed {
                 allow: Method::Post,
             },

@@ -12,6 +12,8 @@ use ingest_desk::Importer;
 use outside::Link;
 use published_index::{Index, Pass};
 use std::alloc::Global;
+use std::sync::Wait;
+use std::thread::Threads;
 
 /// How a connection ended.
 #[derive(Clone, Copy, Debug, PartialEq, Eq)]
@@ -26,7 +28,8 @@ pub enum Ended {
 
 /// Serves a connection to its end: at most 1,000 requests, each replied to before the next is read.
 /// A read and an import may wait.
-pub fn serve_connection<J: Index, L: Link, I: Importer<J>>(
+pub fn serve_connection<J: Index, L: Link, I: Importer<J>, R: Wait + Threads + Sync>(
+    rt: &R,
     alloc: Global,
     link: &mut L,
     pass: &mut Pass<J>,
@@ -37,14 +40,15 @@ pub fn serve_connection<J: Index, L: Link, I: Importer<J>>(
 {
     let mut wire = Wire::new();
     'serving: loop {
-        if let Some(ended) = serve_one(alloc, &mut wire, link, pass, importer) {
+        if let Some(ended) = serve_one(rt, alloc, &mut wire, link, pass, importer) {
             return ended;
         }
     }
 }
 
 /// Serves one request, and says how the connection ended, where it did.
-fn serve_one<J: Index, L: Link, I: Importer<J>>(
+fn serve_one<J: Index, L: Link, I: Importer<J>, R: Wait + Threads + Sync>(
+    rt: &R,
     alloc: Global,
     wire: &mut Wire,
     link: &mut L,
@@ -72,7 +76,7 @@ fn serve_one<J: Index, L: Link, I: Importer<J>>(
         Asked::ReadFault => return Some(Ended::ReadFault),
         _ => {}
     }
-    let reply = reply_to(alloc, &asked, pass, importer);
+    let reply = reply_to(rt, alloc, &asked, pass, importer);
     let last = closes(&asked);
     let Ok(()) = wire.reply(link, &reply, last) else {
         return Some(Ended::WriteFault);

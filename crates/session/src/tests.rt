@@ -11,12 +11,12 @@ use std::marker::{Brand, PhantomData};
 use std::process::Abort;
 use std::sync::Wait;
 use std::test::Fail;
+use std::thread::Threads;
 
 /// An importer that has no room for a text: it imports an empty body whole, and any other ends for
 /// want of memory. It tells its calls while there is memory for them.
 #[derive(Drop)]
 struct RoomForNone<J: Index> {
-    alloc: Global,
     calls: Option<Vec<ImportCall>>,
     of: PhantomData<J>,
 }
@@ -29,14 +29,19 @@ impl<J: Index> Importer<J> for RoomForNone<J> {
       calls = option_map (λ calls. calls.items) i.calls;
     } };
 
-    fn import(&mut self, body: &[u8]) -> Report<J> {
+    fn import<R: Wait + Threads + Sync>(
+        &mut self,
+        _rt: &R,
+        alloc: Global,
+        body: &[u8],
+    ) -> Report<J> {
         let calls = self.calls.take();
         if body.is_empty() {
-            self.calls = with_call(self.alloc, calls, body, ImportEnding::Whole);
-            return report_of(self.alloc, End::Whole);
+            self.calls = with_call(alloc, calls, body, ImportEnding::Whole);
+            return report_of(alloc, End::Whole);
         }
-        self.calls = with_call(self.alloc, calls, body, ImportEnding::OutOfMemory);
-        report_of(self.alloc, End::OutOfMemory)
+        self.calls = with_call(alloc, calls, body, ImportEnding::OutOfMemory);
+        report_of(alloc, End::OutOfMemory)
     }
 }
 
@@ -116,7 +121,11 @@ fn requests_of_a_door_are_answered(rt: HostRuntime) -> Result<(), Fail> {
     answers::<Brand, _>(&rt, alloc, unnamed)
 }
 
-fn answers<J: Index, R: Wait + Abort>(rt: &R, alloc: Global, unnamed: Unnamed) -> Result<(), Fail>
+fn answers<J: Index, R: Threads + Wait + Abort + Sync>(
+    rt: &R,
+    alloc: Global,
+    unnamed: Unnamed,
+) -> Result<(), Fail>
     requires { unnamed.name ≡ J.name }
 {
     let (publisher, mut passes) = match unnamed.named::<J>(alloc) {
@@ -134,15 +143,18 @@ fn answers<J: Index, R: Wait + Abort>(rt: &R, alloc: Global, unnamed: Unnamed) -
     answered
 }
 
-fn serves<J: Index, R: Abort>(rt: &R, alloc: Global, pass: &mut Pass<J>) -> Result<(), Fail> {
+fn serves<J: Index, R: Threads + Wait + Abort + Sync>(
+    rt: &R,
+    alloc: Global,
+    pass: &mut Pass<J>,
+) -> Result<(), Fail> {
     let mut importer = RoomForNone {
-        alloc,
         calls: Some(Vec::new(alloc)),
         of: PhantomData,
     };
     let links = vec![in alloc; link(alloc, REQUESTS, 7)?, link(alloc, b"GET /", 7)?]?;
     let mut door = MemDoor::new(alloc, links, 2, Vec::new(alloc))?;
-    let end = serve_door(alloc, &mut door, pass, &mut importer);
+    let end = serve_door(rt, alloc, &mut door, pass, &mut importer);
     assert_eq!(rt; end, DoorEnd::Whole);
     let links = door.taken_back();
     assert_eq!(rt; links.len(), 2);

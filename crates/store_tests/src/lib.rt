@@ -1,5 +1,5 @@
-//! Tests of the store's crates together: a batch as a segment, two segments as one, and the list of
-//! segments that passes enter while it is changed.
+//! Tests of the store's crates together: a batch as a segment, two segments as one, the list of
+//! segments that passes enter while it is changed, and connections over a desk.
 #![tactic(auto)]
 
 #[cfg(test)]

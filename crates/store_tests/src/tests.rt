@@ -1,4 +1,5 @@
 //! Segments of worked games.
+mod connections;
 mod merges;
 mod published;
 mod segments;
@@ -34,11 +35,11 @@ fn text(alloc: Global, number: u32, months: u32, moves: &str) -> Result<Placed, 
 }
 
 /// The tally of the texts, where they are few and short.
-fn tally_of(alloc: Global, texts: Vec<Placed>) -> Result<Tally, Fail> {
+fn tally_of<R: Threads + Sync>(rt: &R, alloc: Global, texts: Vec<Placed>) -> Result<Tally, Fail> {
     if 512 < texts.len() || !are_short(texts.as_slice()) {
         return Err(Fail::from("many texts, or a long one"));
     }
-    let tally = tally(alloc, texts, 4, &FreeGate)?.tally;
+    let tally = tally(rt, alloc, texts, 4, &FreeGate)?.tally;
     Ok(tally.ok_or("no game")?)
 }
 
@@ -55,7 +56,7 @@ fn are_short(texts: &[Placed]) -> bool
 
 /// The tally of a whole batch. All its games begin with e4, in 150 months, and each second one goes
 /// on with e5, the others with c5.
-fn tally_of_batch(alloc: Global) -> Result<Tally, Fail> {
+fn tally_of_batch<R: Threads + Sync>(rt: &R, alloc: Global) -> Result<Tally, Fail> {
     let mut texts = Vec::new(alloc);
     for number in 0..BATCH {
         let moves = if number % 2 == 0 {
@@ -65,7 +66,7 @@ fn tally_of_batch(alloc: Global) -> Result<Tally, Fail> {
         };
         texts.push(text(alloc, number, number % 150, moves)?)?;
     }
-    tally_of(alloc, texts)
+    tally_of(rt, alloc, texts)
 }
 
 /// The segment of a batch that stands at this place in the journal.
@@ -80,13 +81,18 @@ fn segment_of(alloc: Global, first: u32, tally: Tally) -> Result<Segment, Fail>
 }
 
 /// The segment of a batch of one game.
-fn one_game(alloc: Global, first: u32, moves: &str) -> Result<Segment, Fail>
+fn one_game<R: Threads + Sync>(
+    rt: &R,
+    alloc: Global,
+    first: u32,
+    moves: &str,
+) -> Result<Segment, Fail>
     ensures first { IfOk result (λ segment. segment.span.first ≡ first) }
     ensures one { IfOk result (λ segment. length segment.span.batches ≡ 1) }
 {
     let mut texts = Vec::new(alloc);
     texts.push(text(alloc, first, 0, moves)?)?;
-    segment_of(alloc, first, tally_of(alloc, texts)?)
+    segment_of(alloc, first, tally_of(rt, alloc, texts)?)
 }
 
 /// The segment of both, where they can be merged.

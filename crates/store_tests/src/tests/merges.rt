@@ -67,8 +67,8 @@ fn count_of(number: u32, among: &[u32]) -> usize {
 
 #[test]
 fn two_leaves_of_a_merge_run_at_once(rt: HostRuntime) -> Result<(), Fail> {
-    let left = one_game(rt.alloc(), 0, "1. e4 e5")?;
-    let right = one_game(rt.alloc(), 1, "1. e4 c5")?;
+    let left = one_game(&rt, rt.alloc(), 0, "1. e4 e5")?;
+    let right = one_game(&rt, rt.alloc(), 1, "1. e4 c5")?;
     let gate = HoldingGate::new();
     let both = merged(&rt, rt.alloc(), &left, &right, 2, &gate)?;
     // The mark of both, and leaves 1 and 2.
@@ -111,8 +111,8 @@ fn have_same_rows(a: &Segment, b: &Segment) -> bool {
 
 #[test]
 fn merges_are_equal_for_every_number_of_workers(rt: HostRuntime) -> Result<(), Fail> {
-    let left = segment_of(rt.alloc(), 0, tally_of_batch(rt.alloc())?)?;
-    let right = segment_of(rt.alloc(), 1, tally_of_batch(rt.alloc())?)?;
+    let left = segment_of(rt.alloc(), 0, tally_of_batch(&rt, rt.alloc())?)?;
+    let right = segment_of(rt.alloc(), 1, tally_of_batch(&rt, rt.alloc())?)?;
     let alone = merged(&rt, rt.alloc(), &left, &right, 1, &FreeGate)?;
     assert_eq!(rt; alone.games(), 1024);
     // Four keys in 16 ranges: most of the ranges are empty.

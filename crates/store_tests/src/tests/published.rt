@@ -34,7 +34,7 @@ fn named<J: Index, R: Wait>(
 }
 
 /// Puts the segment of one more game, where the list has room for it.
-fn put<J: Index, R: Wait>(
+fn put<J: Index, R: Threads + Wait + Sync>(
     rt: &R,
     alloc: Global,
     publisher: &mut Publisher<J>,
@@ -44,7 +44,7 @@ fn put<J: Index, R: Wait>(
         return Err(Fail::from("the list is full"));
     }
     let end = publisher.list().batches();
-    let segment = one_game(alloc, end, "1. e4 e5")?;
+    let segment = one_game(rt, alloc, end, "1. e4 e5")?;
     let segment = Arc::new(alloc, segment)?;
     Ok(publisher.put(rt, segment)?)
 }
@@ -61,7 +61,7 @@ struct Seen {
     learnt: u32,
 }
 
-fn put_twice<J: Index, R: Wait>(
+fn put_twice<J: Index, R: Threads + Wait + Sync>(
     rt: &R,
     alloc: Global,
     publisher: &mut Publisher<J>,
@@ -83,7 +83,11 @@ fn put_twice<J: Index, R: Wait>(
     })
 }
 
-fn sees_puts<J: Index, R: Wait + Abort>(rt: &R, alloc: Global, unnamed: Unnamed) -> Result<(), Fail>
+fn sees_puts<J: Index, R: Threads + Wait + Abort + Sync>(
+    rt: &R,
+    alloc: Global,
+    unnamed: Unnamed,
+) -> Result<(), Fail>
     requires { unnamed.name ≡ J.name }
 {
     let (mut publisher, passes) = named::<J, R>(rt, alloc, unnamed)?;
@@ -120,7 +124,7 @@ fn always_enters<J: Index>(alloc: Global, pass: Option<Pass<J>>) -> bool {
 }
 
 /// Puts batches of one game, each under the lock.
-fn put_many<J: Index, R: Wait>(
+fn put_many<J: Index, R: Threads + Wait + Sync>(
     rt: &R,
     alloc: Global,
     desk: &Mutex<Publisher<J>>,

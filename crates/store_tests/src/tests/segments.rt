@@ -77,8 +77,8 @@ fn count_with_e4(rows: &[Row]) -> usize {
 
 #[test]
 fn segment_gives_what_a_plain_filter_of_the_tally_gives(rt: HostRuntime) -> Result<(), Fail> {
-    let tally = tally_of_batch(rt.alloc())?;
-    let segment = segment_of(rt.alloc(), 0, tally_of_batch(rt.alloc())?)?;
+    let tally = tally_of_batch(&rt, rt.alloc())?;
+    let segment = segment_of(rt.alloc(), 0, tally_of_batch(&rt, rt.alloc())?)?;
     let rows = tally.rows();
     // The start and e4 in 150 months, e5 and c5 in 75 each: three full blocks and one of 66 rows.
     assert_eq!(rt; (count_with_e4(rows), rows.len()), (150, 450));
@@ -97,7 +97,7 @@ fn segment_gives_what_a_plain_filter_of_the_tally_gives(rt: HostRuntime) -> Resu
 
 #[test]
 fn segment_goes_through_threads(rt: HostRuntime) -> Result<(), Fail> {
-    let segment = Arc::new(rt.alloc(), one_game(rt.alloc(), 7, "1. e4 e5")?)?;
+    let segment = Arc::new(rt.alloc(), one_game(&rt, rt.alloc(), 7, "1. e4 e5")?)?;
     let share = Arc::try_clone(&segment)?;
     let (games, first) = join(&rt, move || share.games(), move || segment.span().first);
     assert_eq!(rt; (games, first), (1, 7));
