@@ -1,0 +1,64 @@
+-- Bridge: what the code holds of the words of a command line.
+use Rattle.std.specs.Prelude.{◌≡◌, ◌≢◌, ◌≤◌, ℕ, ◌++◌, List, map, Option, None, Some, codes, nat_le, ◌&&◌, if◌then◌else◌, string_bytes}
+use Rattle.clap.specs.Walk.{Row, Text}
+use Rattle.explorer_model.specs.declared.fault.Stop.{Stop}
+use Rattle.explorer_model.specs.declared.fault.Stop.TheVariants as stops
+use Rattle.command_line.specs.declared.command.Command.{Command}
+use Rattle.command_line.specs.declared.command.Command.TheVariants as commands
+use Rattle.command_line.specs.declared.words.UsageError.{UsageError}
+use Rattle.command_line.specs.Task.{Bounds, Count, Create, Import, Query, Serve, Task, connections_bounds, readers_bounds, task_named, task_of, workers_bounds}
+
+abbrev pub task_in : Command → Task
+task_in (commands.Count query workers) = Count (string_bytes query) workers
+task_in (commands.Create store) = Create (string_bytes store)
+task_in (commands.Import store file workers) =
+    Import (string_bytes store) (string_bytes file) workers
+task_in (commands.Query store query workers) =
+    Query (string_bytes store) (string_bytes query) workers
+task_in (commands.Serve store address files workers readers connections) =
+    Serve (string_bytes store) (string_bytes address) (map string_bytes files.items)
+    workers readers connections
+
+-- ---- bounds
+
+abbrev pub IsIn : Bounds → ℕ → Type 0
+IsIn bounds number = (bounds.least ≤ number) × (number ≤ bounds.most)
+
+-- all numbers that are asked for stand within their bounds
+abbrev pub IsInBounds : Task → Type 0
+IsInBounds (Count query workers) = IsIn workers_bounds workers
+IsInBounds (Create store) = Unit {0}
+IsInBounds (Import store file workers) = IsIn workers_bounds workers
+IsInBounds (Query store query workers) = IsIn workers_bounds workers
+IsInBounds (Serve store address files workers readers connections) =
+    IsIn workers_bounds workers × IsIn readers_bounds readers
+    × IsIn connections_bounds connections
+
+-- the number, where it stands within the bounds
+abbrev pub kept_in : Bounds → ℕ → Option ℕ → ℕ
+kept_in bounds default None = default
+kept_in bounds default (Some number) =
+    if nat_le bounds.least number && nat_le number bounds.most then number else default
+
+-- ---- refused words
+
+-- a text whose last line ends
+abbrev pub EndsLine : List ℕ → Type 0
+EndsLine text = (front : List ℕ) × (text ≡ front ++ codes "\n")
+
+-- the words ask for nothing, and what is told of them ends its last line
+abbrev pub Refuses : List Text → Stop UsageError → Type 0
+Refuses words (stops.Fault usage) = (task_of words ≡ None) × EndsLine (string_bytes usage.text)
+Refuses words stops.OutOfMemory = Unit {0}
+
+-- what is told ends its last line
+abbrev pub IsTold : Stop UsageError → Type 0
+IsTold (stops.Fault usage) = EndsLine (string_bytes usage.text)
+IsTold stops.OutOfMemory = Unit {0}
+
+-- ---- subcommands
+
+-- the subcommand is one of the command line's
+abbrev pub IsTaken : Option (Text × List Row) → Type 0
+IsTaken None = ⊥
+IsTaken (Some (name, rows)) = task_named name rows ≢ None

@@ -1,0 +1,179 @@
+//! What a run is asked to do.
+ghost use Rattle.std.specs.Prelude.{◌≡◌, ◌≤◌, ◌<◌, ◌^◌, Some, IfOk, codes, map, string_bytes};
+ghost use Rattle.clap.specs.Words.{found_of, rows_of, subcommand_rows_of};
+ghost use Rattle.command_line.specs.Task.{Bounds, number_in, task_named, task_said, word_in, words_in, workers_in as workers_given};
+ghost use Rattle.command_line.specs.Words.{IsInBounds, IsTaken, task_in};
+
+use clap::ArgMatches;
+use std::alloc::{AllocError, Global};
+
+/// What a run is asked to do. Each command that counts games does it by 1 to 16 workers.
+#[derive(Debug, Drop)]
+pub enum Command {
+    /// Count the games of the input, and answer the query, which is empty where none is given.
+    Count {
+        query: String,
+        workers: u8,
+    },
+    /// Make a store without a game.
+    Create {
+        store: String,
+    },
+    /// Import a file into a store.
+    Import {
+        store: String,
+        file: String,
+        workers: u8,
+    },
+    /// Answer a query over a store.
+    Query {
+        store: String,
+        query: String,
+        workers: u8,
+    },
+    /// Serve a store at an address by 1 to 64 readers, each for 1 to 1,000,000 connections, while
+    /// files are imported into it.
+    Serve {
+        store: String,
+        address: String,
+        files: Vec<String>,
+        workers: u8,
+        readers: u8,
+        connections: u32,
+    },
+}
+
+/// The command that the matches of the command line say.
+pub fn command_of(alloc: Global, matches: &ArgMatches<'_>) -> Result<Command, AllocError>
+    requires { IsTaken (subcommand_rows_of matches.now) }
+    ensures task { IfOk result (λ command.
+        task_said (subcommand_rows_of matches.now) ≡ Some (task_in command)) }
+    ensures bounds { IfOk result (λ command. IsInBounds (task_in command)) }
+{
+    if let Some(given) = matches.subcommand_matches("count") {
+        return count_of(alloc, given);
+    }
+    if let Some(given) = matches.subcommand_matches("create") {
+        return create_of(alloc, given);
+    }
+    if let Some(given) = matches.subcommand_matches("import") {
+        return import_of(alloc, given);
+    }
+    if let Some(given) = matches.subcommand_matches("query") {
+        return query_of(alloc, given);
+    }
+    let Some(given) = matches.subcommand_matches("serve") else {
+        unreachable!();
+    };
+    serve_of(alloc, given)
+}
+
+fn count_of(alloc: Global, given: &ArgMatches<'_>) -> Result<Command, AllocError>
+    ensures task { IfOk result (λ command.
+        task_named (codes "count") (rows_of (found_of given.now)) ≡ Some (task_in command)) }
+    ensures bounds { IfOk result (λ command. IsInBounds (task_in command)) }
+{
+    Ok(Command::Count {
+        query: word_of(alloc, given, "query")?,
+        workers: workers_of(given),
+    })
+}
+
+fn create_of(alloc: Global, given: &ArgMatches<'_>) -> Result<Command, AllocError>
+    ensures task { IfOk result (λ command.
+        task_named (codes "create") (rows_of (found_of given.now)) ≡ Some (task_in command)) }
+    ensures bounds { IfOk result (λ command. IsInBounds (task_in command)) }
+{
+    Ok(Command::Create {
+        store: word_of(alloc, given, "store")?,
+    })
+}
+
+fn import_of(alloc: Global, given: &ArgMatches<'_>) -> Result<Command, AllocError>
+    ensures task { IfOk result (λ command.
+        task_named (codes "import") (rows_of (found_of given.now)) ≡ Some (task_in command)) }
+    ensures bounds { IfOk result (λ command. IsInBounds (task_in command)) }
+{
+    Ok(Command::Import {
+        store: word_of(alloc, given, "store")?,
+        file: word_of(alloc, given, "file")?,
+        workers: workers_of(given),
+    })
+}
+
+fn query_of(alloc: Global, given: &ArgMatches<'_>) -> Result<Command, AllocError>
+    ensures task { IfOk result (λ command.
+        task_named (codes "query") (rows_of (found_of given.now)) ≡ Some (task_in command)) }
+    ensures bounds { IfOk result (λ command. IsInBounds (task_in command)) }
+{
+    Ok(Command::Query {
+        store: word_of(alloc, given, "store")?,
+        query: word_of(alloc, given, "query")?,
+        workers: workers_of(given),
+    })
+}
+
+fn serve_of(alloc: Global, given: &ArgMatches<'_>) -> Result<Command, AllocError>
+    ensures task { IfOk result (λ command.
+        task_named (codes "serve") (rows_of (found_of given.now)) ≡ Some (task_in command)) }
+    ensures bounds { IfOk result (λ command. IsInBounds (task_in command)) }
+{
+    Ok(Command::Serve {
+        store: word_of(alloc, given, "store")?,
+        address: word_of(alloc, given, "address")?,
+        files: words_of(alloc, given, "file")?,
+        workers: workers_of(given),
+        readers: number_of(given, "readers", 1, 64, 4) as u8,
+        connections: number_of(given, "connections", 1, 1_000_000, 1000) as u32,
+    })
+}
+
+/// What is given under a name, or nothing.
+fn word_of(alloc: Global, given: &ArgMatches<'_>, name: &str) -> Result<String, AllocError>
+    ensures { IfOk result (λ word.
+        string_bytes word ≡ word_in name.now (rows_of (found_of given.now))) }
+{
+    String::from_str(alloc, given.get_str(name).unwrap_or(""))
+}
+
+/// All that is given under a name.
+fn words_of(alloc: Global, given: &ArgMatches<'_>, name: &str) -> Result<Vec<String>, AllocError>
+    ensures { IfOk result (λ words.
+        map string_bytes words.items ≡ words_in name.now (rows_of (found_of given.now))) }
+{
+    let Some(texts) = given.get_strs(name) else {
+        return Ok(Vec::new(alloc));
+    };
+    let mut words = Vec::new(alloc);
+    'copying: for text in texts {
+        words.push(String::from_str(alloc, text)?)?;
+    }
+    Ok(words)
+}
+
+fn workers_of(given: &ArgMatches<'_>) -> u8
+    ensures number { result ≡ workers_given (rows_of (found_of given.now)) }
+    ensures least { 1 ≤ result }
+    ensures most { result ≤ 16 }
+{
+    number_of(given, "workers", 1, 16, 4) as u8
+}
+
+/// The number that is given under a name, where one within the bounds is. The command line takes no
+/// other.
+fn number_of(given: &ArgMatches<'_>, name: &str, least: u64, most: u64, default: u64) -> u64
+    requires some { least ≤ default }
+    requires few { default ≤ most }
+    ensures number { let bounds : Bounds = record { least = least; most = most } in
+        result ≡ number_in name.now bounds default (rows_of (found_of given.now)) }
+    ensures least { least ≤ result }
+    ensures most { result ≤ most }
+{
+    let Some(number) = given.get_one::<u64>(name) else {
+        return default;
+    };
+    if number < least || number > most {
+        return default;
+    }
+    number
+}

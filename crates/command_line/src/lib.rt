@@ -1,0 +1,12 @@
+//! The command line: what words ask for.
+#![tactic(auto)]
+
+mod app;
+mod command;
+pub mod laws;
+#[cfg(test)]
+mod tests;
+mod words;
+
+pub use command::Command;
+pub use words::{UsageError, parse_words};

@@ -1,0 +1,139 @@
+use crate::words::parse_words;
+use explorer_model::fault::Stop;
+use std::alloc::{AllocError, Global};
+use std::test::Fail;
+
+/// The words behind the program's name.
+fn with_name(alloc: Global, words: &[&str]) -> Result<Vec<String>, AllocError> {
+    let mut all = vec![in alloc; String::from_str(alloc, "explorer")?]?;
+    for word in words {
+        all.push(String::from_str(alloc, word)?)?;
+    }
+    Ok(all)
+}
+
+/// What the words ask for, as `Debug` prints it, or what is told of them.
+fn shown(alloc: Global, words: &[&str]) -> Result<String, AllocError> {
+    let all = with_name(alloc, words)?;
+    match parse_words(alloc, all.as_slice()) {
+        Ok(command) => Ok(format!(in alloc; "{command:?}")?),
+        Err(Stop::Fault(usage)) => Ok(usage.text),
+        Err(Stop::OutOfMemory) => Err(AllocError),
+    }
+}
+
+#[test]
+fn each_command_is_read(rt: HostRuntime) -> Result<(), Fail> {
+    let alloc = rt.alloc();
+    let table: [(&[&str], &str); 11] = [
+        (&["count"], "Count { query: \"\", workers: 4 }"),
+        (
+            &["count", "play=e2e4"],
+            "Count { query: \"play=e2e4\", workers: 4 }",
+        ),
+        (
+            &["count", "--workers", "8", "x=1"],
+            "Count { query: \"x=1\", workers: 8 }",
+        ),
+        (
+            &["count", "x=1", "--workers=16"],
+            "Count { query: \"x=1\", workers: 16 }",
+        ),
+        (
+            &["count", "--workers", "1", "--", "-x"],
+            "Count { query: \"-x\", workers: 1 }",
+        ),
+        (&["create", "s"], "Create { store: \"s\" }"),
+        (
+            &["import", "s", "f"],
+            "Import { store: \"s\", file: \"f\", workers: 4 }",
+        ),
+        (
+            &["query", "s"],
+            "Query { store: \"s\", query: \"\", workers: 4 }",
+        ),
+        (
+            &["query", "s", "q", "--workers", "2"],
+            "Query { store: \"s\", query: \"q\", workers: 2 }",
+        ),
+        (
+            &["serve", "s", "a:1"],
+            "Serve { store: \"s\", address: \"a:1\", files: [], workers: 4, readers: 4, connections: 1000 }",
+        ),
+        (
+            &[
+                "serve",
+                "s",
+                "a",
+                "f",
+                "g",
+                "--readers",
+                "64",
+                "--connections",
+                "1000000",
+            ],
+            "Serve { store: \"s\", address: \"a\", files: [\"f\", \"g\"], workers: 4, readers: 64, connections: 1000000 }",
+        ),
+    ];
+    for (words, command) in table {
+        assert_eq!(rt; shown(alloc, words)?.as_str(), command);
+    }
+    Ok(())
+}
+
+#[test]
+fn other_words_are_refused(rt: HostRuntime) -> Result<(), Fail> {
+    let alloc = rt.alloc();
+    let table: [(&[&str], &str); 12] = [
+        (
+            &[],
+            "error: 'explorer' requires a subcommand but one was not provided\n",
+        ),
+        (&["fly"], "error: unrecognized subcommand 'fly'\n"),
+        (
+            &["--help"],
+            "An opening explorer for games of chess\n\nUsage: explorer <COMMAND>\n",
+        ),
+        (
+            &["count", "a", "b"],
+            "error: unexpected argument 'b' found\n",
+        ),
+        (
+            &["count", "--workers", "17"],
+            "error: invalid value '17' for '--workers <N>': 17 is not in 1..=16\n",
+        ),
+        (
+            &["count", "--workers", "0"],
+            "error: invalid value '0' for '--workers <N>': 0 is not in 1..=16\n",
+        ),
+        (
+            &["count", "--help"],
+            "Count the games of standard input, and answer a query\n\nUsage: explorer count [OPTIONS] [QUERY]\n",
+        ),
+        (
+            &["create"],
+            "error: the following required arguments were not provided:\n  <STORE>\n",
+        ),
+        (
+            &["import", "s"],
+            "error: the following required arguments were not provided:\n  <FILE>\n",
+        ),
+        (
+            &["query", "s", "q", "r"],
+            "error: unexpected argument 'r' found\n",
+        ),
+        (
+            &["serve", "s"],
+            "error: the following required arguments were not provided:\n  <ADDRESS>\n",
+        ),
+        (
+            &["serve", "s", "a", "--readers", "65"],
+            "error: invalid value '65' for '--readers <N>': 65 is not in 1..=64\n",
+        ),
+    ];
+    for (words, front) in table {
+        let text = shown(alloc, words)?;
+        assert!(rt; text.as_str().starts_with(front), "{text}");
+    }
+    Ok(())
+}

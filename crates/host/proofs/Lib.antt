@@ -1,0 +1,4 @@
+mod Keeping
+mod Lending
+mod Places
+mod Things

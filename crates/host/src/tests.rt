@@ -1,0 +1,54 @@
+use super::*;
+use disk_model::{Disk, MemDisk};
+use outside::{Failed, Source};
+use std::alloc::Global;
+use std::test::Fail;
+
+/// Writes a byte behind what stands on a disk of the host, and gives its size then.
+fn append_byte<H: Host>(host: &mut H, name: &str) -> Result<u64, Failed> {
+    // law: a disk that was handed out is to be given back
+    laws::what_is_handed_out_is_out();
+    let mut disk = host.disk(name)?;
+    let size = append_to(&mut disk);
+    host.close(name, disk);
+    size
+}
+
+fn append_to<D: Disk>(disk: &mut D) -> Result<u64, Failed> {
+    let size = disk.size()?;
+    if size > 8 {
+        return Err(Failed);
+    }
+    disk.write_at(size, b"x")?;
+    disk.size()
+}
+
+/// Reads up to eight bytes of a file of the host.
+fn read_some<H: Host>(host: &mut H, name: &str, into: &mut [u8; 8]) -> Result<usize, Failed> {
+    // law: a file that was handed out is to be given back
+    laws::what_is_handed_out_is_out();
+    let mut file = host.file(name)?;
+    let read = file.read(into);
+    host.close_file(name, file);
+    read
+}
+
+#[test]
+fn host_in_memory_keeps_what_stands_under_names(rt: HostRuntime) -> Result<(), Fail> {
+    let alloc: Global = rt.alloc();
+    let mut host = MemHost::new(alloc);
+    host.add_disk("a", MemDisk::new(alloc, 8, Vec::new(alloc))?)?;
+    let bytes = Vec::from_slice(alloc, b"abc")?;
+    let failing = Vec::new(alloc);
+    host.add_file("b", MemFile { bytes, failing })?;
+    for answer in [Ok(1), Ok(2)] {
+        assert_eq!(rt; append_byte(&mut host, "a"), answer);
+    }
+    assert_eq!(rt; append_byte(&mut host, "b"), Err(Failed));
+    let mut into = [0; 8];
+    assert_eq!(rt; read_some(&mut host, "b", &mut into), Ok(3));
+    assert_eq!(rt; read_some(&mut host, "a", &mut into), Err(Failed));
+    assert_eq!(rt; &into[..3], b"abc".as_slice());
+    assert_eq!(rt; host.calls().len(), 8);
+    Ok(())
+}
