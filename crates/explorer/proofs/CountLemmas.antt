@@ -2,6 +2,7 @@
 use Rattle.std.proofs.Common.{◌≡◌, ◌⊎◌, inl, inr, ℕ, ◌≤◌, List, [], ◌∷◌, ◌++◌, None, Some, Result, Ok, Err, length, codes, refl, sym, ap, subst, ◌∙◌, arith}
 use Rattle.std.specs.Prelude.{IsErrAnd, OnOk, OnErr}
 use Rattle.outside.specs.Stream.{Stream, Takes, FailsToTake, Writes}
+use Rattle.host.specs.Hosts.{HostState}
 use Rattle.outside.specs.declared.stream.Failed.{Failed}
 use Rattle.outside.proofs.StreamLemmas.{reads-none}
 use Rattle.explorer_model.specs.declared.answer.Found.{Found}
@@ -25,7 +26,7 @@ use Rattle.explorer.specs.declared.import.Imported.{Imported}
 use Rattle.explorer.specs.Count.{Answers, Counts, CountsBy}
 use Rattle.explorer.specs.Faults.{fault_of_end, fault_of_query}
 use Rattle.explorer.specs.Importing.{FaultsAre, Imports, ReadsWithin, StandsAt, batches_of}
-use Rattle.explorer.specs.Lines.{Ending, IsFaultLine, Stopped, ending_of}
+use Rattle.explorer.specs.Lines.{AreLinesOf, Ending, Stopped, ending_of}
 use Rattle.explorer.specs.Report.{report}
 use Rattle.explorer.specs.Run.{Starves}
 use Rattle.explorer.specs.World.{World, WriteFails, world}
@@ -35,8 +36,8 @@ use Rattle.explorer.specs.World.{World, WriteFails, world}
 pub starves_at_once : (before : World) → Starves before before (Stopped faults.OutOfMemory)
 starves_at_once before = record { ending_is = refl; stream = []; reads = reads-none before.input; within = omega arith; rest = refl }
 
-pub starves_reading : (input input' output errors : Stream) → ReadsWithin input input' → Starves (world input output errors) (world input' output errors) (Stopped faults.OutOfMemory)
-starves_reading input input' output errors within = record { ending_is = refl; stream = within.stream; reads = within.reads; within = within.within; rest = refl }
+pub starves_reading : (input input' output errors : Stream) (host : HostState) → ReadsWithin input input' → Starves (world input output errors host) (world input' output errors host) (Stopped faults.OutOfMemory)
+starves_reading input input' output errors host within = record { ending_is = refl; stream = within.stream; reads = within.reads; within = within.within; rest = refl }
 
 stands_within : (end : End) (stream : List ℕ) (batches : List Batch) (refused : List Refusal) (after : Stream) → StandsAt end stream batches refused after → length stream ≤ input_limit
 stands_within ends.Whole stream batches refused after stands = omega (arith, stands.1)
@@ -44,8 +45,8 @@ stands_within ends.ReadFault stream batches refused after stands = omega (arith,
 stands_within ends.TooMuchInput stream batches refused after stands = omega (arith, stands.at)
 stands_within (ends.Full games bytes) stream batches refused after stands = omega (arith, stands.below)
 
-pub starves_later : (input input' output errors : Stream) (imported : Imported) → Imports input input' imported → Starves (world input output errors) (world input' output errors) (Stopped faults.OutOfMemory)
-starves_later input input' output errors imported imports = record {
+pub starves_later : (input input' output errors : Stream) (host : HostState) (imported : Imported) → Imports input input' imported → Starves (world input output errors host) (world input' output errors host) (Stopped faults.OutOfMemory)
+starves_later input input' output errors host imported imports = record {
   ending_is = refl;
   stream = imports.stream;
   reads = imports.reads;
@@ -76,8 +77,8 @@ unwritten_by r text query before after is reads answers fails =
 
 -- ---- lines
 
-pub usage_line : (fault : Fault) (line front : List ℕ) → fault ≡ faults.Usage → line ≡ front ++ codes "\n" → IsFaultLine fault line
-usage_line fault line front is ends = subst (λ (f : Fault). IsFaultLine f line) (sym is) (front, ends)
+pub usage_line : (fault : Fault) (line front : List ℕ) → fault ≡ faults.Usage → line ≡ front ++ codes "\n" → AreLinesOf fault (line ∷ [])
+usage_line fault line front is ends = subst (λ (f : Fault). AreLinesOf f (line ∷ [])) (sym is) (line, (front, ends), refl)
 
 -- ---- the query
 
@@ -99,20 +100,20 @@ writes_as chunk other old new is writes = subst (λ (l : List ℕ). Writes (l �
 
 -- ---- an import that ends early
 
-pub broken : (text : List ℕ) (query : Query) (input input' output errors errors' : Stream) (imported : Imported) (fault : Fault) (lines : List ℕ) → QueryReads text (Ok query) → Imports input input' imported
+pub broken : (text : List ℕ) (query : Query) (input input' output errors errors' : Stream) (host : HostState) (imported : Imported) (fault : Fault) (lines : List ℕ) → QueryReads text (Ok query) → Imports input input' imported
     → fault_of_end imported.end ≡ Some fault → lines ≡ report imported.refused.items → Writes (lines ∷ []) errors errors'
-    → Counts text (world input output errors) (world input' output errors') (Stopped fault)
-broken text query input input' output errors errors' imported fault lines reads imports ends_by lines_are writes =
+    → Counts text (world input output errors host) (world input' output errors' host) (Stopped fault)
+broken text query input input' output errors errors' host imported fault lines reads imports ends_by lines_are writes =
     (Ok query, reads, by_end imported.end ends_by imports.stands imports.faults)
   where
     told : Writes (report imported.refused.items ∷ []) errors errors'
     told = writes_as lines (report imported.refused.items) errors errors' lines_are writes
 
     before : World
-    before = world input output errors
+    before = world input output errors host
 
     after : World
-    after = world input' output errors'
+    after = world input' output errors' host
 
     as_told : (other : Fault) → Some other ≡ Some fault → CountsBy (Ok query) before after (Stopped other) → CountsBy (Ok query) before after (Stopped fault)
     as_told other is counts = let same : other ≡ fault = cc in subst (λ (f : Fault). CountsBy (Ok query) before after (Stopped f)) same counts
@@ -120,11 +121,11 @@ broken text query input input' output errors errors' imported fault lines reads 
     by_end : (end : End) → fault_of_end end ≡ Some fault → StandsAt end imports.stream (batches_of imported.tallies.items) imported.refused.items input' → FaultsAre end input input' → CountsBy (Ok query) before after (Stopped fault)
     by_end ends.Whole is stands failed = cc
     by_end ends.ReadFault is stands failed =
-        as_told faults.ReadFault is (record { stream = imports.stream; reads = imports.reads; refused = imported.refused.items; stands = stands; output = refl; errors = told }, failed)
+        as_told faults.ReadFault is (record { stream = imports.stream; reads = imports.reads; refused = imported.refused.items; stands = stands; output = refl; errors = told; host = refl }, failed)
     by_end ends.TooMuchInput is stands failed =
-        as_told faults.TooMuchInput is (record { stream = imports.stream; reads = imports.reads; refused = imported.refused.items; stands = stands; output = refl; errors = told }, failed)
+        as_told faults.TooMuchInput is (record { stream = imports.stream; reads = imports.reads; refused = imported.refused.items; stands = stands; output = refl; errors = told; host = refl }, failed)
     by_end (ends.Full games bytes) is stands failed =
-        as_told (faults.Full games bytes) is (record { stream = imports.stream; reads = imports.reads; refused = imported.refused.items; stands = stands; output = refl; errors = told }, failed)
+        as_told (faults.Full games bytes) is (record { stream = imports.stream; reads = imports.reads; refused = imported.refused.items; stands = stands; output = refl; errors = told; host = refl }, failed)
 
 -- ---- an import to the end of the input
 
@@ -132,12 +133,12 @@ broken text query input input' output errors errors' imported fault lines reads 
 abbrev IsAnswerOf : List Counted → Query → List ℕ → Type 0
 IsAnswerOf tallies query line = (found : Found) × IsFound (batches_of tallies) query found × (line ≡ answer_body found ++ codes "\n")
 
-pub answered : (query : Query) (input input' output output' errors errors' : Stream) (imported : Imported) (tallies : List Counted) (lines line chunk : List ℕ) → Imports input input' imported
+pub answered : (query : Query) (input input' output output' errors errors' : Stream) (host : HostState) (imported : Imported) (tallies : List Counted) (lines line chunk : List ℕ) → Imports input input' imported
     → fault_of_end imported.end ≡ None → lines ≡ report imported.refused.items → Writes (lines ∷ []) errors errors' → tallies ≡ imported.tallies.items → IsAnswerOf tallies query line → chunk ≡ line
-    → Writes (chunk ∷ []) output output' → Answers query (world input output errors) (world input' output' errors')
-answered query input input' output output' errors errors' imported tallies lines line chunk imports none lines_are told tallies_are answer chunk_is writes = by_end imported.end none imports.stands
+    → Writes (chunk ∷ []) output output' → Answers query (world input output errors host) (world input' output' errors' host)
+answered query input input' output output' errors errors' host imported tallies lines line chunk imports none lines_are told tallies_are answer chunk_is writes = by_end imported.end none imports.stands
   where
-    by_end : (end : End) → fault_of_end end ≡ None → StandsAt end imports.stream (batches_of imported.tallies.items) imported.refused.items input' → Answers query (world input output errors) (world input' output' errors')
+    by_end : (end : End) → fault_of_end end ≡ None → StandsAt end imports.stream (batches_of imported.tallies.items) imported.refused.items input' → Answers query (world input output errors host) (world input' output' errors' host)
     by_end ends.ReadFault is stands = cc
     by_end ends.TooMuchInput is stands = cc
     by_end (ends.Full games bytes) is stands = cc
@@ -153,6 +154,7 @@ answered query input input' output output' errors errors' imported tallies lines
       is_found = subst (λ (l : List Counted). IsFound (batches_of l) query answer.0) tallies_are answer.1;
       output = writes_as chunk (answer_body answer.0 ++ codes "\n") output output' (chunk_is ∙ answer.2) writes;
       errors = writes_as lines (report imported.refused.items) errors errors' lines_are told;
+      host = refl;
     }
 
 -- no read failed

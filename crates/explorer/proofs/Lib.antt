@@ -14,5 +14,13 @@ mod PrefixLemmas
 mod RunLawLemmas
 mod RunLemmas
 mod ShortLemmas
-mod TakenLemmas
-mod WordLemmas
+mod StoreLemmas
+mod ImportStoreLemmas
+mod ImportEndLemmas
+mod BracketLemmas
+mod HandedLemmas
+mod HostCalls
+mod ServedLemmas
+mod WorkerLists
+mod QueryLemmas
+mod ServeLemmas

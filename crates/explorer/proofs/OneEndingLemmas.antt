@@ -218,7 +218,14 @@ comes stream all query before after (Stopped (faults.Full games bytes)) told gro
     inr (games, bytes, counts.0.refused, refl, full_in_all games bytes stream counts.0.stream rest.0 after.input.left counts.0.refused all rest.1 rest.2 counts.0.stands groups_are, counts.0.output, counts.0.errors)
 comes stream all query before after (Stopped faults.Usage) told groups_are faultless counts = absurd counts
 comes stream all query before after (Stopped (faults.BadParameter name)) told groups_are faultless counts = absurd counts
+comes stream all query before after (Stopped faults.DiskFault) told groups_are faultless counts = absurd counts
+comes stream all query before after (Stopped (faults.NotEmpty size)) told groups_are faultless counts = absurd counts
+comes stream all query before after (Stopped faults.NotAStore) told groups_are faultless counts = absurd counts
+comes stream all query before after (Stopped (faults.OtherFormat number)) told groups_are faultless counts = absurd counts
+comes stream all query before after (Stopped (faults.Damaged gate)) told groups_are faultless counts = absurd counts
 comes stream all query before after (Stopped faults.OutOfMemory) told groups_are faultless counts = absurd counts
+comes stream all query before after (Stopped (faults.CannotOpen name)) told groups_are faultless counts = absurd counts
+comes stream all query before after (Stopped faults.CannotAccept) told groups_are faultless counts = absurd counts
 
 -- an answer is one over the groups of the whole stream
 whole_stored : (stream : List ℕ) (query : Query) (before after : World) → IsTold stream before → (answers : Answers query before after) → AreStored (groups (cuts stream)) answers.batches answers.refused

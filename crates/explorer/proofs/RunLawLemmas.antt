@@ -2,26 +2,25 @@
 use Rattle.std.proofs.Common.{◌≡◌, ℕ, ◌-◌, ◌^◌, ◌<◌, ◌≤◌, ◌⊎◌, inl, inr, List, [], ◌∷◌, Option, None, Some, Result, Ok, Err, refl, sym, ap, subst, ◌∙◌, arith}
 use Rattle.std.specs.Prelude.{IsSome}
 use Rattle.std.specs.Io.KnownBytes.{Appends, append_known}
-use Rattle.clap.specs.Walk.{Text}
-use Rattle.outside.specs.Stream.{Grows}
+use Rattle.outside.specs.Stream.{Grows, Stream, Writes}
 use Rattle.outside.proofs.StreamLemmas.{grows-none, writes-grows}
 use Rattle.explorer_model.specs.declared.query.BadParameter.{BadParameter}
-use Rattle.explorer_model.specs.declared.query.Query.{Query}
+use Rattle.explorer_model.specs.declared.query.Query.{Query as AQuery}
 use Rattle.explorer.specs.declared.fault.Fault.{Fault}
 use Rattle.explorer.specs.declared.fault.Fault.TheVariants as faults
 use Rattle.explorer.specs.Count.{Counts, CountsBy}
-use Rattle.explorer.specs.Laws.{IsTold, WroteAlike}
-use Rattle.explorer.specs.Lines.{Ending, Done, IsFaultLine, Stopped, Tells, status_of}
+use Rattle.explorer.specs.Laws.{CountsAtMost, IsTold, WroteAlike}
+use Rattle.explorer.specs.Lines.{AreLinesOf, Ending, Done, Stopped, Tells, status_of}
 use Rattle.explorer.specs.Report.{report}
-use Rattle.explorer.specs.Run.{Meets, Runs, Starves}
-use Rattle.explorer.specs.Task.{Task, Count, task_of}
+use Rattle.explorer.specs.Run.{Meets, Runs, StartsWithout}
+use Rattle.command_line.specs.Task.{Task, Count, Create, Import, Query, Serve, task_of}
 use Rattle.explorer.specs.World.{World, IsFaultless}
 use Rattle.explorer.proofs.LawLemmas.{OneAccount, OneAnswer}
 use Rattle.explorer.proofs.OneEndingLemmas.{OneQuery, one_ending, wrote}
 
 -- ---- what a count writes to the errors
 
-grew_by : (query : Result Query BadParameter) (before after : World) (ending : Ending) → CountsBy query before after ending → (bytes : List ℕ) × Grows bytes before.errors after.errors
+grew_by : (query : Result AQuery BadParameter) (before after : World) (ending : Ending) → CountsBy query before after ending → (bytes : List ℕ) × Grows bytes before.errors after.errors
 grew_by (Err bad) before after ending counts = ([], subst (λ (w : World). Grows [] before.errors w.errors) (sym counts.1) (grows-none before.errors))
 grew_by (Ok query) before after Done counts = writes-grows (report counts.0.refused ∷ []) before.errors after.errors counts.0.errors
 grew_by (Ok query) before after (Stopped faults.WriteFault) counts = writes-grows (report counts.0.refused ∷ []) before.errors after.errors counts.0.errors
@@ -30,35 +29,68 @@ grew_by (Ok query) before after (Stopped faults.TooMuchInput) counts = writes-gr
 grew_by (Ok query) before after (Stopped (faults.Full games bytes)) counts = writes-grows (report counts.0.refused ∷ []) before.errors after.errors counts.0.errors
 grew_by (Ok query) before after (Stopped faults.Usage) counts = absurd counts
 grew_by (Ok query) before after (Stopped (faults.BadParameter name)) counts = absurd counts
+grew_by (Ok query) before after (Stopped faults.DiskFault) counts = absurd counts
+grew_by (Ok query) before after (Stopped (faults.NotEmpty size)) counts = absurd counts
+grew_by (Ok query) before after (Stopped faults.NotAStore) counts = absurd counts
+grew_by (Ok query) before after (Stopped (faults.OtherFormat number)) counts = absurd counts
+grew_by (Ok query) before after (Stopped (faults.Damaged gate)) counts = absurd counts
 grew_by (Ok query) before after (Stopped faults.OutOfMemory) counts = absurd counts
+grew_by (Ok query) before after (Stopped (faults.CannotOpen name)) counts = absurd counts
+grew_by (Ok query) before after (Stopped faults.CannotAccept) counts = absurd counts
 
 still_told : (old new : Option (List ℕ)) (bytes : List ℕ) → IsSome old → Appends old new bytes → IsSome new
 still_told None new bytes told appends = cc
 still_told (Some x) None bytes told appends = absurd appends
 still_told (Some x) (Some y) bytes told appends = refl
 
--- ---- the line of a fault
+-- ---- the lines of a fault
 
-one_line : (fault : Fault) (line other : List ℕ) → (fault ≡ faults.Usage → ⊥) → IsFaultLine fault line → IsFaultLine fault other → line ≡ other
-one_line faults.Usage line other differs is is' = absurd (differs refl)
-one_line (faults.BadParameter name) line other differs is is' = is ∙ sym is'
-one_line faults.ReadFault line other differs is is' = is ∙ sym is'
-one_line faults.WriteFault line other differs is is' = is ∙ sym is'
-one_line (faults.Full games bytes) line other differs is is' = is ∙ sym is'
-one_line faults.OutOfMemory line other differs is is' = is ∙ sym is'
-one_line faults.TooMuchInput line other differs is is' = is ∙ sym is'
+same_lines : (fault : Fault) (lines others : List (List ℕ)) → (fault ≡ faults.Usage → ⊥) → AreLinesOf fault lines → AreLinesOf fault others → lines ≡ others
+same_lines faults.Usage lines others differs are are' = absurd (differs refl)
+same_lines (faults.BadParameter name) lines others differs are are' = are ∙ sym are'
+same_lines faults.ReadFault lines others differs are are' = are ∙ sym are'
+same_lines faults.WriteFault lines others differs are are' = are ∙ sym are'
+same_lines faults.DiskFault lines others differs are are' = are ∙ sym are'
+same_lines (faults.NotEmpty size) lines others differs are are' = are ∙ sym are'
+same_lines faults.NotAStore lines others differs are are' = are ∙ sym are'
+same_lines (faults.OtherFormat number) lines others differs are are' = are ∙ sym are'
+same_lines (faults.Damaged gate) lines others differs are are' = are ∙ sym are'
+same_lines (faults.Full games bytes) lines others differs are are' = are ∙ sym are'
+same_lines faults.OutOfMemory lines others differs are are' = are ∙ sym are'
+same_lines (faults.CannotOpen name) lines others differs are are' = are ∙ sym are'
+same_lines faults.CannotAccept lines others differs are are' = are ∙ sym are'
+same_lines faults.TooMuchInput lines others differs are are' = are ∙ sym are'
+
+-- the bytes with all lines behind them
+abbrev append_all : Option (List ℕ) → List (List ℕ) → Option (List ℕ)
+append_all written [] = written
+append_all written (line ∷ lines) = append_all (append_known written line) lines
+
+told_behind : (written : Option (List ℕ)) (line : List ℕ) → IsSome written → IsSome (append_known written line)
+told_behind None line told = cc
+told_behind (Some bytes) line told = refl
+
+wrote_all : (lines : List (List ℕ)) (old new : Stream) → IsSome old.written → old.write_faults < 2 ^ 64 - 1 → new.write_faults ≡ old.write_faults → Writes lines old new → new.written ≡ append_all old.written lines
+wrote_all [] old new told low same writes = ap (λ (s : Stream). s.written) writes
+wrote_all (line ∷ lines) old new told low same (middle, wrote_line, rest) =
+    let first = (writes-grows (line ∷ []) old middle (middle, wrote_line, refl)).1.never_falls.least in
+    let later = (writes-grows lines middle new rest).1.never_falls.least in
+    let still : middle.write_faults ≡ old.write_faults = omega (arith, first, later, same) in
+    let is = wrote line old middle told low still (middle, wrote_line, refl) in
+    let known : IsSome middle.written = subst (λ (o : Option (List ℕ)). IsSome o) (sym is) (told_behind old.written line told) in
+    wrote_all lines middle new known (omega (arith, low, still)) (omega (arith, same, still)) rest ∙ ap (λ (o : Option (List ℕ)). append_all o lines) is
 
 -- ---- how an ending is told
 
 -- no call failed before the ending was told, nor then
 fine_by : (ending : Ending) (before ended after : World) → before.errors.write_faults ≤ ended.errors.write_faults → Tells ending ended after → IsFaultless before after → IsFaultless before ended × (after.errors.write_faults ≡ ended.errors.write_faults)
 fine_by Done before ended after least tells fine = (subst (λ (w : World). IsFaultless before w) tells fine, ap (λ (w : World). w.errors.write_faults) tells)
-fine_by (Stopped fault) before ended after least (line, is, tells) fine =
-    let later = (writes-grows (line ∷ []) ended.errors after.errors tells.errors).1.never_falls.least in
+fine_by (Stopped fault) before ended after least ((lines, are, writes), rest) fine =
+    let later = (writes-grows lines ended.errors after.errors writes).1.never_falls.least in
     let same : after.errors.write_faults ≡ ended.errors.write_faults = omega (arith, least, later, fine.errors) in (
       record {
-        reads = ap (λ (w : World). w.input.read_faults) (sym tells.rest) ∙ fine.reads;
-        output = ap (λ (w : World). w.output.write_faults) (sym tells.rest) ∙ fine.output;
+        reads = ap (λ (w : World). w.input.read_faults) (sym rest) ∙ fine.reads;
+        output = ap (λ (w : World). w.output.write_faults) (sym rest) ∙ fine.output;
         errors = sym same ∙ fine.errors;
       },
       same,
@@ -70,26 +102,26 @@ told_alike Done ended after ended' other differs told told' low low' fine fine' 
   output = ap (λ (w : World). w.output.written) tells ∙ alike.output ∙ sym (ap (λ (w : World). w.output.written) tells');
   errors = ap (λ (w : World). w.errors.written) tells ∙ alike.errors ∙ sym (ap (λ (w : World). w.errors.written) tells');
 }
-told_alike (Stopped fault) ended after ended' other differs told told' low low' fine fine' alike (line, is, tells) (line', is', tells') =
-    let same = one_line fault line line' (λ usage. differs (ap Stopped usage)) is is' in
+told_alike (Stopped fault) ended after ended' other differs told told' low low' fine fine' alike ((lines, are, writes), rest) ((lines', are', writes'), rest') =
+    let same = same_lines fault lines lines' (λ usage. differs (ap Stopped usage)) are are' in
     record {
-      output = ap (λ (w : World). w.output.written) tells.rest ∙ alike.output ∙ sym (ap (λ (w : World). w.output.written) tells'.rest);
+      output = ap (λ (w : World). w.output.written) rest ∙ alike.output ∙ sym (ap (λ (w : World). w.output.written) rest');
       errors =
-          wrote line ended.errors after.errors told low fine tells.errors ∙ ap (λ (o : Option (List ℕ)). append_known o line) alike.errors ∙ ap (append_known ended'.errors.written) same
-          ∙ sym (wrote line' ended'.errors other.errors told' low' fine' tells'.errors);
+          wrote_all lines ended.errors after.errors told low fine writes ∙ ap (λ (o : Option (List ℕ)). append_all o lines) alike.errors ∙ ap (append_all ended'.errors.written) same
+          ∙ sym (wrote_all lines' ended'.errors other.errors told' low' fine' writes');
     }
 
 -- ---- runs
 
-no_memory : (status : ℕ) (before after : World) (ending : Ending) → (status ≡ 9 → ⊥) → status ≡ status_of ending → Starves before after ending → ⊥
-no_memory status before after ending differs is starves = differs (is ∙ ap status_of starves.ending_is)
+no_memory : (status : ℕ) (ending : Ending) → (status ≡ 9 → ⊥) → status ≡ status_of ending → ending ≡ Stopped faults.OutOfMemory → ⊥
+no_memory status ending differs is starves = differs (is ∙ ap status_of starves)
 
 abbrev OneRun : World → World → ℕ → ℕ → Type 0
 OneRun after other status status' = (status ≡ status') × ((status ≡ 2 → ⊥) → WroteAlike after other)
 
-pub one_run : (words : List Text) (stream : List ℕ) (before after other : World) (status status' : ℕ) → OneAccount → OneAnswer → OneQuery → IsTold stream before → IsFaultless before after → IsFaultless before other
+pub one_run : (words : List (List ℕ)) (stream : List ℕ) (before after other : World) (status status' : ℕ) → CountsAtMost (task_of words) → OneAccount → OneAnswer → OneQuery → IsTold stream before → IsFaultless before after → IsFaultless before other
     → (status ≡ 9 → ⊥) → (status' ≡ 9 → ⊥) → Runs words before after status → Runs words before other status' → OneRun after other status status'
-one_run words stream before after other status status' one answer query told fine fine' fed fed' first second = by_meets first.meets second.meets
+one_run words stream before after other status status' counts_only one answer query told fine fine' fed fed' first second = by_meets first.meets second.meets
   where
     by_counts : (text : List ℕ) → Counts text before first.ended first.ending → Counts text before second.ended second.ending → OneRun after other status status'
     by_counts text counts counts' =
@@ -105,13 +137,19 @@ one_run words stream before after other status status' one answer query told fin
               (omega (arith, told.reports, was.0.errors)) (omega (arith, told.reports, was'.0.errors)) was.1 was'.1 both.1 first.tells tells,
         )
 
-    by_task : (task : Option Task) → Meets task before first.ended first.ending → Meets task before second.ended second.ending → OneRun after other status status'
-    by_task None meets meets' =
+    by_task : (task : Option Task) → CountsAtMost task → Meets task before first.ended first.ending → Meets task before second.ended second.ending → OneRun after other status status'
+    by_task None only meets meets' =
         let status_is : status ≡ 2 = first.status_is ∙ ap status_of meets.0 in
         (status_is ∙ sym (second.status_is ∙ ap status_of meets'.0), λ differs. absurd (differs status_is))
-    by_task (Some (Count text workers)) meets meets' = by_counts text meets meets'
+    by_task (Some (Count text workers)) only (inl starves) meets' = absurd (no_memory status first.ending fed first.status_is starves.ending_is)
+    by_task (Some (Count text workers)) only (inr counts) (inl starves) = absurd (no_memory status' second.ending fed' second.status_is starves.ending_is)
+    by_task (Some (Count text workers)) only (inr counts) (inr counts') = by_counts text counts counts'
+    by_task (Some (Create store)) only meets meets' = absurd only
+    by_task (Some (Import store file workers)) only meets meets' = absurd only
+    by_task (Some (Query store query workers)) only meets meets' = absurd only
+    by_task (Some (Serve store address files workers readers connections)) only meets meets' = absurd only
 
-    by_meets : Starves before first.ended first.ending ⊎ Meets (task_of words) before first.ended first.ending → Starves before second.ended second.ending ⊎ Meets (task_of words) before second.ended second.ending → OneRun after other status status'
-    by_meets (inl starves) meets' = absurd (no_memory status before first.ended first.ending fed first.status_is starves)
-    by_meets (inr meets) (inl starves) = absurd (no_memory status' before second.ended second.ending fed' second.status_is starves)
-    by_meets (inr meets) (inr meets') = by_task (task_of words) meets meets'
+    by_meets : StartsWithout before first.ended first.ending ⊎ Meets (task_of words) before first.ended first.ending → StartsWithout before second.ended second.ending ⊎ Meets (task_of words) before second.ended second.ending → OneRun after other status status'
+    by_meets (inl starves) meets' = absurd (no_memory status first.ending fed first.status_is starves.0)
+    by_meets (inr meets) (inl starves) = absurd (no_memory status' second.ending fed' second.status_is starves.0)
+    by_meets (inr meets) (inr meets') = by_task (task_of words) counts_only meets meets'

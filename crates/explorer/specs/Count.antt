@@ -33,6 +33,7 @@ pub record Answers (query : Query) (before after : World) : Type 0 where
   pub is_found : IsFound batches query found
   pub output : Writes ((answer_body found ++ codes "\n") ∷ []) before.output after.output
   pub errors : Writes (report refused ∷ []) before.errors after.errors
+  pub host : after.host ≡ before.host
 
 -- A part of the input was read, of which an import that stands so has refused these cuts. They are
 -- reported; nothing else was written.
@@ -43,6 +44,7 @@ pub record BreaksOff (Stands : List ℕ → List Refusal → Type 0) (before aft
   pub stands : Stands stream refused
   pub output : after.output ≡ before.output
   pub errors : Writes (report refused ∷ []) before.errors after.errors
+  pub host : after.host ≡ before.host
 
 -- the endings by what the query reads as; no other can be
 abbrev pub CountsBy : Result Query query_fault.BadParameter → World → World → Ending → Type 0

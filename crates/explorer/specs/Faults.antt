@@ -3,8 +3,13 @@ use Rattle.std.specs.Prelude.{Option, None, Some}
 use Rattle.explorer_model.specs.declared.fault.Stop.{Stop}
 use Rattle.explorer_model.specs.declared.fault.Stop.TheVariants as stops
 use Rattle.explorer_model.specs.declared.query.BadParameter as query_fault
+use Rattle.explorer_model.specs.declared.store.LogFault.TheVariants as log
+use Rattle.record_log.specs.declared.fault.CreateFault.{CreateFault}
+use Rattle.record_log.specs.declared.fault.CreateFault.TheVariants as creation
+use Rattle.record_log.specs.declared.fault.OpenFault.{OpenFault}
+use Rattle.record_log.specs.declared.fault.OpenFault.TheVariants as opening
 use Rattle.explorer.specs.declared.fault.Fault.{Fault}
-use Rattle.explorer.specs.declared.fault.Fault.TheVariants.{BadParameter, ReadFault, Full, OutOfMemory, TooMuchInput}
+use Rattle.explorer.specs.declared.fault.Fault.TheVariants.{BadParameter, Damaged, DiskFault, Full, NotAStore, NotEmpty, OtherFormat, OutOfMemory, ReadFault, TooMuchInput}
 use Rattle.explorer.specs.declared.import.End.{End}
 use Rattle.explorer.specs.declared.import.End.TheVariants as ends
 
@@ -18,3 +23,16 @@ fault_of_end ends.Whole = None
 fault_of_end ends.ReadFault = Some ReadFault
 fault_of_end ends.TooMuchInput = Some TooMuchInput
 fault_of_end (ends.Full games bytes) = Some (Full games bytes)
+
+-- a store that is not made
+abbrev pub fault_of_creation : CreateFault → Fault
+fault_of_creation (creation.NotEmpty size) = NotEmpty size
+fault_of_creation (creation.DiskFault before after) = DiskFault
+
+-- a store that is not opened
+abbrev pub fault_of_opening : OpenFault → Fault
+fault_of_opening (opening.Log log.NotALog) = NotAStore
+fault_of_opening (opening.Log (log.OtherFormat number)) = OtherFormat number
+fault_of_opening (opening.Log (log.Damaged at)) = Damaged at
+fault_of_opening (opening.DiskFault before after) = DiskFault
+fault_of_opening opening.OutOfMemory = OutOfMemory

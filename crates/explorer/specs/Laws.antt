@@ -1,6 +1,7 @@
 -- Words of laws: runs that can be told apart by nothing.
-use Rattle.std.specs.Prelude.{◌≡◌, ◌<◌, ◌-◌, ◌^◌, ℕ, List, Some, IsSome, length}
+use Rattle.std.specs.Prelude.{◌≡◌, ⊤, ◌<◌, ◌-◌, ◌^◌, ℕ, List, Option, None, Some, IsSome, length}
 use Rattle.explorer_model.specs.Journal.{input_limit}
+use Rattle.command_line.specs.Task.{Task, Count}
 use Rattle.explorer.specs.World.{World}
 
 -- all bytes are told, of an input below the bound, and no count stands at its greatest number
@@ -17,3 +18,9 @@ pub record IsTold (stream : List ℕ) (world : World) : Type 0 where
 pub record WroteAlike (after other : World) : Type 0 where
   pub output : after.output.written ≡ other.output.written
   pub errors : after.errors.written ≡ other.errors.written
+
+-- the words ask for a count, or for nothing
+abbrev pub CountsAtMost : Option Task → Type 0
+CountsAtMost None = ⊤
+CountsAtMost (Some (Count query workers)) = ⊤
+CountsAtMost (Some _) = ⊥

@@ -1,11 +1,12 @@
 -- Statement: how a run may end, and what its status and its last line tell of that.
-use Rattle.std.specs.Prelude.{◌≡◌, ℕ, List, [], ◌∷◌, ◌++◌, Result, Ok, Err, codes}
+use Rattle.std.specs.Prelude.{◌≡◌, ⊤, ℕ, List, [], ◌∷◌, ◌++◌, Result, Ok, Err, codes, string_bytes}
 use Rattle.std.specs.Fmt.{decimal}
-use Rattle.outside.specs.Stream.{Writes}
+use Rattle.outside.specs.Stream.{Stream, Writes}
+use Rattle.command_line.specs.Words.{EndsLine}
 use Rattle.explorer_model.specs.Query.{parameter_text}
 use Rattle.explorer.specs.World.{World}
 use Rattle.explorer.specs.declared.fault.Fault.{Fault}
-use Rattle.explorer.specs.declared.fault.Fault.TheVariants.{Usage, BadParameter, ReadFault, WriteFault, Full, OutOfMemory, TooMuchInput}
+use Rattle.explorer.specs.declared.fault.Fault.TheVariants.{BadParameter, CannotAccept, CannotOpen, Damaged, DiskFault, Full, NotAStore, NotEmpty, OtherFormat, OutOfMemory, ReadFault, TooMuchInput, Usage, WriteFault}
 
 -- all that the words ask for was done, or a fault stopped it
 pub data Ending : Type 0 where
@@ -18,41 +19,65 @@ status_of (Stopped Usage) = 2
 status_of (Stopped (BadParameter parameter)) = 3
 status_of (Stopped ReadFault) = 4
 status_of (Stopped WriteFault) = 5
+status_of (Stopped DiskFault) = 6
+status_of (Stopped (NotEmpty size)) = 7
+status_of (Stopped NotAStore) = 7
+status_of (Stopped (OtherFormat number)) = 7
+status_of (Stopped (Damaged gate)) = 7
 status_of (Stopped (Full games bytes)) = 8
 status_of (Stopped OutOfMemory) = 9
+status_of (Stopped (CannotOpen name)) = 10
+status_of (Stopped CannotAccept) = 10
 status_of (Stopped TooMuchInput) = 11
-
--- a text whose last line ends
-abbrev pub EndsLine : List ℕ → Type 0
-EndsLine text = (front : List ℕ) × (text ≡ front ++ codes "\n")
 
 -- games and bytes that are stored, without the group that finds no room
 abbrev pub full_line : ℕ → ℕ → List ℕ
 full_line games bytes =
     codes "full " ++ decimal games ++ codes " games " ++ decimal bytes ++ codes " bytes\n"
 
--- The line tells of the fault. What is told of words that are refused is left to the command line's
+-- What is written of a fault. What is told of words that are refused is left to the command line's
 -- parser.
-abbrev pub IsFaultLine : Fault → List ℕ → Type 0
-IsFaultLine Usage line = EndsLine line
-IsFaultLine (BadParameter parameter) line =
-    line ≡ codes "bad parameter " ++ parameter_text parameter ++ codes "\n"
-IsFaultLine ReadFault line = line ≡ codes "read fault\n"
-IsFaultLine WriteFault line = line ≡ codes "write fault\n"
-IsFaultLine (Full games bytes) line = line ≡ full_line games bytes
-IsFaultLine OutOfMemory line = line ≡ codes "out of memory\n"
-IsFaultLine TooMuchInput line = line ≡ codes "too much input\n"
+abbrev pub AreLinesOf : Fault → List (List ℕ) → Type 0
+AreLinesOf Usage lines = (line : List ℕ) × EndsLine line × (lines ≡ line ∷ [])
+AreLinesOf (BadParameter parameter) lines =
+    lines ≡ (codes "bad parameter " ++ parameter_text parameter ++ codes "\n") ∷ []
+AreLinesOf ReadFault lines = lines ≡ codes "read fault\n" ∷ []
+AreLinesOf WriteFault lines = lines ≡ codes "write fault\n" ∷ []
+AreLinesOf DiskFault lines = lines ≡ codes "disk fault\n" ∷ []
+AreLinesOf (NotEmpty size) lines =
+    lines ≡ (codes "not empty " ++ decimal size ++ codes "\n") ∷ []
+AreLinesOf NotAStore lines = lines ≡ codes "not a store\n" ∷ []
+AreLinesOf (OtherFormat number) lines =
+    lines ≡ (codes "format " ++ decimal number ++ codes "\n") ∷ []
+AreLinesOf (Damaged gate) lines =
+    lines ≡ (codes "damaged at " ++ decimal gate ++ codes "\n") ∷ []
+AreLinesOf (Full games bytes) lines = lines ≡ full_line games bytes ∷ []
+AreLinesOf OutOfMemory lines = lines ≡ codes "out of memory\n" ∷ []
+AreLinesOf (CannotOpen name) lines =
+    lines ≡ codes "cannot open " ∷ string_bytes name ∷ codes "\n" ∷ []
+AreLinesOf CannotAccept lines = lines ≡ codes "cannot accept\n" ∷ []
+AreLinesOf TooMuchInput lines = lines ≡ codes "too much input\n" ∷ []
 
--- only these chunks were written, and to the errors alone
-pub record WritesErrors (chunks : List (List ℕ)) (before after : World) : Type 0 where
-  pub errors : Writes chunks before.errors after.errors
-  pub rest : after ≡ record before { errors = after.errors }
+-- what is written of it is one piece, since no name is in it
+abbrev pub HasOneLine : Fault → Type 0
+HasOneLine (CannotOpen name) = ⊥
+HasOneLine _ = ⊤
 
--- a fault is told by its line, and success by nothing
+-- a fault is told on a sink
+abbrev pub TellsOf : Fault → Stream → Stream → Type 0
+TellsOf fault before after =
+    (lines : List (List ℕ)) × AreLinesOf fault lines × Writes lines before after
+
+-- a fault is told on a sink, and success by nothing
+abbrev pub IsTold : Ending → Stream → Stream → Type 0
+IsTold Done before after = after ≡ before
+IsTold (Stopped fault) before after = TellsOf fault before after
+
+-- an ending is told on the errors, and nothing else is done
 abbrev pub Tells : Ending → World → World → Type 0
 Tells Done before after = after ≡ before
 Tells (Stopped fault) before after =
-    (line : List ℕ) × IsFaultLine fault line × WritesErrors (line ∷ []) before after
+    TellsOf fault before.errors after.errors × (after ≡ record before { errors = after.errors })
 
 -- how a call ended that is the whole of a run
 abbrev pub ending_of : {A : Type 0} → Result A Fault → Ending

@@ -1,23 +1,17 @@
 -- Statement: what a run comes to, from the words of its command line to its exit status.
 use Rattle.std.specs.Prelude.{◌≡◌, ◌⊎◌, ◌≤◌, ℕ, List, length, Option, None, Some}
-use Rattle.clap.specs.Walk.{Text}
 use Rattle.outside.specs.Stream.{Reads}
 use Rattle.explorer_model.specs.Journal.{input_limit}
 use Rattle.explorer.specs.declared.fault.Fault.{Fault}
 use Rattle.explorer.specs.declared.fault.Fault.TheVariants.{Usage, OutOfMemory}
 use Rattle.explorer.specs.Count.{Counts}
+use Rattle.explorer.specs.Create.{CreatesBy}
+use Rattle.explorer.specs.ImportStore.{ImportsBy}
 use Rattle.explorer.specs.Lines.{Ending, Stopped, Tells, status_of}
-use Rattle.explorer.specs.Task.{Task, Count, task_of}
+use Rattle.explorer.specs.QueryStore.{QueriesBy}
+use Rattle.explorer.specs.Serve.{Serves}
+use Rattle.command_line.specs.Task.{Task, Count, Create, Import, Query, Serve, task_of}
 use Rattle.explorer.specs.World.{World}
-
--- a run of a task, by its ending
-abbrev pub Ends : Task → World → World → Ending → Type 0
-Ends (Count query workers) before after ending = Counts query before after ending
-
--- words that are refused touch nothing
-abbrev pub Meets : Option Task → World → World → Ending → Type 0
-Meets None before after ending = (ending ≡ Stopped Usage) × (after ≡ before)
-Meets (Some task) before after ending = Ends task before after ending
 
 -- Memory was refused, which may come at any moment: some of the input may be read, and nothing is
 -- written.
@@ -28,13 +22,41 @@ pub record Starves (before after : World) (ending : Ending) : Type 0 where
   pub within : length stream ≤ input_limit
   pub rest : after ≡ record before { input = after.input }
 
+-- a run of a task, by its ending
+abbrev pub Ends : Task → World → World → Ending → Type 0
+Ends (Count query workers) before after ending =
+    Starves before after ending ⊎ Counts query before after ending
+Ends (Create store) before after ending = CreatesBy store before after ending
+Ends (Import store file workers) before after ending =
+    ImportsBy store file before after ending
+Ends (Query store query workers) before after ending =
+    QueriesBy store query before after ending
+Ends (Serve store address files workers readers connections) before after ending =
+    Serves (record {
+      store = store;
+      address = address;
+      files = files;
+      workers = workers;
+      readers = readers;
+      connections = connections;
+    }) before after ending
+
+-- words that are refused touch nothing
+abbrev pub Meets : Option Task → World → World → Ending → Type 0
+Meets None before after ending = (ending ≡ Stopped Usage) × (after ≡ before)
+Meets (Some task) before after ending = Ends task before after ending
+
+-- memory was refused before anything was done
+abbrev pub StartsWithout : World → World → Ending → Type 0
+StartsWithout before after ending = (ending ≡ Stopped OutOfMemory) × (after ≡ before)
+
 -- A run does what its words ask for, or is stopped. How it ended is told last, behind all that it
 -- did by then.
-pub record Runs (words : List Text) (before after : World) (status : ℕ) : Type 0 where
+pub record Runs (words : List (List ℕ)) (before after : World) (status : ℕ) : Type 0 where
   pub ending : Ending
   pub status_is : status ≡ status_of ending
   pub ended : World
-  pub meets : Starves before ended ending ⊎ Meets (task_of words) before ended ending
+  pub meets : StartsWithout before ended ending ⊎ Meets (task_of words) before ended ending
   pub tells : Tells ending ended after
 
 -- The words of a command line cannot be had: that is told, and nothing else is done.

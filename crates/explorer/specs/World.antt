@@ -1,21 +1,24 @@
 -- Statement: all that a run meets outside itself, at one moment.
 use Rattle.std.specs.Prelude.{◌≡◌, ◌⊎◌}
 use Rattle.outside.specs.Stream.{Stream, Rises}
+use Rattle.host.specs.Hosts.{HostState}
 
--- the input is read, and the output and the errors are written
+-- The input is read, the output and the errors are written, and the host hands out the rest.
 pub record World : Type 0 where
   pub input : Stream
   pub output : Stream
   pub errors : Stream
+  pub host : HostState
 
-abbrev pub world : Stream → Stream → Stream → World
-world input output errors = record { input = input; output = output; errors = errors }
+abbrev pub world : Stream → Stream → Stream → HostState → World
+world input output errors host =
+    record { input = input; output = output; errors = errors; host = host }
 
 -- no read failed
 abbrev pub AllReadsCame : World → World → Type 0
 AllReadsCame before after = after.input.read_faults ≡ before.input.read_faults
 
--- no call failed
+-- no read and no write failed
 pub record IsFaultless (before after : World) : Type 0 where
   pub reads : AllReadsCame before after
   pub output : after.output.write_faults ≡ before.output.write_faults
@@ -30,3 +33,9 @@ pub record WriteFails (before after : World) : Type 0 where
   pub reads : AllReadsCame before after
   pub rises : Rises before.output.write_faults after.output.write_faults
       ⊎ Rises before.errors.write_faults after.errors.write_faults
+
+-- the streams are as they were
+pub record SameStreams (before after : World) : Type 0 where
+  pub input : after.input ≡ before.input
+  pub output : after.output ≡ before.output
+  pub errors : after.errors ≡ before.errors

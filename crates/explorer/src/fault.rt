@@ -1,17 +1,19 @@
-ghost use Rattle.std.specs.Prelude.{◌≡◌, ◌++◌, ◌≤◌, length, codes};
+ghost use Rattle.std.specs.Prelude.{◌≡◌, ◌++◌, ◌∷◌, [], ◌≤◌, length, codes};
+ghost use Rattle.std.specs.Fmt.{decimal};
+ghost use Rattle.outside.specs.Stream.{Writes};
 ghost use Rattle.explorer_model.specs.Query.{parameter_text};
-ghost use Rattle.explorer.specs.Lines.{IsFaultLine, Stopped, full_line, status_of};
+ghost use Rattle.explorer.specs.Lines.{AreLinesOf, HasOneLine, Stopped, TellsOf, full_line, status_of};
 
 use crate::status::Status;
 use arrayvec::ArrayString;
 use explorer_model::fault::Stop;
 use explorer_model::query::{BadParameter, Parameter};
 use itoa::Buffer;
-use outside::Failed;
+use outside::{Failed, Sink};
 use std::alloc::AllocError;
 
 /// Why a run ends without what its command asks for.
-#[derive(Clone, Copy, Debug, PartialEq, Eq)]
+#[derive(Debug, Drop)]
 pub enum Fault {
     /// The words ask for no command.
     Usage,
@@ -19,9 +21,23 @@ pub enum Fault {
     BadParameter(Parameter),
     ReadFault,
     WriteFault,
+    /// A call of a disk failed.
+    DiskFault,
+    /// A store is to be made where so many bytes stand.
+    NotEmpty { size: u64 },
+    /// What stands under the name of a store does not begin as one.
+    NotAStore,
+    /// The store is of the format of this number.
+    OtherFormat { number: u32 },
+    /// The store has a record off the form behind the gate at this place.
+    Damaged { gate: u64 },
     /// A group of the input finds no room: how many games and bytes of texts are stored without it.
     Full { games: u64, bytes: u64 },
     OutOfMemory,
+    /// The host has nothing to give under this name.
+    CannotOpen { name: String },
+    /// A door takes no connection.
+    CannotAccept,
     /// The input has 2^40 bytes or more.
     TooMuchInput,
 }
@@ -65,36 +81,70 @@ impl From<Stop<BadParameter>> for Fault {
 
 impl Fault {
     /// The status of a run that ends so.
-    pub fn status(self) -> Status
-        ensures { result.number ≡ status_of (Stopped self) }
+    pub fn status(&self) -> Status
+        ensures { result.number ≡ status_of (Stopped self.now) }
     {
         let number = match self {
             Fault::Usage => 2,
             Fault::BadParameter(_) => 3,
             Fault::ReadFault => 4,
             Fault::WriteFault => 5,
+            Fault::DiskFault => 6,
+            Fault::NotEmpty { .. }
+            | Fault::NotAStore
+            | Fault::OtherFormat { .. }
+            | Fault::Damaged { .. } => 7,
             Fault::Full { .. } => 8,
             Fault::OutOfMemory => 9,
+            Fault::CannotOpen { .. } | Fault::CannotAccept => 10,
             Fault::TooMuchInput => 11,
         };
         Status { number }
     }
 
-    /// The line that tells of it, for which no memory is asked. That of Usage tells of a word that
-    /// is not text.
-    pub fn line(self) -> ArrayString<64>
-        ensures { IsFaultLine self result.bytes }
+    /// Tells of it on a sink, where that takes it. No memory is asked for, so that no fault turns
+    /// into another.
+    pub fn tell<S: Sink>(&self, sink: &mut S)
+        ensures { TellsOf self.now (S.sink sink.old) (S.sink sink.new) }
+    {
+        if let Fault::CannotOpen { name } = self {
+            put(sink, b"cannot open ");
+            put(sink, name.as_bytes());
+            put(sink, b"\n");
+            return;
+        }
+        put(sink, self.line().as_str().as_bytes());
+    }
+
+    /// Its line, where that is one piece. That of Usage tells of a word that is not text.
+    fn line(&self) -> ArrayString<64>
+        requires { HasOneLine self.now }
+        ensures { AreLinesOf self.now (result.bytes ∷ []) }
     {
         match self {
             Fault::Usage => fixed_line("error: a word of the command line is not text\n"),
-            Fault::BadParameter(parameter) => parameter_line(parameter),
+            Fault::BadParameter(parameter) => parameter_line(*parameter),
             Fault::ReadFault => fixed_line("read fault\n"),
             Fault::WriteFault => fixed_line("write fault\n"),
-            Fault::Full { games, bytes } => full_line(games, bytes),
+            Fault::DiskFault => fixed_line("disk fault\n"),
+            Fault::NotEmpty { size } => number_line("not empty ", *size),
+            Fault::NotAStore => fixed_line("not a store\n"),
+            Fault::OtherFormat { number } => number_line("format ", u64::from(*number)),
+            Fault::Damaged { gate } => number_line("damaged at ", *gate),
+            Fault::Full { games, bytes } => full_line(*games, *bytes),
             Fault::OutOfMemory => fixed_line("out of memory\n"),
+            Fault::CannotOpen { .. } => ArrayString::new(),
+            Fault::CannotAccept => fixed_line("cannot accept\n"),
             Fault::TooMuchInput => fixed_line("too much input\n"),
         }
     }
+}
+
+/// Writes a piece, where the sink takes it. A fault of the sink changes no status that is not 0.
+fn put<S: Sink>(sink: &mut S, piece: &[u8])
+    ensures { Writes (piece.now ∷ []) (S.sink sink.old) (S.sink sink.new) }
+{
+    let _ = sink.write(piece);
 }
 
 fn fixed_line(text: &str) -> ArrayString<64>
@@ -111,6 +161,16 @@ fn parameter_line(parameter: Parameter) -> ArrayString<64>
 {
     let mut line = fixed_line("bad parameter ");
     line.push_str(parameter.as_str());
+    line.push('\n');
+    line
+}
+
+fn number_line(words: &str, number: u64) -> ArrayString<64>
+    requires { length words.now ≤ 16 }
+    ensures { result.bytes ≡ words.now ++ decimal number ++ codes "\n" }
+{
+    let mut line = fixed_line(words);
+    line.push_str(Buffer::new().format(number));
     line.push('\n');
     line
 }

@@ -19,6 +19,7 @@ use pgn_cut::cut::Cut;
 use pgn_cut::cutter::Cutter;
 use std::alloc::{AllocError, Global};
 use std::mem;
+use std::thread::Threads;
 use tally_rows::Tally;
 
 /// How many bytes one import takes.
@@ -70,7 +71,8 @@ pub struct Imported {
 }
 
 /// Reads the stream, and stores or refuses each cut of its groups.
-pub fn import<I: Source>(
+pub fn import<R: Threads + Sync, I: Source>(
+    rt: &R,
     alloc: Global,
     workers: usize,
     input: &mut I,
@@ -91,10 +93,17 @@ pub fn import<I: Source>(
             return Ok(import.cut_off(cutter, End::ReadFault));
         };
         if count == 0 {
-            return import.end(alloc, workers, cutter);
+            return import.end(rt, alloc, workers, cutter);
         }
         taken += count as u64;
-        match feed(alloc, &chunk[..count], workers, &mut cutter, &mut import) {
+        match feed(
+            rt,
+            alloc,
+            &chunk[..count],
+            workers,
+            &mut cutter,
+            &mut import,
+        ) {
             Ok(()) => {}
             Err(Stop::Fault(full)) => {
                 // The bytes were taken before the group found no room.
@@ -110,7 +119,8 @@ pub fn import<I: Source>(
 }
 
 /// Cuts the next bytes of the stream, and takes the cuts that end in them.
-fn feed(
+fn feed<R: Threads + Sync>(
+    rt: &R,
     alloc: Global,
     bytes: &[u8],
     workers: usize,
@@ -132,7 +142,7 @@ fn feed(
     let mut at = 0;
     'feeding: while at < bytes.len() {
         let fed = cutter.feed(alloc, &bytes[at..])?;
-        match import.take(alloc, fed.cut, workers) {
+        match import.take(rt, alloc, fed.cut, workers) {
             Ok(()) => at += fed.taken,
             Err(stop) => return Err(stop),
         }
@@ -185,8 +195,9 @@ impl OpenImport {
 
     /// Takes the next cut of the stream, if there is one. The last text that a group may have
     /// closes it.
-    pub fn take(
+    pub fn take<R: Threads + Sync>(
         &mut self,
+        rt: &R,
         alloc: Global,
         cut: Option<Cut>,
         workers: usize,
@@ -203,12 +214,18 @@ impl OpenImport {
             → ImportedSoFar taken self.old → FullSoFar (taken ++ cuts_in cut) self.new full)) }
     {
         match cut {
-            Some(cut) => self.push(alloc, cut, workers),
+            Some(cut) => self.push(rt, alloc, cut, workers),
             None => Ok(()),
         }
     }
 
-    fn push(&mut self, alloc: Global, cut: Cut, workers: usize) -> Result<(), Stop<Full>>
+    fn push<R: Threads + Sync>(
+        &mut self,
+        rt: &R,
+        alloc: Global,
+        cut: Cut,
+        workers: usize,
+    ) -> Result<(), Stop<Full>>
         requires some_workers { 1 ≤ workers }
         requires few_workers { workers ≤ 16 }
         requires short { IsShort (meaning cut) }
@@ -224,12 +241,18 @@ impl OpenImport {
         if self.group.texts.len() < GROUP_LIMIT {
             return Ok(());
         }
-        self.close(alloc, workers)
+        self.close(rt, alloc, workers)
     }
 
     /// The import of a stream that ended: takes its last cut, if there is one more, and closes the
     /// group in hand.
-    pub fn end(self, alloc: Global, workers: usize, cutter: Cutter) -> Result<Imported, AllocError>
+    pub fn end<R: Threads + Sync>(
+        self,
+        rt: &R,
+        alloc: Global,
+        workers: usize,
+        cutter: Cutter,
+    ) -> Result<Imported, AllocError>
         requires some_workers { 1 ≤ workers }
         requires few_workers { workers ≤ 16 }
         requires ready { IsReady self }
@@ -237,7 +260,7 @@ impl OpenImport {
             → CutSoFar stream (cuts_of_rest cutter) self → HasEnded stream imported) }
     {
         let mut import = self;
-        match import.finish(alloc, cutter.end(), workers) {
+        match import.finish(rt, alloc, cutter.end(), workers) {
             Ok(()) => Ok(import.imported(End::Whole)),
             Err(Stop::Fault(full)) => import.imported_but(full),
             Err(Stop::OutOfMemory) => Err(AllocError),
@@ -286,7 +309,13 @@ impl OpenImport {
     }
 
     /// Takes the last cut of the stream, if there is one more, and closes the group in hand.
-    fn finish(&mut self, alloc: Global, cut: Option<Cut>, workers: usize) -> Result<(), Stop<Full>>
+    fn finish<R: Threads + Sync>(
+        &mut self,
+        rt: &R,
+        alloc: Global,
+        cut: Option<Cut>,
+        workers: usize,
+    ) -> Result<(), Stop<Full>>
         requires some_workers { 1 ≤ workers }
         requires few_workers { workers ≤ 16 }
         requires short { IfSome cut (λ cut. IsShort (meaning cut)) }
@@ -298,14 +327,19 @@ impl OpenImport {
             → Ascend (taken ++ cuts_in cut)
             → ImportedSoFar taken self.old → FullAtEnd (taken ++ cuts_in cut) self.new full)) }
     {
-        match self.take(alloc, cut, workers) {
-            Ok(()) => self.close(alloc, workers),
+        match self.take(rt, alloc, cut, workers) {
+            Ok(()) => self.close(rt, alloc, workers),
             Err(stop) => Err(stop),
         }
     }
 
     /// Replays the group in hand, and stores or refuses each of its cuts.
-    fn close(&mut self, alloc: Global, workers: usize) -> Result<(), Stop<Full>>
+    fn close<R: Threads + Sync>(
+        &mut self,
+        rt: &R,
+        alloc: Global,
+        workers: usize,
+    ) -> Result<(), Stop<Full>>
         requires some_workers { 1 ≤ workers }
         requires few_workers { workers ≤ 16 }
         requires few { length self.old.group.texts.items ≤ group_limit }
@@ -320,7 +354,7 @@ impl OpenImport {
             → GroupRefused self.old self.new hand full)) }
     {
         let group = mem::replace(&mut self.group, TextGroup::new(alloc));
-        let TalliedGroup { tally, refused } = group.tally(alloc, workers)?;
+        let TalliedGroup { tally, refused } = group.tally(rt, alloc, workers)?;
         match tally {
             Some(tally) => self.store(tally, refused),
             None => self.refuse(refused.as_slice()),

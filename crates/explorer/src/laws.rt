@@ -1,26 +1,19 @@
 //! Laws of what a run promises. Each is the contract of a function that only cites the laws below
 //! it.
-ghost use Rattle.std.specs.Prelude.{◌≡◌, ◌≢◌, ◌↔◌, ℕ, List, None, IsSome, []};
-ghost use Rattle.clap.specs.Faults.{fault_of};
-ghost use Rattle.clap.specs.Walk.{Text};
+ghost use Rattle.std.specs.Prelude.{◌≡◌, ◌≢◌, ℕ, List, IsSome};
 ghost use Rattle.explorer_model.specs.Cuts.{Cut};
 ghost use Rattle.explorer_model.specs.declared.fault.Refusal.{Refusal};
 ghost use Rattle.explorer_model.specs.declared.query.Query.{Query};
 ghost use Rattle.explorer.specs.Count.{Answers};
 ghost use Rattle.explorer.specs.Early.{AreInGroups, IsCutOff, IsFullIn, IsTooMuch};
-ghost use Rattle.explorer.specs.Laws.{IsTold, WroteAlike};
+ghost use Rattle.command_line.specs.Task.{task_of};
+ghost use Rattle.explorer.specs.Laws.{CountsAtMost, IsTold, WroteAlike};
 ghost use Rattle.explorer.specs.Run.{Runs};
-ghost use Rattle.explorer.specs.Task.{explorer_app, task_of};
 ghost use Rattle.explorer.specs.World.{World, IsFaultless};
 
 use batch_tally::laws::accounting_apart_is_determined;
 use lookup::laws::answers_are_determined;
 use query_params::laws::query_is_determined;
-
-/// The command line refuses words exactly where they ask for nothing.
-pub fn refused_words_ask_for_nothing()
-    ensures { (words : List Text) → (task_of words ≡ None) ↔ (fault_of explorer_app words ≢ []) }
-{}
 
 /// Cuts stand in one way in whole groups and a group in hand.
 pub fn groups_are_determined()
@@ -54,11 +47,13 @@ pub fn a_told_input_has_one_answer()
     answers_are_determined();
 }
 
-/// Runs of the same words over one told input below the bound have one status, and write the same
-/// but for the text that tells of refused words, where memory is there and no call fails.
+/// Runs of words that ask for a count, or for nothing, over one told input below the bound have one
+/// status, and write the same but for the text that tells of refused words, where memory is there
+/// and no call fails.
 pub fn a_run_is_determined()
-    ensures { (words : List Text) (stream : List ℕ) (before after other : World)
+    ensures { (words : List (List ℕ)) (stream : List ℕ) (before after other : World)
         (status status' : ℕ)
+        → CountsAtMost (task_of words)
         → IsTold stream before → IsFaultless before after → IsFaultless before other
         → status ≢ 9 → status' ≢ 9
         → Runs words before after status → Runs words before other status'

@@ -5,18 +5,25 @@ ghost use Rattle.std.specs.Prelude.{◌≡◌, ◌⊎◌, IfErr};
 ghost use Rattle.explorer.specs.declared.fault.Fault.{Fault as AFault};
 
 mod answer;
-mod command;
 mod count;
+mod create;
 mod fault;
-mod host;
 mod import;
+mod import_store;
 mod laws;
+mod opening;
+mod order;
 mod program;
+mod query_store;
 mod report;
+mod returning;
+mod serve;
+mod serving;
 mod status;
 #[cfg(test)]
 mod tests;
 mod text_group;
+mod workers;
 
 use fault::Fault;
 use host::RealHost;
@@ -38,7 +45,7 @@ fn main(rt: HostRuntime) -> ExitCode {
         &mut input,
         &mut output,
         &mut errors,
-        &mut RealHost,
+        &mut RealHost::new(&rt),
     )
 }
 

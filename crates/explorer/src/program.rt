@@ -1,25 +1,31 @@
-ghost use Rattle.std.specs.Prelude.{◌≡◌, ◌⊎◌, ◌∷◌, [], List, ℕ, MatchResult, map, string_bytes};
+ghost use Rattle.std.specs.Prelude.{◌≡◌, ◌∷◌, [], MatchResult, map, string_bytes};
 ghost use Rattle.std.specs.Process.{exit_status};
 ghost use Rattle.outside.specs.Stream.{Writes};
-ghost use Rattle.explorer.specs.Lines.{IsFaultLine, Stopped, ending_of, status_of};
-ghost use Rattle.explorer.specs.Run.{Ends, IsWordless, Runs, Starves};
-ghost use Rattle.explorer.specs.Words.{HasWorkers, task_in};
+ghost use Rattle.explorer.specs.Lines.{IsTold, Stopped, TellsOf, ending_of, status_of};
+ghost use Rattle.explorer.specs.Run.{Ends, IsWordless, Runs};
+ghost use Rattle.command_line.specs.Words.{IsInBounds, task_in};
 ghost use Rattle.explorer.specs.World.{world};
 ghost use Rattle.explorer.specs.declared.fault.Fault.{Fault as AFault};
 
-use crate::command::{Command, UsageError, parse_words};
 use crate::count::count;
+use crate::create::create;
 use crate::fault::Fault;
-use crate::host::Host;
+use crate::import_store::import_store;
+use crate::order::Order;
+use crate::query_store::query_store;
+use crate::serve::serve;
 use crate::status::Status;
+use command_line::{Command, UsageError, parse_words};
 use explorer_model::fault::Stop;
+use host::Host;
 use outside::{Sink, Source};
-use std::alloc::Global;
 use std::process::ExitCode;
+use std::sync::Wait;
+use std::thread::Threads;
 
 /// Runs on the words of the command line, or on the fault by which they cannot be had, and gives the
 /// status with which the process is to end.
-pub fn start<R: AllocGlobal, I: Source, O: Sink, E: Sink, H: Host>(
+pub fn start<R: AllocGlobal + Wait + Threads + Sync, I: Source, O: Sink, E: Sink, H: Host>(
     rt: &R,
     words: Result<Vec<String>, Fault>,
     input: &mut I,
@@ -27,8 +33,10 @@ pub fn start<R: AllocGlobal, I: Source, O: Sink, E: Sink, H: Host>(
     errors: &mut E,
     host: &mut H,
 ) -> ExitCode
-    ensures { let before = world (I.source input.old) (O.sink output.old) (E.sink errors.old) in
-        let after = world (I.source input.new) (O.sink output.new) (E.sink errors.new) in
+    ensures { let before = world (I.source input.old) (O.sink output.old) (E.sink errors.old)
+        (H.host host.old) in
+        let after = world (I.source input.new) (O.sink output.new) (E.sink errors.new)
+        (H.host host.new) in
         MatchResult words
         (λ words. Runs (map string_bytes words.items) before after (exit_status result))
         (λ fault. IsWordless fault before after (exit_status result)) }
@@ -42,7 +50,7 @@ pub fn start<R: AllocGlobal, I: Source, O: Sink, E: Sink, H: Host>(
 
 /// Does all that the program does: what the words ask for, of which the first is the program's
 /// name.
-pub fn run<R: AllocGlobal, I: Source, O: Sink, E: Sink, H: Host>(
+pub fn run<R: AllocGlobal + Wait + Threads + Sync, I: Source, O: Sink, E: Sink, H: Host>(
     rt: &R,
     words: &[String],
     input: &mut I,
@@ -50,57 +58,108 @@ pub fn run<R: AllocGlobal, I: Source, O: Sink, E: Sink, H: Host>(
     errors: &mut E,
     host: &mut H,
 ) -> Status
-    ensures { let before = world (I.source input.old) (O.sink output.old) (E.sink errors.old) in
-        let after = world (I.source input.new) (O.sink output.new) (E.sink errors.new) in
+    ensures { let before = world (I.source input.old) (O.sink output.old) (E.sink errors.old)
+        (H.host host.old) in
+        let after = world (I.source input.new) (O.sink output.new) (E.sink errors.new)
+        (H.host host.new) in
         Runs (map string_bytes words.now) before after result.number }
 {
-    let _ = host;
-    let alloc = rt.alloc();
-    match parse_words(alloc, words) {
-        Ok(command) => match run_command(alloc, &command, input, output, errors) {
-            Ok(()) => Status { number: 0 },
-            Err(fault) => report_fault(fault, errors),
-        },
+    match parse_words(rt.alloc(), words) {
+        Ok(command) => {
+            let outcome = run_command(rt, command, input, output, errors, host);
+            report_outcome(outcome, errors)
+        }
         Err(Stop::Fault(usage)) => report_usage(usage, errors),
         Err(Stop::OutOfMemory) => report_fault(Fault::OutOfMemory, errors),
     }
 }
 
 /// Does what the command asks for.
-fn run_command<I: Source, O: Sink, E: Sink>(
-    alloc: Global,
-    command: &Command,
+fn run_command<R: AllocGlobal + Wait + Threads + Sync, I: Source, O: Sink, E: Sink, H: Host>(
+    rt: &R,
+    command: Command,
     input: &mut I,
     output: &mut O,
     errors: &mut E,
+    host: &mut H,
 ) -> Result<(), Fault>
-    requires { HasWorkers command.now }
-    ensures { let before = world (I.source input.old) (O.sink output.old) (E.sink errors.old) in
-        let after = world (I.source input.new) (O.sink output.new) (E.sink errors.new) in
-        Starves before after (ending_of result)
-        ⊎ Ends (task_in command.now) before after (ending_of result) }
+    requires { IsInBounds (task_in command) }
+    ensures { let before = world (I.source input.old) (O.sink output.old) (E.sink errors.old)
+        (H.host host.old) in
+        let after = world (I.source input.new) (O.sink output.new) (E.sink errors.new)
+        (H.host host.new) in
+        Ends (task_in command) before after (ending_of result) }
 {
     match command {
         Command::Count { query, workers } => count(
-            alloc,
+            rt,
+            rt.alloc(),
             query.as_bytes(),
-            usize::from(*workers),
+            usize::from(workers),
             input,
             output,
             errors,
         ),
+        Command::Create { store } => create(store, output, host),
+        Command::Import {
+            store,
+            file,
+            workers,
+        } => import_store(rt, store, file, usize::from(workers), output, errors, host),
+        Command::Query {
+            store,
+            query,
+            workers,
+        } => query_store(
+            rt,
+            store,
+            query.as_bytes(),
+            usize::from(workers),
+            output,
+            host,
+        ),
+        Command::Serve {
+            store,
+            address,
+            files,
+            workers,
+            readers,
+            connections,
+        } => serve(
+            rt,
+            rt.alloc(),
+            &Order {
+                store: store.as_str(),
+                address: address.as_str(),
+                files: files.as_slice(),
+                workers: usize::from(workers),
+                readers: usize::from(readers),
+                connections,
+            },
+            output,
+            errors,
+            host,
+        ),
     }
 }
 
-/// Tells of a fault on the errors sink, where that takes it, and gives its status. No memory is
-/// asked for.
+/// Tells of a command's fault, if it came to one, and gives the status.
+fn report_outcome<E: Sink>(outcome: Result<(), Fault>, errors: &mut E) -> Status
+    ensures status { result.number ≡ status_of (ending_of outcome) }
+    ensures told { IsTold (ending_of outcome) (E.sink errors.old) (E.sink errors.new) }
+{
+    match outcome {
+        Ok(()) => Status { number: 0 },
+        Err(fault) => report_fault(fault, errors),
+    }
+}
+
+/// Tells of a fault on the errors sink, where that takes it, and gives its status.
 fn report_fault<E: Sink>(fault: Fault, errors: &mut E) -> Status
     ensures status { result.number ≡ status_of (Stopped fault) }
-    ensures line { (line : List ℕ) × IsFaultLine fault line
-        × Writes (line ∷ []) (E.sink errors.old) (E.sink errors.new) }
+    ensures told { TellsOf fault (E.sink errors.old) (E.sink errors.new) }
 {
-    // A fault of the sink changes no status that is not 0.
-    let _ = errors.write(fault.line().as_str().as_bytes());
+    fault.tell(errors);
     fault.status()
 }
 

@@ -2,6 +2,7 @@
 ghost use Rattle.std.specs.Prelude.{◌≡◌, ◌++◌, IfOk, OnOk, OnErr};
 ghost use Rattle.outside.specs.Stream.{Takes, FailsToTake};
 ghost use Rattle.explorer.specs.Report.{report, report_line};
+ghost use Rattle.explorer.specs.Served.{file_lines};
 
 use answer_json::refusal::why_text;
 use explorer_model::fault::{Refusal, Why};
@@ -17,6 +18,23 @@ pub fn report(alloc: Global, refused: &[Refusal]) -> Result<Vec<u8>, AllocError>
         push_line(alloc, &mut lines, refusal.place, &refusal.why)?;
     }
     Ok(lines)
+}
+
+/// Puts the report lines of a file's refusals behind others, each with the file's name before it.
+pub fn push_file_lines(
+    alloc: Global,
+    lines: &mut Vec<u8>,
+    name: &str,
+    refused: &[Refusal],
+) -> Result<(), AllocError>
+    ensures { OnOk result (lines.new.items ≡ lines.old.items ++ file_lines name.now refused.now) }
+{
+    for refusal in refused {
+        lines.extend_from_slice(name.as_bytes())?;
+        lines.push(b' ')?;
+        push_line(alloc, lines, refusal.place, &refusal.why)?;
+    }
+    Ok(())
 }
 
 /// Writes lines as one chunk, if there are any.

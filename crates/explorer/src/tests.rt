@@ -1,14 +1,19 @@
 //! Runs of the program over inputs in memory, against what its rules say of them.
 mod answers;
+mod imports;
+mod serving;
+mod stores;
 mod streams;
 mod words;
 
 ghost use Rattle.std.specs.Prelude.{◌<◌};
 
-use crate::host::RealHost;
 use crate::program::run;
+use host::MemHost;
 use outside::{MemSink, MemSource};
 use std::alloc::{AllocError, Global};
+use std::sync::Wait;
+use std::thread::Threads;
 
 const NO_GAME: &str =
     "{\"black\":0,\"draws\":0,\"moves\":[],\"opening\":null,\"recentGames\":[],\"topGames\":[],\"white\":0}\n";
@@ -123,8 +128,8 @@ fn with_name(alloc: Global, words: &[&str]) -> Result<Vec<String>, AllocError> {
 
 /// Runs with the words behind the program's name, over an input that gives at most `most` bytes in
 /// a read.
-fn run_on(
-    rt: &HostRuntime,
+fn run_on<R: AllocGlobal + Wait + Threads + Sync>(
+    rt: &R,
     words: &[&str],
     text: &str,
     most: usize,
@@ -145,7 +150,7 @@ fn run_on(
         &mut input,
         &mut output,
         &mut errors,
-        &mut RealHost,
+        &mut MemHost::new(alloc),
     );
     Ok(Seen {
         status: status.number,

@@ -12,6 +12,7 @@ use explorer_model::fault::{Refusal, Why};
 use outside::FreeGate;
 use pgn_cut::cut::Cut;
 use std::alloc::{AllocError, Global};
+use std::thread::Threads;
 use tally_rows::Tally;
 
 /// How many texts a whole group has.
@@ -69,7 +70,12 @@ impl TextGroup {
     }
 
     /// Replays and tallies the texts. On how many workers do that, nothing depends.
-    pub fn tally(self, alloc: Global, workers: usize) -> Result<TalliedGroup, AllocError>
+    pub fn tally<R: Threads + Sync>(
+        self,
+        rt: &R,
+        alloc: Global,
+        workers: usize,
+    ) -> Result<TalliedGroup, AllocError>
         requires some_workers { 1 ≤ workers }
         requires few_workers { workers ≤ 16 }
         requires few { length self.texts.items ≤ group_limit }
@@ -78,7 +84,7 @@ impl TextGroup {
             → Ascend cuts → IsGroupOf cuts self → IsTallied cuts tallied) }
     {
         let TextGroup { texts, unread } = self;
-        let tallying = tally(alloc, texts, workers, &FreeGate)?;
+        let tallying = tally(rt, alloc, texts, workers, &FreeGate)?;
         let refused = merge(alloc, tallying.refused.as_slice(), unread.as_slice())?;
         Ok(TalliedGroup {
             tally: tallying.tally,

@@ -1,10 +1,17 @@
 //! Answers to queries over a few games.
 use super::{FAULTLESS, NO_GAME, ONE_WHITE, Tags, game, listed, named, one_move, run_on, tagged};
 use std::alloc::{AllocError, Global};
+use std::sync::Wait;
 use std::test::Fail;
+use std::thread::Threads;
 
 /// Whether a count of the text answers the query so, with nothing to report.
-fn answers(rt: &HostRuntime, text: &str, query: &str, answer: &str) -> Result<bool, AllocError> {
+fn answers<R: AllocGlobal + Wait + Threads + Sync>(
+    rt: &R,
+    text: &str,
+    query: &str,
+    answer: &str,
+) -> Result<bool, AllocError> {
     let seen = run_on(rt, &["count", query], text, 4096, FAULTLESS)?;
     Ok(seen.is(0, answer, ""))
 }

@@ -5,12 +5,14 @@ use super::{
     FAULTLESS, NEVER, NO_GAME, ONE_DRAW, ONE_WHITE, Tags, game, named, one_move, run_on, tagged,
 };
 use std::alloc::{AllocError, Global};
+use std::sync::Wait;
 use std::test::Fail;
+use std::thread::Threads;
 
 /// Whether a count of the text at this read size, where no call fails, prints the answer and
 /// reports so.
-fn counts(
-    rt: &HostRuntime,
+fn counts<R: AllocGlobal + Wait + Threads + Sync>(
+    rt: &R,
     text: &str,
     most: usize,
     answer: &str,
@@ -38,8 +40,8 @@ fn answers_alike_at_each_read_size(rt: HostRuntime) -> Result<(), Fail> {
 }
 
 /// Whether the counts of the text at three read sizes are so.
-fn counts_at_each_size(
-    rt: &HostRuntime,
+fn counts_at_each_size<R: AllocGlobal + Wait + Threads + Sync>(
+    rt: &R,
     text: &str,
     answer: &str,
     report: &str,

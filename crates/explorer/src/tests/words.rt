@@ -1,6 +1,5 @@
 //! The words of the command line, queries that are refused, and runs that end by a fault.
 use super::{NEVER, ONE_WHITE, game, run_on, with_name};
-use crate::command::{Command, parse_words};
 use std::alloc::{AllocError, Global};
 use std::test::Fail;
 
@@ -27,79 +26,16 @@ fn tells_of_faults(rt: HostRuntime) -> Result<(), Fail> {
     Ok(())
 }
 
-/// Whether the words ask for a count of this query by so many workers.
-fn asks_for(alloc: Global, words: &[&str], query: &str, workers: u8) -> Result<bool, AllocError> {
-    let all = with_name(alloc, words)?;
-    let Ok(command) = parse_words(alloc, all.as_slice()) else {
-        return Ok(false);
-    };
-    Ok(is_count(&command, query, workers))
-}
-
-fn is_count(command: &Command, query: &str, workers: u8) -> bool {
-    match command {
-        Command::Count {
-            query: given,
-            workers: number,
-        } => given.as_str() == query && *number == workers,
-    }
-}
-
 #[test]
-fn reads_what_is_asked(rt: HostRuntime) -> Result<(), Fail> {
-    let alloc = rt.alloc();
-    let table: [(&[&str], &str, u8); 5] = [
-        (&["count"], "", 4),
-        (&["count", "play=e2e4"], "play=e2e4", 4),
-        (&["count", "--workers", "8", "x=1"], "x=1", 8),
-        (&["count", "x=1", "--workers=16"], "x=1", 16),
-        (&["count", "--workers", "1", "--", "-x"], "-x", 1),
-    ];
-    for (words, query, workers) in table {
-        assert!(rt; asks_for(alloc, words, query, workers)?, "{query}");
-    }
-    Ok(())
-}
-
-#[test]
-fn refuses_other_words(rt: HostRuntime) -> Result<(), Fail> {
-    let alloc = rt.alloc();
-    let table: [(&[&str], &str); 7] = [
-        (
-            &[],
-            "error: 'explorer' requires a subcommand but one was not provided\n",
-        ),
-        (&["fly"], "error: unrecognized subcommand 'fly'\n"),
-        (
-            &["--help"],
-            "An opening explorer for games of chess\n\nUsage: explorer <COMMAND>\n",
-        ),
-        (
-            &["count", "a", "b"],
-            "error: unexpected argument 'b' found\n",
-        ),
-        (
-            &["count", "--workers", "17"],
-            "error: invalid value '17' for '--workers <N>': 17 is not in 1..=16\n",
-        ),
-        (
-            &["count", "--workers", "0"],
-            "error: invalid value '0' for '--workers <N>': 0 is not in 1..=16\n",
-        ),
-        (
-            &["count", "--help"],
-            "Count the games of standard input, and answer a query\n\nUsage: explorer count [OPTIONS] [QUERY]\n",
-        ),
-    ];
-    for (words, front) in table {
-        let seen = run_on(&rt, words, "", 1, [0, NEVER, NEVER])?;
-        assert_eq!(rt; seen.status, 2);
-        assert!(rt; seen.output.bytes() == b"".as_slice());
-        assert!(rt;
-            seen.errors.bytes().starts_with(front.as_bytes()),
-            "{front}"
-        );
-    }
+fn refused_words_touch_nothing(rt: HostRuntime) -> Result<(), Fail> {
+    let seen = run_on(&rt, &["fly"], "", 1, [0, NEVER, NEVER])?;
+    assert_eq!(rt; seen.status, 2);
+    assert!(rt; seen.output.bytes() == b"".as_slice());
+    assert!(rt;
+        seen.errors
+            .bytes()
+            .starts_with(b"error: unrecognized subcommand 'fly'\n".as_slice())
+    );
     Ok(())
 }
 

@@ -8,7 +8,7 @@ use Rattle.explorer.proofs.ShortLemmas.{short_first}
 use Rattle.explorer.proofs.import.feed.Goals as goal
 
 pub feeding-init : goal.feeding-init
-feeding-init c = record {
+feeding-init g c = record {
   within = omega arith;
   so_far = omega arith;
   ready = c.requires.ready;
@@ -16,10 +16,10 @@ feeding-init c = record {
 }
 
 pub take-requires-clause-short : goal.take-requires-clause-short
-take-requires-clause-short c = short_first _ c.feeding.cutter _ _ (c.in_ok-fed.ensures.cuts [])
+take-requires-clause-short g c = λ κs within. short_first _ c.feeding.cutter _ _ (c.in_ok-fed.ensures.cuts [])
 
 pub feeding-preserved : goal.feeding-preserved
-feeding-preserved c =
+feeding-preserved g c =
     let before = c.feeding.invariant in
     let whole : length (take (length c.args.bytes.now - c.feeding.at) (drop c.feeding.at c.args.bytes.now)) ≡ length c.args.bytes.now - c.feeding.at = ap length (take_rest c.args.bytes.now c.feeding.at) ∙ length-drop c.feeding.at c.args.bytes.now in
     record {
@@ -38,10 +38,10 @@ feeding-preserved c =
     }
 
 pub returns-clause-cut : goal.returns-clause-cut
-returns-clause-cut c = λ past start. cut_whole past c.args.bytes.now c.feeding.at (cuts_of_rest c.feeding.cutter) c.feeding.import c.feeding-test.false (c.feeding.invariant.cut past start)
+returns-clause-cut g c = λ past start. cut_whole past c.args.bytes.now c.feeding.at (cuts_of_rest c.feeding.cutter) c.feeding.import c.feeding-test.false (c.feeding.invariant.cut past start)
 
 pub returns-in-Err-clause-full : goal.returns-in-Err-clause-full
-returns-in-Err-clause-full c = where_on c.in-Err.stop _ _ (λ full refuses past start.
+returns-in-Err-clause-full g c = where_on c.in-Err.stop _ _ (λ full refuses past start.
     let so_far = c.feeding.invariant.cut past start in
     let cut = next_cut past c.args.bytes.now c.feeding.at c.in_ok-fed.fed.taken so_far.taken (cuts_in c.in_ok-fed.fed.cut) (cuts_of_rest c.feeding.cutter) (cuts_of_rest c.feed.new.self) so_far.cut c.in_ok-fed.ensures.cuts in
     let full_so_far = refuses so_far.taken (cut_ascends _ (cuts_of_rest c.feed.new.self) _ cut) so_far.imported in

@@ -4,7 +4,7 @@ use Rattle.explorer.specs.Importing.{CutSoFar, IsReady}
 use Rattle.explorer.proofs.import.feed.Given as goal
 
 abbrev pub invariant-feeding : goal.invariant-feeding
-invariant-feeding l = record {
+invariant-feeding g l = record {
   within : l.at ≤ length l.bytes;
   so_far : came l.cutter ≡ came l.fn.cutter + l.at;
   ready : IsReady l.import;
@@ -13,4 +13,4 @@ invariant-feeding l = record {
 }
 
 abbrev pub decreases-feeding : goal.decreases-feeding
-decreases-feeding l = length l.bytes - l.at
+decreases-feeding g l = length l.bytes - l.at

@@ -2,5 +2,5 @@ use Rattle.explorer.proofs.RunLawLemmas.{one_run}
 use Rattle.explorer.proofs.laws.a_run_is_determined.Goals as goal
 
 pub returns : goal.returns
-returns c = λ words stream before after other status status' told fine fine' fed fed' first second.
-    one_run words stream before after other status status' (record { batches = c.accounting_apart_is_determined.ensures.batches; refused = c.accounting_apart_is_determined.ensures.refused }) c.answers_are_determined.ensures c.query_is_determined.ensures told fine fine' fed fed' first second
+returns c = λ words stream before after other status status' only told fine fine' fed fed' first second.
+    one_run words stream before after other status status' only (record { batches = c.accounting_apart_is_determined.ensures.batches; refused = c.accounting_apart_is_determined.ensures.refused }) c.answers_are_determined.ensures c.query_is_determined.ensures told fine fine' fed fed' first second

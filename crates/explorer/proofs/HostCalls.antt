@@ -1,0 +1,36 @@
+-- Calls of a host, one after another: what is out, and what comes back.
+use Rattle.std.proofs.Common.{◌≡◌, ◌+◌, ◌-◌, ◌<◌, ◌≤◌, ◌++◌, ℕ, zero, suc, Bool, true, List, [], ◌∷◌, Option, None, Some, IfSome, refl, sym, ap, subst, ◌∙◌, append_assoc, append-nil, map, length, slice_index_or, arith}
+use Rattle.std.specs.Prelude.{sum_by, if◌then◌else◌}
+use Rattle.std.specs.Str.{bytes_eq}
+use Rattle.std.proofs.lemmas.Grind.{common_steps}
+use Rattle.std.proofs.lemmas.List.Sums.{sum_by-append, sum_by-cons}
+use Rattle.std.proofs.lemmas.Slice.Eq.{bytes_eq-Decides}
+use Rattle.outside.specs.Doors.{Connections}
+use Rattle.outside.specs.Stream.{Stream}
+use Rattle.host.specs.Hosts.{ADisk, ADoor, AFile, DiskBack, DiskOut, DiskRefused, DoorBack, DoorsOut, DoorsRefused, FileBack, FileOut, FileRefused, GivesBack, HostCall, HostState, IsOut, TakesDisk, TakesDoor, TakesFile, Thing, added, handed, noted, one_if, out, returned}
+use Rattle.explorer.specs.Workers.{CanReturn, name_at}
+
+pub if_some : {A : Type 0} (o : Option A) (P Q : A → Type 0) → ((x : A) → P x → Q x) → IfSome o P → IfSome o Q
+if_some None P Q f h = tt
+if_some (Some x) P Q f h = f x h
+
+pub same_bytes : (name : List ℕ) → bytes_eq name name ≡ true
+same_bytes name = grind (arith, common_steps, bytes_eq-Decides name name)
+
+-- the name at a place of texts
+pub name_is : {A : Type 0} (text : A → List ℕ) (xs : List A) (i : ℕ) (d : A) → i < length (map text xs)
+    → name_at (map text xs) i ≡ text (slice_index_or xs i d)
+name_is text [] i d below = absurd (omega arith)
+name_is text (x ∷ xs) zero d below = refl
+name_is text (x ∷ xs) (suc i) d below = name_is text xs i d (omega arith)
+
+returned_file : (name : List ℕ) (file : Stream) → sum_by (returned (AFile name)) (FileBack name file ∷ []) ≡ 1
+returned_file name file = ap (λ (b : Bool). 0 + one_if b) (same_bytes name)
+
+pub file_is_out : (name : List ℕ) (file : Stream) (host : HostState) → CanReturn (FileBack name file ∷ []) host
+    → IsOut (AFile name) host
+file_is_out name file host can = if_some host.calls _ _
+    (λ earlier few. omega (arith, few, returned_file name file)) (can (AFile name))
+
+pub door_is_out : (door : Connections) (host : HostState) → CanReturn (DoorBack door ∷ []) host → IsOut ADoor host
+door_is_out door host can = if_some host.calls _ _ (λ earlier few. omega (arith, few)) (can ADoor)

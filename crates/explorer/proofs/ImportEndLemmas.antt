@@ -1,0 +1,146 @@
+-- How a run of the command `import` ends.
+use Rattle.std.proofs.Common.{◌≡◌, ◌⊎◌, inl, inr, ⊎_elim, ℕ, ◌<◌, ◌++◌, List, [], ◌∷◌, Option, None, Some, length, refl, sym, ap, subst, ◌∙◌, arith}
+use Rattle.std.specs.Prelude.{IfSome, string_bytes}
+use Rattle.disk_model.specs.Disk.{DiskState, IsQuiet}
+use Rattle.outside.specs.Stream.{NeverFalls, Rises, Stream, Writes}
+use Rattle.outside.proofs.StreamLemmas.{rises-later}
+use Rattle.explorer_model.specs.declared.archive.Batch.{Batch}
+use Rattle.explorer_model.specs.declared.store.LogFault.TheVariants as log
+use Rattle.explorer_model.specs.Journal.{game_count}
+use Rattle.manifest.specs.Manifest.{HasJournal}
+use Rattle.record_log.specs.declared.fault.OpenFault.{OpenFault}
+use Rattle.record_log.specs.declared.fault.OpenFault.TheVariants as opening
+use Rattle.host.specs.Hosts.{ADisk, FileBack, FileOut, FileRefused, HandsFile, HostCall, HostState, IsOut, RefusesFile, TakesFile, handed, noted, out, returned}
+use Rattle.ingest_desk.specs.declared.report.ImportEnding.{ImportEnding}
+use Rattle.ingest_desk.specs.declared.report.ImportEnding.TheVariants as endings
+use Rattle.explorer.specs.declared.fault.Fault.{Fault}
+use Rattle.explorer.specs.declared.fault.Fault.TheVariants as faults
+use Rattle.explorer.specs.declared.import_store.Came.{Came}
+use Rattle.explorer.specs.Faults.{fault_of_opening}
+use Rattle.explorer.specs.ImportStore.{FaultsBy, ImportedIn, ImportsBy, ImportsTo, IsTold, OutcomeBy, UsesBoth, fault_by, totals}
+use Rattle.explorer.specs.Lines.{Ending, Done, Stopped}
+use Rattle.ingest_desk.specs.Openings.{IsNotOpened}
+use Rattle.explorer.specs.Opened.{NotOpened, OpensTo}
+use Rattle.explorer.specs.Stores.{OnlyHost, UsesDisk}
+use Rattle.explorer.specs.World.{World}
+
+-- ---- a store that is not opened
+
+pub not_opened : (fault : OpenFault) (store file : List ℕ) (before after : World) → UsesDisk store (NotOpened fault) before.host after.host → OnlyHost before after
+    → ImportsBy store file before after (Stopped (fault_of_opening fault))
+not_opened (opening.Log log.NotALog) store file before after uses only = (uses, only)
+not_opened (opening.Log (log.OtherFormat number)) store file before after uses only = (uses, only)
+not_opened (opening.Log (log.Damaged at)) store file before after uses only = (uses, only)
+not_opened (opening.DiskFault first last) store file before after uses only = inl (uses, only)
+not_opened opening.OutOfMemory store file before after uses only = ap (λ (w : World). w.input) only
+
+module _ {D : Type 0} (disk : D → DiskState) (left_since : D → ℕ → List ℕ → Type 0) (old new : D) (quiet : IsQuiet disk left_since old new) where
+  kept : (disk new).content ≡ (disk old).content
+  kept = ap (λ (s : DiskState). s.content) quiet.rest
+
+  pub opens_to : (journal : List Batch) → IfSome (disk old).content (HasJournal journal) → OpensTo journal (disk old) (disk new)
+  opens_to journal read = record { read = read; kept = kept; falls = quiet.never_falls }
+
+  pub refused_by : (fault : OpenFault) → IsNotOpened disk fault old new → NotOpened fault (disk old) (disk new)
+  refused_by (opening.Log fault) is = record { wrong = is; kept = kept }
+  refused_by (opening.DiskFault first last) is =
+      let P : ℕ → Type 0 = λ n. Rises n (disk new).faults in
+      let Q : ℕ → Type 0 = λ n. Rises first n in
+      record { kept = kept; rises = subst P is.before_is (subst Q is.after_is is.rises) }
+  refused_by opening.OutOfMemory is = kept
+
+-- ---- an import that was told
+
+later_faults : (e : ImportEnding) (disk opened disk_after : DiskState) (source source_after : Stream) → NeverFalls disk.faults opened.faults → FaultsBy e opened disk_after source source_after → FaultsBy e disk disk_after source source_after
+later_faults endings.Whole disk opened disk_after source source_after falls f = f
+later_faults (endings.ReadFault first last) disk opened disk_after source source_after falls f = f
+later_faults (endings.DiskFault first last) disk opened disk_after source source_after falls f = (rises-later disk.faults opened.faults disk_after.faults falls f.0, f.1)
+later_faults (endings.Closed first last) disk opened disk_after source source_after falls f = f
+later_faults (endings.Full games bytes) disk opened disk_after source source_after falls f = f
+later_faults (endings.TooMuch bytes) disk opened disk_after source source_after falls f = f
+later_faults endings.OutOfMemory disk opened disk_after source source_after falls f = f
+
+module _ (store file : List ℕ) (before after : World) where
+  pub imports_to : (journal : List Batch) (disk opened disk_after : DiskState) (source source_after : Stream) (came : Came) (ending : Ending) → UsesBoth store file disk disk_after source source_after before.host after.host
+      → IfSome disk.content (HasJournal journal) → NeverFalls disk.faults opened.faults → ImportedIn journal opened disk_after source source_after came
+      → IsTold came before.output after.output before.errors after.errors ending → after ≡ record before { output = after.output; errors = after.errors; host = after.host }
+      → ImportsTo came.ending store file before after
+  imports_to journal disk opened disk_after source source_after came ending uses read falls is told rest =
+      let J : List Batch → Type 0 = λ j. IfSome disk.content (HasJournal j) in
+      let line : totals came.games came.batches came.journal ≡ totals (game_count is.batches) (length is.batches) (length is.stored) = λ i. totals (is.games_are i) (is.batches_are i) (is.stored_is i) in
+      let W : List ℕ → Type 0 = λ l. Writes (l ∷ []) before.output after.output in
+      record {
+        disk = disk;
+        disk_after = disk_after;
+        source = source;
+        source_after = source_after;
+        uses = uses;
+        start = is.start;
+        sound = is.sound;
+        read = subst J (sym is.journal_is) read;
+        stream = is.stream;
+        reads = is.reads;
+        batches = is.batches;
+        refused = came.refused.items;
+        stands = is.stands;
+        stored = is.stored;
+        stored_are = is.stored_are;
+        holds = is.holds;
+        faults = later_faults came.ending disk opened disk_after source source_after falls is.faults;
+        errors = told.errors_are;
+        output = subst W line told.output_is;
+        rest = rest;
+      }
+
+  stopped : (ending : Ending) (fault : Fault) → ending ≡ Stopped fault → ImportsBy store file before after (Stopped fault) → ImportsBy store file before after ending
+  stopped ending fault is by = subst (ImportsBy store file before after) (sym is) by
+
+  pub imports_by : (e : ImportEnding) (ending : Ending) → ImportsTo e store file before after → OutcomeBy (fault_by e) before.output after.output before.errors after.errors ending → ImportsBy store file before after ending
+  imports_by endings.Whole Done to outcome = (to, record { output = outcome.0; errors = outcome.1 })
+  imports_by endings.Whole (Stopped faults.WriteFault) to outcome = (to, outcome)
+  imports_by endings.Whole (Stopped faults.Usage) to outcome = absurd outcome
+  imports_by endings.Whole (Stopped (faults.BadParameter parameter)) to outcome = absurd outcome
+  imports_by endings.Whole (Stopped faults.ReadFault) to outcome = absurd outcome
+  imports_by endings.Whole (Stopped faults.DiskFault) to outcome = absurd outcome
+  imports_by endings.Whole (Stopped (faults.NotEmpty size)) to outcome = absurd outcome
+  imports_by endings.Whole (Stopped faults.NotAStore) to outcome = absurd outcome
+  imports_by endings.Whole (Stopped (faults.OtherFormat number)) to outcome = absurd outcome
+  imports_by endings.Whole (Stopped (faults.Damaged gate)) to outcome = absurd outcome
+  imports_by endings.Whole (Stopped (faults.Full games bytes)) to outcome = absurd outcome
+  imports_by endings.Whole (Stopped faults.OutOfMemory) to outcome = absurd outcome
+  imports_by endings.Whole (Stopped (faults.CannotOpen name)) to outcome = absurd outcome
+  imports_by endings.Whole (Stopped faults.CannotAccept) to outcome = absurd outcome
+  imports_by endings.Whole (Stopped faults.TooMuchInput) to outcome = absurd outcome
+  imports_by (endings.ReadFault first last) ending to outcome = stopped ending faults.ReadFault outcome (first, last, to)
+  imports_by (endings.DiskFault first last) ending to outcome = stopped ending faults.DiskFault outcome (inr (first, last, to))
+  imports_by (endings.Closed first last) ending to outcome = absurd to.stands
+  imports_by (endings.Full games bytes) ending to outcome = stopped ending (faults.Full games bytes) outcome to
+  imports_by (endings.TooMuch bytes) ending to outcome = stopped ending faults.TooMuchInput outcome (bytes, to)
+  imports_by endings.OutOfMemory ending to outcome = stopped ending faults.OutOfMemory outcome (ap (λ (w : World). w.input) to.rest)
+
+-- ---- a disk stays out while a file is asked for
+
+stays_out : (store : List ℕ) (call : HostCall) → handed (ADisk store) call ≡ 0 → returned (ADisk store) call ≡ 0 → (calls : Option (List HostCall)) → IfSome calls (λ cs. 0 < out (ADisk store) cs)
+    → IfSome (noted call calls) (λ cs. 0 < out (ADisk store) cs)
+stays_out store call none none' None h = tt
+stays_out store call none none' (Some cs) h = omega (arith, none, none', h)
+
+by_calls : (store : List ℕ) (before after : HostState) (calls : Option (List HostCall)) → after.calls ≡ calls → IfSome calls (λ cs. 0 < out (ADisk store) cs) → IsOut (ADisk store) after
+by_calls store before after calls is h =
+    let P : Option (List HostCall) → Type 0 = λ c. IfSome c (λ cs. 0 < out (ADisk store) cs) in
+    subst P (sym is) h
+
+pub out_over_file : (store file : List ℕ) (source : Stream) (before after : HostState) → HandsFile file source before after → IsOut (ADisk store) before → IsOut (ADisk store) after
+out_over_file store file source before after hands h =
+    by_calls store before after (noted (FileOut file) before.calls) (ap (λ (s : HostState). s.calls) hands.rest) (stays_out store (FileOut file) refl refl before.calls h)
+
+pub out_over_back : (store file : List ℕ) (source : Stream) (before after : HostState) → TakesFile file source before after → IsOut (ADisk store) before → IsOut (ADisk store) after
+out_over_back store file source before after takes h =
+    by_calls store before after (noted (FileBack file source) before.calls) (ap (λ (s : HostState). s.calls) takes.rest) (stays_out store (FileBack file source) refl refl before.calls h)
+
+pub out_over_refusal : (store file : List ℕ) (before after : HostState) → RefusesFile file before after → IsOut (ADisk store) before → IsOut (ADisk store) after
+out_over_refusal store file before after refuses h = by_note refuses.calls
+  where
+    by_note : (after.calls ≡ noted (FileRefused file) before.calls) ⊎ (after.calls ≡ before.calls) → IsOut (ADisk store) after
+    by_note (inl is) = by_calls store before after (noted (FileRefused file) before.calls) is (stays_out store (FileRefused file) refl refl before.calls h)
+    by_note (inr is) = by_calls store before after before.calls is h

@@ -1,0 +1,745 @@
+-- A run of the command `serve`, from the moments between its calls.
+use Rattle.std.proofs.Common.{◌≡◌, ◌⊎◌, Bool, true, false, ℕ, zero, suc, replicate, ◌+◌, ◌-◌, ◌<◌, ◌≤◌, List, [], ◌∷◌, ◌++◌, Option, None, Some, IfSome, length, map, refl, sym, ap, subst, ◌∙◌, append_assoc, inl, inr, arith, string_bytes}
+use Rattle.std.specs.Prelude.{if◌then◌else◌, slice_get, Result, Ok, Err}
+use Rattle.std.specs.List.{All, AllByRecursion, AllZip}
+use Rattle.std.specs.Option.{option_map, option_or}
+use Rattle.std.specs.Str.{bytes_eq}
+use Rattle.std.proofs.lemmas.List.Elements.{All-weaker}
+use Rattle.std.proofs.lemmas.List.Concat.{flat_map-append}
+use Rattle.disk_model.specs.Disk.{DiskState, MayLeave}
+use Rattle.outside.specs.Doors.{Connections}
+use Rattle.outside.specs.Stream.{FailsToTake, Rises, Stream, Takes, Writes, Wrote, source_alone}
+use Rattle.outside.proofs.StreamLemmas.{takes-faults, writes-fails, writes-takes}
+use Rattle.host.specs.Hosts.{ADisk, ADoor, AFile, AreFresh, DiskBack, DiskOut, DiskRefused, DoorBack, DoorsOut, GivesBack, FileRefused, DoorsRefused, HandsDisk, HostCall, HostState, IsOut, RefusesDisk, TakesDisk, Thing, added, handed, noted, one_if, out, put, returned}
+use Rattle.explorer_model.specs.declared.archive.Batch.{Batch}
+use Rattle.explorer_model.specs.declared.fault.Refusal.{Refusal}
+use Rattle.explorer_model.specs.declared.fault.Why.{Why}
+use Rattle.explorer_model.specs.declared.fault.Why.TheVariants.{Game, Preamble, Repeated, TooLong, Twice}
+use Rattle.explorer_model.specs.Cuts.{Cut, cuts}
+use Rattle.explorer_model.specs.Timeline.{IsPrefix}
+use Rattle.explorer_model.specs.Visits.{texts_of}
+use Rattle.explorer_model.proofs.Timelines.{prefix-self, prefix-trans}
+use Rattle.explorer_model.specs.declared.store.LogFault.{LogFault}
+use Rattle.explorer_model.specs.declared.store.LogFault.TheVariants as logs
+use Rattle.record_log.specs.declared.fault.OpenFault.{OpenFault}
+use Rattle.record_log.specs.declared.fault.OpenFault.TheVariants as openings
+use Rattle.ingest_desk.specs.Openings.{IsNotOpened, IsWrong}
+use Rattle.published_index.specs.Cover.{journal_of}
+use Rattle.published_index.specs.States.{Watching, watching}
+use Rattle.ingest_desk.specs.Stored.{Nameless, Stored, journal, stored_by}
+use Rattle.explorer.specs.declared.serving.Done as came
+use Rattle.explorer.specs.declared.serving.Outcome.{Outcome}
+use Rattle.explorer.specs.declared.serving.Outcome.TheVariants as outcomes
+use Rattle.explorer.specs.Faults.{fault_of_opening}
+use Rattle.record_log.specs.Log.{EachImage, Log}
+use Rattle.manifest.specs.Manifest.{HasJournal, IsWithOrWithoutBatch}
+use Rattle.ingest_desk.specs.Kept.{Keeps, KeepsBy}
+use Rattle.ingest_desk.specs.Reporting.{RepeatsGame}
+use Rattle.ingest_desk.specs.declared.report.ImportEnding.{ImportEnding}
+use Rattle.ingest_desk.specs.declared.report.ImportEnding.TheVariants as endings
+use Rattle.session.specs.declared.doors.DoorEnd.{DoorEnd}
+use Rattle.session.specs.declared.doors.DoorEnd.TheVariants as door_ends
+use Rattle.session.specs.Imports.{HasStoredBody, IsRepeatOf, StandFrom}
+use Rattle.session.proofs.FrontLemmas.{get-prefix}
+use Rattle.explorer.specs.declared.fault.Fault.{Fault}
+use Rattle.explorer.specs.declared.fault.Fault.TheVariants as faults
+use Rattle.explorer.specs.Concluding.{Concludes, EndsBy, TellsLonger}
+use Rattle.explorer.specs.Lines.{Done, Ending, Stopped}
+use Rattle.explorer.specs.Serve.{HasNoStore, IsMaybe, IsServed, IsWorkedTo, Listens, RefusesAddress, RefusesOneFile, Reports, Serves, ServesBy, listening_line}
+use Rattle.explorer.specs.Served.{DoorRun, FileRun, IsGivenUp, IsImported, IsServedFrom, IsServedIn, IsStoredIn, IsWorked, Service, fault_of_door, fault_of_doors, fault_of_import, file_at, files_back, files_out, first_fault, serve_report}
+use Rattle.explorer.specs.Serving.{CannotOpenSo, FilesServed, HasGivenUp, HasWorked, IsGivenUpSo, ListensSo, WroteLine, lines_told}
+use Rattle.explorer.specs.World.{IsFaultless, World, WriteFails, world}
+use Rattle.explorer.proofs.BracketLemmas.{added-both}
+use Rattle.explorer.proofs.HostCalls.{if_some, same_bytes}
+use Rattle.explorer.proofs.StoreLemmas.{told_has}
+
+-- ---- a disk that is out, and comes back
+
+step-call : (thing : Thing) (call : HostCall) (calls : Option (List HostCall))
+    → option_map (out thing) (noted call calls)
+    ≡ option_map (λ (n : ℕ). n + handed thing call - returned thing call) (option_map (out thing) calls)
+step-call thing call None = refl
+step-call thing call (Some earlier) = refl
+
+net-by : (k n : ℕ) → n + k - 0 + 0 - k ≡ n
+net-by k n = omega arith
+
+net-none : (n : ℕ) → n + 0 - 0 + 0 - 0 ≡ n
+net-none n = omega arith
+
+net : (thing : Thing) (name : List ℕ) (n : ℕ)
+    → n + handed thing (DiskOut name) - returned thing (DiskOut name) + handed thing (DiskBack name) - returned thing (DiskBack name) ≡ n
+net (ADisk other) name n = net-by (one_if (bytes_eq other name)) n
+net (AFile other) name n = net-none n
+net ADoor name n = net-none n
+
+same-count : (thing : Thing) (f : ℕ → ℕ) (calls : Option (List HostCall)) → ((n : ℕ) → f n ≡ n)
+    → option_map f (option_map (out thing) calls) ≡ option_map (out thing) calls
+same-count thing f None same = refl
+same-count thing f (Some earlier) same = ap (λ (n : ℕ). Some n) (same (out thing earlier))
+
+twice : (thing : Thing) (f h : ℕ → ℕ) (calls : Option (List HostCall)) → ((n : ℕ) → h (f n) ≡ n)
+    → option_map h (option_map f (option_map (out thing) calls)) ≡ option_map (out thing) calls
+twice thing f h None same = refl
+twice thing f h (Some earlier) same = ap (λ (n : ℕ). Some n) (same (out thing earlier))
+
+pub round-gives-back : (name : List ℕ) (before lent used after : HostState) → lent.calls ≡ noted (DiskOut name) before.calls
+    → GivesBack lent used → after.calls ≡ noted (DiskBack name) used.calls → GivesBack before after
+round-gives-back name before lent used after o g b = λ thing.
+    let back : ℕ → ℕ = λ (n : ℕ). n + handed thing (DiskBack name) - returned thing (DiskBack name) in
+    let away : ℕ → ℕ = λ (n : ℕ). n + handed thing (DiskOut name) - returned thing (DiskOut name) in
+    ap (λ (c : Option (List HostCall)). option_map (out thing) c) b
+    ∙ (step-call thing (DiskBack name) used.calls
+    ∙ (ap (λ (n : Option ℕ). option_map back n) (g thing)
+    ∙ (ap (λ (c : Option (List HostCall)). option_map back (option_map (out thing) c)) o
+    ∙ (ap (λ (n : Option ℕ). option_map back n) (step-call thing (DiskOut name) before.calls)
+    ∙ twice thing away back before.calls (net thing name)))))
+
+idle-disk : (thing : Thing) (name : List ℕ) (n : ℕ) → n + handed thing (DiskRefused name) - returned thing (DiskRefused name) ≡ n
+idle-disk (ADisk other) name n = omega arith
+idle-disk (AFile other) name n = omega arith
+idle-disk ADoor name n = omega arith
+
+refused-by : (name : List ℕ) (before after : HostState)
+    → (after.calls ≡ noted (DiskRefused name) before.calls) ⊎ (after.calls ≡ before.calls) → GivesBack before after
+refused-by name before after (inl is) = λ thing.
+    ap (λ (c : Option (List HostCall)). option_map (out thing) c) is
+    ∙ (step-call thing (DiskRefused name) before.calls
+    ∙ same-count thing (λ (n : ℕ). n + handed thing (DiskRefused name) - returned thing (DiskRefused name)) before.calls (idle-disk thing name))
+refused-by name before after (inr is) = λ thing. ap (λ (c : Option (List HostCall)). option_map (out thing) c) is
+
+pub refused-gives-back : (name : List ℕ) (before after : HostState) → RefusesDisk name before after → GivesBack before after
+refused-gives-back name before after refuses = refused-by name before after refuses.calls
+
+abbrev count-of : Option ℕ → ℕ
+count-of None = 0
+count-of (Some n) = n
+
+abbrev IsNone : Option ℕ → Type 0
+IsNone None = Unit {0}
+IsNone (Some n) = ⊥
+
+still-out : (thing : Thing) (old new : Option (List HostCall)) → option_map (out thing) new ≡ option_map (out thing) old
+    → IfSome old (λ calls. 0 < out thing calls) → IfSome new (λ calls. 0 < out thing calls)
+still-out thing old None same o = tt
+still-out thing None (Some calls) same o = absurd (subst IsNone (sym same) tt)
+still-out thing (Some earlier) (Some calls) same o =
+    let even : out thing calls ≡ out thing earlier = ap count-of same in
+    omega (arith, o, even)
+
+-- what is out stays out
+pub is-still-out : (thing : Thing) (before after : HostState) → GivesBack before after → IsOut thing before → IsOut thing after
+is-still-out thing before after g o = still-out thing before.calls after.calls (g thing) o
+
+pub content-back : (name : List ℕ) (disk : DiskState) (before after : HostState) → TakesDisk name disk before after
+    → after.disks name ≡ disk.content
+content-back name disk before after takes =
+    ap (λ (h : HostState). h.disks name) takes.rest
+    ∙ ap (λ (b : Bool). if b then disk.content else before.disks name) (same_bytes name)
+
+-- ---- a store whose disk was out meanwhile
+
+module _ (service : Service) (before lent used after : HostState) (given returns : DiskState)
+    (hands : HandsDisk service.store given before lent) (takes : TakesDisk service.store returns used after) where
+  calls-round : (calls : List HostCall) → used.calls ≡ added calls lent.calls
+      → after.calls ≡ added (DiskBack service.store ∷ (calls ++ DiskOut service.store ∷ [])) before.calls
+  calls-round calls is =
+      ap (λ (h : HostState). h.calls) takes.rest
+      ∙ ap (λ (c : Option (List HostCall)). noted (DiskBack service.store) c)
+      (is ∙ (ap (λ (h : HostState). added calls h.calls) hands.rest
+      ∙ sym (added-both calls (DiskOut service.store ∷ []) before.calls)))
+
+  pub rounds : GivesBack lent used → GivesBack before after
+  rounds g = round-gives-back service.store before lent used after (ap (λ (h : HostState). h.calls) hands.rest) g
+      (ap (λ (h : HostState). h.calls) takes.rest)
+
+  pub is-given-up : (names : List (List ℕ)) (files : List Stream) (refusal : List HostCall)
+      → used.calls ≡ added (files_back names files ++ (refusal ++ files_out names)) lent.calls
+      → returns.content ≡ given.content → IsGivenUp service names refusal before after
+  is-given-up names files refusal is same =
+      let tail : List HostCall = DiskOut service.store ∷ [] in
+      let order : (files_back names files ++ (refusal ++ files_out names)) ++ tail
+      ≡ files_back names files ++ (refusal ++ (files_out names ++ tail)) =
+      append_assoc (files_back names files) (refusal ++ files_out names) tail
+      ∙ ap (λ (cs : List HostCall). files_back names files ++ cs) (append_assoc refusal (files_out names) tail) in
+      record {
+        files = files;
+        called = calls-round (files_back names files ++ (refusal ++ files_out names)) is
+            ∙ ap (λ (cs : List HostCall). added (DiskBack service.store ∷ cs) before.calls) order;
+        kept = content-back service.store returns used after takes ∙ (same ∙ hands.content);
+      }
+
+  own-rises : Rises lent.own_faults used.own_faults → Rises before.own_faults after.own_faults
+  own-rises r =
+      subst (λ (n : ℕ). Rises before.own_faults n) (sym (ap (λ (h : HostState). h.own_faults) takes.rest))
+      (subst (λ (n : ℕ). Rises n used.own_faults) (ap (λ (h : HostState). h.own_faults) hands.rest) r)
+
+  pub disk-rises : used.disk_faults ≡ lent.disk_faults → 0 < returns.faults → Rises before.disk_faults after.disk_faults
+  disk-rises same some =
+      subst (λ (n : ℕ). Rises n after.disk_faults) (same ∙ ap (λ (h : HostState). h.disk_faults) hands.rest)
+      (takes.counts.rises some)
+
+  pub disk-stays : used.disk_faults ≡ lent.disk_faults → returns.faults ≡ 0 → after.disk_faults ≡ before.disk_faults
+  disk-stays same none = takes.counts.same none ∙ (same ∙ ap (λ (h : HostState). h.disk_faults) hands.rest)
+
+  -- no door was handed out
+  lacking : (errors output input : Stream) → HasGivenUp service faults.OutOfMemory lent used → returns.content ≡ given.content
+      → ServesBy service (world input output errors before) (world input output errors after) (Stopped faults.OutOfMemory)
+  lacking errors output input h same =
+      inr (inl (h.names, h.why.1, h.refusal, h.why.0, is-given-up h.names h.files h.refusal h.calls same, refl))
+
+  no-name : (errors output input : Stream) (name : _) (h : HasGivenUp service (faults.CannotOpen name) lent used) → returns.content ≡ given.content
+      → (IsPrefix (h.names ++ string_bytes name ∷ []) service.files × IsMaybe (FileRefused (string_bytes name)) h.refusal)
+      ⊎ ((h.names ≡ service.files) × (string_bytes name ≡ service.address)
+      × IsMaybe (DoorsRefused service.address service.readers service.connections) h.refusal)
+      → ServesBy service (world input output errors before) (world input output errors after) (Stopped (faults.CannotOpen name))
+  no-name errors output input name h same (inl file) = (
+    inr (inl (record {
+      names = h.names;
+      next = file.0;
+      refusal = h.refusal;
+      noted = file.1;
+      given_up = is-given-up h.names h.files h.refusal h.calls same;
+      rises = own-rises h.why.0;
+    })),
+    refl,
+  )
+  no-name errors output input name h same (inr doors) = (
+    inr (inr (
+      doors.1,
+      record {
+        refusal = h.refusal;
+        noted = doors.2;
+        given_up = subst (λ (ns : List (List ℕ)). IsGivenUp service ns h.refusal before after) doors.0
+            (is-given-up h.names h.files h.refusal h.calls same);
+        rises = own-rises h.why.0;
+      },
+    )),
+    refl,
+  )
+
+  pub gives-up : (errors output input : Stream) (fault : Fault) → HasGivenUp service fault lent used → returns.content ≡ given.content
+      → ServesBy service (world input output errors before) (world input output errors after) (Stopped fault)
+  gives-up errors output input faults.OutOfMemory h same = lacking errors output input h same
+  gives-up errors output input (faults.CannotOpen name) h same = no-name errors output input name h same h.why.1
+  gives-up errors output input faults.Usage h same = absurd h.why
+  gives-up errors output input (faults.BadParameter p) h same = absurd h.why
+  gives-up errors output input faults.ReadFault h same = absurd h.why
+  gives-up errors output input faults.WriteFault h same = absurd h.why
+  gives-up errors output input faults.DiskFault h same = absurd h.why
+  gives-up errors output input (faults.NotEmpty n) h same = absurd h.why
+  gives-up errors output input faults.NotAStore h same = absurd h.why
+  gives-up errors output input (faults.OtherFormat n) h same = absurd h.why
+  gives-up errors output input (faults.Damaged n) h same = absurd h.why
+  gives-up errors output input (faults.Full n m) h same = absurd h.why
+  gives-up errors output input faults.CannotAccept h same = absurd h.why
+  gives-up errors output input faults.TooMuchInput h same = absurd h.why
+
+  -- doors were handed out and served
+  pub is-worked : (opening journal : List Batch) (first : Option Fault) (lines : Option (List ℕ)) (told : Bool)
+      → HasWorked service opening journal first lines told lent used → IfSome given.content (HasJournal opening)
+      → IsWorked service before after
+  is-worked opening journal first lines told w read =
+      let files : w.middle.files ≡ before.files = w.files ∙ ap (λ (h : HostState). h.files) hands.rest in
+      let fs : List HostCall = files_back service.files (map (λ (run : FileRun). run.file) w.over.files) in
+      let ds : List HostCall = map (λ (run : DoorRun). DoorBack run.connections) w.over.doors in
+      let outs : List HostCall = DoorsOut service.address service.readers service.connections ∷ files_out service.files in
+      let tail : List HostCall = DiskOut service.store ∷ [] in
+      let is : used.calls ≡ added ((fs ++ ds) ++ outs) lent.calls =
+      w.over.calls ∙ (ap (λ (c : Option (List HostCall)). added (fs ++ ds) c) w.out ∙ sym (added-both (fs ++ ds) outs lent.calls)) in
+      let order : ((fs ++ ds) ++ outs) ++ tail ≡ fs ++ (ds ++ (outs ++ tail)) =
+      append_assoc (fs ++ ds) outs tail ∙ append_assoc fs ds (outs ++ tail) in
+      record {
+        opening = opening;
+        told = subst (λ (c : Option (List ℕ)). IfSome c (HasJournal opening)) hands.content read;
+        files = w.over.files;
+        imported = subst (λ (at : List ℕ → Option (List ℕ)). AllZip IsImported (map (λ (name : List ℕ). source_alone (at name) 0 0) service.files) w.over.files)
+            files w.over.imported;
+        handed = w.handed;
+        are_fresh = subst (λ (ls : List ℕ → ℕ → Option (List Stream)). AreFresh service.readers service.connections (ls service.address) w.handed)
+            (ap (λ (h : HostState). h.links) hands.rest) w.are_fresh;
+        doors = w.over.doors;
+        served = w.over.served;
+        called = calls-round ((fs ++ ds) ++ outs) is
+            ∙ ap (λ (cs : List HostCall). added (DiskBack service.store ∷ cs) before.calls) order;
+      }
+
+-- ---- a journal that goes on
+
+prefix-nil : {A : Type 0} (xs : List A) → IsPrefix [] xs
+prefix-nil xs = record { rest = xs; is = refl }
+
+prefix-append : {A : Type 0} (xs more : List A) → IsPrefix xs (xs ++ more)
+prefix-append xs more = record { rest = more; is = refl }
+
+texts-prefix : (front journal : List Batch) → IsPrefix front journal → IsPrefix (texts_of front) (texts_of journal)
+texts-prefix front journal p = record {
+  rest = texts_of p.rest;
+  is = ap texts_of p.is ∙ flat_map-append (λ batch. batch.texts) front p.rest;
+}
+
+stands-longer : (least : ℕ) (front journal : List Batch) (batches : List Batch) → IsPrefix front journal
+    → StandFrom least front batches → StandFrom least journal batches
+stands-longer least front journal [] p s = tt
+stands-longer least front journal (b ∷ bs) p s =
+    (s.0, s.1, get-prefix front journal s.0 b p s.2, stands-longer (s.0 + 1) front journal bs p s.3)
+
+repeat-longer : (cuts : List Cut) (place : ℕ) (why : Why) (front journal : List Batch) → IsPrefix front journal
+    → IsRepeatOf cuts front place why → IsRepeatOf cuts journal place why
+repeat-longer cuts place Preamble front journal p r = tt
+repeat-longer cuts place (TooLong n) front journal p r = tt
+repeat-longer cuts place (Game fault) front journal p r = tt
+repeat-longer cuts place (Twice first) front journal p r = tt
+repeat-longer cuts place (Repeated number) front journal p r = record {
+  text = r.text;
+  stands = r.stands;
+  game = r.game;
+  is_game = r.is_game;
+  earlier_text = r.earlier_text;
+  stored = get-prefix (texts_of front) (texts_of journal) number r.earlier_text (texts-prefix front journal p) r.stored;
+  earlier = r.earlier;
+  is_earlier = r.is_earlier;
+  same_id = r.same_id;
+}
+
+body-longer : (front journal : List Batch) (body : List ℕ) (games : ℕ) (refused : List Refusal) → IsPrefix front journal
+    → HasStoredBody front body games refused → HasStoredBody journal body games refused
+body-longer front journal body games refused p h = record {
+  batches = h.batches;
+  stand = stands-longer 0 front journal h.batches p h.stand;
+  count = h.count;
+  accounted = h.accounted;
+  repeats = All-weaker (λ r. IsRepeatOf (cuts body) front r.place r.why) (λ r. IsRepeatOf (cuts body) journal r.place r.why)
+      (λ r. repeat-longer (cuts body) r.place r.why front journal p) refused h.repeats;
+}
+
+stored-longer : (front journal : List Batch) (files : List Stream) (runs : List FileRun) → IsPrefix front journal
+    → AllZip (IsStoredIn front) files runs → AllZip (IsStoredIn journal) files runs
+stored-longer front journal [] [] p all = tt
+stored-longer front journal [] (r ∷ rs) p all = absurd all
+stored-longer front journal (f ∷ fs) [] p all = absurd all
+stored-longer front journal (f ∷ fs) (r ∷ rs) p all = (
+  record {
+    whole = all.0.whole;
+    stream = all.0.stream;
+    reads = all.0.reads;
+    at_end = all.0.at_end;
+    below = all.0.below;
+    games = all.0.games;
+    stored = body-longer front journal all.0.stream all.0.games r.refused p all.0.stored;
+  },
+  stored-longer front journal fs rs p all.1,
+)
+
+seen-longer : (opening front journal : List Batch) (doors : List Connections) (runs : List DoorRun) → IsPrefix front journal
+    → AllZip (IsServedIn opening front) doors runs → AllZip (IsServedIn opening journal) doors runs
+seen-longer opening front journal [] [] p all = tt
+seen-longer opening front journal [] (r ∷ rs) p all = absurd all
+seen-longer opening front journal (d ∷ ds) [] p all = absurd all
+seen-longer opening front journal (d ∷ ds) (r ∷ rs) p all = (
+  record {
+    from = all.0.from;
+    whole = all.0.whole;
+    none_left = all.0.none_left;
+    front = prefix-trans all.0.from.last.pass.seen front journal all.0.front p;
+  },
+  seen-longer opening front journal ds rs p all.1,
+)
+
+-- what any reader saw begins with the opening
+begins-with : (opening journal : List Batch) (doors : List Connections) (runs : List DoorRun) → 1 ≤ length doors
+    → AllZip (IsServedIn opening journal) doors runs → IsPrefix opening journal
+begins-with opening journal [] runs some all = absurd (omega (arith, some))
+begins-with opening journal (d ∷ ds) [] some all = absurd all
+begins-with opening journal (d ∷ ds) (r ∷ rs) some all =
+    prefix-trans opening all.0.from.last.pass.seen journal all.0.from.begins all.0.front
+
+-- ---- the journal that a disk tells
+
+with-or-without : (journal : List Batch) (batch : Batch) (bytes : List ℕ) → IsWithOrWithoutBatch journal batch bytes
+    → TellsLonger journal (Some bytes)
+with-or-without journal batch bytes (inl is) = record { longer = journal; extends = prefix-self journal; tells = is }
+with-or-without journal batch bytes (inr is) =
+    record { longer = journal ++ batch ∷ []; extends = prefix-append journal (batch ∷ []); tells = is }
+
+one-more : (journal : List Batch) (batch : Batch) (content : Option (List ℕ))
+    → ((bytes : List ℕ) → content ≡ Some bytes → IsWithOrWithoutBatch journal batch bytes) → TellsLonger journal content
+one-more journal batch None each = record { longer = journal; extends = prefix-self journal; tells = tt }
+one-more journal batch (Some bytes) each = with-or-without journal batch bytes (each bytes refl)
+
+kept-by : {D : Type 0} (disk : D → DiskState) (left_since : D → ℕ → List ℕ → Type 0) (journal : List Batch) (manifest : Log D)
+    (fault : Option (ℕ × ℕ)) → ((it : D) (file : List ℕ) → (disk it).content ≡ Some file → MayLeave disk left_since it file)
+    → KeepsBy disk left_since journal manifest fault → TellsLonger journal (disk manifest.disk).content
+kept-by disk left_since journal manifest None told k = record {
+  longer = journal;
+  extends = prefix-self journal;
+  tells = told_has (HasJournal journal) (disk manifest.disk).content (λ bytes is. k.images bytes (told manifest.disk bytes is));
+}
+kept-by disk left_since journal manifest (Some counts) told k =
+    one-more journal k.0 (disk manifest.disk).content (λ bytes is. k.1 bytes (told manifest.disk bytes is))
+
+pub longer : {D : Type 0} (disk : D → DiskState) (left_since : D → ℕ → List ℕ → Type 0) (journal : List Batch) (manifest : Log D)
+    → ((it : D) (file : List ℕ) → (disk it).content ≡ Some file → MayLeave disk left_since it file)
+    → Keeps disk left_since journal manifest → TellsLonger journal (disk manifest.disk).content
+longer disk left_since journal manifest told k = kept-by disk left_since journal manifest manifest.fault told k
+
+-- ---- the first fault
+
+abbrev IsWorkers : Fault → Type 0
+IsWorkers faults.ReadFault = Unit {0}
+IsWorkers (faults.Full games bytes) = Unit {0}
+IsWorkers faults.TooMuchInput = Unit {0}
+IsWorkers faults.CannotAccept = Unit {0}
+IsWorkers faults.OutOfMemory = Unit {0}
+IsWorkers _ = ⊥
+
+or-both : (left right : Option Fault) → IfSome left IsWorkers → IfSome right IsWorkers → IfSome (option_or left right) IsWorkers
+or-both None right l r = r
+or-both (Some fault) right l r = l
+
+of-import : (ending : ImportEnding) → IfSome (fault_of_import ending) IsWorkers
+of-import endings.Whole = tt
+of-import (endings.ReadFault before after) = tt
+of-import (endings.DiskFault before after) = tt
+of-import (endings.Closed before after) = tt
+of-import (endings.Full games bytes) = tt
+of-import (endings.TooMuch bytes) = tt
+of-import endings.OutOfMemory = tt
+
+of-door : (end : DoorEnd) → IfSome (fault_of_door end) IsWorkers
+of-door door_ends.Whole = tt
+of-door door_ends.AcceptFault = tt
+
+of-doors : (doors : List DoorRun) → IfSome (fault_of_doors doors) IsWorkers
+of-doors [] = tt
+of-doors (run ∷ runs) = or-both (fault_of_door run.end) (fault_of_doors runs) (of-door run.end) (of-doors runs)
+
+of-workers : (files : List FileRun) (doors : List DoorRun) → IfSome (first_fault files doors) IsWorkers
+of-workers [] doors = of-doors doors
+of-workers (run ∷ runs) doors =
+    or-both (fault_of_import run.ending) (first_fault runs doors) (of-import run.ending) (of-workers runs doors)
+
+-- ---- how a run ends whose doors were served
+
+-- all was stored, and all that was seen is a front of what is stored
+pub record SeesAll (service : Service) (before after : HostState) (worked : IsWorked service before after) : Type 0 where
+  pub journal : List Batch
+  pub tells : IfSome (after.disks service.store) (HasJournal journal)
+  pub extends : IsPrefix worked.opening journal
+  pub stored : AllZip (IsStoredIn journal) (map (file_at before) service.files) worked.files
+  pub seen : AllZip (IsServedIn worked.opening journal) worked.handed worked.doors
+
+reported-by : (lines : List ℕ) (old new : Stream) → Wrote lines old new → Writes (lines ∷ []) old new
+reported-by lines old new (inl takes) = writes-takes lines old new takes
+reported-by lines old new (inr fails) = writes-fails lines old new fails
+
+listens-by : {A E : Type 0} (line : List ℕ) (listens : Result A E) (old new : Stream) → WroteLine line listens old new
+    → Writes (line ∷ []) old new
+listens-by line (Ok written) old new wrote = writes-takes line old new wrote
+listens-by line (Err failed) old new wrote = writes-fails line old new wrote
+
+module _ (service : Service) (before after : World) (worked : IsWorked service before.host after.host)
+    (same_input : after.input ≡ before.input) (reports : Reports service worked.files before after) where
+  -- a worker had a fault
+  by-worker : (fault : Fault) → IsWorkers fault → IsWorkedTo service (Some fault) before after
+      → ServesBy service before after (Stopped fault)
+  by-worker faults.ReadFault is to = to
+  by-worker (faults.Full games bytes) is to = to
+  by-worker faults.TooMuchInput is to = to
+  by-worker faults.CannotAccept is to = to
+  by-worker faults.OutOfMemory is to = inr (inr (worked, reports.listens, inr reports))
+  by-worker faults.Usage is to = absurd is
+  by-worker (faults.BadParameter p) is to = absurd is
+  by-worker faults.WriteFault is to = absurd is
+  by-worker faults.DiskFault is to = absurd is
+  by-worker (faults.NotEmpty n) is to = absurd is
+  by-worker faults.NotAStore is to = absurd is
+  by-worker (faults.OtherFormat n) is to = absurd is
+  by-worker (faults.Damaged n) is to = absurd is
+  by-worker (faults.CannotOpen name) is to = absurd is
+
+  to-first : (first : Option Fault) → first ≡ first_fault worked.files worked.doors
+      → after.host.disk_faults ≡ before.host.disk_faults → IsWorkedTo service first before after
+  to-first first is disk = record { worked = worked; reports = reports; first = is; disk = disk }
+
+  is-served : None ≡ first_fault worked.files worked.doors → after.host.disk_faults ≡ before.host.disk_faults
+      → SeesAll service before.host after.host worked → IsServed service before after
+  unfolding to-first
+  is-served is disk sees = record {
+    to = to-first None is disk;
+    journal = sees.journal;
+    tells = sees.tells;
+    extends = sees.extends;
+    stored = sees.stored;
+    seen = sees.seen;
+  }
+
+  same_reads : after.input.read_faults ≡ before.input.read_faults
+  same_reads = ap (λ (s : Stream). s.read_faults) same_input
+
+  by-sinks : {A E : Type 0} (listens : Result A E) (lines : List ℕ) → WroteLine (listening_line service.address) listens before.output after.output
+      → IsServed service before after → (ending : Ending) → EndsBy false None true listens lines before.errors after.errors ending
+      → ServesBy service before after ending
+  by-sinks (Err failed) lines wrote served ending is =
+      subst (λ (e : Ending). ServesBy service before after e) (sym is)
+      (served, record { reads = same_reads; rises = inl wrote.rises })
+  by-sinks (Ok listening) lines wrote served ending (inl done) =
+      subst (λ (e : Ending). ServesBy service before after e) (sym done.1) (
+        served,
+        record {
+          reads = same_reads;
+          output = takes-faults (listening_line service.address) before.output after.output wrote;
+          errors = takes-faults lines before.errors after.errors done.0;
+        },
+      )
+  by-sinks (Ok listening) lines wrote served ending (inr fails) =
+      subst (λ (e : Ending). ServesBy service before after e) (sym fails.1)
+      (served, record { reads = same_reads; rises = inr fails.0.rises })
+
+  ends-by : {A E : Type 0} (failed : Bool) (first : Option Fault) (told : Bool) (listens : Result A E) (lines : List ℕ)
+      → WroteLine (listening_line service.address) listens before.output after.output
+      → (failed ≡ true → Rises before.host.disk_faults after.host.disk_faults)
+      → (failed ≡ false → after.host.disk_faults ≡ before.host.disk_faults)
+      → first ≡ first_fault worked.files worked.doors
+      → (first ≡ None → told ≡ true → SeesAll service before.host after.host worked)
+      → (ending : Ending) → EndsBy failed first told listens lines before.errors after.errors ending
+      → ServesBy service before after ending
+  ends-by true first told listens lines wrote rises stays is sees ending by =
+      subst (λ (e : Ending). ServesBy service before after e) (sym by) (rises refl, inr (worked, reports))
+  ends-by false (Some fault) told listens lines wrote rises stays is sees ending by =
+      subst (λ (e : Ending). ServesBy service before after e) (sym by)
+      (by-worker fault (subst (λ (o : Option Fault). IfSome o IsWorkers) (sym is) (of-workers worked.files worked.doors))
+      (to-first (Some fault) is (stays refl)))
+  ends-by false None false listens lines wrote rises stays is sees ending by =
+      subst (λ (e : Ending). ServesBy service before after e) (sym by) (inr (inr (worked, reports.listens, inr reports)))
+  ends-by false None true listens lines wrote rises stays is sees ending by =
+      by-sinks listens lines wrote (is-served is (stays refl) (sees refl refl)) ending by
+
+module _ {A E : Type 0} (service : Service) (before after : World) (worked : IsWorked service before.host after.host)
+    (same_input : after.input ≡ before.input) (failed : Bool) (first : Option Fault) (told : Bool) (listens : Result A E)
+    (wrote : WroteLine (listening_line service.address) listens before.output after.output)
+    (rises : failed ≡ true → Rises before.host.disk_faults after.host.disk_faults)
+    (stays : failed ≡ false → after.host.disk_faults ≡ before.host.disk_faults)
+    (first_is : first ≡ first_fault worked.files worked.doors)
+    (sees : first ≡ None → told ≡ true → SeesAll service before.host after.host worked) where
+  listened : Listens service before after
+  listened = record {
+    input = same_input;
+    output = listens-by (listening_line service.address) listens before.output after.output wrote;
+  }
+
+  pub concludes : (lines : Option (List ℕ)) → IfSome lines (λ told. told ≡ serve_report service.files worked.files)
+      → (ending : Ending) → Concludes lines failed first told listens before.errors after.errors ending
+      → ServesBy service before after ending
+  concludes None are ending by =
+      subst (λ (e : Ending). ServesBy service before after e) (sym by.1) (inr (inr (worked, listened, inl by.0)))
+  concludes (Some lines) are ending by =
+      let reports : Reports service worked.files before after = record {
+        listens = listened;
+        errors = subst (λ (l : List ℕ). Writes (l ∷ []) before.errors after.errors) are (reported-by lines before.errors after.errors by.0);
+      } in
+      ends-by service before after worked same_input reports failed first told listens lines wrote rises stays first_is sees ending by.1
+
+module _ (service : Service) (before lent used after : HostState) (given returns : DiskState)
+    (hands : HandsDisk service.store given before lent) (takes : TakesDisk service.store returns used after)
+    (opening journal : List Batch) (first : Option Fault) (lines : Option (List ℕ)) (told : Bool)
+    (w : HasWorked service opening journal first lines told lent used) (read : IfSome given.content (HasJournal opening)) where
+  pub sees-all : 1 ≤ service.readers → TellsLonger journal returns.content → first ≡ None → told ≡ true
+      → SeesAll service before after (is-worked service before lent used after given returns hands takes opening journal first lines told w read)
+  unfolding is-worked
+  sees-all some l none is =
+      let files : w.middle.files ≡ before.files = w.files ∙ ap (λ (h : HostState). h.files) hands.rest in
+      let seen : AllZip (IsServedIn opening journal) w.handed w.over.doors = w.over.seen none is in
+      let count : 1 ≤ length w.handed = omega (arith, some, w.are_fresh.number) in
+      record {
+        journal = l.longer;
+        tells = subst (λ (c : Option (List ℕ)). IfSome c (HasJournal l.longer)) (sym (content-back service.store returns used after takes)) l.tells;
+        extends = prefix-trans opening journal l.longer (begins-with opening journal w.handed w.over.doors count seen) l.extends;
+        stored = stored-longer journal l.longer (map (file_at before) service.files) w.over.files l.extends
+            (subst (λ (at : List ℕ → Option (List ℕ)). AllZip (IsStoredIn journal) (map (λ (name : List ℕ). source_alone (at name) 0 0) service.files) w.over.files)
+            files (w.over.stored none is));
+        seen = seen-longer opening journal l.longer w.handed w.over.doors l.extends seen;
+      }
+
+  pub worked-disk : used.disk_faults ≡ lent.disk_faults
+  worked-disk = w.over.disk_faults ∙ w.disk_faults
+
+-- ---- runs of the command
+
+module _ (service : Service) (before lent after : HostState) (given returns : DiskState)
+    (hands : HandsDisk service.store given before lent) (takes : TakesDisk service.store returns lent after)
+    (same : returns.content ≡ given.content) (input output errors : Stream) where
+  closed : IsGivenUp service [] [] before after
+  closed = is-given-up service before lent lent after given returns hands takes [] [] [] refl same
+
+  starved-by : ServesBy service (world input output errors before) (world input output errors after) (Stopped faults.OutOfMemory)
+  starved-by = inr (inl ([], prefix-nil service.files, [], inl refl, closed, refl))
+
+  closes : GivesBack before after
+  closes = rounds service before lent lent after given returns hands takes (λ thing. refl)
+
+  -- memory was wanting before anything else was asked for
+  pub starves : Serves service (world input output errors before) (world input output errors after) (Stopped faults.OutOfMemory)
+  starves = record { by = starved-by; gives_back = closes }
+
+  -- calls of the disk failed while it was opened
+  pub breaks : 0 < returns.faults → Serves service (world input output errors before) (world input output errors after) (Stopped faults.DiskFault)
+  breaks some = record {
+    by = (disk-rises service before lent lent after given returns hands takes refl some, inl (closed, refl));
+    gives_back = closes;
+  }
+
+  no-store : (fault : LogFault) → returns.faults ≡ 0 → IfSome given.content (IsWrong fault)
+      → HasNoStore service fault (world input output errors before) (world input output errors after)
+  no-store fault none wrong = record {
+    wrong = subst (λ (c : Option (List ℕ)). IfSome c (IsWrong fault)) hands.content wrong;
+    given_up = closed;
+    silent = refl;
+    disk = disk-stays service before lent lent after given returns hands takes refl none;
+  }
+
+  not-opened-by : {D : Type 0} (disk : D → DiskState) (old new : D) (fault : OpenFault) → disk old ≡ given → disk new ≡ returns
+      → returns.faults ≡ 0 → IsNotOpened disk fault old new
+      → ServesBy service (world input output errors before) (world input output errors after) (Stopped (fault_of_opening fault))
+  not-opened-by disk old new (openings.Log logs.NotALog) o n none not =
+      no-store logs.NotALog none (subst (λ (d : DiskState). IfSome d.content (IsWrong logs.NotALog)) o not)
+  not-opened-by disk old new (openings.Log (logs.OtherFormat number)) o n none not =
+      no-store (logs.OtherFormat number) none (subst (λ (d : DiskState). IfSome d.content (IsWrong (logs.OtherFormat number))) o not)
+  not-opened-by disk old new (openings.Log (logs.Damaged at)) o n none not =
+      no-store (logs.Damaged at) none (subst (λ (d : DiskState). IfSome d.content (IsWrong (logs.Damaged at))) o not)
+  not-opened-by disk old new (openings.DiskFault earlier later) o n none not =
+      let first : earlier ≡ 0 = not.before_is ∙ (ap (λ (d : DiskState). d.faults) o ∙ hands.faultless) in
+      let last : later ≡ 0 = not.after_is ∙ (ap (λ (d : DiskState). d.faults) n ∙ none) in
+      absurd (omega (arith, first, last, not.rises.rose))
+  not-opened-by disk old new openings.OutOfMemory o n none not = starved-by
+
+  -- what is told is no store, or memory was wanting
+  pub not-opened : {D : Type 0} (disk : D → DiskState) (old new : D) (fault : OpenFault) (told : Fault) → told ≡ fault_of_opening fault
+      → disk old ≡ given → disk new ≡ returns → returns.faults ≡ 0 → IsNotOpened disk fault old new
+      → Serves service (world input output errors before) (world input output errors after) (Stopped told)
+  not-opened disk old new fault told is o n none not =
+      subst (λ (f : Fault). Serves service (world input output errors before) (world input output errors after) (Stopped f)) (sym is) (record {
+        by = not-opened-by disk old new fault o n none not;
+        gives_back = closes;
+      })
+
+refused-store : (service : Service) (before after : HostState) (input output errors : Stream) (fault : Fault)
+    → RefusesDisk service.store before after → CannotOpenSo service.store fault
+    → ServesBy service (world input output errors before) (world input output errors after) (Stopped fault)
+refused-store service before after input output errors (faults.CannotOpen name) refuses so = (inl (so, refuses), refl)
+refused-store service before after input output errors faults.OutOfMemory refuses so = inl (refuses, refl)
+refused-store service before after input output errors faults.Usage refuses so = absurd so
+refused-store service before after input output errors (faults.BadParameter p) refuses so = absurd so
+refused-store service before after input output errors faults.ReadFault refuses so = absurd so
+refused-store service before after input output errors faults.WriteFault refuses so = absurd so
+refused-store service before after input output errors faults.DiskFault refuses so = absurd so
+refused-store service before after input output errors (faults.NotEmpty n) refuses so = absurd so
+refused-store service before after input output errors faults.NotAStore refuses so = absurd so
+refused-store service before after input output errors (faults.OtherFormat n) refuses so = absurd so
+refused-store service before after input output errors (faults.Damaged n) refuses so = absurd so
+refused-store service before after input output errors (faults.Full n m) refuses so = absurd so
+refused-store service before after input output errors faults.CannotAccept refuses so = absurd so
+refused-store service before after input output errors faults.TooMuchInput refuses so = absurd so
+
+pub refuses-store : (service : Service) (before after : HostState) (input output errors : Stream) (fault : Fault)
+    → RefusesDisk service.store before after → CannotOpenSo service.store fault
+    → Serves service (world input output errors before) (world input output errors after) (Stopped fault)
+refuses-store service before after input output errors fault refuses so = record {
+  by = refused-store service before after input output errors fault refuses so;
+  gives_back = refused-gives-back service.store before after refuses;
+}
+
+-- files or doors were refused, or memory was wanting for them
+pub gives-up-so : (service : Service) (before lent used after : HostState) (given returns : DiskState)
+    → HandsDisk service.store given before lent → TakesDisk service.store returns used after
+    → (input output later errors : Stream) (fault : Fault) → HasGivenUp service fault lent used → returns.content ≡ given.content
+    → GivesBack lent used → later ≡ output
+    → Serves service (world input output errors before) (world input later errors after) (Stopped fault)
+gives-up-so service before lent used after given returns hands takes input output later errors fault h same g is =
+    subst (λ (s : Stream). Serves service (world input output errors before) (world input s errors after) (Stopped fault)) (sym is) (record {
+      by = gives-up service before lent used after given returns hands takes errors output input fault h same;
+      gives_back = rounds service before lent used after given returns hands takes g;
+    })
+
+-- doors were served
+pub served-so : {A E : Type 0} (service : Service) (before lent used after : HostState) (given returns : DiskState)
+    (hands : HandsDisk service.store given before lent) (takes : TakesDisk service.store returns used after)
+    (opening journal : List Batch) (first : Option Fault) (lines : Option (List ℕ)) (told : Bool)
+    → HasWorked service opening journal first lines told lent used → IfSome given.content (HasJournal opening)
+    → 1 ≤ service.readers → TellsLonger journal returns.content → GivesBack lent used
+    → (failed : Bool) → (failed ≡ true → 0 < returns.faults) → (failed ≡ false → returns.faults ≡ 0)
+    → (input output written errors reported : Stream) (listens : Result A E)
+    → WroteLine (listening_line service.address) listens output written
+    → (ending : Ending) → Concludes lines failed first told listens errors reported ending
+    → Serves service (world input output errors before) (world input written reported after) ending
+unfolding is-worked
+served-so service before lent used after given returns hands takes opening journal first lines told w read some l g failed some_faults no_faults
+    input output written errors reported listens wrote ending by =
+    let disk = worked-disk service before lent used after given returns hands takes opening journal first lines told w read in
+    record {
+      by = concludes service (world input output errors before) (world input written reported after)
+          (is-worked service before lent used after given returns hands takes opening journal first lines told w read)
+          refl failed first told listens wrote
+          (λ is. disk-rises service before lent used after given returns hands takes disk (some_faults is))
+          (λ is. disk-stays service before lent used after given returns hands takes disk (no_faults is))
+          w.over.first_is
+          (sees-all service before lent used after given returns hands takes opening journal first lines told w read some l)
+          lines w.over.lines_are ending by;
+      gives_back = rounds service before lent used after given returns hands takes g;
+    }
+
+-- ---- what calls say of what they gave
+
+pub content-of : {D : Type 0} (disk : D → DiskState) (one other : D) → one ≡ other → (disk one).content ≡ (disk other).content
+content-of {D} disk one other is = ap (λ (d : D). (disk d).content) is
+
+pub nameless-disk : {D : Type 0} (one other : Nameless D) → one ≡ other → one.manifest.disk ≡ other.manifest.disk
+nameless-disk {D} one other is = ap (λ (s : Nameless D). s.manifest.disk) is
+
+pub stored-disk : {D : Type 0} (one other : Stored D) → one ≡ other → one.manifest.disk ≡ other.manifest.disk
+stored-disk {D} one other is = ap (λ (s : Stored D). s.manifest.disk) is
+
+pub journal-named : {D : Type 0} (stored : Stored D) (store : Nameless D) → stored ≡ stored_by store
+    → journal stored ≡ journal_of store.index.list
+journal-named {D} stored store is = ap (λ (s : Stored D). journal s) is
+
+replicate-all : (n : ℕ) (x : Watching) → AllByRecursion (λ (pass : Watching). pass ≡ x) (replicate n x)
+replicate-all zero x = tt
+replicate-all (suc n) x = (refl, replicate-all n x)
+
+pub all-watching : (passes : List Watching) (n : ℕ) (opening now : List Batch) → passes ≡ replicate n (watching opening) → now ≡ opening
+    → AllByRecursion (λ pass. pass ≡ watching now) passes
+all-watching passes n opening now are is =
+    subst (λ (ps : List Watching). AllByRecursion (λ pass. pass ≡ watching now) ps) (sym are)
+    (subst (λ (j : List Batch). AllByRecursion (λ pass. pass ≡ watching now) (replicate n (watching j))) is (replicate-all n (watching now)))
+
+pub given-up-so : (outcome : Outcome) (fault : Fault) → outcome ≡ outcomes.GivenUp fault → IsGivenUpSo outcome
+given-up-so outcome fault is = subst IsGivenUpSo (sym is) tt
+
+pub files-given-up : (service : Service) (opening journal : List Batch) (outcome : Outcome) (fault : Fault) (before after : HostState)
+    → outcome ≡ outcomes.GivenUp fault → FilesServed service opening journal outcome before after → HasGivenUp service fault before after
+files-given-up service opening journal outcome fault before after is served =
+    subst (λ (o : Outcome). FilesServed service opening journal o before after) is served
+
+pub silent-so : (line : List ℕ) (outcome : Outcome) (fault : Fault) (old new : Stream) → outcome ≡ outcomes.GivenUp fault
+    → ListensSo line outcome old new → new ≡ old
+silent-so line outcome fault old new is listens = subst (λ (o : Outcome). ListensSo line o old new) is listens
+
+pub files-worked : (service : Service) (opening journal : List Batch) (outcome : Outcome) (done : came.Done) (before after : HostState)
+    → outcome ≡ outcomes.Worked done → FilesServed service opening journal outcome before after
+    → HasWorked service opening journal done.first (lines_told done.lines) done.told before after
+files-worked service opening journal outcome done before after is served =
+    subst (λ (o : Outcome). FilesServed service opening journal o before after) is served
+
+pub listens-so : (line other : List ℕ) (outcome : Outcome) (done : came.Done) (old new : Stream) → outcome ≡ outcomes.Worked done
+    → line ≡ other → ListensSo line outcome old new → WroteLine other done.listens old new
+listens-so line other outcome done old new is same listens =
+    subst (λ (l : List ℕ). WroteLine l done.listens old new) same (subst (λ (o : Outcome). ListensSo line o old new) is listens)
+
+pub longer-by : {D : Type 0} (disk : D → DiskState) (left_since : D → ℕ → List ℕ → Type 0) (stored : Stored D) (returns : D)
+    → ((it : D) (file : List ℕ) → (disk it).content ≡ Some file → MayLeave disk left_since it file)
+    → returns ≡ stored.manifest.disk → Keeps disk left_since (journal stored) stored.manifest
+    → TellsLonger (journal stored) (disk returns).content
+longer-by disk left_since stored returns told is k =
+    subst (λ (c : Option (List ℕ)). TellsLonger (journal stored) c) (sym (content-of disk returns stored.manifest.disk is))
+    (longer disk left_since (journal stored) stored.manifest told k)

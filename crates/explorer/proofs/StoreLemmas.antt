@@ -1,0 +1,57 @@
+-- What commands do with the disk of a store.
+use Rattle.std.proofs.Common.{◌≡◌, ◌≢◌, ◌<◌, ℕ, List, length, Option, None, Some, refl, sym, ap, ◌∙◌, subst, arith}
+use Rattle.std.specs.Prelude.{IfSome}
+use Rattle.outside.specs.Stream.{Rises}
+use Rattle.disk_model.specs.Disk.{DiskState, MayLeave}
+use Rattle.explorer_model.specs.StoreFile.{store_format}
+use Rattle.record_log.specs.Log.{IsCreated, Log, empty_file}
+use Rattle.manifest.specs.Manifest.{batch_format}
+use Rattle.host.specs.Hosts.{HandsDisk, HostState, TakesDisk}
+use Rattle.explorer.specs.Create.{Makes}
+use Rattle.explorer.specs.Stores.{IsSized, UsesDisk}
+
+-- what is told has P
+pub told_has : (P : List ℕ → Type 0) (content : Option (List ℕ)) → ((bytes : List ℕ) → content ≡ Some bytes → P bytes)
+    → IfSome content P
+told_has P None each = tt
+told_has P (Some bytes) each = each bytes refl
+
+pub uses : (name : List ℕ) (Does : DiskState → DiskState → Type 0) (handed returned : DiskState) (before middle after : HostState)
+    → IsSized handed → HandsDisk name handed before middle → Does handed returned → TakesDisk name returned middle after
+    → UsesDisk name Does before after
+uses name Does handed returned before middle after sized hands does takes = record {
+  handed = handed;
+  sized = sized;
+  middle = middle;
+  hands = hands;
+  returned = returned;
+  does = does;
+  takes = takes;
+}
+
+above : (before after : ℕ) → before ≡ 0 → Rises before after → 0 < after
+above before after none rises = omega (arith, none, rises.rose)
+
+-- a count of the host rose where a disk came back with a fault
+pub rose : (name : List ℕ) (handed returned : DiskState) (before middle after : HostState)
+    → HandsDisk name handed before middle → TakesDisk name returned middle after → Rises handed.faults returned.faults
+    → Rises before.disk_faults after.disk_faults
+rose name handed returned before middle after hands takes rises =
+    subst (λ (n : ℕ). Rises n after.disk_faults) (ap (λ (h : HostState). h.disk_faults) hands.rest)
+    (takes.counts.rises (above handed.faults returned.faults hands.faultless rises))
+
+-- a store that was made on a disk
+pub made_by : {D : Type 0} (disk : D → DiskState) (left_since : D → ℕ → List ℕ → Type 0)
+    → ((it : D) (file : List ℕ) → (disk it).content ≡ Some file → MayLeave disk left_since it file)
+    → (before after : D) (log : Log D) → IsCreated disk left_since batch_format before log → after ≡ log.disk
+    → Makes (disk before) (disk after)
+made_by {D} disk left_since told before after log created is =
+    subst (λ (d : D). Makes (disk before) (disk d)) (sym is) (record {
+      was_empty = created.was_empty;
+      bytes = told_has (λ bytes. bytes ≡ empty_file store_format) (disk log.disk).content
+          (λ bytes tells. created.file bytes (told log.disk bytes tells));
+    })
+
+pub is_sized : {D : Type 0} (disk : D → DiskState)
+    → ((it : D) (file : List ℕ) → (disk it).content ≡ Some file → length file ≡ (disk it).size) → (it : D) → IsSized (disk it)
+is_sized disk told it = told_has (λ bytes. length bytes ≡ (disk it).size) (disk it).content (told it)

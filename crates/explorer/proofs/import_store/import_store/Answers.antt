@@ -1,0 +1,56 @@
+use Rattle.std.proofs.Common.{◌≡◌, ⊎_elim, inl, inr, refl, sym, ap, subst, string_bytes}
+use Rattle.explorer.specs.declared.fault.Fault.{Fault}
+use Rattle.explorer.specs.ImportStore.{ImportsBy}
+use Rattle.explorer.specs.Lines.{Ending, Stopped, ending_of}
+use Rattle.explorer.specs.Opened.{NotOpened}
+use Rattle.explorer.specs.World.{World, world}
+use Rattle.explorer.proofs.ImportEndLemmas.{imports_by, imports_to, not_opened}
+use Rattle.explorer.proofs.StoreLemmas.{uses}
+use Rattle.explorer.proofs.import_store.import_store.Goals as goal
+
+pub returns-in-Err : goal.returns-in-Err
+returns-in-Err g c = λ input.
+    let hands = rw c.as_str.ensures.value at c.in-Ok.ensures.hands in
+    let takes = rw c.as_str-in-Err.ensures.value at c.close.ensures in
+    let before : World = world input (g.O.Sink.sink c.args.output.now) (g.E.Sink.sink c.args.errors.now) (g.H.Host.host c.args.host.now) in
+    let after : World = world input (g.O.Sink.sink c.args.output.now) (g.E.Sink.sink c.args.errors.now) (g.H.Host.host c.close.new.self) in
+    subst (λ (f : Fault). ImportsBy (string_bytes c.args.store) (string_bytes c.args.file) before after (Stopped f)) (sym c.fault_of_opening.ensures)
+    (not_opened c.in-Err.back.fault (string_bytes c.args.store) (string_bytes c.args.file) before after
+    (uses (string_bytes c.args.store) (NotOpened c.in-Err.back.fault) _ _ _ _ _ c.open_store.ensures.sized hands c.in-Err.ensures.refused takes) refl)
+
+pub returns-in_default-file : goal.returns-in_default-file
+returns-in_default-file g c = λ input.
+    let hands = rw c.as_str.ensures.value at c.in-Ok.ensures.hands in
+    let refuses = rw c.as_str-2.ensures.value at c.in_default-file.ensures.refuses in
+    let takes = rw c.as_str-in_default-file.ensures.value at c.close-in_default-file.ensures in
+    inr (
+      refl,
+      record {
+        disk = _;
+        opened = _;
+        hands = hands;
+        refused = _;
+        refuses = refuses;
+        disk_after = _;
+        kept = rw c.into_disk.ensures c.in-Ok-open_store.ensures.opened.kept;
+        takes = takes;
+      },
+      refl,
+    )
+
+pub returns-in-Some : goal.returns-in-Some
+returns-in-Some g c = λ input.
+    let hands = rw c.as_str.ensures.value at c.in-Ok.ensures.hands in
+    let hands_file = rw c.as_str-2.ensures.value at c.in-Ok-file.ensures.hands in
+    let takes_file = rw c.as_str-3.ensures.value at c.close_file.ensures in
+    let takes = rw c.as_str-4.ensures.value at c.close-2.ensures in
+    let before : World = world input (g.O.Sink.sink c.args.output.now) (g.E.Sink.sink c.args.errors.now) (g.H.Host.host c.args.host.now) in
+    let after : World = world input (g.O.Sink.sink c.tell.new.output) (g.E.Sink.sink c.tell.new.errors) (g.H.Host.host c.close-2.new.self) in
+    let opened = c.in-Ok-open_store.ensures.opened in
+    let came = rw c.in-Some.is at c.import_in-disk.ensures in
+    ⊎_elim (λ oom. subst (λ (e : Ending). ImportsBy (string_bytes c.args.store) (string_bytes c.args.file) before after e) (sym (ap ending_of oom)) refl)
+    (λ told. imports_by (string_bytes c.args.store) (string_bytes c.args.file) before after c.in-Some.came.ending (ending_of c.tell.result)
+    (imports_to (string_bytes c.args.store) (string_bytes c.args.file) before after _ _ _ _ _ _ c.in-Some.came (ending_of c.tell.result)
+    (record { sized = c.open_store.ensures.sized; opened = _; hands_disk = hands; given = _; hands_file = hands_file; taken = _; takes_file = takes_file; takes_disk = takes })
+    opened.read opened.falls came told refl) told.outcome)
+    c.tell.ensures

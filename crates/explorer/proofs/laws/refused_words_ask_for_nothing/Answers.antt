@@ -1,5 +1,0 @@
-use Rattle.explorer.proofs.WordLemmas.{asks_nothing, is_refused}
-use Rattle.explorer.proofs.laws.refused_words_ask_for_nothing.Goals as goal
-
-pub returns : goal.returns
-returns c = λ words. (is_refused words, asks_nothing words)

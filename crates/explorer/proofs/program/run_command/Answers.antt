@@ -1,0 +1,31 @@
+use Rattle.std.proofs.Common.{◌≡◌, ℕ, List, map, refl, rules, subst, string_bytes}
+use Rattle.explorer.specs.Lines.{ending_of}
+use Rattle.explorer.specs.QueryStore.{QueriesBy}
+use Rattle.explorer.specs.Serve.{Serves}
+use Rattle.explorer.specs.Served.{Service}
+use Rattle.explorer.specs.World.{world}
+use Rattle.explorer.proofs.RunLemmas.{same_service}
+use Rattle.explorer.proofs.program.run_command.Goals as goal
+
+pub returns-in-Create : goal.returns-in-Create
+returns-in-Create g c = rw c.in-Create.is (c.create.ensures (g.I.Source.source c.args.input.now) (g.E.Sink.sink c.args.errors.now))
+
+pub returns-in-Import : goal.returns-in-Import
+returns-in-Import g c = rw c.in-Import.is (c.import_store.ensures (g.I.Source.source c.args.input.now))
+
+pub returns-in-Query : goal.returns-in-Query
+returns-in-Query g c =
+    rw c.in-Query.is (subst (λ (text : List ℕ). QueriesBy (string_bytes c.in-Query.store) text
+    (world (g.I.Source.source c.args.input.now) (g.O.Sink.sink c.args.output.now) (g.E.Sink.sink c.args.errors.now) (g.H.Host.host c.args.host.now))
+    (world (g.I.Source.source c.args.input.now) (g.O.Sink.sink c.query_store.new.output) (g.E.Sink.sink c.args.errors.now) (g.H.Host.host c.query_store.new.host)) (ending_of c.query_store.result))
+    c.as_bytes-in-Query.ensures.value
+    (c.query_store.ensures (g.I.Source.source c.args.input.now) (g.E.Sink.sink c.args.errors.now)))
+
+pub returns-in-Serve : goal.returns-in-Serve
+returns-in-Serve g c =
+    let before = world (g.I.Source.source c.args.input.now) (g.O.Sink.sink c.args.output.now) (g.E.Sink.sink c.args.errors.now) (g.H.Host.host c.args.host.now) in
+    let after = world (g.I.Source.source c.args.input.now) (g.O.Sink.sink c.serve.new.output) (g.E.Sink.sink c.serve.new.errors) (g.H.Host.host c.serve.new.host) in
+    let files : map string_bytes c.as_slice.result.now ≡ map string_bytes c.in-Serve.files.items = rw c.as_slice.ensures.value refl in
+    let same = same_service c.as_str.result.now (string_bytes c.in-Serve.store) c.as_str-in-Serve.result.now (string_bytes c.in-Serve.address) (map string_bytes c.as_slice.result.now) (map string_bytes c.in-Serve.files.items)
+    c.from-in-Serve.result c.in-Serve.workers c.from-in-Serve-2.result c.in-Serve.readers c.in-Serve.connections c.as_str.ensures.value c.as_str-in-Serve.ensures.value files (search rules) (search rules) in
+    rw c.in-Serve.is (subst (λ (s : Service). Serves s before after (ending_of c.serve.result)) same (c.serve.ensures (g.I.Source.source c.args.input.now)))

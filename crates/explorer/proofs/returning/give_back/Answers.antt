@@ -1,0 +1,109 @@
+use Rattle.std.proofs.Common.{rules, ◌≡◌, ◌+◌, ◌∷◌, ◌++◌, [], List, ℕ, true, None, map, string_bytes, length, refl, sym, ap, subst, ◌∙◌, arith}
+use Rattle.host.specs.Hosts.{HostCall, HostState}
+use Rattle.explorer_model.specs.declared.archive.Batch.{Batch}
+use Rattle.explorer_model.specs.Timeline.{IsPrefix}
+use Rattle.explorer_model.proofs.Timelines.{prefix-trans}
+use Rattle.ingest_desk.specs.Stored.{Stored, journal}
+use Rattle.explorer.specs.declared.workers.Worker.{Worker}
+use Rattle.explorer.specs.Workers.{AreNamed, CanReturn, GivenBack, IsTold, call_of, calls_of, name_at, seen_by}
+use Rattle.explorer.proofs.WorkerLists.{all-told-grow, calls-last, can-front, can-last, given-last, known-all, known-more, known-none, named-front, named-last}
+use Rattle.explorer.proofs.returning.give_back.Goals as goal
+use Rattle.explorer.proofs.returning.give_back.Goals.{After-len, In_default}
+use Rattle.explorer.proofs.returning.give_back.Given.{Over}
+
+-- the worker that was taken off stood behind the others
+place : (g : Over) (c : After-len g) → c.len.result ≡ 0 + length c.pop.new.self.items
+place g c = omega (arith, c.len.ensures, c.pop.new.self.ok.0)
+
+-- the calls for the list are those for the others, and those for the worker behind
+calls : (g : Over) (c : After-len g)
+    → calls_of g.H.File.Source.source g.H.Door.Door.door (map string_bytes c.args.names.now) 0 c.loop-worker.list.items
+    ≡ calls_of g.H.File.Source.source g.H.Door.Door.door (map string_bytes c.args.names.now) 0 c.pop.new.self.items
+    ++ call_of g.H.File.Source.source g.H.Door.Door.door (name_at (map string_bytes c.args.names.now) c.len.result) c.in-Some.worker
+calls g c =
+    ap (λ (ws : List (Worker g.row.H-File.Denot g.row.H-Door.Denot g.row.J.Denot)). calls_of g.H.File.Source.source g.H.Door.Door.door (map string_bytes c.args.names.now) 0 ws) c.in-Some.ensures.items
+    ∙ calls-last g.H.File.Source.source g.H.Door.Door.door (map string_bytes c.args.names.now) 0 c.len.result c.pop.new.self.items c.in-Some.worker (place g c)
+
+out-all : (g : Over) (c : After-len g) → CanReturn
+    (calls_of g.H.File.Source.source g.H.Door.Door.door (map string_bytes c.args.names.now) 0 c.pop.new.self.items
+    ++ call_of g.H.File.Source.source g.H.Door.Door.door (name_at (map string_bytes c.args.names.now) c.len.result) c.in-Some.worker)
+    (g.H.Host.host c.loop-worker.host)
+out-all g c = subst (λ (cs : List HostCall). CanReturn cs (g.H.Host.host c.loop-worker.host)) (calls g c) c.loop-worker.invariant.out
+
+named-all : (g : Over) (c : After-len g) → AreNamed (map string_bytes c.args.names.now) 0 (c.pop.new.self.items ++ c.in-Some.worker ∷ [])
+named-all g c =
+    subst (λ (ws : List (Worker g.row.H-File.Denot g.row.H-Door.Denot g.row.J.Denot)). AreNamed (map string_bytes c.args.names.now) 0 ws) c.in-Some.ensures.items
+    c.loop-worker.invariant.named
+
+-- no worker is left at the end
+left-none : (g : Over) (c : In_default g) → c.loop-worker.list.items ≡ []
+left-none g c = search rules
+
+pub loop-worker-init : goal.loop-worker-init
+loop-worker-init g c = record {
+  named = c.requires.named;
+  out = c.requires.out;
+  same = refl;
+  back = λ end given. given;
+  known = known-none c.args.list.items _ [] (journal c.args.ingest.now);
+}
+
+pub take_back-pass-requires-clause-named : goal.take_back-pass-requires-clause-named
+take_back-pass-requires-clause-named g c κs within =
+    let at = (goal.at.take_back-pass-requires-clause-named g c).After-len in
+    named-last (map string_bytes c.args.names.now) 0 c.len.result c.pop.new.self.items c.in-Some.worker (place g at) (named-all g at)
+
+pub take_back-pass-requires-clause-out : goal.take_back-pass-requires-clause-out
+take_back-pass-requires-clause-out g c κs within =
+    let at = (goal.at.take_back-pass-requires-clause-out g c).After-len in
+    can-last (calls_of g.H.File.Source.source g.H.Door.Door.door (map string_bytes c.args.names.now) 0 c.pop.new.self.items) _
+    (g.H.Host.host c.loop-worker.host) (out-all g at)
+
+pub loop-worker-preserved : goal.loop-worker-preserved
+loop-worker-preserved g c =
+    let at = (goal.at.loop-worker-preserved g c).After-len in
+    let source = g.H.File.Source.source in
+    let door = g.H.Door.Door.door in
+    let names = map string_bytes c.args.names.now in
+    let rest = c.pop.new.self.items in
+    record {
+      named = named-front names 0 rest c.in-Some.worker (named-all g at);
+      out = can-front source door (calls_of source door names 0 rest) (name_at names c.len.result) c.in-Some.worker
+          (g.H.Host.host c.loop-worker.host) (g.H.Host.host c.take_back-pass.new.host) (out-all g at) c.take_back-pass.ensures.back;
+      same = c.take_back-pass.ensures.same ∙ c.loop-worker.invariant.same;
+      back = λ end given. c.loop-worker.invariant.back end
+          (subst (λ (ws : List (Worker g.row.H-File.Denot g.row.H-Door.Denot g.row.J.Denot)). GivenBack source door names 0 ws (g.H.Host.host c.loop-worker.host) end) (sym c.in-Some.ensures.items)
+          (given-last source door names 0 c.len.result rest c.in-Some.worker (g.H.Host.host c.loop-worker.host)
+          (g.H.Host.host c.take_back-pass.new.host) end (place g at) c.take_back-pass.ensures.back given));
+      known = known-more c.args.list.items c.loop-worker.list.items rest c.in-Some.worker _ _
+          (seen_by c.loop-worker.last) (seen_by c.take_back-pass.result.0) (journal c.args.ingest.now)
+          c.in-Some.ensures.items c.take_back-pass.ensures.grew
+          (λ t. let b = c.both-told.ensures t.0 in (
+            (b.0, t.1),
+            subst (λ (i : Stored g.row.H-Disk.Denot). IsTold (seen_by c.take_back-pass.result.0) (journal i) c.in-Some.worker) c.loop-worker.invariant.same
+                (c.take_back-pass.ensures.told b.1 (ap (λ (i : Stored g.row.H-Disk.Denot). i.index.held) c.loop-worker.invariant.same ∙ t.1)),
+          ))
+          c.loop-worker.invariant.known;
+    }
+
+pub returns-in-Some-last-clause-told : goal.returns-in-Some-last-clause-told
+returns-in-Some-last-clause-told g c = λ told none.
+    let b = c.both.ensures told in
+    let J = journal c.args.ingest.now in
+    let known = known-all c.args.list.items c.loop-worker.list.items _ (seen_by c.loop-worker.last) J (left-none g (goal.at.returns-in-Some-last-clause-told g c).In_default)
+    c.loop-worker.invariant.known (b.0, none) in
+    let same : c.loop-worker.ingest.index.held ≡ None = ap (λ (i : Stored g.row.H-Disk.Denot). i.index.held) c.loop-worker.invariant.same ∙ none in
+    let has : IsPrefix c.catches_up-has.new.pass.seen J =
+    subst (λ (i : Stored g.row.H-Disk.Denot). IsPrefix c.catches_up-has.new.pass.seen (journal i)) c.loop-worker.invariant.same
+    (c.catches_up-has.ensures.told b.1 same) in
+    let all : IsPrefix (seen_by c.loop-worker.last) J =
+    rw c.in-Some-last.is (prefix-trans c.in-Some-last.pass.seen c.catches_up-has.new.pass.seen J c.catches_up-has.ensures.grew has) in
+    all-told-grow c.args.list.items (seen_by c.loop-worker.last) J J all known
+
+pub returns-in-None-clause-told : goal.returns-in-None-clause-told
+returns-in-None-clause-told g c = λ told none.
+    let J = journal c.args.ingest.now in
+    let known = known-all c.args.list.items c.loop-worker.list.items _ (seen_by c.loop-worker.last) J (left-none g (goal.at.returns-in-None-clause-told g c).In_default)
+    c.loop-worker.invariant.known (told, none) in
+    let nothing : IsPrefix (seen_by c.loop-worker.last) J = rw c.in-None.is (record { rest = J; is = refl }) in
+    all-told-grow c.args.list.items (seen_by c.loop-worker.last) J J nothing known

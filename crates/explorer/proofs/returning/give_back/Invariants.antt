@@ -1,0 +1,21 @@
+use Rattle.std.proofs.Common.{◌≡◌, true, None, map, string_bytes}
+use Rattle.host.specs.Hosts.{HostState}
+use Rattle.ingest_desk.specs.Stored.{journal}
+use Rattle.explorer.specs.Workers.{AreNamed, CanReturn, GivenBack, calls_of, seen_by}
+use Rattle.explorer.proofs.WorkerLists.{HasKnown}
+use Rattle.explorer.proofs.returning.give_back.Given as goal
+
+abbrev pub invariant-loop-worker : goal.invariant-loop-worker
+invariant-loop-worker g l = record {
+  named : AreNamed (map string_bytes l.names) 0 l.list.items;
+  out : CanReturn (calls_of g.H.File.Source.source g.H.Door.Door.door (map string_bytes l.names) 0 l.list.items)
+      (g.H.Host.host l.host);
+  same : l.ingest ≡ l.fn.ingest;
+  back : (end : HostState)
+      → GivenBack g.H.File.Source.source g.H.Door.Door.door (map string_bytes l.names) 0 l.list.items (g.H.Host.host l.host) end
+      → GivenBack g.H.File.Source.source g.H.Door.Door.door (map string_bytes l.names) 0 l.fn.list.items (g.H.Host.host l.fn.host) end;
+  known : HasKnown l.fn.list.items l.list.items ((l.told ≡ true) × (l.fn.ingest.index.held ≡ None)) (seen_by l.last) (journal l.fn.ingest);
+}
+
+abbrev pub decreases-loop-worker : goal.decreases-loop-worker
+decreases-loop-worker g l = goal.left-loop-worker g l

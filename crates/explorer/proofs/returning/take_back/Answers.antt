@@ -1,0 +1,43 @@
+use Rattle.std.proofs.Common.{◌≡◌, List, ℕ, refl, sym, ap, subst, ◌∙◌, map, string_bytes}
+use Rattle.explorer_model.proofs.Timelines.{prefix-self, prefix-trans}
+use Rattle.ingest_desk.specs.Stored.{journal}
+use Rattle.host.specs.Hosts.{AFile, IsOut, TakesFile}
+use Rattle.explorer.specs.Workers.{name_at}
+use Rattle.explorer.proofs.HostCalls.{door_is_out, file_is_out, name_is}
+use Rattle.explorer.proofs.returning.take_back.Goals as goal
+use Rattle.explorer.proofs.returning.take_back.Goals.{After-as_str}
+use Rattle.explorer.proofs.returning.take_back.Given.{Over}
+
+-- the name that the file is given back under stands at the place
+named : (g : Over) (c : After-as_str g) → name_at (map string_bytes c.args.names.now) c.args.at ≡ c.as_str.result.now
+named g c =
+    name_is string_bytes c.args.names.now c.args.at c.index-names-at.result (rw c.in-File.is at c.requires.named).0
+    ∙ sym (c.as_str.ensures.value ∙ ap string_bytes c.index-names-at.is)
+
+pub close_file-requires : goal.close_file-requires
+close_file-requires g c =
+    subst (λ (n : List ℕ). IsOut (AFile n) (g.H.Host.host c.args.host.now))
+    (named g (goal.at.close_file-requires g c).After-as_str)
+    (file_is_out _ _ (g.H.Host.host c.args.host.now) (rw c.in-File.is at c.requires.out))
+
+pub returns-in-File-clause-back : goal.returns-in-File-clause-back
+returns-in-File-clause-back g c = rw c.in-File.is
+    (subst (λ (n : List ℕ). TakesFile n (g.H.File.Source.source c.in-File.file.source) (g.H.Host.host c.args.host.now) (g.H.Host.host c.close_file.new.self))
+    (sym (named g (goal.at.returns-in-File-clause-back g c).After-as_str)) c.close_file.ensures)
+
+pub close_door-requires : goal.close_door-requires
+close_door-requires g c = door_is_out _ (g.H.Host.host c.args.host.now) (rw c.in-Reader.is at c.requires.out)
+
+pub returns-in-Some-clause-grew : goal.returns-in-Some-clause-grew
+returns-in-Some-clause-grew g c = rw c.in-Some.is (prefix-self c.in-Some.last.seen)
+
+pub returns-in-Some-clause-told : goal.returns-in-Some-clause-told
+returns-in-Some-clause-told g c = λ has none. rw c.in-Reader.is
+    (prefix-trans c.in-Reader.reader.pass.seen c.catches_up-has.new.pass.seen (journal c.args.ingest.now) c.catches_up-has.ensures.grew (c.catches_up-has.ensures.told has none))
+
+pub returns-in-None-clause-grew : goal.returns-in-None-clause-grew
+returns-in-None-clause-grew g c = rw c.in-None.is (record { rest = c.catches_up-has.new.pass.seen; is = refl })
+
+pub returns-in-None-clause-told : goal.returns-in-None-clause-told
+returns-in-None-clause-told g c = λ has none. rw c.in-Reader.is
+    (prefix-trans c.in-Reader.reader.pass.seen c.catches_up-has.new.pass.seen (journal c.args.ingest.now) c.catches_up-has.ensures.grew (c.catches_up-has.ensures.told has none))

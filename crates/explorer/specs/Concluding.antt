@@ -1,0 +1,35 @@
+-- Bridge: how a run of the command `serve` ends once its workers have returned.
+use Rattle.std.specs.Prelude.{◌≡◌, ◌⊎◌, ℕ, Bool, true, false, List, Option, None, Some, IfSome, Result, Ok, Err}
+use Rattle.outside.specs.Stream.{FailsToTake, Stream, Takes, Wrote}
+use Rattle.explorer_model.specs.declared.archive.Batch.{Batch}
+use Rattle.explorer_model.specs.Timeline.{IsPrefix}
+use Rattle.manifest.specs.Manifest.{HasJournal}
+use Rattle.explorer.specs.declared.fault.Fault.{Fault}
+use Rattle.explorer.specs.declared.fault.Fault.TheVariants.{DiskFault, OutOfMemory, WriteFault}
+use Rattle.explorer.specs.Lines.{Ending, Done, Stopped}
+
+-- The ending of a run whose lines had memory: by a fault of the disk, else by the first fault of a
+-- worker, else for want of memory, else by a fault of a sink.
+abbrev pub EndsBy : {A E : Type 0} → Bool → Option Fault → Bool → Result A E → List ℕ
+    → Stream → Stream → Ending → Type 0
+EndsBy true first told listens lines old new ending = ending ≡ Stopped DiskFault
+EndsBy false (Some fault) told listens lines old new ending = ending ≡ Stopped fault
+EndsBy false None false listens lines old new ending = ending ≡ Stopped OutOfMemory
+EndsBy false None true (Err failed) lines old new ending = ending ≡ Stopped WriteFault
+EndsBy false None true (Ok listening) lines old new ending =
+    (Takes lines old new × (ending ≡ Done))
+    ⊎ (FailsToTake lines old new × (ending ≡ Stopped WriteFault))
+
+-- the lines were written, or their write failed, and the run ended; or memory was wanting for them
+abbrev pub Concludes : {A E : Type 0} → Option (List ℕ) → Bool → Option Fault → Bool → Result A E
+    → Stream → Stream → Ending → Type 0
+Concludes None failed first told listens old new ending =
+    (new ≡ old) × (ending ≡ Stopped OutOfMemory)
+Concludes (Some lines) failed first told listens old new ending =
+    Wrote lines old new × EndsBy failed first told listens lines old new ending
+
+-- what is told of a disk is a journal that begins with this one
+pub record TellsLonger (journal : List Batch) (content : Option (List ℕ)) : Type 0 where
+  pub longer : List Batch
+  pub extends : IsPrefix journal longer
+  pub tells : IfSome content (HasJournal longer)

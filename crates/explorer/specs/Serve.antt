@@ -1,0 +1,145 @@
+-- Statement: how a run of the command `serve` ends.
+use Rattle.std.specs.Prelude.{◌≡◌, ◌⊎◌, ℕ, List, [], ◌∷◌, ◌++◌, map, string_bytes, Option, None, Some, IfSome, codes}
+use Rattle.std.specs.List.{AllZip}
+use Rattle.outside.specs.Stream.{Rises, Writes}
+use Rattle.host.specs.Hosts.{DoorsRefused, FileRefused, GivesBack, HostCall, HostState, RefusesDisk}
+use Rattle.explorer_model.specs.declared.archive.Batch.{Batch}
+use Rattle.explorer_model.specs.declared.store.LogFault.{LogFault}
+use Rattle.explorer_model.specs.declared.store.LogFault.TheVariants as logs
+use Rattle.explorer_model.specs.Timeline.{IsPrefix}
+use Rattle.manifest.specs.Manifest.{HasJournal}
+use Rattle.ingest_desk.specs.Openings.{IsWrong}
+use Rattle.explorer.specs.declared.fault.Fault.{Fault}
+use Rattle.explorer.specs.declared.fault.Fault.TheVariants.{CannotAccept, CannotOpen, Damaged, DiskFault, Full, NotAStore, OtherFormat, OutOfMemory, ReadFault, TooMuchInput, WriteFault}
+use Rattle.explorer.specs.Lines.{Ending, Done, Stopped}
+use Rattle.explorer.specs.Served.{FileRun, IsGivenUp, IsServedIn, IsStoredIn, IsWorked, Service, file_at, first_fault, serve_report}
+use Rattle.explorer.specs.World.{World, IsFaultless, WriteFails}
+
+-- ---- what is written
+
+abbrev pub listening_line : List ℕ → List ℕ
+listening_line address = codes "listening " ++ address ++ codes "\n"
+
+-- nothing is read or written
+abbrev pub IsSilent : World → World → Type 0
+IsSilent before after = after ≡ record before { host = after.host }
+
+-- the address was told, and nothing was read
+pub record Listens (service : Service) (before after : World) : Type 0 where
+  pub input : after.input ≡ before.input
+  pub output : Writes (listening_line service.address ∷ []) before.output after.output
+
+-- the address was told, and then what was refused of the files
+pub record Reports (service : Service) (files : List FileRun) (before after : World) : Type 0 where
+  pub listens : Listens service before after
+  pub errors : Writes (serve_report service.files files ∷ []) before.errors after.errors
+
+-- ---- the endings
+
+-- doors were served, and this was the first fault of the workers
+pub record IsWorkedTo (service : Service) (fault : Option Fault) (before after : World)
+    : Type 0 where
+  pub worked : IsWorked service before.host after.host
+  pub reports : Reports service worked.files before after
+  pub first : fault ≡ first_fault worked.files worked.doors
+  pub disk : after.host.disk_faults ≡ before.host.disk_faults
+
+-- No worker had a fault. The disk given back has a journal that begins with the one that it had;
+-- each file is stored in it, and all that any reader saw is a front of it.
+pub record IsServed (service : Service) (before after : World) : Type 0 where
+  pub to : IsWorkedTo service None before after
+  pub journal : List Batch
+  pub tells : IfSome (after.host.disks service.store) (HasJournal journal)
+  pub extends : IsPrefix to.worked.opening journal
+  pub stored : AllZip (IsStoredIn journal) (map (file_at before.host) service.files) to.worked.files
+  pub seen : AllZip (IsServedIn to.worked.opening journal) to.worked.handed to.worked.doors
+
+-- the call is noted, or it is not
+abbrev pub IsMaybe : HostCall → List HostCall → Type 0
+IsMaybe call calls = (calls ≡ []) ⊎ (calls ≡ call ∷ [])
+
+-- at most one call, which was refused
+abbrev pub IsRefusal : List HostCall → Type 0
+IsRefusal calls =
+    (calls ≡ []) ⊎ (((name : List ℕ) × (calls ≡ FileRefused name ∷ []))
+    ⊎ ((address : List ℕ) × (readers : ℕ) × (connections : ℕ)
+    × (calls ≡ DoorsRefused address readers connections ∷ [])))
+
+-- the file of this name was refused, behind those of these names
+pub record RefusesOneFile (service : Service) (name : List ℕ) (before after : HostState)
+    : Type 0 where
+  pub names : List (List ℕ)
+  pub next : IsPrefix (names ++ name ∷ []) service.files
+  pub refusal : List HostCall
+  pub noted : IsMaybe (FileRefused name) refusal
+  pub given_up : IsGivenUp service names refusal before after
+  pub rises : Rises before.own_faults after.own_faults
+
+-- the doors were refused
+pub record RefusesAddress (service : Service) (before after : HostState) : Type 0 where
+  pub refusal : List HostCall
+  pub noted : IsMaybe (DoorsRefused service.address service.readers service.connections) refusal
+  pub given_up : IsGivenUp service service.files refusal before after
+  pub rises : Rises before.own_faults after.own_faults
+
+-- what has this name was refused: the store, else a file, else the doors
+abbrev pub IsRefused : Service → List ℕ → HostState → HostState → Type 0
+IsRefused service name before after =
+    ((name ≡ service.store) × RefusesDisk service.store before after)
+    ⊎ (RefusesOneFile service name before after
+    ⊎ ((name ≡ service.address) × RefusesAddress service before after))
+
+-- what the disk tells is no store
+pub record HasNoStore (service : Service) (fault : LogFault) (before after : World) : Type 0 where
+  pub wrong : IfSome (before.host.disks service.store) (IsWrong fault)
+  pub given_up : IsGivenUp service [] [] before.host after.host
+  pub silent : IsSilent before after
+  pub disk : after.host.disk_faults ≡ before.host.disk_faults
+
+-- calls of the store's disk failed: while it was opened, or while doors were served
+abbrev pub DiskFails : Service → World → World → Type 0
+DiskFails service before after =
+    Rises before.host.disk_faults after.host.disk_faults
+    × ((IsGivenUp service [] [] before.host after.host × IsSilent before after)
+    ⊎ ((worked : IsWorked service before.host after.host)
+    × Reports service worked.files before after))
+
+-- memory was wanting: to tell that the store was refused, or before doors were handed out, or for
+-- the lines, or for a worker
+abbrev pub LacksMemory : Service → World → World → Type 0
+LacksMemory service before after =
+    (RefusesDisk service.store before.host after.host × IsSilent before after)
+    ⊎ (((names : List (List ℕ)) × IsPrefix names service.files
+    × (refusal : List HostCall) × IsRefusal refusal
+    × IsGivenUp service names refusal before.host after.host × IsSilent before after)
+    ⊎ ((worked : IsWorked service before.host after.host) × Listens service before after
+    × ((after.errors ≡ before.errors) ⊎ Reports service worked.files before after)))
+
+-- a run of `serve`, by its ending; no other can be
+abbrev pub ServesBy : Service → World → World → Ending → Type 0
+ServesBy service before after Done = IsServed service before after × IsFaultless before after
+ServesBy service before after (Stopped WriteFault) =
+    IsServed service before after × WriteFails before after
+ServesBy service before after (Stopped ReadFault) =
+    IsWorkedTo service (Some ReadFault) before after
+ServesBy service before after (Stopped (Full games bytes)) =
+    IsWorkedTo service (Some (Full games bytes)) before after
+ServesBy service before after (Stopped TooMuchInput) =
+    IsWorkedTo service (Some TooMuchInput) before after
+ServesBy service before after (Stopped CannotAccept) =
+    IsWorkedTo service (Some CannotAccept) before after
+ServesBy service before after (Stopped DiskFault) = DiskFails service before after
+ServesBy service before after (Stopped NotAStore) = HasNoStore service logs.NotALog before after
+ServesBy service before after (Stopped (OtherFormat number)) =
+    HasNoStore service (logs.OtherFormat number) before after
+ServesBy service before after (Stopped (Damaged gate)) =
+    HasNoStore service (logs.Damaged gate) before after
+ServesBy service before after (Stopped (CannotOpen name)) =
+    IsRefused service (string_bytes name) before.host after.host × IsSilent before after
+ServesBy service before after (Stopped OutOfMemory) = LacksMemory service before after
+ServesBy service before after (Stopped _) = ⊥
+
+-- A run of `serve`, by its ending. The host has all back that it handed out.
+pub record Serves (service : Service) (before after : World) (ending : Ending) : Type 0 where
+  pub by : ServesBy service before after ending
+  pub gives_back : GivesBack before.host after.host

@@ -1,0 +1,206 @@
+-- Statement: what files and doors come to while a store is served, and what is asked of the host.
+use Rattle.std.specs.Prelude.{◌≡◌, ⊤, ◌<◌, ℕ, List, [], ◌∷◌, ◌++◌, length, map, reverse, take, Option, None, Some, IfSome, codes}
+use Rattle.std.specs.List.{AllZip, flat_map}
+use Rattle.std.specs.Option.{option_or}
+use Rattle.std.specs.Io.KnownBytes.{IsAtEnd}
+use Rattle.outside.specs.Doors.{Connections}
+use Rattle.outside.specs.Stream.{Reads, Rises, Stream, source_alone}
+use Rattle.host.specs.Hosts.{AreFresh, DiskBack, DiskOut, DoorBack, DoorsOut, FileBack, FileOut, HostCall, HostState, added}
+use Rattle.explorer_model.specs.declared.archive.Batch.{Batch}
+use Rattle.explorer_model.specs.declared.fault.Refusal.{Refusal}
+use Rattle.explorer_model.specs.Cuts.{Cut, cuts}
+use Rattle.explorer_model.specs.Imports.{AccountedBeside, Candidate, groups}
+use Rattle.explorer_model.specs.Journal.{input_limit}
+use Rattle.explorer_model.specs.Timeline.{IsPrefix}
+use Rattle.manifest.specs.Manifest.{HasJournal}
+use Rattle.published_index.specs.States.{watching}
+use Rattle.ingest_desk.specs.Importers.{ImporterState}
+use Rattle.ingest_desk.specs.Reporting.{AccountsUpTo, BreaksAt, FindsNoRoom, LeftUnreadIn}
+use Rattle.ingest_desk.specs.declared.report.ImportEnding.{ImportEnding}
+use Rattle.ingest_desk.specs.declared.report.ImportEnding.TheVariants as endings
+use Rattle.session.specs.declared.doors.DoorEnd.{DoorEnd}
+use Rattle.session.specs.declared.doors.DoorEnd.TheVariants as ends
+use Rattle.session.specs.Doors.{DoorServed, EndsDoor}
+use Rattle.session.specs.Exchanges.{Backend, backend}
+use Rattle.session.specs.Imports.{HasStoredBody}
+use Rattle.explorer.specs.declared.fault.Fault.{Fault}
+use Rattle.explorer.specs.declared.fault.Fault.TheVariants.{CannotAccept, Full, OutOfMemory, ReadFault, TooMuchInput}
+use Rattle.explorer.specs.Report.{report_line}
+
+-- ---- what is asked for
+
+-- a store that is served at an address while files are imported into it
+pub record Service : Type 0 where
+  pub store : List ℕ
+  pub address : List ℕ
+  pub files : List (List ℕ)
+  pub workers : ℕ
+  pub readers : ℕ
+  pub connections : ℕ
+
+-- ---- files
+
+-- What a file came to: the file as it came back, how its import ended, and what of it is refused.
+pub record FileRun : Type 0 where
+  pub file : Stream
+  pub ending : ImportEnding
+  pub refused : List Refusal
+
+-- the groups of the cuts are accounted so far by batches and by what is refused
+abbrev pub AccountsSo : ImportEnding → List (List Cut) → List Batch → List Refusal → Type 0
+AccountsSo endings.Whole groups batches refused = AccountedBeside groups batches refused
+AccountsSo (endings.DiskFault before after) groups batches refused =
+    (left : List Candidate) × BreaksAt groups batches refused left
+AccountsSo (endings.Closed before after) groups batches refused =
+    (left : List Candidate) × BreaksAt groups batches refused left
+AccountsSo (endings.Full games bytes) groups batches refused =
+    (left : List Candidate) × BreaksAt groups batches refused left
+    × (journal : List Batch) × FindsNoRoom journal games bytes left
+AccountsSo _ groups batches refused =
+    (finished : ℕ) × ((unread : List Refusal) × LeftUnreadIn (take finished groups) unread
+    × AccountsUpTo finished groups batches (refused ++ unread))
+
+-- how far the file was read, and whether a read failed
+abbrev pub ReadsSo : ImportEnding → List ℕ → Stream → Stream → Type 0
+ReadsSo endings.Whole stream before after =
+    IsAtEnd after.left × (length stream < input_limit)
+    × (after.read_faults ≡ before.read_faults)
+ReadsSo (endings.ReadFault from to) stream before after =
+    (length stream < input_limit) × Rises before.read_faults after.read_faults
+ReadsSo (endings.TooMuch bytes) stream before after =
+    (bytes ≡ length stream) × (length stream ≡ input_limit)
+    × (after.read_faults ≡ before.read_faults)
+ReadsSo _ stream before after =
+    (length stream < input_limit) × (after.read_faults ≡ before.read_faults)
+
+-- a file was imported, and that ended so
+pub record IsImported (file : Stream) (run : FileRun) : Type 0 where
+  pub stream : List ℕ
+  pub reads : Reads stream file run.file
+  pub read_so : ReadsSo run.ending stream file run.file
+  pub batches : List Batch
+  pub accounts : AccountsSo run.ending (groups (cuts stream)) batches run.refused
+
+-- The file was read to its end. Batches that stand in the journal in their order account it
+-- together with what is refused, and what is refused as a repeat repeats a game of the journal.
+pub record IsStoredIn (journal : List Batch) (file : Stream) (run : FileRun) : Type 0 where
+  pub whole : run.ending ≡ endings.Whole
+  pub stream : List ℕ
+  pub reads : Reads stream file run.file
+  pub at_end : IsAtEnd run.file.left
+  pub below : length stream < input_limit
+  pub games : ℕ
+  pub stored : HasStoredBody journal stream games run.refused
+
+-- a file as it is handed out under a name
+abbrev pub file_at : HostState → List ℕ → Stream
+file_at host name = source_alone (host.files name) 0 0
+
+-- each line has the file's name before it
+abbrev pub file_lines : List ℕ → List Refusal → List ℕ
+file_lines name refused =
+    flat_map (λ refusal. name ++ (codes " " ++ report_line refusal.place refusal.why)) refused
+
+-- the lines of all files, in the order of their names
+abbrev pub serve_report : List (List ℕ) → List FileRun → List ℕ
+serve_report (name ∷ names) (run ∷ runs) =
+    file_lines name run.refused ++ serve_report names runs
+serve_report _ _ = []
+
+-- ---- doors
+
+-- what a door came to: its connections as it came back, and how its serving ended
+pub record DoorRun : Type 0 where
+  pub connections : Connections
+  pub end : DoorEnd
+
+-- an importer of a connection that has imported nothing
+abbrev pub new_importer : ImporterState
+new_importer = record { counts = record { disk_faults = 0; closed = 0; full = 0 }; calls = None }
+
+-- The connections of the door were served by a pass that had seen the journal, and what it had seen
+-- in the end begins with that.
+pub record IsServedFrom (opening : List Batch) (door : Connections) (run : DoorRun) : Type 0 where
+  pub last : Backend
+  pub served : DoorServed door (backend (watching opening) new_importer) run.connections last
+  pub ends : EndsDoor run.end door run.connections
+  pub begins : IsPrefix opening last.pass.seen
+
+-- and no connection is left, and what was seen is a front of the journal
+pub record IsServedIn (opening journal : List Batch) (door : Connections) (run : DoorRun)
+    : Type 0 where
+  pub from : IsServedFrom opening door run
+  pub whole : run.end ≡ ends.Whole
+  pub none_left : run.connections.left ≡ 0
+  pub front : IsPrefix from.last.pass.seen journal
+
+-- ---- calls of the host
+
+-- files that come back under these names, the newest first
+abbrev pub files_back : List (List ℕ) → List Stream → List HostCall
+files_back (name ∷ names) (file ∷ files) = FileBack name file ∷ files_back names files
+files_back _ _ = []
+
+abbrev pub files_out : List (List ℕ) → List HostCall
+files_out names = map FileOut (reverse names)
+
+-- all calls of a run whose doors were served, the newest first
+abbrev pub serve_calls : Service → List FileRun → List DoorRun → List HostCall
+serve_calls service files doors =
+    DiskBack service.store
+    ∷ (files_back service.files (map (λ run. run.file) files)
+    ++ (map (λ run. DoorBack run.connections) doors
+    ++ DoorsOut service.address service.readers service.connections
+    ∷ (files_out service.files ++ DiskOut service.store ∷ [])))
+
+-- all calls of a run that opened the store and these files, was refused something or not, and gave
+-- all back
+abbrev pub opening_calls : Service → List (List ℕ) → List Stream → List HostCall → List HostCall
+opening_calls service names files refusal =
+    DiskBack service.store
+    ∷ (files_back names files ++ (refusal ++ (files_out names ++ DiskOut service.store ∷ [])))
+
+-- No door was handed out: the store and the files of these names were, and came back. The store is
+-- as it was.
+pub record IsGivenUp (service : Service) (names : List (List ℕ)) (refusal : List HostCall)
+    (before after : HostState) : Type 0 where
+  pub files : List Stream
+  pub called : after.calls ≡ added (opening_calls service names files refusal) before.calls
+  pub kept : after.disks service.store ≡ before.disks service.store
+
+-- The doors were handed out and served, while the files were imported, and all came back.
+pub record IsWorked (service : Service) (before after : HostState) : Type 0 where
+  pub opening : List Batch
+  pub told : IfSome (before.disks service.store) (HasJournal opening)
+  pub files : List FileRun
+  pub imported : AllZip IsImported (map (file_at before) service.files) files
+  pub handed : List Connections
+  pub are_fresh : AreFresh service.readers service.connections (before.links service.address) handed
+  pub doors : List DoorRun
+  pub served : AllZip (IsServedFrom opening) handed doors
+  pub called : after.calls ≡ added (serve_calls service files doors) before.calls
+
+-- ---- how the work ended
+
+-- why the import of a file did not come to its end; a fault of the disk is told by the disk
+abbrev pub fault_of_import : ImportEnding → Option Fault
+fault_of_import endings.Whole = None
+fault_of_import (endings.ReadFault before after) = Some ReadFault
+fault_of_import (endings.DiskFault before after) = Some OutOfMemory
+fault_of_import (endings.Closed before after) = Some OutOfMemory
+fault_of_import (endings.Full games bytes) = Some (Full games bytes)
+fault_of_import (endings.TooMuch bytes) = Some TooMuchInput
+fault_of_import endings.OutOfMemory = Some OutOfMemory
+
+abbrev pub fault_of_door : DoorEnd → Option Fault
+fault_of_door ends.Whole = None
+fault_of_door ends.AcceptFault = Some CannotAccept
+
+abbrev pub fault_of_doors : List DoorRun → Option Fault
+fault_of_doors [] = None
+fault_of_doors (run ∷ runs) = option_or (fault_of_door run.end) (fault_of_doors runs)
+
+-- the first fault: the files' before the doors'
+abbrev pub first_fault : List FileRun → List DoorRun → Option Fault
+first_fault [] doors = fault_of_doors doors
+first_fault (run ∷ runs) doors = option_or (fault_of_import run.ending) (first_fault runs doors)

@@ -1,0 +1,127 @@
+-- Bridge: how far the serving of a store has come, between the calls of the host.
+use Rattle.std.specs.Prelude.{◌≡◌, ◌⊎◌, ⊤, ◌≤◌, ◌+◌, ℕ, Bool, true, List, [], ◌∷◌, ◌++◌, map, sum_by, string_bytes, Option, None, Some, IfSome, Result, Ok, Err, Vec}
+use Rattle.std.specs.Global.{Global}
+use Rattle.std.specs.List.{AllZip}
+use Rattle.outside.specs.Doors.{Connections}
+use Rattle.outside.specs.Stream.{FailsToTake, Rises, Stream, Takes}
+use Rattle.host.specs.Hosts.{AreFresh, DoorBack, DoorsOut, DoorsRefused, FileOut, FileRefused, HostCall, HostState, Thing, added, handed, out}
+use Rattle.explorer_model.specs.declared.archive.Batch.{Batch}
+use Rattle.explorer_model.specs.Timeline.{IsPrefix}
+use Rattle.explorer.specs.declared.fault.Fault.{Fault}
+use Rattle.explorer.specs.declared.fault.Fault.TheVariants.{CannotOpen, OutOfMemory}
+use Rattle.explorer.specs.declared.order.Order.{Order}
+use Rattle.explorer.specs.declared.serving.Outcome.{Outcome}
+use Rattle.explorer.specs.declared.serving.Outcome.TheVariants.{GivenUp, Worked}
+use Rattle.explorer.specs.Serve.{IsMaybe, IsRefusal}
+use Rattle.explorer.specs.Served.{DoorRun, FileRun, IsImported, IsServedFrom, IsServedIn, IsStoredIn, Service, file_at, files_back, files_out, first_fault, serve_report}
+
+abbrev pub service_of : Order → Service
+service_of order = record {
+  store = order.store.now;
+  address = order.address.now;
+  files = map string_bytes order.files.now;
+  workers = order.workers;
+  readers = order.readers;
+  connections = order.connections;
+}
+
+-- ---- what is out
+
+-- how many of a thing are out with files of these names and so many doors
+abbrev pub due : Thing → List (List ℕ) → ℕ → ℕ
+due thing names readers =
+    sum_by (λ name. handed thing (FileOut name)) names + handed thing (DoorsOut [] readers 0)
+
+abbrev pub AreOut : List (List ℕ) → ℕ → HostState → Type 0
+AreOut names readers host =
+    (thing : Thing) → IfSome host.calls (λ earlier. due thing names readers ≤ out thing earlier)
+
+-- ---- workers over files and doors
+
+abbrev pub lines_told : {E : Type 0} → Result (Vec ℕ Global) E → Option (List ℕ)
+lines_told (Ok lines) = Some lines.items
+lines_told (Err refused) = None
+
+-- The workers did what they had to with the files of these names and these doors, and all came back.
+-- These are the first fault, the lines of what is refused, and whether the journal begins with all
+-- that was told and seen.
+pub record WorksOver (names : List (List ℕ)) (opening journal : List Batch)
+    (handed : List Connections) (first : Option Fault) (lines : Option (List ℕ)) (told : Bool)
+    (before after : HostState) : Type 0 where
+  pub files : List FileRun
+  pub imported : AllZip IsImported (map (file_at before) names) files
+  pub doors : List DoorRun
+  pub served : AllZip (IsServedFrom opening) handed doors
+  pub calls : after.calls ≡ added (files_back names (map (λ run. run.file) files)
+      ++ map (λ run. DoorBack run.connections) doors) before.calls
+  pub disks : after.disks ≡ before.disks
+  pub disk_faults : after.disk_faults ≡ before.disk_faults
+  pub first_is : first ≡ first_fault files doors
+  pub lines_are : IfSome lines (λ lines. lines ≡ serve_report names files)
+  pub stored : first ≡ None → told ≡ true
+      → AllZip (IsStoredIn journal) (map (file_at before) names) files
+  pub seen : first ≡ None → told ≡ true → AllZip (IsServedIn opening journal) handed doors
+
+-- ---- files and doors are asked for, and come back
+
+-- the name could not be opened; or there is no memory to tell that
+abbrev pub CannotOpenSo : List ℕ → Fault → Type 0
+CannotOpenSo name (CannotOpen told) = string_bytes told ≡ name
+CannotOpenSo name OutOfMemory = ⊤
+CannotOpenSo name _ = ⊥
+
+-- why no door was handed out, where files of these names were
+abbrev pub GivesUpFor : Service → List (List ℕ) → List HostCall → Fault → HostState → HostState
+    → Type 0
+GivesUpFor service names refusal OutOfMemory before after =
+    IsRefusal refusal × IsPrefix names service.files
+GivesUpFor service names refusal (CannotOpen name) before after =
+    Rises before.own_faults after.own_faults
+    × ((IsPrefix (names ++ string_bytes name ∷ []) service.files
+    × IsMaybe (FileRefused (string_bytes name)) refusal)
+    ⊎ ((names ≡ service.files) × (string_bytes name ≡ service.address)
+    × IsMaybe (DoorsRefused service.address service.readers service.connections) refusal))
+GivesUpFor service names refusal _ before after = ⊥
+
+pub record HasGivenUp (service : Service) (fault : Fault) (before after : HostState) : Type 0 where
+  pub names : List (List ℕ)
+  pub files : List Stream
+  pub refusal : List HostCall
+  pub calls : after.calls ≡ added (files_back names files ++ (refusal ++ files_out names)) before.calls
+  pub disks : after.disks ≡ before.disks
+  pub disk_faults : after.disk_faults ≡ before.disk_faults
+  pub why : GivesUpFor service names refusal fault before after
+
+-- the doors were handed out and worked over with the files
+pub record HasWorked (service : Service) (opening journal : List Batch) (first : Option Fault)
+    (lines : Option (List ℕ)) (told : Bool) (before after : HostState) : Type 0 where
+  pub handed : List Connections
+  pub are_fresh : AreFresh service.readers service.connections (before.links service.address) handed
+  pub middle : HostState
+  pub out : middle.calls ≡ added (DoorsOut service.address service.readers service.connections
+      ∷ files_out service.files) before.calls
+  pub files : middle.files ≡ before.files
+  pub disks : middle.disks ≡ before.disks
+  pub disk_faults : middle.disk_faults ≡ before.disk_faults
+  pub over : WorksOver service.files opening journal handed first lines told middle after
+
+-- what became of files and doors that were asked for
+abbrev pub FilesServed : Service → List Batch → List Batch → Outcome → HostState → HostState → Type 0
+FilesServed service opening journal (GivenUp fault) before after =
+    HasGivenUp service fault before after
+FilesServed service opening journal (Worked done) before after =
+    HasWorked service opening journal done.first (lines_told done.lines) done.told before after
+
+abbrev pub IsGivenUpSo : Outcome → Type 0
+IsGivenUpSo (GivenUp fault) = ⊤
+IsGivenUpSo (Worked done) = ⊥
+
+-- the line was written, or could not be
+abbrev pub WroteLine : {A E : Type 0} → List ℕ → Result A E → Stream → Stream → Type 0
+WroteLine line (Ok written) old new = Takes line old new
+WroteLine line (Err failed) old new = FailsToTake line old new
+
+-- the address is told once the doors are there
+abbrev pub ListensSo : List ℕ → Outcome → Stream → Stream → Type 0
+ListensSo line (GivenUp fault) old new = new ≡ old
+ListensSo line (Worked done) old new = WroteLine line done.listens old new

@@ -1,0 +1,20 @@
+ghost use Rattle.std.specs.Prelude.{◌≤◌};
+
+/// What is asked of the command `serve`.
+#[derive(Clone, Copy, Debug)]
+pub struct Order<'a> {
+    pub store: &'a str,
+    pub address: &'a str,
+    /// Files that are imported meanwhile.
+    pub files: &'a [String],
+    /// How many threads work at once in one import, 1 to 16.
+    pub workers: usize,
+    /// How many doors there are, 1 to 64.
+    pub readers: usize,
+    /// How many connections each door takes.
+    pub connections: u32,
+    ghost some_workers: { 1 ≤ workers },
+    ghost few_workers: { workers ≤ 16 },
+    ghost some_readers: { 1 ≤ readers },
+    ghost few_readers: { readers ≤ 64 },
+}

@@ -1,0 +1,182 @@
+//! The command `query`: answers a query over a store.
+ghost use Rattle.std.specs.Prelude.{◌≡◌, ◌<◌, ◌≤◌, IfOk, string_bytes};
+ghost use Rattle.explorer_model.specs.Chess.{IsValid};
+ghost use Rattle.outside.specs.Stream.{Stream};
+ghost use Rattle.published_index.specs.Cover.{journal_of};
+ghost use Rattle.explorer.specs.Lines.{ending_of};
+ghost use Rattle.explorer.specs.QueryStore.{IsAnswer, LooksAt, LooksIn, QueriesBy};
+ghost use Rattle.explorer.specs.Stores.{IsSized};
+ghost use Rattle.explorer.specs.World.{world};
+
+use crate::fault::Fault;
+use crate::opening::fault_of_opening;
+use answer_json::answer::body;
+use answer_json::laws::what_is_found_is_plain;
+use disk_model::Disk;
+use explorer_model::query::Query;
+use host::Host;
+use host::laws::what_is_handed_out_is_out;
+use ingest_desk::{Unnamed, open};
+use lookup::look;
+use outside::Sink;
+use published_index::{Index, Publisher, Snapshot};
+use record_log::{Back, OpenFault};
+use segment_blocks::Steps;
+use std::alloc::{AllocError, Global};
+use std::marker::Brand;
+use std::sync::Wait;
+use std::sync::ledger::{Blank, Ledger};
+use std::thread::Threads;
+
+/// Reads the query and then the store, and prints the answer over its games.
+pub fn query_store<R: AllocGlobal + Wait + Threads + Sync, O: Sink, H: Host>(
+    rt: &R,
+    store: String,
+    query_text: &[u8],
+    workers: usize,
+    output: &mut O,
+    host: &mut H,
+) -> Result<(), Fault>
+    requires some_workers { 1 ≤ workers }
+    requires few_workers { workers ≤ 16 }
+    ensures { (input errors : Stream) →
+        let before = world input (O.sink output.old) errors (H.host host.old) in
+        let after = world input (O.sink output.new) errors (H.host host.new) in
+        QueriesBy (string_bytes store) query_text.now before after (ending_of result) }
+{
+    // law: a disk that was handed out is to be given back
+    what_is_handed_out_is_out();
+    let query = match query_params::query(rt.alloc(), query_text) {
+        Ok(query) => query,
+        Err(stop) => return Err(Fault::from(stop)),
+    };
+    let Ok(disk) = host.disk(store.as_str()) else {
+        return Err(Fault::CannotOpen { name: store });
+    };
+    let Looked { disk, line } = look_at(rt, disk, workers, &query);
+    host.close(store.as_str(), disk);
+    match line {
+        Ok(line) => match output.write(line.as_slice()) {
+            Ok(()) => Ok(()),
+            Err(_) => Err(Fault::WriteFault),
+        },
+        Err(fault) => Err(fault_of_opening(fault)),
+    }
+}
+
+/// A disk that is given back, and the line that answers the query over its store.
+struct Looked<D> {
+    disk: D,
+    line: Result<Vec<u8>, OpenFault>,
+}
+
+/// Opens the store on a disk, and answers the query over it.
+fn look_at<R: AllocGlobal + Wait + Threads + Sync, D: Disk>(
+    rt: &R,
+    disk: D,
+    workers: usize,
+    query: &Query,
+) -> Looked<D>
+    requires some_workers { 1 ≤ workers }
+    requires few_workers { workers ≤ 16 }
+    requires valid { IsValid query.now.at }
+    requires top { query.now.top ≤ 4 }
+    requires recent { query.now.recent ≤ 4 }
+    ensures sized { IsSized (D.disk disk) }
+    ensures looks { LooksAt query.now (D.disk disk) (D.disk result.disk) result.line }
+{
+    match open(rt, rt.alloc(), disk, workers, 1) {
+        Ok(unnamed) => look_in::<Brand, R, D>(rt, unnamed, query),
+        Err(back) => {
+            let Back { disk, fault } = back;
+            Looked {
+                disk,
+                line: Err(fault),
+            }
+        }
+    }
+}
+
+/// Answers the query over an opened store.
+fn look_in<J: Index, R: AllocGlobal + Wait, D: Disk>(
+    rt: &R,
+    unnamed: Unnamed<D>,
+    query: &Query,
+) -> Looked<D>
+    requires name { unnamed.index.name ≡ J.name }
+    requires valid { IsValid query.now.at }
+    requires top { query.now.top ≤ 4 }
+    requires recent { query.now.recent ≤ 4 }
+    ensures disk { result.disk ≡ unnamed.manifest.disk }
+    ensures line { LooksIn query.now (journal_of unnamed.index.list) result.line }
+{
+    match unnamed.named::<J>(rt.alloc()) {
+        Ok((ingest, _passes)) => {
+            let line = line_in(rt.alloc(), ingest.publisher(), query);
+            Looked {
+                disk: ingest.into_disk(rt),
+                line,
+            }
+        }
+        Err(unnamed) => Looked {
+            disk: unnamed.into_disk(rt),
+            line: Err(OpenFault::OutOfMemory),
+        },
+    }
+}
+
+/// The line that answers the query over what is published, or that memory is wanting.
+fn line_in<J: Index>(
+    alloc: Global,
+    publisher: &Publisher<J>,
+    query: &Query,
+) -> Result<Vec<u8>, OpenFault>
+    requires valid { IsValid query.now.at }
+    requires top { query.now.top ≤ 4 }
+    requires recent { query.now.recent ≤ 4 }
+    ensures { LooksIn query.now (journal_of publisher.now.list) result }
+{
+    match line_for(alloc, publisher, query) {
+        Ok(line) => Ok(line),
+        Err(_) => Err(OpenFault::OutOfMemory),
+    }
+}
+
+/// The line that answers the query over what is published.
+fn line_for<J: Index>(
+    alloc: Global,
+    publisher: &Publisher<J>,
+    query: &Query,
+) -> Result<Vec<u8>, AllocError>
+    requires valid { IsValid query.now.at }
+    requires top { query.now.top ≤ 4 }
+    requires recent { query.now.recent ≤ 4 }
+    ensures { IfOk result (IsAnswer query.now (journal_of publisher.now.list)) }
+{
+    let snapshot = publisher.snapshot(alloc)?;
+    line_uncounted::<Brand>(alloc, &snapshot, query, Blank::new(1))
+}
+
+/// The same, where no steps are counted.
+fn line_uncounted<L: Ledger>(
+    alloc: Global,
+    snapshot: &Snapshot,
+    query: &Query,
+    blank: Blank,
+) -> Result<Vec<u8>, AllocError>
+    requires valid { IsValid query.now.at }
+    requires top { query.now.top ≤ 4 }
+    requires recent { query.now.recent ≤ 4 }
+    requires name { blank.name ≡ L.name }
+    requires parts { blank.parts ≡ L.parts }
+    requires some { 0 < L.parts }
+    ensures { IfOk result (IsAnswer query.now (journal_of snapshot.now)) }
+{
+    // law: what is found is written as plain JSON
+    what_is_found_is_plain();
+    let mut steps = Steps::<L>::new(blank);
+    let found = look(alloc, snapshot, query, &mut steps)?;
+    let mut line = body(alloc, &found)?;
+    line.push(b'\n')?;
+    Ok(line)
+}

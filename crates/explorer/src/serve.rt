@@ -1,0 +1,215 @@
+//! The command `serve`: a store is served at an address while files are imported into it.
+ghost use Rattle.std.specs.Prelude.{◌≡◌, ◌<◌, ◌≤◌, ◌+◌, ◌++◌, [], length, vec_capacity, true, false, IfOk, IfSome};
+ghost use Rattle.outside.specs.Stream.{Stream};
+ghost use Rattle.disk_model.specs.Disk.{DiskState};
+ghost use Rattle.host.specs.Hosts.{ADisk, HandsDisk, HostState, IsOut};
+ghost use Rattle.manifest.specs.Manifest.{HasJournal};
+ghost use Rattle.published_index.specs.Cover.{journal_of};
+ghost use Rattle.ingest_desk.specs.Stored.{journal};
+ghost use Rattle.explorer.specs.Concluding.{Concludes, TellsLonger};
+ghost use Rattle.explorer.specs.Faults.{fault_of_opening};
+ghost use Rattle.explorer.specs.Lines.{ending_of};
+ghost use Rattle.explorer.specs.Serve.{Serves, listening_line};
+ghost use Rattle.explorer.specs.Serving.{lines_told, service_of};
+ghost use Rattle.explorer.specs.World.{world};
+
+use crate::fault::Fault;
+use crate::order::Order;
+use crate::report::write_lines;
+use crate::serving::{Done, Outcome, cannot_open, serve_files};
+use crate::workers::Worker;
+use disk_model::Disk;
+use explorer_model::store::LogFault;
+use host::Host;
+use host::laws::what_is_handed_out_is_out;
+use ingest_desk::{Ingest, Unnamed, open};
+use outside::{Failed, Sink};
+use published_index::Index;
+use record_log::{Back, OpenFault};
+use std::alloc::{AllocError, Global};
+use std::marker::Brand;
+use std::sync::Wait;
+use std::thread::Threads;
+
+/// Opens the store, asks for the files and the doors, serves until no connection is left, and gives
+/// all back.
+pub fn serve<R: Wait + Threads + Sync, O: Sink, E: Sink, H: Host>(
+    rt: &R,
+    alloc: Global,
+    order: &Order<'_>,
+    output: &mut O,
+    errors: &mut E,
+    host: &mut H,
+) -> Result<(), Fault>
+    ensures { (input : Stream) →
+        let before = world input (O.sink output.old) (E.sink errors.old) (H.host host.old) in
+        let after = world input (O.sink output.new) (E.sink errors.new) (H.host host.new) in
+        Serves (service_of order.now) before after (ending_of result) }
+{
+    // law: a disk that was handed out is to be given back
+    what_is_handed_out_is_out();
+    let Ok(disk) = host.disk(order.store) else {
+        return Err(cannot_open(alloc, order.store));
+    };
+    match open(rt, alloc, disk, order.workers, order.readers) {
+        Ok(store) => serve_store::<R, O, E, H, Brand>(
+            rt, alloc, order, output, errors, host, store,
+        ),
+        Err(back) => {
+            let Back { disk, fault } = back;
+            let failed = has_failed(&disk);
+            host.close(order.store, disk);
+            if failed {
+                return Err(Fault::DiskFault);
+            }
+            Err(opening_fault(fault))
+        }
+    }
+}
+
+/// Why a store was not opened whose disk has no fault.
+fn opening_fault(fault: OpenFault) -> Fault
+    ensures { result ≡ fault_of_opening fault }
+{
+    match fault {
+        OpenFault::Log(LogFault::NotALog) => Fault::NotAStore,
+        OpenFault::Log(LogFault::OtherFormat { number }) => Fault::OtherFormat { number },
+        OpenFault::Log(LogFault::Damaged { at }) => Fault::Damaged { gate: at },
+        OpenFault::DiskFault { .. } => Fault::DiskFault,
+        OpenFault::OutOfMemory => Fault::OutOfMemory,
+    }
+}
+
+/// Serves a store that was opened, and gives its disk back.
+fn serve_store<R: Wait + Threads + Sync, O: Sink, E: Sink, H: Host, J: Index + Send + Sync>(
+    rt: &R,
+    alloc: Global,
+    order: &Order<'_>,
+    output: &mut O,
+    errors: &mut E,
+    host: &mut H,
+    store: Unnamed<H::Disk>,
+) -> Result<(), Fault>
+    requires name { store.index.name ≡ J.name }
+    requires readers { store.index.readers ≡ order.now.readers }
+    requires out { IsOut (ADisk order.now.store.now) (H.host host.old) }
+    ensures { (given : DiskState) (earlier : HostState) (input : Stream)
+        → HandsDisk order.now.store.now given earlier (H.host host.old)
+        → IfSome given.content (HasJournal (journal_of store.index.list))
+        → (H.Disk.disk store.manifest.disk).content ≡ given.content →
+        let before = world input (O.sink output.old) (E.sink errors.old) earlier in
+        let after = world input (O.sink output.new) (E.sink errors.new) (H.host host.new) in
+        Serves (service_of order.now) before after (ending_of result) }
+{
+    let Ok(list) = room_for(alloc, order) else {
+        host.close(order.store, store.into_disk(rt));
+        return Err(Fault::OutOfMemory);
+    };
+    let Ok(line) = listening_line(alloc, order.address) else {
+        list.destroy_empty();
+        host.close(order.store, store.into_disk(rt));
+        return Err(Fault::OutOfMemory);
+    };
+    let (ingest, passes) = match store.named::<J>(alloc) {
+        Ok(named) => named,
+        Err(store) => {
+            list.destroy_empty();
+            host.close(order.store, store.into_disk(rt));
+            return Err(Fault::OutOfMemory);
+        }
+    };
+    let (ingest, outcome) = serve_files(
+        rt,
+        alloc,
+        output,
+        host,
+        order,
+        line.as_slice(),
+        ingest,
+        passes,
+        list,
+    );
+    let disk = disk_of(rt, ingest);
+    let failed = has_failed(&disk);
+    host.close(order.store, disk);
+    match outcome {
+        Outcome::GivenUp(fault) => Err(fault),
+        Outcome::Worked(done) => conclude(errors, done, failed),
+    }
+}
+
+/// Ends the ingest, and gives the disk back.
+fn disk_of<R: Wait, D: Disk, J: Index>(rt: &R, ingest: Ingest<D, J>) -> D
+    ensures disk { result ≡ ingest.manifest.disk }
+    ensures tells { TellsLonger (journal ingest) (D.disk result).content }
+{
+    // What a crash may leave is told with the number of batches.
+    let _batches = ingest.batches();
+    ingest.into_disk(rt)
+}
+
+/// Whether a call of the disk failed.
+fn has_failed<D: Disk>(disk: &D) -> bool
+    ensures yes { result ≡ true → 0 < (D.disk disk.now).faults }
+    ensures no { result ≡ false → (D.disk disk.now).faults ≡ 0 }
+{
+    disk.faults() > 0
+}
+
+/// An empty list with room for a worker for each file and each door, and one that merges.
+fn room_for<F, G, J: Index>(
+    alloc: Global,
+    order: &Order<'_>,
+) -> Result<Vec<Worker<F, G, J>>, AllocError>
+    ensures empty { IfOk result (λ list. list.items ≡ []) }
+    ensures room { IfOk result (λ list.
+        length order.now.files.now + order.now.readers + 1 ≤ vec_capacity list) }
+{
+    let Some(count) = order.files.len().checked_add(order.readers + 1) else {
+        return Err(AllocError);
+    };
+    Vec::with_capacity(alloc, count)
+}
+
+fn listening_line(alloc: Global, address: &str) -> Result<Vec<u8>, AllocError>
+    ensures { IfOk result (λ line. line.items ≡ listening_line address.now) }
+{
+    let mut line = Vec::from_slice(alloc, b"listening ")?;
+    line.extend_from_slice(address.as_bytes())?;
+    line.push(b'\n')?;
+    Ok(line)
+}
+
+/// Reports what is refused of the files, and says how the run ends: by a fault of the store's disk,
+/// else by the first fault of a worker, else by one of the sinks.
+fn conclude<E: Sink>(errors: &mut E, done: Done, failed: bool) -> Result<(), Fault>
+    ensures { Concludes (lines_told done.lines) failed done.first done.told done.listens
+        (E.sink errors.old) (E.sink errors.new) (ending_of result) }
+{
+    let Done {
+        first,
+        lines,
+        told,
+        listens,
+    } = done;
+    let Ok(lines) = lines else {
+        return Err(Fault::OutOfMemory);
+    };
+    let reported = write_lines(errors, lines.as_slice());
+    if failed {
+        return Err(Fault::DiskFault);
+    }
+    if let Some(fault) = first {
+        return Err(fault);
+    }
+    if !told {
+        return Err(Fault::OutOfMemory);
+    }
+    if let Err(Failed) = listens {
+        return Err(Fault::WriteFault);
+    }
+    match reported {
+        Ok(()) => Ok(()),
+        Err(Failed) => Err(Fault::WriteFault),
+    }
+}

@@ -1,0 +1,220 @@
+//! A store that was opened is served.
+ghost use Rattle.std.specs.Prelude.{◌≡◌, ◌<◌, ◌≤◌, ◌+◌, ◌++◌, ◌∷◌, [], List, length, map, string_bytes, vec_len, vec_capacity, true, false, None, MatchOption, OnErr, OnOk};
+ghost use Rattle.std.specs.List.{AllByRecursion, AllZip};
+ghost use Rattle.explorer_model.specs.declared.archive.Batch.{Batch as ABatch};
+ghost use Rattle.host.specs.Hosts.{GivesBack};
+ghost use Rattle.outside.specs.Stream.{FailsToTake, Takes};
+ghost use Rattle.published_index.specs.States.{watching};
+ghost use Rattle.ingest_desk.specs.Stored.{journal};
+ghost use Rattle.explorer.specs.Serving.{AreOut, CannotOpenSo, FilesServed, IsGivenUpSo, ListensSo, WorksOver, lines_told, service_of};
+ghost use Rattle.explorer.specs.Workers.{FilesOut, FilesRefused, HasReaders, IsFileOf};
+
+use crate::fault::Fault;
+use crate::order::Order;
+use crate::returning::{both, give_back};
+use crate::workers::{FileWork, ReaderWork, Worker, first_fault, report_lines, work_all};
+use disk_model::Disk;
+use explorer_model::fault::Stop;
+use host::Host;
+use ingest_desk::Ingest;
+use outside::{Door, Failed, Sink, Source};
+use published_index::{Index, Pass};
+use session::DoorEnd;
+use std::alloc::{AllocError, Global};
+use std::sync::Wait;
+use std::thread::Threads;
+
+/// What became of files and doors that were asked for.
+#[derive(Debug, Drop)]
+pub enum Outcome {
+    /// No door was handed out.
+    GivenUp(Fault),
+    Worked(Done),
+}
+
+/// What the workers came to.
+#[derive(Debug, Drop)]
+pub struct Done {
+    /// The first fault.
+    pub first: Option<Fault>,
+    /// The lines of what is refused.
+    pub lines: Result<Vec<u8>, AllocError>,
+    /// Whether the published journal begins with all that the workers were told of it, and saw.
+    pub told: bool,
+    /// Whether the address could be told.
+    pub listens: Result<(), Failed>,
+}
+
+/// Asks for the files in their order, and puts a worker for each at the end of the list. It ends at
+/// the first that is refused, and says whether none was.
+pub fn open_files<H: Host, J: Index>(
+    host: &mut H,
+    names: &[String],
+    list: &mut Vec<Worker<H::File, H::Door, J>>,
+) -> bool
+    requires empty { list.old.items ≡ [] }
+    requires room { length names.now ≤ vec_capacity list.old }
+    ensures opened { result ≡ true → FilesOut H.File.source (map string_bytes names.now)
+        list.new.items (H.host host.old) (H.host host.new) }
+    ensures refused { result ≡ false → FilesRefused H.File.source (map string_bytes names.now)
+        list.new.items (H.host host.old) (H.host host.new) }
+    ensures few { result ≡ false → vec_len list.new < length names.now }
+    ensures all { result ≡ true → vec_len list.new ≡ length names.now }
+    ensures room { vec_capacity list.new ≡ vec_capacity list.old }
+{
+    for name in names {
+        match host.file(name.as_str()) {
+            Ok(source) => list.push_reserved(Worker::File(FileWork {
+                source,
+                report: None,
+            })),
+            Err(Failed) => return false,
+        }
+    }
+    true
+}
+
+/// Puts a worker for each door at the end of the list, each with a pass, and one that merges.
+pub fn with_readers<F: Source, G: Door, J: Index>(
+    doors: Vec<G>,
+    passes: Vec<Pass<J>>,
+    list: Vec<Worker<F, G, J>>,
+) -> Vec<Worker<F, G, J>>
+    requires even { vec_len doors ≡ vec_len passes }
+    requires room { vec_len list + vec_len doors + 1 ≤ vec_capacity list }
+    ensures { (opening : List ABatch) → AllByRecursion (λ pass. pass ≡ watching opening) passes.items
+        → HasReaders G.door opening (map G.door doors.items) list.items result.items }
+{
+    let mut doors = doors;
+    let mut passes = passes;
+    let mut list = list;
+    while let Some(door) = first_of(&mut doors) {
+        let Some(pass) = passes.pop() else {
+            unreachable!();
+        };
+        list.push_reserved(Worker::Reader(ReaderWork {
+            door,
+            pass,
+            end: DoorEnd::Whole,
+        }));
+    }
+    doors.destroy_empty();
+    list.push_reserved(Worker::Merger);
+    list
+}
+
+/// Takes the first element off a list.
+fn first_of<T>(list: &mut Vec<T>) -> Option<T>
+    ensures { MatchOption result ((list.old.items ≡ []) × (list.new.items ≡ []))
+        (λ first. list.old.items ≡ first ∷ list.new.items) }
+{
+    if list.is_empty() {
+        return None;
+    }
+    Some(list.remove(0))
+}
+
+/// Asks for the files and then for the doors, serves the doors, and gives all back.
+pub fn serve_files<R: Wait + Threads + Sync, O: Sink, H: Host, J: Index + Send + Sync>(
+    rt: &R,
+    alloc: Global,
+    output: &mut O,
+    host: &mut H,
+    order: &Order<'_>,
+    line: &[u8],
+    ingest: Ingest<H::Disk, J>,
+    passes: Vec<Pass<J>>,
+    list: Vec<Worker<H::File, H::Door, J>>,
+) -> (Ingest<H::Disk, J>, Outcome)
+    requires passes { vec_len passes ≡ order.now.readers }
+    requires opening { AllByRecursion (λ pass. pass ≡ watching (journal ingest)) passes.items }
+    requires empty { list.items ≡ [] }
+    requires room { length order.now.files.now + order.now.readers + 1 ≤ vec_capacity list }
+    ensures served { FilesServed (service_of order.now) (journal ingest) (journal result.0) result.1
+        (H.host host.old) (H.host host.new) }
+    ensures kept { IsGivenUpSo result.1 → result.0 ≡ ingest }
+    ensures written { ListensSo line.now result.1 (O.sink output.old) (O.sink output.new) }
+    ensures gives_back { GivesBack (H.host host.old) (H.host host.new) }
+{
+    let mut list = list;
+    let mut ingest = ingest;
+    if !open_files(host, order.files, &mut list) {
+        let fault = cannot_open(alloc, order.files[list.len()].as_str());
+        let _told = give_back(host, order.files, &mut ingest, list);
+        return (ingest, Outcome::GivenUp(fault));
+    }
+    let stop = match host.doors(order.address, order.readers, order.connections) {
+        Ok(doors) => {
+            let (ingest, done) = serve_doors(
+                rt, alloc, output, host, order, line, ingest, doors, passes, list,
+            );
+            return (ingest, Outcome::Worked(done));
+        }
+        Err(stop) => stop,
+    };
+    let _told = give_back(host, order.files, &mut ingest, list);
+    match stop {
+        Stop::Fault(Failed) => (ingest, Outcome::GivenUp(cannot_open(alloc, order.address))),
+        Stop::OutOfMemory => (ingest, Outcome::GivenUp(Fault::OutOfMemory)),
+    }
+}
+
+/// That the host has nothing to give under a name.
+pub fn cannot_open(alloc: Global, name: &str) -> Fault
+    ensures { CannotOpenSo name.now result }
+{
+    match String::from_str(alloc, name) {
+        Ok(name) => Fault::CannotOpen { name },
+        Err(AllocError) => Fault::OutOfMemory,
+    }
+}
+
+/// Tells the address, serves the doors while the files are imported, and gives all back.
+fn serve_doors<R: Wait + Threads + Sync, O: Sink, H: Host, J: Index + Send + Sync>(
+    rt: &R,
+    alloc: Global,
+    output: &mut O,
+    host: &mut H,
+    order: &Order<'_>,
+    line: &[u8],
+    ingest: Ingest<H::Disk, J>,
+    doors: Vec<H::Door>,
+    passes: Vec<Pass<J>>,
+    list: Vec<Worker<H::File, H::Door, J>>,
+) -> (Ingest<H::Disk, J>, Done)
+    requires even { vec_len doors ≡ vec_len passes }
+    requires room { vec_len list + vec_len doors + 1 ≤ vec_capacity list }
+    requires files { AllZip (IsFileOf H.File.source (H.host host.old))
+        (map string_bytes order.now.files.now) list.items }
+    requires out { AreOut (map string_bytes order.now.files.now) (vec_len doors) (H.host host.old) }
+    requires opening { AllByRecursion (λ pass. pass ≡ watching (journal ingest)) passes.items }
+    ensures over { WorksOver (map string_bytes order.now.files.now) (journal ingest)
+        (journal result.0) (map H.Door.door doors.items) result.1.first
+        (lines_told result.1.lines) result.1.told
+        (H.host host.old) (H.host host.new) }
+    ensures told { OnOk result.1.listens (Takes line.now (O.sink output.old) (O.sink output.new)) }
+    ensures untold { OnErr result.1.listens
+        (FailsToTake line.now (O.sink output.old) (O.sink output.new)) }
+{
+    let listens = output.write(line);
+    let list = with_readers(doors, passes, list);
+    let (mut ingest, list) = work_all(rt, alloc, ingest, list, order.workers);
+    let caught_up = publishes_all(rt, &mut ingest);
+    let first = first_fault(list.as_slice());
+    let lines = report_lines(alloc, order.files, list.as_slice());
+    let told = give_back(host, order.files, &mut ingest, list);
+    let done = Done {
+        first,
+        lines,
+        told: both(caught_up, told),
+        listens,
+    };
+    (ingest, done)
+}
+
+/// Publishes the change that is held, if one is. Says whether none is held then.
+fn publishes_all<R: Wait, D: Disk, J: Index>(rt: &R, ingest: &mut Ingest<D, J>) -> bool
+    ensures { result ≡ true → ingest.new.index.held ≡ None }
+{
+    ingest.catch_up(rt).is_ok()
+}

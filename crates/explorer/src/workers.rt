@@ -1,0 +1,203 @@
+//! The workers of a store that is served: files are imported, the connections of doors are served,
+//! and what is published is merged.
+ghost use Rattle.std.specs.Prelude.{◌≡◌, ◌≤◌, ◌+◌, ◌++◌, [], length, map, string_bytes, IfOk, OnOk};
+ghost use Rattle.std.specs.List.{AllZip};
+ghost use Rattle.explorer.specs.Served.{fault_of_import};
+ghost use Rattle.explorer.specs.Workers.{Works, fault_in, fault_of, lines_in, lines_of};
+ghost use Rattle.ingest_desk.specs.Importers.{ending_of};
+
+use crate::fault::Fault;
+use crate::report::push_file_lines;
+use disk_model::Disk;
+use import_run::{DeskHandle, drain, import};
+use ingest_desk::{Desk, End, Ingest, Report};
+use outside::{Door, FreeGate, Source};
+use published_index::{Index, Pass};
+use session::{DoorEnd, serve_door};
+use std::alloc::{AllocError, Global};
+use std::sync::{Mutex, Wait};
+use std::thread;
+use std::thread::Threads;
+
+/// A file that is imported, and what that came to.
+pub struct FileWork<F, J: Index> {
+    pub source: F,
+    /// None until it was imported.
+    pub report: Option<Report<J>>,
+}
+
+/// A door, the pass by which its connections are served, and how that ended.
+pub struct ReaderWork<G, J: Index> {
+    pub door: G,
+    pub pass: Pass<J>,
+    pub end: DoorEnd,
+}
+
+/// What runs beside the others while a store is served.
+pub enum Worker<F, G, J: Index> {
+    File(FileWork<F, J>),
+    Reader(ReaderWork<G, J>),
+    /// Neighbours of the published list that are due become one.
+    Merger,
+}
+
+impl<F: Source, G: Door, J: Index> Worker<F, G, J> {
+    /// Does the work. It may wait for a peer, and for the other workers.
+    fn work<R: Wait + Threads + Sync, D: Disk>(
+        &mut self,
+        rt: &R,
+        alloc: Global,
+        desk: &Desk<D, J>,
+        workers: usize,
+    )
+        requires some_workers { 1 ≤ workers }
+        requires few_workers { workers ≤ 16 }
+        ensures { Works F.source G.door self.old self.new }
+    {
+        match self {
+            Worker::File(file) => {
+                let report = import(rt, alloc, &mut file.source, desk, workers, &FreeGate);
+                file.report = Some(report);
+            }
+            Worker::Reader(reader) => {
+                let mut importer = DeskHandle::new(desk, workers);
+                let ReaderWork { door, pass, end } = reader;
+                *end = serve_door(rt, alloc, door, pass, &mut importer);
+            }
+            Worker::Merger => {
+                let _ = drain(rt, alloc, desk, workers);
+            }
+        }
+    }
+}
+
+impl<F, G, J: Index> Worker<F, G, J> {
+    /// Why the work did not come to its end.
+    fn fault(&self) -> Option<Fault>
+        ensures { result ≡ fault_of self.now }
+    {
+        match self {
+            Worker::File(file) => match &file.report {
+                Some(report) => import_fault(&report.end),
+                None => Some(Fault::OutOfMemory),
+            },
+            Worker::Reader(reader) => match reader.end {
+                DoorEnd::Whole => None,
+                DoorEnd::AcceptFault => Some(Fault::CannotAccept),
+            },
+            Worker::Merger => None,
+        }
+    }
+}
+
+/// Why an import did not come to its end. That the disk failed is told by the disk, and goes before
+/// this.
+fn import_fault<J: Index>(end: &End<J>) -> Option<Fault>
+    ensures { result ≡ fault_of_import (ending_of end.now) }
+{
+    match end {
+        End::Whole => None,
+        End::ReadFault { .. } => Some(Fault::ReadFault),
+        End::Full { games, bytes, .. } => Some(Fault::Full {
+            games: *games,
+            bytes: *bytes,
+        }),
+        End::TooMuch { .. } => Some(Fault::TooMuchInput),
+        End::DiskFault { .. } | End::Closed { .. } | End::OutOfMemory => Some(Fault::OutOfMemory),
+    }
+}
+
+/// The fault of the first worker that has one.
+pub fn first_fault<F, G, J: Index>(workers: &[Worker<F, G, J>]) -> Option<Fault>
+    ensures { result ≡ fault_in workers.now }
+{
+    for worker in workers {
+        if let Some(fault) = worker.fault() {
+            return Some(fault);
+        }
+    }
+    None
+}
+
+/// The report lines of all files, of which the names are these.
+pub fn report_lines<F, G, J: Index>(
+    alloc: Global,
+    names: &[String],
+    workers: &[Worker<F, G, J>],
+) -> Result<Vec<u8>, AllocError>
+    requires { length names.now ≤ length workers.now }
+    ensures { IfOk result (λ lines.
+        lines.items ≡ lines_in (map string_bytes names.now) workers.now) }
+{
+    let mut lines = Vec::new(alloc);
+    for at in 0..names.len() {
+        push_lines(alloc, &mut lines, names[at].as_str(), &workers[at])?;
+    }
+    Ok(lines)
+}
+
+/// Puts the report lines of a worker's file of this name behind others.
+fn push_lines<F, G, J: Index>(
+    alloc: Global,
+    lines: &mut Vec<u8>,
+    name: &str,
+    worker: &Worker<F, G, J>,
+) -> Result<(), AllocError>
+    ensures { OnOk result (lines.new.items ≡ lines.old.items ++ lines_of name.now worker.now) }
+{
+    if let Worker::File(file) = worker {
+        if let Some(report) = &file.report {
+            push_file_lines(alloc, lines, name, report.refused.as_slice())?;
+        }
+    }
+    Ok(())
+}
+
+/// Lends the ingest to all workers, and takes it back once they have returned. Of the ingest that
+/// comes back its type alone is known.
+pub fn work_all<
+    R: Wait + Threads + Sync,
+    F: Source + Send,
+    G: Door + Send,
+    D: Disk + Send,
+    J: Index + Send + Sync,
+>(
+    rt: &R,
+    alloc: Global,
+    ingest: Ingest<D, J>,
+    list: Vec<Worker<F, G, J>>,
+    workers: usize,
+) -> (Ingest<D, J>, Vec<Worker<F, G, J>>)
+    requires some_workers { 1 ≤ workers }
+    requires few_workers { workers ≤ 16 }
+    ensures { AllZip (Works F.source G.door) list.items result.1.items }
+{
+    let mut list = list;
+    let desk = Mutex::new(ingest);
+    work_each(rt, alloc, &desk, list.as_mut_slice(), workers);
+    (desk.into_inner(), list)
+}
+
+/// Lets each worker do its work, in a thread of its own where one can be made.
+fn work_each<
+    R: Wait + Threads + Sync,
+    F: Source + Send,
+    G: Door + Send,
+    D: Disk + Send,
+    J: Index + Send + Sync,
+>(rt: &R, alloc: Global, desk: &Desk<D, J>, list: &mut [Worker<F, G, J>], workers: usize)
+    requires some_workers { 1 ≤ workers }
+    requires few_workers { workers ≤ 16 }
+    ensures { AllZip (Works F.source G.door) list.old list.new }
+{
+    let threads = list.len().max(1);
+    thread::for_each_mut(
+        rt,
+        list,
+        threads,
+        &|_, worker: &mut Worker<F, G, J>|
+            requires { (1 ≤ workers) × (workers ≤ 16) }
+            ensures { Works F.source G.door worker.old worker.new }
+        { worker.work(rt, alloc, desk, workers) },
+    );
+}
