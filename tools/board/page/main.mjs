@@ -1,0 +1,213 @@
+// The page: where the game stands, what is asked, and what is shown.
+
+import * as chess from "./chess.mjs";
+import { gamesList, historyChart, movesTable, totalsInWords, unitsOf } from "./answer.mjs";
+import { BoardView } from "./boardview.mjs";
+import { byId, counted, element, showText } from "./dom.mjs";
+import { ExplorerFault, ask } from "./explorer.mjs";
+import { importFile } from "./importing.mjs";
+
+const SPEEDS = ["ultraBullet", "bullet", "blitz", "rapid", "classical", "correspondence"];
+const RATINGS = ["0", "1000", "1200", "1400", "1600", "1800", "2000", "2200", "2500"];
+
+// The root as a text and a position, the moves from it as { move, uci, san, position }, and how
+// many of them are played on the board.
+const game = { fen: chess.START, root: chess.readFen(chess.START).position, moves: [], played: 0 };
+let asking = new AbortController();
+
+const here = () => (game.played === 0 ? game.root : game.moves[game.played - 1].position);
+const playedMoves = () => game.moves.slice(0, game.played);
+
+function chips(node, values) {
+  node.replaceChildren(...values.map((value) => {
+    const box = element("input", { type: "checkbox", value, onchange: refresh });
+    return element("label", {}, box, element("span", {}, value));
+  }));
+}
+
+const ticked = (id) => [...byId(id).querySelectorAll("input:checked")].map((box) => box.value).join(",");
+
+function parameters() {
+  return {
+    fen: game.fen === chess.START ? "" : game.fen,
+    play: playedMoves().map(({ uci }) => uci).join(","),
+    speeds: ticked("speeds"),
+    ratings: ticked("ratings"),
+    since: byId("since").value,
+    until: byId("until").value,
+    moves: "999",
+    history: "true",
+  };
+}
+
+function showAnswer({ body, batches }) {
+  showText(byId("error"), null);
+  byId("batches").textContent = counted(batches, "batch of games", "batches of games");
+  byId("totals").textContent = totalsInWords(body);
+  const actions = { onPlay: playUci, onPoint: (uci) => board.hint(uci && chess.moveOfUci(here(), uci)) };
+  const isByKeys = byId("moves").querySelector(":focus-visible") !== null;
+  byId("moves").replaceChildren(movesTable(body, actions));
+  if (isByKeys) byId("moves").querySelector("button")?.focus();
+  byId("top-games").replaceChildren(gamesList(body.topGames, playUci));
+  byId("recent-games").replaceChildren(gamesList(body.recentGames, playUci));
+  const history = unitsOf(body.history);
+  byId("history-unit").textContent = history.unit;
+  byId("history").replaceChildren(historyChart(history, Math.max(280, byId("history").clientWidth)));
+}
+
+function showFault(error) {
+  showText(byId("error"), error.message);
+  byId("totals").textContent = "";
+  for (const id of ["moves", "history", "top-games", "recent-games"]) byId(id).replaceChildren();
+}
+
+// Asks for the position on the board; an answer that comes after a later question is dropped.
+async function refresh() {
+  asking.abort();
+  asking = new AbortController();
+  const { signal } = asking;
+  byId("answer").setAttribute("aria-busy", "true");
+  try {
+    const answer = await ask(parameters(), signal);
+    if (!signal.aborted) showAnswer(answer);
+  } catch (error) {
+    if (signal.aborted) return;
+    if (!(error instanceof ExplorerFault)) throw error;
+    showFault(error);
+  }
+  if (!signal.aborted) byId("answer").setAttribute("aria-busy", "false");
+}
+
+function moveNumber(place) {
+  const ply = place + (game.root.turn === "w" ? 0 : 1);
+  if (ply % 2 === 0) return `${ply / 2 + 1}. `;
+  return place === 0 ? "1… " : "";
+}
+
+function showLine() {
+  byId("line").replaceChildren(...game.moves.map(({ san }, place) => {
+    const isHere = place === game.played - 1;
+    const button = element("button", {
+      type: "button", class: "move", "aria-current": isHere && "step", onclick: () => goTo(place + 1),
+    }, san);
+    return element("li", {}, moveNumber(place), button);
+  }));
+}
+
+function show() {
+  board.show(here(), game.moves[game.played - 1]?.move);
+  byId("fen").value = chess.writeFen(here());
+  showLine();
+  byId("first").disabled = byId("back").disabled = game.played === 0;
+  byId("forward").disabled = byId("last").disabled = game.played === game.moves.length;
+  refresh();
+}
+
+function goTo(played) {
+  game.played = Math.max(0, Math.min(game.moves.length, played));
+  show();
+}
+
+// Plays a legal move. The moves that were taken back are kept where it is the first of them.
+function play(move) {
+  const uci = chess.uciOf(move);
+  if (game.moves[game.played]?.uci !== uci) {
+    const made = { move, uci, san: chess.sanOf(here(), move), position: chess.play(here(), move) };
+    game.moves = [...playedMoves(), made];
+  }
+  goTo(game.played + 1);
+}
+
+function playUci(uci) {
+  const move = chess.moveOfUci(here(), uci);
+  if (move) play(move);
+}
+
+const board = new BoardView(byId("board"), play);
+
+function setRoot(fen, position) {
+  Object.assign(game, { fen, root: position, moves: [], played: 0 });
+  show();
+}
+
+// Asks the explorer for a position before the board takes it; what is wrong with a refused one is
+// told by the page's own reading.
+async function setFen(text) {
+  const { position, fault } = chess.readFen(text);
+  try {
+    await ask({ fen: text, moves: "0", topGames: "0", recentGames: "0" });
+    if (position) setRoot(text, position);
+    else showText(byId("error"), fault);
+  } catch (error) {
+    if (!(error instanceof ExplorerFault)) throw error;
+    showText(byId("error"), `${error.message} ${fault ?? ""}`.trim());
+  }
+}
+
+const KEYS = {
+  ArrowLeft: () => goTo(game.played - 1),
+  ArrowRight: () => goTo(game.played + 1),
+  Home: () => goTo(0),
+  End: () => goTo(game.moves.length),
+  f: () => board.turn(),
+};
+
+function keyPressed(event) {
+  const isTyping = event.target.matches("input:not([type=checkbox])") || byId("promotion").open;
+  const act = KEYS[event.key];
+  if (isTyping || act === undefined || event.altKey || event.ctrlKey || event.metaKey) return;
+  event.preventDefault();
+  act();
+}
+
+let importing = null;
+
+async function startImport(event) {
+  event.preventDefault();
+  const [file] = byId("file").files;
+  if (importing !== null) return;
+  if (file === undefined) {
+    showText(byId("import-error"), "Choose a file first.");
+    return;
+  }
+  importing = new AbortController();
+  byId("send").disabled = true;
+  byId("stop").hidden = false;
+  try {
+    if (await importFile(file, importing.signal)) refresh();
+  } finally {
+    importing = null;
+    byId("send").disabled = false;
+    byId("stop").hidden = true;
+  }
+}
+
+function clearFilters() {
+  byId("filters").reset();
+  refresh();
+}
+
+function listen() {
+  byId("first").addEventListener("click", KEYS.Home);
+  byId("back").addEventListener("click", KEYS.ArrowLeft);
+  byId("forward").addEventListener("click", KEYS.ArrowRight);
+  byId("last").addEventListener("click", KEYS.End);
+  byId("flip").addEventListener("click", KEYS.f);
+  byId("start").addEventListener("click", () => setRoot(chess.START, chess.readFen(chess.START).position));
+  byId("clear").addEventListener("click", clearFilters);
+  byId("since").addEventListener("change", refresh);
+  byId("until").addEventListener("change", refresh);
+  byId("import-form").addEventListener("submit", startImport);
+  byId("stop").addEventListener("click", () => importing?.abort());
+  document.addEventListener("keydown", keyPressed);
+  byId("filters").addEventListener("submit", (event) => event.preventDefault());
+  byId("fen-form").addEventListener("submit", (event) => {
+    event.preventDefault();
+    setFen(byId("fen").value);
+  });
+}
+
+chips(byId("speeds"), SPEEDS);
+chips(byId("ratings"), RATINGS);
+listen();
+show();

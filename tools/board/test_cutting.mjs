@@ -1,0 +1,67 @@
+// Tests of how a file is cut into bodies. Run: node --test test_cutting.mjs
+import assert from "node:assert/strict";
+import { test } from "node:test";
+import { BODY_LIMIT, NotGames, bodies, causeInWords, countLines, movedCause, textAround } from "./page/cutting.mjs";
+
+const game = (number, filling = 0) =>
+  `[Event "Game ${number}"]\n[White "Ann"]\n\n1. e4 {${"x".repeat(filling)}} [Event is no line here 1-0\n\n`;
+
+async function partsOf(text) {
+  const parts = [];
+  for await (const part of bodies(new Blob([text]))) {
+    parts.push(part.bytes ? new TextDecoder("utf-8", { ignoreBOM: true }).decode(part.bytes) : part);
+  }
+  return parts;
+}
+
+test("a small file is one body", async () => {
+  assert.deepEqual(await partsOf(game(1) + game(2)), [game(1) + game(2)]);
+  assert.deepEqual(await partsOf(`\ufeff${game(1)}`), [`\ufeff${game(1)}`]);
+});
+
+test("a large file is cut between games, and nothing is lost", async () => {
+  const text = [...Array(90).keys()].map((number) => game(number, 40000)).join("");
+  const parts = await partsOf(text);
+  assert.equal(parts.join(""), text);
+  assert.ok(parts.length >= 4);
+  assert.ok(parts.every((part) => part.length <= BODY_LIMIT && part.startsWith("[Event \"Game")));
+});
+
+test("a text that is longer than a body is left out and told", async () => {
+  const long = game(2, BODY_LIMIT + 10);
+  const parts = await partsOf(game(1) + long + game(3));
+  assert.deepEqual(parts, [game(1), { start: game(1).length, tooLong: long.length }, game(3)]);
+  assert.deepEqual(await partsOf(game(1) + long), [game(1), { start: game(1).length, tooLong: long.length }]);
+});
+
+test("every place of a cut at the edge of a reading is found", async () => {
+  for (let edge = -9; edge <= 9; edge += 1) {
+    const filling = 2 * BODY_LIMIT + edge - game(1, 0).length;
+    const text = game(1, filling) + game(2);
+    assert.deepEqual(await partsOf(text), [{ start: 0, tooLong: game(1, filling).length }, game(2)]);
+  }
+});
+
+test("what is no PGN is refused in words", async () => {
+  await assert.rejects(partsOf(""), /The file is empty/);
+  await assert.rejects(partsOf("hello\n"), NotGames);
+  await assert.rejects(partsOf("x [Event \"1\"]\n"), /no file of games/);
+  await assert.rejects(partsOf(new Uint8Array([0x28, 0xb5, 0x2f, 0xfd, 0])), /packed \(Zstandard\)/);
+});
+
+test("a refusal is told in words, with the text around it", () => {
+  const text = `${game(1)}[Event "é"]\n[WhiteElo "?"]\n\n1. e4 e5 2. Ke3 1-0\n\n${game(3)}`;
+  const bytes = new TextEncoder().encode(text);
+  const start = game(1).length;
+  const place = new TextEncoder().encode("[Event \"é\"]\n[WhiteElo \"?\"]\n\n1. e4 e5 2. ").length;
+  assert.equal(causeInWords(`Illegal 3 ${place}`), "ply 3 is no legal move");
+  assert.deepEqual(textAround(bytes, start, `Illegal 3 ${place}`), {
+    before: "t \"é\"] [WhiteElo \"?\"] 1. e4 e5 2. ", at: "Ke3", after: " 1-0 ",
+  });
+  assert.equal(textAround(bytes, start, "Bad WhiteElo").at, "[WhiteElo \"?\"]");
+  assert.equal(textAround(bytes, start, "Missing Site").at, "[Event \"é\"]");
+  assert.match(textAround(bytes, start, "NoTermination").before, /Ke3 1-0$/);
+  assert.equal(countLines(bytes, start), 5);
+  assert.equal(movedCause("Twice 7", 100), "Twice 107");
+  assert.equal(movedCause("Lex 7", 100), "Lex 7");
+});

@@ -1,0 +1,115 @@
+#!/usr/bin/env python3
+"""Tests of gather: one archive cut in four answers as the whole does."""
+import contextlib
+import json
+import unittest
+
+import support
+
+TOOL = str(support.TOP / "tools/gather")
+RESULTS = ("1-0", "0-1", "1/2-1/2")
+TIMES = ("60+0", "180+2", "600+5", "5400+30")
+LINES = [
+    "1. e4 e5 2. Nf3 Nc6 3. Bb5", "1. e4 c5 2. Nf3 d6", "1. d4 d5 2. c4 e6", "1. d4 Nf6 2. c4 g6", "1. c4 e5",
+    "1. Nf3 d5 2. g3", "1. e4 e6 2. d4 d5", "1. e4 e5 2. Bc4", "1. d4 f5", "1. b3", "1. e4 c6 2. d4 d5",
+]
+QUERIES = [
+    "", "moves=3&history=true&topGames=2", "play=e2e4&history=true", "play=e2e4,e7e5&recentGames=1&moves=0",
+    "speeds=blitz,rapid&ratings=1600,1800", "since=2020-03&until=2020-08&history=true", "play=b2b3",
+]
+
+
+def game(number):
+    result = RESULTS[number * number % 3]
+    tags = {
+        "Event": "Rated game", "Site": f"https://example.org/{number:08}", "White": f"w{number % 9}",
+        "Black": f"b{number % 7}", "Result": result, "UTCDate": f"2020.{number * 5 % 12 + 1:02}.15",
+        "WhiteElo": 1500 + number * 37 % 700, "BlackElo": 1500 + number * 53 % 700,
+        "TimeControl": TIMES[number % 4],
+    }
+    lines = [f'[{name} "{value}"]\n' for name, value in tags.items()]
+    return f"{''.join(lines)}\n{LINES[number * 7 % len(LINES)]} {result}\n\n".encode()
+
+
+EMPTY = {"black": 0, "draws": 0, "moves": [], "opening": None, "recentGames": [], "topGames": [], "white": 0}
+PARTS = [b"".join(map(game, range(start, start + 15))) for start in range(0, 60, 15)]
+
+
+def without_averages(answer):
+    moves = [{name: value for name, value in move.items() if name != "averageRating"} for move in answer["moves"]]
+    return {**answer, "moves": moves}
+
+
+class Joining(unittest.TestCase):
+    def setUp(self):
+        self.contexts = contextlib.ExitStack()
+        self.addCleanup(self.contexts.close)
+
+    def stores(self, parts):
+        return [self.contexts.enter_context(support.CountingExplorer(part).running()) for part in parts]
+
+    def test_four_parts_answer_as_the_whole(self):
+        addresses = self.stores(PARTS)
+        for query in QUERIES:
+            with self.subTest(query):
+                status, output, errors = support.run_tool(TOOL, *addresses, "--query", query)
+                self.assertEqual((status, errors), (0, ""))
+                answer, whole = json.loads(output), json.loads(support.count(query, b"".join(PARTS))[1])
+                self.assertEqual(without_averages(answer), without_averages(whole))
+                for move, wanted in zip(answer["moves"], whole["moves"]):
+                    self.assertIn(wanted["averageRating"] - move["averageRating"], (0, 1))
+
+    def test_one_store_is_printed_as_it_answers(self):
+        addresses = self.stores(PARTS[:1])
+        for query in QUERIES[:3]:
+            output = support.run_tool(TOOL, *addresses, "--query", query)[1]
+            self.assertEqual(output.rstrip("\n"), support.count(query, PARTS[0])[1].decode())
+
+    def test_a_malformed_query_is_told(self):
+        addresses = self.stores(PARTS[:2])
+        malformed = [
+            ("fen=8/8", "fen"), ("moves=x", "moves"), ("moves=1&moves=2", "moves"), ("topGames=-1", "topGames"),
+        ]
+        for query, name in malformed:
+            status, output, errors = support.run_tool(TOOL, *addresses, "--query", query)
+            self.assertEqual((status, output), (1, ""))
+            self.assertIn(f"answers 400: malformed parameter {name}\n", errors)
+
+
+class Faults(unittest.TestCase):
+    def test_an_explorer_that_is_down(self):
+        address = f"127.0.0.1:{support.free_port()}"
+        with support.CannedExplorer(200, json.dumps(EMPTY).encode()).running() as other:
+            told = f"gather: {address} does not answer: Connection refused\n"
+            self.assertEqual(support.run_tool(TOOL, other, address), (1, "", told))
+
+    def test_replies_of_other_status(self):
+        for status, error in [(503, "out of memory"), (503, "no reading"), (404, "not found")]:
+            with support.CannedExplorer(status, json.dumps({"error": error}).encode()).running() as address:
+                told = f"gather: {address} answers {status}: {error}\n"
+                self.assertEqual(support.run_tool(TOOL, address), (1, "", told))
+
+    def test_what_is_no_explorer(self):
+        for body in (b"<html>", b"{}", b"[]"):
+            with support.CannedExplorer(200, body).running() as address:
+                told = f"gather: {address} does not answer as an explorer does\n"
+                self.assertEqual(support.run_tool(TOOL, address), (1, "", told))
+
+    def test_a_pipe_that_closes(self):
+        with support.CannedExplorer(200, json.dumps(EMPTY).encode()).running() as address:
+            self.assertEqual(support.run_into_closed_pipe(TOOL, address), (1, "gather: the output was closed\n"))
+
+    def test_a_path_before_that_of_the_explorer(self):
+        stand_in = support.CannedExplorer(200, json.dumps(EMPTY).encode())
+        with stand_in.running() as address:
+            support.run_tool(TOOL, f"{address}/2020/", "--query", "play=e2e4")
+        self.assertEqual(stand_in.asked[0][1], "/2020/lichess?play=e2e4&moves=999999")
+
+    def test_help_and_faulty_words(self):
+        self.assertIn("usage: gather", support.run_tool(TOOL, "--help")[1])
+        for words in ([], ["nowhere"], ["127.0.0.1:99999"], ["127.0.0.1:1", "--timeout", "x"]):
+            self.assertEqual(support.run_tool(TOOL, *words)[0], 2)
+
+
+if __name__ == "__main__":
+    unittest.main()
