@@ -7,3 +7,4 @@ pub mod Positions
 pub mod Determined
 pub mod Respelling
 pub mod Rereading
+pub mod Examples

@@ -4,3 +4,6 @@ pub mod Fronts
 pub mod Marks
 pub mod Cutters
 pub mod Blanks
+pub mod Examples
+pub mod Runs
+pub mod Starts

@@ -1,10 +1,11 @@
 -- What a cutter has still to give, and what it holds.
-use Rattle.std.specs.Prelude.{◌≡◌, ℕ, ◌+◌, ◌<◌, ◌≤◌, List, ◌++◌, IsSome, IsNone, length, take}
-use Rattle.explorer_model.specs.Cuts.{Cut}
+use Rattle.std.specs.Prelude.{◌≡◌, ℕ, ◌+◌, ◌<◌, ◌≤◌, List, ◌++◌, Option, IsSome, IsNone, length, take}
+use Rattle.explorer_model.specs.Cuts as model
 use Rattle.pgn_cut.specs.Cut.{cuts_in}
 use Rattle.pgn_cut.specs.Text.{at_start, cuts_of_text, kept_limit}
 use Rattle.pgn_cut.specs.Front.{cuts_of_front}
 use Rattle.pgn_cut.specs.Mark.{cuts_of_mark}
+use Rattle.pgn_cut.specs.declared.cut.Cut.{Cut}
 use Rattle.pgn_cut.specs.declared.cut.Fed.{Fed}
 use Rattle.pgn_cut.specs.declared.front.Front.{Front}
 use Rattle.pgn_cut.specs.declared.cutter.Cutter.{Cutter}
@@ -12,13 +13,19 @@ use Rattle.pgn_cut.specs.declared.cutter.Stage.{Stage}
 use Rattle.pgn_cut.specs.declared.cutter.Stage.TheVariants.{Mark, Before, Within}
 
 -- the cuts that are still to come where the rest of the stream is this
-abbrev pub cuts_from_stage : Stage → List ℕ → List Cut
+abbrev pub cuts_from_stage : Stage → List ℕ → List model.Cut
 cuts_from_stage (Mark prefix) rest = cuts_of_mark prefix.count rest
 cuts_from_stage (Before front) rest = cuts_of_front front rest
 cuts_from_stage (Within text) rest = cuts_of_text text rest
 
-abbrev pub cuts_of_rest : Cutter → List ℕ → List Cut
+abbrev pub cuts_of_rest : Cutter → List ℕ → List model.Cut
 cuts_of_rest cutter rest = cuts_from_stage cutter.stage rest
+
+-- The cutter takes the bytes, gives a cut or none, and goes on as the other: however the stream goes on, its cuts are
+-- those that the definition gives.
+abbrev pub Gives : Cutter → List ℕ → Option Cut → Cutter → Type 0
+Gives before taken cut after =
+    (rest : List ℕ) → cuts_in cut ++ cuts_of_rest after rest ≡ cuts_of_rest before (taken ++ rest)
 
 -- how many bytes of the stream came
 abbrev pub came_by : Stage → ℕ

@@ -6,3 +6,5 @@ pub mod Front
 pub mod Mark
 pub mod Cutter
 pub mod Blank
+pub mod Runs
+pub mod Starts

@@ -2,7 +2,8 @@ ghost use Rattle.std.specs.Prelude.{◌≡◌, ◌↔◌, ℕ, List, ◌+◌, �
 ghost use Rattle.explorer_model.specs.Cuts.{cuts, text_limit};
 ghost use Rattle.pgn_cut.specs.Blank.{IsBlank};
 ghost use Rattle.pgn_cut.specs.Cut.{cuts_in};
-ghost use Rattle.pgn_cut.specs.Cutter.{cuts_of_rest, came, held, IsAtStart, FeedsFront};
+ghost use Rattle.pgn_cut.specs.Cutter.{Gives, cuts_of_rest, came, held, IsAtStart, FeedsFront};
+ghost use Rattle.pgn_cut.specs.Runs.{IsNew};
 
 use crate::cut::{Cut, Fed};
 use crate::front::{Front, Onward};
@@ -31,7 +32,7 @@ enum Stage {
 impl Cutter {
     /// A cutter before a stream.
     pub fn new() -> Self
-        ensures cuts { (stream : List ℕ) → cuts_of_rest result stream ≡ cuts stream }
+        ensures cuts { IsNew result }
         ensures came { came result ≡ 0 }
 
         // No cut comes exactly of a stream of white space, alone or behind a byte order mark.
@@ -48,9 +49,7 @@ impl Cutter {
         requires some { 0 < length piece.now }
         requires room { came self.old + length piece.now < 2 ^ 63 }
 
-        // However the stream goes on, its cuts are those that the definition gives.
-        ensures cuts { IfOk result (λ fed. (rest : List ℕ) →
-            cuts_in fed.cut ++ cuts_of_rest self.new rest ≡ cuts_of_rest self.old (take fed.taken piece.now ++ rest)) }
+        ensures cuts { IfOk result (λ fed. Gives self.old (take fed.taken piece.now) fed.cut self.new) }
 
         ensures some { IfOk result (λ fed. 0 < fed.taken) }
         ensures taken { IfOk result (λ fed. fed.taken ≤ length piece.now) }

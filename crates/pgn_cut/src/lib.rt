@@ -4,6 +4,7 @@
 pub mod cut;
 pub mod cutter;
 mod front;
+pub mod laws;
 mod mark;
 mod scan;
 #[cfg(test)]

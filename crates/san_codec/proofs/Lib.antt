@@ -7,3 +7,5 @@ pub mod Room
 pub mod Single
 pub mod Sources
 pub mod Spelling
+pub mod Examples
+pub mod SpelledForms

@@ -21,57 +21,57 @@ use Rattle.explorer_model.proofs.LetterLemmas.{file_read, rank_read, square_read
 
 -- Files and ranks.
 
-no_rank : (n : ℕ) → n < 8 → rank_named (byte "a" + n) ≡ None
+pub no_rank : (n : ℕ) → n < 8 → rank_named (byte "a" + n) ≡ None
 no_rank n h = grind (arith, nat_tests)
 
-no_x_file : (n : ℕ) → n < 8 → byte_is (byte "x") (byte "a" + n) ≡ None
+pub no_x_file : (n : ℕ) → n < 8 → byte_is (byte "x") (byte "a" + n) ≡ None
 no_x_file n h = grind (arith, nat_tests)
 
-no_x_rank : (n : ℕ) → n < 8 → byte_is (byte "x") (byte "1" + n) ≡ None
+pub no_x_rank : (n : ℕ) → n < 8 → byte_is (byte "x") (byte "1" + n) ≡ None
 no_x_rank n h = grind (arith, nat_tests)
 
-no_promotion : (n : ℕ) → n < 8 → role_of promotions (byte "1" + n) ≡ None
+pub no_promotion : (n : ℕ) → n < 8 → role_of promotions (byte "1" + n) ≡ None
 no_promotion n h = grind (arith, nat_tests)
 
-no_o : (n : ℕ) → n < 8 → is_o (byte "1" + n) ≡ false
+pub no_o : (n : ℕ) → n < 8 → is_o (byte "1" + n) ≡ false
 no_o n h = grind (arith, nat_tests)
 
-no_mark : (n : ℕ) → n < 8 → is_mark (byte "1" + n) ≡ false
+pub no_mark : (n : ℕ) → n < 8 → is_mark (byte "1" + n) ≡ false
 no_mark n h = grind (arith, nat_tests)
 
-file_below : (s : ℕ) → s % 8 < 8
+pub file_below : (s : ℕ) → s % 8 < 8
 file_below s = omega arith
 
-rank_below : (s : ℕ) → s < 64 → s / 8 < 8
+pub rank_below : (s : ℕ) → s < 64 → s / 8 < 8
 rank_below s h = omega arith
 
 -- Parts.
 
-abbrev chosen : {A : Type 0} → List ℕ → List ℕ → Option A → Option A × List ℕ
+abbrev pub chosen : {A : Type 0} → List ℕ → List ℕ → Option A → Option A × List ℕ
 chosen rest all (Some part) = (Some part, rest)
 chosen rest all None = (None, all)
 
-optional_some : {A : Type 0} (read : ℕ → Option A) (b : ℕ) (bytes : List ℕ) (part : A) → read b ≡ Some part → optional read (b ∷ bytes) ≡ (Some part, bytes)
+pub optional_some : {A : Type 0} (read : ℕ → Option A) (b : ℕ) (bytes : List ℕ) (part : A) → read b ≡ Some part → optional read (b ∷ bytes) ≡ (Some part, bytes)
 optional_some read b bytes part e = ap (chosen bytes (b ∷ bytes)) e
 
-optional_none : {A : Type 0} (read : ℕ → Option A) (b : ℕ) (bytes : List ℕ) → read b ≡ None → optional read (b ∷ bytes) ≡ (None, b ∷ bytes)
+pub optional_none : {A : Type 0} (read : ℕ → Option A) (b : ℕ) (bytes : List ℕ) → read b ≡ None → optional read (b ∷ bytes) ≡ (None, b ∷ bytes)
 optional_none read b bytes e = ap (chosen bytes (b ∷ bytes)) e
 
-x_in : Bool → Option ℕ
+pub x_in : Bool → Option ℕ
 x_in true = Some 120
 x_in false = None
 
-with_x : (c : Bool) (bytes : List ℕ) → optional (byte_is (byte "x")) bytes ≡ (None, bytes) → optional (byte_is (byte "x")) (reverse (capture_text c) ++ bytes) ≡ (x_in c, bytes)
+pub with_x : (c : Bool) (bytes : List ℕ) → optional (byte_is (byte "x")) bytes ≡ (None, bytes) → optional (byte_is (byte "x")) (reverse (capture_text c) ++ bytes) ≡ (x_in c, bytes)
 unfolding x_in
 with_x true bytes e = refl
 with_x false bytes e = e
 
-is_x : (c : Bool) → is_some (x_in c) ≡ c
+pub is_x : (c : Bool) → is_some (x_in c) ≡ c
 unfolding x_in
 is_x true = refl
 is_x false = refl
 
-no_x_role : (role : Role) → optional (byte_is (byte "x")) (reverse (role_text role)) ≡ (None, reverse (role_text role))
+pub no_x_role : (role : Role) → optional (byte_is (byte "x")) (reverse (role_text role)) ≡ (None, reverse (role_text role))
 no_x_role Pawn = refl
 no_x_role Knight = refl
 no_x_role Bishop = refl
@@ -79,7 +79,7 @@ no_x_role Rook = refl
 no_x_role Queen = refl
 no_x_role King = refl
 
-no_rank_role : (role : Role) → optional rank_named (reverse (role_text role)) ≡ (None, reverse (role_text role))
+pub no_rank_role : (role : Role) → optional rank_named (reverse (role_text role)) ≡ (None, reverse (role_text role))
 no_rank_role Pawn = refl
 no_rank_role Knight = refl
 no_rank_role Bishop = refl
@@ -87,7 +87,7 @@ no_rank_role Rook = refl
 no_rank_role Queen = refl
 no_rank_role King = refl
 
-no_file_role : (role : Role) → optional file_named (reverse (role_text role)) ≡ (None, reverse (role_text role))
+pub no_file_role : (role : Role) → optional file_named (reverse (role_text role)) ≡ (None, reverse (role_text role))
 no_file_role Pawn = refl
 no_file_role Knight = refl
 no_file_role Bishop = refl
@@ -95,7 +95,7 @@ no_file_role Rook = refl
 no_file_role Queen = refl
 no_file_role King = refl
 
-moved_role : (role : Role) → moved (reverse (role_text role)) ≡ Some role
+pub moved_role : (role : Role) → moved (reverse (role_text role)) ≡ Some role
 moved_role Pawn = refl
 moved_role Knight = refl
 moved_role Bishop = refl
@@ -116,10 +116,10 @@ rank_in File s = None
 rank_in Rank s = Some (rank_of s)
 rank_in Square s = Some (rank_of s)
 
-abbrev form_with : Role → Option ℕ → Option ℕ → Bool → ℕ → Option Role → NamedMove
+abbrev pub form_with : Role → Option ℕ → Option ℕ → Bool → ℕ → Option Role → NamedMove
 form_with role file rank c target promotion = record { role = role; file = file; rank = rank; captures = c; target = target; promotion = promotion }
 
-parts : (promotion : Option Role) (target : ℕ) (bytes : List ℕ) (c : Bool) (after_x : List ℕ) (rank : Option ℕ) (after_rank : List ℕ) (file : Option ℕ) (after_file : List ℕ) (role : Role)
+pub parts : (promotion : Option Role) (target : ℕ) (bytes : List ℕ) (c : Bool) (after_x : List ℕ) (rank : Option ℕ) (after_rank : List ℕ) (file : Option ℕ) (after_file : List ℕ) (role : Role)
     → optional (byte_is (byte "x")) bytes ≡ (x_in c, after_x) → optional rank_named after_x ≡ (rank, after_rank) → optional file_named after_rank ≡ (file, after_file)
     → moved after_file ≡ Some role → from_start promotion target bytes ≡ Some (form_with role file rank c target promotion)
 parts promotion target bytes c after_x rank after_rank file after_file role e g h k = rw (e, g, h, k, is_x c) refl
@@ -155,7 +155,7 @@ start_parts promotion target s Square c role h =
 
 -- The target and the promotion.
 
-no_castling : (a : ℕ) (bytes : List ℕ) → is_o a ≡ false → castling (a ∷ bytes) ≡ None
+pub no_castling : (a : ℕ) (bytes : List ℕ) → is_o a ≡ false → castling (a ∷ bytes) ≡ None
 no_castling a [] e = refl
 no_castling a (b ∷ []) e = refl
 no_castling a (b ∷ c ∷ []) e = ap (λ (x : Bool). if x && (b == 45) && is_o c then Some Short else None) e
@@ -163,24 +163,24 @@ no_castling a (b ∷ c ∷ d ∷ []) e = refl
 no_castling a (b ∷ c ∷ d ∷ f ∷ []) e = ap (λ (x : Bool). if x && (b == 45) && is_o c && (d == 45) && is_o f then Some Long else None) e
 no_castling a (b ∷ c ∷ d ∷ f ∷ g ∷ bytes) e = refl
 
-targeted : (bytes : List ℕ) (promotion : Option Role) (target : ℕ) (before : List ℕ) (form : NamedMove) → target < 64
+pub targeted : (bytes : List ℕ) (promotion : Option Role) (target : ℕ) (before : List ℕ) (form : NamedMove) → target < 64
     → promoted bytes ≡ (promotion, rank_digit target ∷ file_letter target ∷ before) → from_start promotion target before ≡ Some form → named_move bytes ≡ Some form
 targeted bytes promotion target before form h e g =
     ap (λ (q : Option Role × List ℕ). to_target q.0 q.1) e
     ∙ ap (λ (o : Option ℕ). option_and_then (λ t. from_start promotion t before) o) (square_read target h)
     ∙ g
 
-no_promoted : (n : ℕ) (bytes : List ℕ) → n < 8 → promoted ((byte "1" + n) ∷ bytes) ≡ (None, (byte "1" + n) ∷ bytes)
+pub no_promoted : (n : ℕ) (bytes : List ℕ) → n < 8 → promoted ((byte "1" + n) ∷ bytes) ≡ (None, (byte "1" + n) ∷ bytes)
 no_promoted n bytes h = rw (optional_none (role_of promotions) (byte "1" + n) bytes (no_promotion n h)) refl
 
-abbrev chosen_form : Option NamedMove → Option Side → Option SanForm
+abbrev pub chosen_form : Option NamedMove → Option Side → Option SanForm
 chosen_form move (Some side) = Some (Castling side)
 chosen_form move None = option_map (λ form. Named form) move
 
-formed : (bytes : List ℕ) (form : NamedMove) → castling bytes ≡ None → named_move bytes ≡ Some form → form_of bytes ≡ Some (Named form)
+pub formed : (bytes : List ℕ) (form : NamedMove) → castling bytes ≡ None → named_move bytes ≡ Some form → form_of bytes ≡ Some (Named form)
 formed bytes form e g = ap (chosen_form (named_move bytes)) e ∙ ap (option_map (λ form. Named form)) g
 
-kept : (b : ℕ) (bytes : List ℕ) → is_mark b ≡ false → unmarked (b ∷ bytes) ≡ b ∷ bytes
+pub kept : (b : ℕ) (bytes : List ℕ) → is_mark b ≡ false → unmarked (b ∷ bytes) ≡ b ∷ bytes
 kept b bytes e = ap (λ (x : Bool). if x then unmarked bytes else b ∷ bytes) e
 
 -- a move's bytes from the right
@@ -223,7 +223,7 @@ marks_gone (b ∷ marks) bytes all =
     ∙ marks_gone marks (b ∷ bytes) others
     ∙ ap (λ (x : Bool). if x then unmarked bytes else b ∷ bytes) first
 
-marked : (text marks : List ℕ) → IsTrue (list_all is_mark marks) → san_form (text ++ marks) ≡ form_of (unmarked (reverse text))
+pub marked : (text marks : List ℕ) → IsTrue (list_all is_mark marks) → san_form (text ++ marks) ≡ form_of (unmarked (reverse text))
 marked text marks all = ap (λ (bytes : List ℕ). form_of (unmarked bytes)) (reverse-append text marks) ∙ ap form_of (marks_gone marks (reverse text) all)
 
 turned : (a b c d e : List ℕ) → reverse ((((a ++ b) ++ c) ++ d) ++ e) ≡ reverse e ++ (reverse d ++ (reverse c ++ (reverse b ++ reverse a)))
