@@ -6,3 +6,4 @@ pub mod Spans
 pub mod Steps
 pub mod Strings
 pub mod Symbols
+pub mod Export

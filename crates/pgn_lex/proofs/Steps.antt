@@ -27,7 +27,7 @@ items_from-skip (suc k) fresh place (b ∷ bytes) le =
     ∙ ap (λ (n : ℕ). items_from 0 (fresh_behind fresh (suc k) (b ∷ bytes)) n (drop k bytes)) (omega arith)
 
 -- the first item of the bytes, and the items behind it
-items_from-front : (fresh : Bool) (place : ℕ) (bytes : List ℕ) (shape : Shape) (taken : ℕ) → 0 < length bytes → shape ≡ shape_at fresh bytes → taken ≡ suc shape.more
+pub items_from-front : (fresh : Bool) (place : ℕ) (bytes : List ℕ) (shape : Shape) (taken : ℕ) → 0 < length bytes → shape ≡ shape_at fresh bytes → taken ≡ suc shape.more
     → items_from 0 fresh place bytes ≡ item shape place (take taken bytes) ∷ items_from 0 (get_or bytes shape.more 0 == 10) (place + taken) (drop taken bytes)
 unfolding items_from
 items_from-front fresh place [] shape taken some e t = absurd (omega (arith, some))

@@ -1,8 +1,42 @@
 -- A tag's string, one byte at a time.
-use Rattle.std.proofs.Common.{◌≡◌, ℕ, ◌+◌, ◌<◌, ◌≤◌, Bool, true, false, List, [], ◌∷◌, ◌++◌, length, get_or, drop, Option, Some, None, option_map, refl, sym, ap, ◌∙◌, add-zero, append_assoc, arith}
-use Rattle.std.proofs.lemmas.Bool.{cond-true, cond-false}
+use Rattle.std.proofs.Common.{◌≡◌, ℕ, ◌+◌, ◌<◌, ◌≤◌, Bool, true, false, not, ◌&&◌, ◌||◌, ◌==◌, List, [], ◌∷◌, ◌++◌, length, get_or, drop, Option, Some, None, option_map, refl, sym, ap, ◌∙◌, add-zero, append_assoc, arith}
+use Rattle.std.specs.List.{list_any}
+use Rattle.std.proofs.lemmas.Bool.{cond-true, cond-false, eqb-true, true≢false}
 use Rattle.std.proofs.lemmas.List.{at_drop_more, at_drop_all, append-nil}
-use Rattle.explorer_model.specs.Items.{closes_string, ends_line, escapes, keep_unless, string_len, unescaped}
+use Rattle.explorer_model.specs.Items.{closes_string, ends_line, is_escapable, escapes, keep_unless, string_len, unescaped}
+use Rattle.pgn_lex.specs.Pair.{is_plain}
+
+-- A plain byte only stands there.
+
+by_test : (b : Bool) → (b ≡ true → ⊥) → b ≡ false
+by_test true h = absurd (h refl)
+by_test false h = refl
+
+apart : (b n : ℕ) → is_plain b ≡ true → is_plain n ≡ false → (b == n) ≡ false
+apart b n plain other = by_test (b == n) (λ e. true≢false (sym plain ∙ ap is_plain (eqb-true b n e) ∙ other))
+
+pub plain_stays : (escaped : Bool) (b : ℕ) → is_plain b ≡ true → closes_string escaped b ≡ false
+plain_stays escaped b plain = ap (λ x. x && not escaped) (apart b 34 plain refl)
+
+pub plain_whole : (b : ℕ) → is_plain b ≡ true → ends_line b ≡ false
+plain_whole b plain = ap (λ x. x || b == 13) (apart b 10 plain refl) ∙ apart b 13 plain refl
+
+pub plain_keeps : (escaped : Bool) (b : ℕ) (rest : List ℕ) → is_plain b ≡ true → escapes escaped b rest ≡ false
+plain_keeps true b rest plain = refl
+plain_keeps false b rest plain = ap (λ x. x && is_escapable rest) (apart b 92 plain refl)
+
+-- A string without a backslash is what it says.
+
+neither : (x y : Bool) → (x || y) ≡ false → (x ≡ false) × (y ≡ false)
+neither true y e = cc
+neither false y e = (refl, e)
+
+pub nothing_escapes : (bytes : List ℕ) → list_any (λ b. b == 92) bytes ≡ false → unescaped false bytes ≡ bytes
+unfolding unescaped
+nothing_escapes [] none = refl
+nothing_escapes (b ∷ bytes) none =
+    let parts = neither (b == 92) (list_any (λ b. b == 92) bytes) none in
+    ap (λ (e : Bool). keep_unless e b (unescaped e bytes)) (ap (λ x. x && is_escapable bytes) parts.0) ∙ ap (λ (rest : List ℕ). b ∷ rest) (nothing_escapes bytes parts.1)
 
 -- what is found from a place on, as found from the start
 abbrev pub ahead : ℕ → Option ℕ → Option ℕ

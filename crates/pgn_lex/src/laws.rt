@@ -1,8 +1,12 @@
 //! What the definitions of items and parts keep, of every text.
 
-ghost use Rattle.std.specs.Prelude.{◌≡◌, ◌<◌, ℕ, List, length, flat_map, IfOk, IfErr};
+ghost use Rattle.std.specs.Prelude.{◌≡◌, ◌<◌, ℕ, List, Option, Ok, length, flat_map, IfOk, IfErr};
+ghost use Rattle.std.specs.List.{AllByRecursion};
+ghost use Rattle.explorer_model.specs.declared.archive.Ending.{Ending as AnEnding};
+ghost use Rattle.explorer_model.specs.declared.archive.Tag.{Tag as ATag};
 ghost use Rattle.explorer_model.specs.Items.{items};
 ghost use Rattle.explorer_model.specs.Parts.{parts};
+ghost use Rattle.pgn_lex.specs.Export.{IsPlainTag, IsPlainWord, export_parts, export_text};
 ghost use Rattle.pgn_lex.specs.Laws.{StandInARow, StandApart};
 
 /// The items' texts, joined, are the text: no byte is left out, and none belongs to two items.
@@ -23,4 +27,12 @@ pub fn tokens_stand_apart()
 /// A fault's place is that of a byte of the text.
 pub fn faults_stand_in_the_text()
     ensures { (text : List ℕ) → IfErr (parts text) (λ fault. fault.place < length text) }
+{}
+
+/// What is written out plainly is read back: the tags, the words of the movetext, each at its place,
+/// and the termination.
+pub fn exported_is_read()
+    ensures { (tags : List ATag) (words : List (List ℕ)) (ending : Option AnEnding)
+        → AllByRecursion IsPlainTag tags → AllByRecursion IsPlainWord words
+        → parts (export_text tags words ending) ≡ Ok (export_parts tags words ending) }
 {}

@@ -1,6 +1,7 @@
-ghost use Rattle.std.specs.Prelude.{◌≡◌, ◌<◌, ◌≤◌, Some, false, length, option_map, IfSome, IfOk};
+ghost use Rattle.std.specs.Prelude.{◌≡◌, ◌==◌, ◌<◌, ◌≤◌, Some, false, length, option_map, IfSome, IfOk};
+ghost use Rattle.std.specs.List.{list_any};
 ghost use Rattle.explorer_model.specs.Items.{after_white, after_byte, name_at, closes_string, ends_line, escapes, string_len, unescaped, pair_of};
-ghost use Rattle.pgn_lex.specs.Pair.{tag_of};
+ghost use Rattle.pgn_lex.specs.Pair.{tag_of, is_plain};
 
 use crate::bytes::{Class, run_len};
 use explorer_model::archive::{Bytes, Tag};
@@ -63,6 +64,10 @@ fn string_len(bytes: &[u8]) -> Option<usize>
 {
     let mut escaped = false;
     for (at, byte) in bytes.iter().enumerate() {
+        if is_plain(*byte) {
+            escaped = false;
+            continue;
+        }
         if closes_string(escaped, *byte) {
             return Some(at);
         }
@@ -88,6 +93,9 @@ pub fn tag(alloc: Global, pair: Pair<'_>) -> Result<Tag, AllocError>
 fn unescape(alloc: Global, string: &[u8]) -> Result<Vec<u8>, AllocError>
     ensures { IfOk result (λ value. value.items ≡ unescaped false string.now) }
 {
+    if !has_backslash(string) {
+        return Vec::from_slice(alloc, string);
+    }
     let mut value = Vec::new(alloc);
     let mut escaped = false;
     for (at, byte) in string.iter().enumerate() {
@@ -97,6 +105,19 @@ fn unescape(alloc: Global, string: &[u8]) -> Result<Vec<u8>, AllocError>
         }
     }
     Ok(value)
+}
+
+fn has_backslash(string: &[u8]) -> bool
+    ensures { result ≡ list_any (λ b. b == 92) string.now }
+{
+    string.iter().any(|byte| *byte == b'\\')
+}
+
+/// Is the byte no quote, backslash or end of a line?
+fn is_plain(byte: u8) -> bool
+    ensures { result ≡ is_plain byte }
+{
+    !matches!(byte, b'"' | b'\\' | b'\n' | b'\r')
 }
 
 fn closes_string(escaped: bool, byte: u8) -> bool
@@ -115,5 +136,8 @@ fn ends_line(byte: u8) -> bool
 fn escapes(escaped: bool, byte: u8, rest: &[u8]) -> bool
     ensures { result ≡ escapes escaped byte rest.now }
 {
-    !escaped && byte == b'\\' && matches!(rest, [b'"' | b'\\', ..])
+    if escaped || byte != b'\\' {
+        return false;
+    }
+    matches!(rest, [b'"' | b'\\', ..])
 }

@@ -1,7 +1,7 @@
-use Rattle.std.proofs.Common.{◌≡◌, ◌+◌, false, get_or, drop, sym, ap, ◌∙◌, arith}
+use Rattle.std.proofs.Common.{◌≡◌, ℕ, ◌+◌, List, false, IfOk, get_or, drop, sym, ap, ◌∙◌, subst, arith}
 use Rattle.std.proofs.lemmas.List.{take_rest}
 use Rattle.explorer_model.specs.Items.{escapes, unescaped}
-use Rattle.pgn_lex.proofs.Strings.{kept_at, dropped_at, unescaped_whole}
+use Rattle.pgn_lex.proofs.Strings.{kept_at, dropped_at, unescaped_whole, nothing_escapes}
 use Rattle.pgn_lex.proofs.pair.unescape.Goals as goal
 use Rattle.pgn_lex.proofs.pair.unescape.Goals.{then-not-escaped+in_ok-push, else-not-escaped}
 
@@ -18,3 +18,8 @@ loop-at-preserved c =
 
 pub returns : goal.returns
 returns c = unescaped_whole c.loop-at.escaped c.args.string.now c.loop-at.at c.loop-at.value.items (unescaped false c.args.string.now) (omega arith) c.loop-at.invariant
+
+pub returns-then-not-has_backslash : goal.returns-then-not-has_backslash
+returns-then-not-has_backslash c =
+    let IsCopy : List ℕ → Type 0 = λ bytes. IfOk c.from_slice.result (λ value. value.items ≡ bytes) in
+    subst IsCopy (sym (nothing_escapes c.args.string.now (sym c.has_backslash.ensures ∙ c.if-not-has_backslash.true))) c.from_slice.ensures.items
