@@ -1,12 +1,13 @@
 -- Sets of squares told by a test of what stands there.
 use Rattle.std.proofs.Common.{◌≡◌, ◌↔◌, ℕ, zero, suc, ◌+◌, ◌*◌, ◌/◌, ◌%◌, ◌<◌, ◌≤◌, ◌^◌, ◌⊎◌, Bool, true, false, cond, IsTrue, List, [], ◌∷◌, length, set, Option, None, bit_or, refl, sym, ap, ◌∙◌, subst, inl, inr, arith}
 use Rattle.std.specs.Int.{bit_at}
+use mir.Val.{bool_byte}
 use Rattle.std.proofs.Math.Nat.{pow-suc}
 use Rattle.std.proofs.lemmas.Bool.{cases_eq}
 use Rattle.std.proofs.lemmas.Nat.Bits.{bit_at-zero, bit_at-lt, bit_at_lowest, bit_at-suc, same_from_bits_below}
 use Rattle.std.proofs.lemmas.Nat.{or_lt}
 use Rattle.step_tables.specs.Bitboard.{Holds}
-use Rattle.step_tables.proofs.BitboardLemmas.{Holds-or}
+use Rattle.step_tables.proofs.BitboardLemmas.{Holds-or, Holds-only, Holds-zero}
 use Rattle.explorer_model.specs.declared.chess.Role.{Role}
 use Rattle.explorer_model.specs.declared.chess.Role.TheVariants.{Pawn, Knight, Bishop, Rook, Queen, King}
 use Rattle.explorer_model.specs.declared.chess.Piece.{Piece}
@@ -111,6 +112,20 @@ set_written before after s there on_s fits says test squares occupant whole none
     tells : (b : ℕ) → Holds before b ↔ IsTrue (test (piece_at squares b))
     tells b = let P : ℕ → Type 0 = λ n. Holds n b ↔ IsTrue (test (piece_at squares b)) in subst P (sym same) (set_of-tells test squares b none)
 
+same_truth : (a b : Bool) → IsTrue a ↔ IsTrue b → a ≡ b
+same_truth true true h = refl
+same_truth true false h = sym (h.0 refl)
+same_truth false true h = h.1 refl
+same_truth false false h = refl
+
+-- a test of the set is a test of what stands there
+pub set_told : (test : Option Piece → Bool) (squares : List (Option Piece)) (bitboard s : ℕ) (there : Bool) → test None ≡ false
+    → bitboard ≡ set_of test squares → IsTrue there ↔ Holds bitboard s → there ≡ test (piece_at squares s)
+set_told test squares bitboard s there none is tells =
+    let P : ℕ → Type 0 = λ n. Holds n s ↔ IsTrue (test (piece_at squares s)) in
+    let holds : Holds bitboard s ↔ IsTrue (test (piece_at squares s)) = subst P (sym is) (set_of-tells test squares s none) in
+    same_truth there _ (λ t. holds.0 (tells.0 t), λ t. tells.1 (holds.1 t))
+
 -- Roles.
 
 pub role_same : (a b : Role) → is_role a b ≡ true → a ≡ b
@@ -151,23 +166,27 @@ set_passed test squares n bitboard there built is fails =
 
 -- The set with a square that is taken out, and perhaps put in again.
 
-pub written_with : (before others one s : ℕ) (there : Bool) → s < 64 → others < 2 ^ 64 → one < 2 ^ 64
-    → ((b : ℕ) → b < 64 → Holds others b ↔ (Holds before b × (b ≡ s → ⊥))) → ((b : ℕ) → b < 64 → Holds one b ↔ (b ≡ s)) → there ≡ true
+pub only_if_says : (there : Bool) (bit s b : ℕ) → bit ≡ bool_byte there → s < 64 → Holds (bit * 2 ^ s % 2 ^ 64) b ↔ ((b ≡ s) × IsTrue there)
+only_if_says there bit s b is on = let P : ℕ → Type 0 = λ n. Holds (n * 2 ^ s % 2 ^ 64) b ↔ ((b ≡ s) × IsTrue there) in subst P (sym is) (says there)
+  where
+    nothing : 0 * 2 ^ s % 2 ^ 64 ≡ 0
+    nothing = omega arith
+
+    says : (t : Bool) → Holds (bool_byte t * 2 ^ s % 2 ^ 64) b ↔ ((b ≡ s) × IsTrue t)
+    says true = (λ h. ((Holds-only s b on).0 h, refl), λ h. (Holds-only s b on).1 h.0)
+    says false = (
+      λ h. absurd (Holds-zero b (let Q : ℕ → Type 0 = λ n. Holds n b in subst Q nothing h)),
+      λ h. (let no_way : false ≡ true = h.1 in cc),
+    )
+
+pub written_by : (before others one s : ℕ) (there : Bool) → s < 64 → others < 2 ^ 64 → one < 2 ^ 64
+    → ((b : ℕ) → b < 64 → Holds others b ↔ (Holds before b × (b ≡ s → ⊥))) → ((b : ℕ) → b < 64 → Holds one b ↔ ((b ≡ s) × IsTrue there))
     → IsSetWritten before s there (bit_or others one)
-written_with before others one s there on others_fits one_fits without only holds =
+written_by before others one s there on others_fits one_fits without only =
     set_written before (bit_or others one) s there on (or_lt 64 others one others_fits one_fits)
     (λ b on_b. (
-      λ bit. elim ((Holds-or others one b).0 bit) [ inl old ↦ inl ((without b on_b).0 old) | inr new ↦ inr ((only b on_b).0 new, holds) ],
-      λ h. (Holds-or others one b).1 (elim h [ inl old ↦ inl ((without b on_b).1 old) | inr new ↦ inr ((only b on_b).1 new.0) ]),
-    ))
-
-pub written_without : (before others s : ℕ) (there : Bool) → s < 64 → others < 2 ^ 64
-    → ((b : ℕ) → b < 64 → Holds others b ↔ (Holds before b × (b ≡ s → ⊥))) → there ≡ false → IsSetWritten before s there others
-written_without before others s there on fits without fails =
-    set_written before others s there on fits
-    (λ b on_b. (
-      λ bit. inl ((without b on_b).0 bit),
-      λ h. elim h [ inl old ↦ (without b on_b).1 old | inr new ↦ (let no_way : false ≡ true = sym fails ∙ new.1 in cc) ],
+      λ bit. elim ((Holds-or others one b).0 bit) [ inl old ↦ inl ((without b on_b).0 old) | inr new ↦ inr ((only b on_b).0 new) ],
+      λ h. (Holds-or others one b).1 (elim h [ inl old ↦ inl ((without b on_b).1 old) | inr new ↦ inr ((only b on_b).1 new) ]),
     ))
 
 -- PieceSets are told by their eight sets.

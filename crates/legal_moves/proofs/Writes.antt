@@ -97,6 +97,14 @@ rook_home_on_board Black Long = lit< tt
 pub passed_pawn_on_board : (m : Move) → captured_en_passant m < 64
 passed_pawn_on_board m = let a : m.from.index < 64 = m.from.on_board in let b : m.to.index < 64 = m.to.on_board in omega arith
 
+-- what arrives where nothing is promoted is what left
+pub arriving-plain : (occupant : Option Piece) (promotion : Option Role) → promotion ≡ None → arriving occupant promotion ≡ occupant
+arriving-plain occupant promotion none = ap (arriving occupant) none ∙ itself occupant
+  where
+    itself : (o : Option Piece) → arriving o None ≡ o
+    itself None = refl
+    itself (Some piece) = refl
+
 -- most moves make two writes
 pub plain_writes : (p : Position) (m : Move) → length p.squares ≡ 64 → takes_en_passant p m ≡ false → is_castling p m ≡ false
     → moved p.squares m.from.index m.to.index (arriving (piece_at p.squares m.from.index) m.promotion) ≡ squares_after p m

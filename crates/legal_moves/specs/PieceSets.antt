@@ -1,11 +1,13 @@
 -- Where the pieces of a board stand, as sets of squares: bit s of a set stands for square s.
-use Rattle.std.specs.Prelude.{◌≡◌, ℕ, ◌+◌, ◌*◌, Bool, true, false, cond, List, [], ◌∷◌, length, slice_set, Option, Some, None}
+use Rattle.std.specs.Prelude.{◌≡◌, ℕ, ◌+◌, ◌*◌, Bool, true, false, ◌||◌, ◌==◌, cond, List, [], ◌∷◌, length, slice_set, Option, Some, None}
 use Rattle.explorer_model.specs.declared.chess.Color.TheVariants.{White, Black}
 use Rattle.explorer_model.specs.declared.chess.Role.{Role}
 use Rattle.explorer_model.specs.declared.chess.Role.TheVariants.{Pawn, Knight, Bishop, Rook, Queen, King}
 use Rattle.explorer_model.specs.declared.chess.Piece.{Piece}
 use Rattle.explorer_model.specs.declared.chess.Position.{Position}
-use Rattle.explorer_model.specs.Chess.{is_of_color, IsValid}
+use Rattle.explorer_model.specs.declared.chess.Move.{Move}
+use Rattle.explorer_model.specs.Board.{piece_at}
+use Rattle.explorer_model.specs.Chess.{is_of_color, IsValid, takes_en_passant, is_castling}
 use Rattle.legal_moves.specs.declared.piece_sets.PieceSets.{PieceSets}
 
 abbrev pub is_role : Role → Role → Bool
@@ -52,6 +54,27 @@ abbrev pub AreWritten : PieceSets → ℕ → Option Piece → PieceSets → Typ
 AreWritten before s occupant after =
     (squares : List (Option Piece)) → length squares ≡ 64 → before ≡ sets_in squares
     → after ≡ sets_in (slice_set squares s occupant)
+
+-- the set of such pieces once what stands on one square is put onto another one
+abbrev pub IsSetCarried : ℕ → ℕ → ℕ → ℕ → Type 0
+IsSetCarried before from to after =
+    (test : Option Piece → Bool) (squares : List (Option Piece))
+    → length squares ≡ 64 → test None ≡ false → before ≡ set_of test squares
+    → after ≡ set_of test (slice_set (slice_set squares from None) to (piece_at squares from))
+
+-- the pieces once what stands on one square is put onto another one
+abbrev pub AreCarried : PieceSets → ℕ → ℕ → PieceSets → Type 0
+AreCarried before from to after =
+    (squares : List (Option Piece)) → length squares ≡ 64 → before ≡ sets_in squares
+    → after ≡ sets_in (slice_set (slice_set squares from None) to (piece_at squares from))
+
+-- a king or a rook that may castle stands there at first
+abbrev pub is_home : ℕ → Bool
+is_home s = s == 0 || s == 4 || s == 7 || s == 56 || s == 60 || s == 63
+
+-- the move only puts a piece onto another square
+abbrev pub IsPlain : Position → Move → Type 0
+IsPlain p m = (takes_en_passant p m ≡ false) × (is_castling p m ≡ false) × (m.promotion ≡ None)
 
 -- what a board is made of
 pub record IsKept (position : Position) (sets : PieceSets) : Type 0 where

@@ -9,7 +9,7 @@ ghost use Rattle.explorer_model.specs.San.{IsRole, captures};
 ghost use Rattle.step_tables.specs.Bitboard.{Holds};
 ghost use Rattle.legal_moves.specs.Pins.{IsPinned, IsEvasion};
 ghost use Rattle.legal_moves.specs.Sources.{IsSource, takes_on};
-ghost use Rattle.legal_moves.specs.Tidy.{IsTidied};
+ghost use Rattle.legal_moves.specs.Tidy.{IsTidied, with_en_passant};
 
 use crate::check_info::CheckInfo;
 use crate::generate;
@@ -100,6 +100,13 @@ impl Board {
         ensures valid { IsValid result }
     {
         self.position
+    }
+
+    /// The position, without a copy of it.
+    pub fn as_position(&self) -> &Position
+        ensures { result.now ≡ self.now }
+    {
+        &self.position
     }
 
     /// Is the side to move in check (FIDE 3.9.1)?
@@ -206,5 +213,12 @@ impl Board {
             },
             sets: self.sets,
         }
+    }
+
+    /// The en passant square of the tidy board.
+    pub fn tidy_en_passant(&self) -> Option<Square>
+        ensures { IsTidied self.now (with_en_passant self.now result) }
+    {
+        legal_en_passant(&self.position, &self.sets)
     }
 }

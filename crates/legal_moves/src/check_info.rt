@@ -31,6 +31,7 @@ pub struct CheckInfo {
 }
 
 impl CheckInfo {
+    #[inline(always)]
     pub fn of(position: &Position, sets: &PieceSets) -> CheckInfo
         requires { IsKept position.now sets.now }
         ensures { IsInfoOf position.now result }
@@ -190,6 +191,7 @@ impl CheckInfo {
     }
 
     /// Is a pseudo-legal move legal?
+    #[inline(always)]
     pub fn is_legal(&self, position: &Position, m: Move) -> bool
         requires informed { IsInfoOf position.now self.now }
         requires pseudo_legal { PseudoLegal position.now m }

@@ -53,6 +53,7 @@ impl EnemySets {
             || king_attacks(self.king, square)
     }
 
+    #[inline(always)]
     fn slides_to(&self, square: u8) -> bool
         requires { square < 64 }
         ensures { IsTrue result ↔ SlidesTo self.now square }
@@ -62,6 +63,7 @@ impl EnemySets {
     }
 
     /// Does the enemy attack the square?
+    #[inline(always)]
     pub fn is_attacked(&self, enemy: Color, square: u8) -> bool
         requires { square < 64 }
         ensures { IsTrue result ↔ (LeapsTo self.now enemy square ⊎ SlidesTo self.now square) }

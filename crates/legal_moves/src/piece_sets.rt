@@ -1,14 +1,15 @@
 //! Where the pieces of a board stand, as sets of squares that are kept while moves are played.
-ghost use Rattle.std.specs.Prelude.{◌≡◌, ◌<◌, List, Option};
+ghost use Rattle.std.specs.Prelude.{◌≡◌, ◌<◌, ◌↔◌, ℕ, List, Option, IsTrue};
+ghost use Rattle.step_tables.specs.Bitboard.{Holds};
 ghost use Rattle.explorer_model.specs.declared.chess.Piece.{Piece};
 ghost use Rattle.explorer_model.specs.Board.{IsOfColor};
 ghost use Rattle.explorer_model.specs.Chess.{is_of_color};
 ghost use Rattle.explorer_model.specs.San.{IsRole};
 ghost use Rattle.legal_moves.specs.EnemySets.{IsBitboardOf};
-ghost use Rattle.legal_moves.specs.PieceSets.{is_of, set_of, sets_in, IsSetWritten, AreWritten};
+ghost use Rattle.legal_moves.specs.PieceSets.{is_of, set_of, sets_in, IsSetWritten, AreWritten, IsSetCarried, AreCarried};
 
 use explorer_model::chess::{Color, Piece, Role, is_of_color};
-use step_tables::{Bitboard, only, without};
+use step_tables::{Bitboard, contains, only, without};
 
 /// The squares of the pieces of each colour, and of each role.
 #[derive(Clone, Copy, Debug)]
@@ -65,21 +66,35 @@ impl PieceSets {
         }
     }
 
-    /// The pieces once this piece, or none, stands on the square.
-    pub fn written(&self, square: u8, occupant: Option<Piece>) -> PieceSets
+    /// Puts a piece, or none, on a square.
+    pub fn write(&mut self, square: u8, occupant: Option<Piece>)
         requires { square < 64 }
-        ensures { AreWritten self.now square occupant result }
+        ensures { AreWritten self.old square occupant self.new }
     {
-        PieceSets {
-            white: written(self.white, square, is_of_color(Color::White, occupant)),
-            black: written(self.black, square, is_of_color(Color::Black, occupant)),
-            pawns: written(self.pawns, square, is_of(Role::Pawn, occupant)),
-            knights: written(self.knights, square, is_of(Role::Knight, occupant)),
-            bishops: written(self.bishops, square, is_of(Role::Bishop, occupant)),
-            rooks: written(self.rooks, square, is_of(Role::Rook, occupant)),
-            queens: written(self.queens, square, is_of(Role::Queen, occupant)),
-            kings: written(self.kings, square, is_of(Role::King, occupant)),
-        }
+        self.white = written(self.white, square, is_of_color(Color::White, occupant));
+        self.black = written(self.black, square, is_of_color(Color::Black, occupant));
+        self.pawns = written(self.pawns, square, is_of(Role::Pawn, occupant));
+        self.knights = written(self.knights, square, is_of(Role::Knight, occupant));
+        self.bishops = written(self.bishops, square, is_of(Role::Bishop, occupant));
+        self.rooks = written(self.rooks, square, is_of(Role::Rook, occupant));
+        self.queens = written(self.queens, square, is_of(Role::Queen, occupant));
+        self.kings = written(self.kings, square, is_of(Role::King, occupant));
+    }
+
+    /// Puts what stands on a square onto another one.
+    pub fn carry(&mut self, from: u8, to: u8)
+        requires from_on_board { from < 64 }
+        requires to_on_board { to < 64 }
+        ensures { AreCarried self.old from to self.new }
+    {
+        self.white = carried(self.white, from, to);
+        self.black = carried(self.black, from, to);
+        self.pawns = carried(self.pawns, from, to);
+        self.knights = carried(self.knights, from, to);
+        self.bishops = carried(self.bishops, from, to);
+        self.rooks = carried(self.rooks, from, to);
+        self.queens = carried(self.queens, from, to);
+        self.kings = carried(self.kings, from, to);
     }
 }
 
@@ -121,6 +136,23 @@ fn written(bitboard: Bitboard, square: u8, there: bool) -> Bitboard
     requires { square < 64 }
     ensures { IsSetWritten bitboard square there result }
 {
-    let others = without(bitboard, square);
-    if there { others | only(square) } else { others }
+    without(bitboard, square) | only_if(there, square)
+}
+
+/// The square alone, or none.
+fn only_if(there: bool, square: u8) -> Bitboard
+    requires { square < 64 }
+    ensures { (b : ℕ) → b < 64 → Holds result b ↔ ((b ≡ square) × IsTrue there) }
+{
+    u64::from(there) << square
+}
+
+/// The set once what stands on a square is put onto another one.
+fn carried(bitboard: Bitboard, from: u8, to: u8) -> Bitboard
+    requires from_on_board { from < 64 }
+    requires to_on_board { to < 64 }
+    ensures { IsSetCarried bitboard from to result }
+{
+    let there = contains(bitboard, from);
+    written(written(bitboard, from, false), to, there)
 }

@@ -1,25 +1,61 @@
 //! Playing a move: what leaves, what goes and what arrives.
-ghost use Rattle.std.specs.Prelude.{◌≡◌, ◌<◌, length, slice_set};
-ghost use Rattle.explorer_model.specs.Chess.{after, is_double_step, keeps_right, rights_after, halfway_square, en_passant_after};
-ghost use Rattle.legal_moves.specs.PieceSets.{IsKept, sets_in};
+ghost use Rattle.std.specs.Prelude.{◌≡◌, ◌<◌, None, IsTrue, length, slice_set};
+ghost use Rattle.explorer_model.specs.Board.{piece_at};
+ghost use Rattle.explorer_model.specs.Chess.{squares_after, after, is_double_step, keeps_right, rights_after, halfway_square, en_passant_after};
+ghost use Rattle.legal_moves.specs.PieceSets.{IsKept, IsPlain, is_home, sets_in};
 
 use crate::piece_sets::PieceSets;
 use explorer_model::chess::{Color, Move, Piece, Position, Rights, Role, Side, arriving, piece_of};
 use explorer_model::square::{Square, halfway};
 
-/// Plays a move in place, in at most four writes: a rook that castles goes first, or a pawn that
-/// is taken en passant.
+/// Plays a move in place.
 pub fn play_on(position: &mut Position, sets: &mut PieceSets, m: Move)
     requires { IsKept position.old sets.old }
     ensures position { position.new ≡ after position.old m }
+    ensures told { sets.new ≡ sets_in position.new.squares }
+{
+    let turn = position.turn;
+    let rights = rights_after(position, m);
+    let en_passant = en_passant_after(position, m);
+    move_pieces(position, sets, m);
+    position.turn = turn.opponent();
+    position.rights = rights;
+    position.en_passant = en_passant;
+}
+
+/// Moves the pieces: most moves only put one onto another square.
+fn move_pieces(position: &mut Position, sets: &mut PieceSets, m: Move)
+    requires { IsKept position.old sets.old }
+    ensures squares { position.new.squares ≡ squares_after position.old m }
+    ensures told { sets.new ≡ sets_in position.new.squares }
+{
+    if is_plain(position, m) {
+        return carry(&mut position.squares, sets, m.from.index, m.to.index);
+    }
+    write_pieces(position, sets, m);
+}
+
+/// Is the move no castling, no capture en passant and no promotion?
+fn is_plain(position: &Position, m: Move) -> bool
+    ensures { IsTrue result → IsPlain position.now m }
+{
+    if position.takes_en_passant(m) || position.is_castling(m) {
+        return false;
+    }
+    m.promotion.is_none()
+}
+
+/// Moves the pieces of any move, in at most four writes: a rook that castles goes first, or a pawn
+/// that is taken en passant.
+fn write_pieces(position: &mut Position, sets: &mut PieceSets, m: Move)
+    requires { IsKept position.old sets.old }
+    ensures squares { position.new.squares ≡ squares_after position.old m }
     ensures told { sets.new ≡ sets_in position.new.squares }
 {
     let (from, to) = (m.from.index, m.to.index);
     let taking = position.takes_en_passant(m);
     let castles = position.is_castling(m);
     let turn = position.turn;
-    let rights = rights_after(position, m);
-    let en_passant = en_passant_after(position, m);
     let arrives = arriving(position.squares[from as usize], m.promotion);
     let squares = &mut position.squares;
     if taking {
@@ -30,9 +66,6 @@ pub fn play_on(position: &mut Position, sets: &mut PieceSets, m: Move)
     }
     write(squares, sets, from, None);
     write(squares, sets, to, arrives);
-    position.turn = turn.opponent();
-    position.rights = rights;
-    position.en_passant = en_passant;
 }
 
 /// Puts a piece, or none, on a square.
@@ -48,20 +81,46 @@ fn write(
     ensures squares { squares.new ≡ slice_set squares.old square occupant }
     ensures told { sets.new ≡ sets_in squares.new }
 {
-    *sets = sets.written(square, occupant);
+    sets.write(square, occupant);
     squares[square as usize] = occupant;
+}
+
+/// Puts what stands on a square onto another one.
+fn carry(squares: &mut [Option<Piece>; 64], sets: &mut PieceSets, from: u8, to: u8)
+    requires from_on_board { from < 64 }
+    requires to_on_board { to < 64 }
+    requires whole { length squares.old ≡ 64 }
+    requires told { sets.old ≡ sets_in squares.old }
+    ensures squares { squares.new
+        ≡ slice_set (slice_set squares.old from None) to (piece_at squares.old from) }
+    ensures told { sets.new ≡ sets_in squares.new }
+{
+    let occupant = squares[from as usize];
+    sets.carry(from, to);
+    squares[from as usize] = None;
+    squares[to as usize] = occupant;
 }
 
 /// The rights that are left after a move.
 fn rights_after(position: &Position, m: Move) -> Rights
     ensures { result ≡ rights_after position.now m }
 {
+    if !is_home(m.from.index) && !is_home(m.to.index) {
+        return position.rights;
+    }
     Rights {
         white_short: keeps_right(position, m, Color::White, Side::Short),
         white_long: keeps_right(position, m, Color::White, Side::Long),
         black_short: keeps_right(position, m, Color::Black, Side::Short),
         black_long: keeps_right(position, m, Color::Black, Side::Long),
     }
+}
+
+/// Does a king or a rook that may castle stand on the square at first?
+fn is_home(square: u8) -> bool
+    ensures { result ≡ is_home square }
+{
+    matches!(square, 0 | 4 | 7 | 56 | 60 | 63)
 }
 
 /// The square that a pawn crosses, if the move is a pawn's step of two.

@@ -211,7 +211,10 @@ fn an_en_passant_square_stays_where_a_pawn_can_be_taken(rt: HostRuntime) {
                 tidied
             };
             let is_tidied = match Board::of(&at) {
-                Some(board) => is_equal(&board.tidy().position(), &wanted),
+                Some(board) => {
+                    is_equal(&board.tidy().position(), &wanted)
+                        && board.tidy_en_passant() == wanted.en_passant
+                }
                 None => false,
             };
             assert!(rt; is_tidied);

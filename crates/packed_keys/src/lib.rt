@@ -7,30 +7,51 @@
 #![tactic(auto)]
 
 ghost use Rattle.std.specs.Prelude.{◌≡◌, ◌++◌, ◌∷◌, [], length, IfSome, IfNone};
-ghost use Rattle.explorer_model.specs.Keys.{key, packed, HasKey, IsKey};
+ghost use Rattle.explorer_model.specs.Keys.{key, state_code, en_passant_code, HasKey, IsKey};
 
 mod codes;
 pub mod laws;
+mod squares;
 #[cfg(test)]
 mod tests;
 
 use crate::codes::{
-    LAST_EN_PASSANT, LAST_PIECE, LAST_STATE, en_passant_code, en_passant_of_code, piece_code,
-    piece_of_code, rights_of_code, state_code, turn_of_code,
+    LAST_EN_PASSANT, LAST_PIECE, LAST_STATE, en_passant_code, en_passant_of_code, piece_of_code,
+    rights_of_code, state_code, turn_of_code,
 };
-use explorer_model::chess::{Piece, Position};
+pub use crate::squares::{pack_squares, write_square};
+use explorer_model::chess::{Color, Position, Rights};
+use explorer_model::square::Square;
 
 /// The key of a position, valid or not.
 pub fn pack(position: &Position) -> [u8; 34]
     ensures key { result ≡ key position.now }
     ensures board { length position.now.squares ≡ 64 }
 {
-    let state = state_code(position.turn, position.rights);
-    key_bytes(
-        &position.squares,
-        state,
-        en_passant_code(position.en_passant),
+    let squares = pack_squares(&position.squares);
+    key_of(
+        &squares,
+        position.turn,
+        position.rights,
+        position.en_passant,
     )
+}
+
+/// The key of a position whose squares are packed.
+pub fn key_of(
+    squares: &[u8; 32],
+    turn: Color,
+    rights: Rights,
+    en_passant: Option<Square>,
+) -> [u8; 34]
+    ensures { result
+        ≡ squares.now ++ state_code turn rights ∷ en_passant_code en_passant ∷ [] }
+{
+    let mut key = [0u8; 34];
+    key[..32].copy_from_slice(squares);
+    key[32] = state_code(turn, rights);
+    key[33] = en_passant_code(en_passant);
+    key
 }
 
 /// The position that has this key, valid or not.
@@ -59,20 +80,4 @@ pub fn unpack(bytes: &[u8; 34]) -> Option<Position>
         rights: rights_of_code(state),
         en_passant: en_passant_of_code(en_passant),
     })
-}
-
-/// A key whose last two bytes are known.
-fn key_bytes(squares: &[Option<Piece>; 64], state: u8, en_passant: u8) -> [u8; 34]
-    ensures bytes { result ≡ packed squares.now ++ state ∷ en_passant ∷ [] }
-    ensures board { length squares.now ≡ 64 }
-{
-    let mut bytes = [0u8; 34];
-    bytes[32] = state;
-    bytes[33] = en_passant;
-    for byte in 0..32usize {
-        let low = piece_code(squares[2 * byte]);
-        let high = piece_code(squares[2 * byte + 1]);
-        bytes[byte] = low + 16 * high;
-    }
-    bytes
 }
