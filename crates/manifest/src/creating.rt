@@ -1,4 +1,4 @@
-ghost use Rattle.std.specs.Prelude.{[], IfOk, IfErr};
+ghost use Rattle.std.specs.Prelude.{◌≡◌, [], IfOk, IfErr};
 ghost use Rattle.record_log.specs.Log.{IsCreated, IsNotCreated};
 ghost use Rattle.manifest.specs.Manifest.{batch_format, IsManifestOf};
 
@@ -11,6 +11,8 @@ use record_log::{Back, CreateFault};
 pub fn create<D: Disk>(disk: D) -> Result<Manifest<D>, Back<D, CreateFault>>
     ensures created { IfOk result (IsCreated D.disk D.left_since batch_format disk) }
     ensures holds_none { IfOk result (IsManifestOf D.disk D.left_since []) }
+    ensures no_fault { IfOk result
+        (λ manifest. (D.disk manifest.disk).faults ≡ (D.disk disk).faults) }
     ensures refused { IfErr result (λ back. IsNotCreated D.disk back.fault disk back.disk) }
 {
     let log = record_log::create(disk, BATCH_FORMAT)?;

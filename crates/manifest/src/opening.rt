@@ -29,6 +29,8 @@ pub fn open<D: Disk>(alloc: Global, disk: D) -> Result<Opened<D>, Back<D, OpenFa
         opened.journal.items disk opened.manifest) }
     ensures refused { IfErr result (λ back. IsNotOpened D.disk back.fault disk back.disk) }
     ensures quiet { IfOk result (λ opened. IsQuiet D.disk D.left_since disk opened.manifest.disk) }
+    ensures no_fault { IfOk result
+        (λ opened. (D.disk opened.manifest.disk).faults ≡ (D.disk disk).faults) }
     ensures quiet_refused { IfErr result (λ back. IsQuiet D.disk D.left_since disk back.disk) }
 {
     let record_log::Opened { log, payloads } = record_log::open(alloc, disk, BATCH_FORMAT)?;

@@ -11,6 +11,7 @@ use disk_model::Disk;
 /// Makes a log without a payload on an empty disk: thirteen bytes, synced. It takes no memory.
 pub fn create<D: Disk>(disk: D, format: Format) -> Result<RecordLog<D>, Back<D, CreateFault>>
     ensures created { IfOk result (IsCreated D.disk D.left_since format disk) }
+    ensures no_fault { IfOk result (λ log. (D.disk log.disk).faults ≡ (D.disk disk).faults) }
     ensures refused { IfErr result (λ back. IsNotCreated D.disk back.fault disk back.disk) }
 {
     let Format { number, most: _ } = format;

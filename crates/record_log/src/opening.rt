@@ -1,4 +1,4 @@
-ghost use Rattle.std.specs.Prelude.{◌≡◌, ◌<◌, [], Err, IfSome, IfOk, IfErr};
+ghost use Rattle.std.specs.Prelude.{◌≡◌, ◌<◌, [], Err, IfSome, IfOk, IfErr, OnOk};
 ghost use Rattle.disk_model.specs.Disk.{IsQuiet};
 ghost use Rattle.record_log.specs.Log.{EachImage, reading_of, HasPayloads, IsOpened, IsNotOpened};
 ghost use Rattle.record_log.specs.Reading.{IsStop, IsUpTo, BeginsWith, EndsWith};
@@ -30,6 +30,8 @@ pub fn open<D: Disk>(
         opened.payloads.items disk opened.log) }
     ensures refused { IfErr result (λ back. IsNotOpened D.disk format back.fault disk back.disk) }
     ensures quiet { IfOk result (λ opened. IsQuiet D.disk D.left_since disk opened.log.disk) }
+    ensures no_fault { IfOk result
+        (λ opened. (D.disk opened.log.disk).faults ≡ (D.disk disk).faults) }
     ensures quiet_refused { IfErr result (λ back. IsQuiet D.disk D.left_since disk back.disk) }
 {
     let mut disk = disk;
@@ -64,6 +66,7 @@ struct Records {
 /// Reads the whole log once all of it is with the device.
 fn read_log<D: Disk>(alloc: Global, disk: &mut D, format: Format) -> Result<Records, ReadStop>
     ensures quiet { IsQuiet D.disk D.left_since disk.old disk.new }
+    ensures no_fault { OnOk result ((D.disk disk.new).faults ≡ (D.disk disk.old).faults) }
     ensures records { IfOk result (λ r.
         IsUpTo format (D.disk disk.new).size r.gate r.payloads.items) }
     ensures read { IfOk result (λ r. IfSome (D.disk disk.old).content
@@ -91,6 +94,7 @@ fn read_records<D: Disk>(
     requires long { 12 < size }
     requires header { IfSome (D.disk disk.old).content (BeginsWith format [] 12) }
     ensures quiet { IsQuiet D.disk D.left_since disk.old disk.new }
+    ensures no_fault { OnOk result ((D.disk disk.new).faults ≡ (D.disk disk.old).faults) }
     ensures records { IfOk result (λ r. IsUpTo format size r.gate r.payloads.items) }
     ensures read { IfOk result (λ r. IfSome (D.disk disk.old).content
         (EndsWith format r.payloads.items)) }

@@ -22,6 +22,7 @@ const GATE_LIMIT: u64 = 1 << 39;
 pub(crate) fn read_header<D: Disk>(disk: &mut D, size: u64, format: Format) -> Result<(), ReadStop>
     requires size { size ≡ (D.disk disk.old).size }
     ensures quiet { IsQuiet D.disk D.left_since disk.old disk.new }
+    ensures no_fault { OnOk result ((D.disk disk.new).faults ≡ (D.disk disk.old).faults) }
     ensures long { OnOk result (12 < size) }
     ensures header { OnOk result (IfSome (D.disk disk.old).content
         (λ file. file ≡ header format.number ++ drop 12 file)) }
@@ -56,6 +57,7 @@ pub(crate) fn read_record<D: Disk>(
     requires inside { gate < size }
     requires low { gate ≤ gate_limit }
     ensures quiet { IsQuiet D.disk D.left_since disk.old disk.new }
+    ensures no_fault { OnOk result ((D.disk disk.new).faults ≡ (D.disk disk.old).faults) }
     ensures found { IfOk result (λ next. IfSome (D.disk disk.old).content (StandsAt gate next)) }
     ensures fits { IfOk result (λ next. IfSome next (Fits most gate size)) }
     ensures stops { IfErr result (λ stop.
@@ -78,6 +80,7 @@ fn is_magic(bytes: &[u8; 8]) -> bool
 fn read_gate<D: Disk>(disk: &mut D, gate: u64) -> Result<u8, Failed>
     requires { gate < (D.disk disk.old).size }
     ensures quiet { IsQuiet D.disk D.left_since disk.old disk.new }
+    ensures no_fault { OnOk result ((D.disk disk.new).faults ≡ (D.disk disk.old).faults) }
     ensures byte { IfOk result (λ byte. IfSome (D.disk disk.old).content
         (λ file. take 1 (drop gate file) ≡ byte ∷ [])) }
     ensures fails { OnErr result (Rises (D.disk disk.old).faults (D.disk disk.new).faults) }
@@ -91,6 +94,7 @@ fn read_gate<D: Disk>(disk: &mut D, gate: u64) -> Result<u8, Failed>
 fn read_number<D: Disk>(disk: &mut D, at: u64) -> Result<u32, Failed>
     requires { at + 4 ≤ (D.disk disk.old).size }
     ensures quiet { IsQuiet D.disk D.left_since disk.old disk.new }
+    ensures no_fault { OnOk result ((D.disk disk.new).faults ≡ (D.disk disk.old).faults) }
     ensures number { IfOk result (λ number.
         IfSome (D.disk disk.old).content (IsNumberAt at number)) }
     ensures fails { OnErr result (Rises (D.disk disk.old).faults (D.disk disk.new).faults) }
@@ -114,6 +118,7 @@ fn read_count<D: Disk>(disk: &mut D, size: u64, gate: u64, most: u32) -> Result<
     requires inside { gate < size }
     requires low { gate ≤ gate_limit }
     ensures quiet { IsQuiet D.disk D.left_since disk.old disk.new }
+    ensures no_fault { OnOk result ((D.disk disk.new).faults ≡ (D.disk disk.old).faults) }
     ensures number { IfOk result (λ count.
         IfSome (D.disk disk.old).content (IsNumberAt (gate + 1) count)) }
     ensures fits { IfOk result (λ count. IsInRange 1 most count
@@ -142,6 +147,7 @@ fn read_bytes<D: Disk>(
 ) -> Result<Vec<u8>, ReadStop>
     requires { at + count ≤ (D.disk disk.old).size }
     ensures quiet { IsQuiet D.disk D.left_since disk.old disk.new }
+    ensures no_fault { OnOk result ((D.disk disk.new).faults ≡ (D.disk disk.old).faults) }
     ensures size { IfOk result (λ bytes. length bytes.items ≡ count) }
     ensures bytes { IfOk result (λ bytes. IfSome (D.disk disk.old).content
         (λ file. bytes.items ≡ take count (drop at file))) }
