@@ -9,7 +9,7 @@ use Rattle.std.proofs.lemmas.Slice.Eq.{bytes_eq-Decides}
 use Rattle.explorer_model.specs.declared.archive.Game.{Game}
 use Rattle.explorer_model.specs.declared.fault.GameFault.{GameFault}
 use Rattle.explorer_model.specs.declared.fault.Refusal.{Refusal}
-use Rattle.explorer_model.specs.Imports.{Candidate, Verdict, Accepted, Refused, verdict_of, verdict_of_game, verdict_by, verdicts_from, and_candidate, candidates, has_id_of}
+use Rattle.explorer_model.specs.Imports.{Candidate, Replayed, Read, Verdict, Accepted, Refused, verdict_of, verdict_of_game, verdict_by, verdicts_from, and_candidate, candidates, has_id_of}
 use Rattle.batch_tally.specs.declared.reading.Reading.{Reading}
 use Rattle.batch_tally.specs.Reading.{examination_as}
 
@@ -45,6 +45,10 @@ by-game : (earlier : List Candidate) (place : ℕ) (text : List ℕ) (game : Res
     → verdict_of_game earlier place text game ≡ Accepted c → IsOf earlier text game c
 by-game earlier place text (Err fault) c is = absurd (refused-not-accepted _ c is)
 by-game earlier place text (Ok game) c is = by-found earlier place text game (find (has_id_of game) earlier) c refl is
+
+pub replayed-is : (earlier : List Candidate) (replayed : Replayed) (c : Candidate) → verdict_of earlier (Read replayed) ≡ Accepted c
+    → IsOf earlier replayed.text replayed.game c
+replayed-is earlier replayed c is = by-game earlier replayed.place replayed.text replayed.game c is
 
 pub accepted-is : (earlier : List Candidate) (reading : Reading) (c : Candidate) → verdict_of earlier (examination_as reading) ≡ Accepted c
     → IsOf earlier reading.text reading.game c

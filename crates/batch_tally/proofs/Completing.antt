@@ -30,6 +30,12 @@ short-rest {A} P left more x first each =
     let L : List A → Type 0 = λ xs. All P xs in
     λ k d below. subst L first each (suc k) d (omega (arith, below))
 
+-- and of the first
+pub first-left : {A : Type 0} (P : A → Type 0) (left more : List A) (x : A) → left ≡ x ∷ more → All P left → P x
+first-left {A} P left more x first each =
+    let L : List A → Type 0 = λ xs. All P xs in
+    subst L first each 0 x (omega arith)
+
 -- what is made of the items so far, and of those that are left
 pub one-made : {A B : Type 0} (f : A → B) (all left more : List A) (x : A) (done next : List B) → left ≡ x ∷ more → next ≡ done ++ f x ∷ []
     → done ++ map f left ≡ map f all → next ++ map f more ≡ map f all

@@ -4,7 +4,7 @@ pub mod Stages
 pub mod Pushing
 pub mod Counting
 pub mod LeafLemmas
-pub mod ShareLemmas
+pub mod RangeLemmas
 pub mod Candidates
 pub mod Made
 pub mod Whole

@@ -10,15 +10,10 @@ use Rattle.explorer_model.specs.Imports.{batch_of}
 use Rattle.explorer_model.specs.Visits.{IsTextOf, AreLegal}
 use Rattle.explorer_model.proofs.LegalGames.{game-legal}
 use Rattle.tally_rows.specs.declared.row.Row.{Row}
-use Rattle.tally_rows.specs.declared.single.Single.{Single}
-use Rattle.tally_rows.specs.Games.{singles_from}
-use Rattle.tally_rows.specs.Single.{AreSingles}
-use Rattle.tally_rows.specs.Tallied.{Tallied}
 use Rattle.tally_rows.specs.Tally.{IsTrackOf, IsCounted}
-use Rattle.tally_rows.specs.Track.{Track}
 use Rattle.batch_tally.specs.declared.accepting.Accepted.{Accepted}
 use Rattle.batch_tally.specs.Accepting.{candidate_as, AreCandidates}
-use Rattle.batch_tally.specs.Singles.{IsCountFrom}
+use Rattle.batch_tally.specs.Singles.{AreRowsOf}
 use Rattle.batch_tally.specs.Tallying.{Counts}
 
 -- ---- the moves of games are legal
@@ -63,29 +58,20 @@ short-texts (a ∷ accepted) each = (each.0, short-texts accepted each.1)
 -- ---- the tally
 
 -- what the tally is made of
-pub record IsMade (accepted : List Accepted) (singles : List Single) (texts : List (List ℕ)) (classes : List Classes) (rows : List Row) : Type 0 where
+pub record IsMade (accepted : List Accepted) (texts : List (List ℕ)) (classes : List Classes) (rows : List Row) : Type 0 where
   pub some : accepted ≢ []
   pub known : AreCandidates accepted
   pub texts_are : texts ≡ map (λ a. a.text) accepted
   pub classes_are : classes ≡ map (λ a. a.game.classes) accepted
-  pub count : IsCountFrom 0 accepted singles
-  pub rows_are : (tracks : List Track) → AreSingles tracks singles → Tallied tracks rows
-  pub law : (tracks : List Track) → AreSingles tracks (singles_from 0 tracks)
-
-made-rows : (accepted : List Accepted) (singles : List Single) (texts : List (List ℕ)) (classes : List Classes) (rows : List Row)
-    (made : IsMade accepted singles texts classes rows) → Tallied made.count.tracks rows
-made-rows accepted singles texts classes rows made =
-    let S : List Single → Type 0 = λ s. AreSingles made.count.tracks s in
-    made.rows_are made.count.tracks (subst S (sym made.count.singles_are) (made.law made.count.tracks))
+  pub counted : AreRowsOf accepted rows
 
 some-length : (accepted : List Accepted) → accepted ≢ [] → 0 < length accepted
 some-length [] some = absurd (some refl)
 some-length (a ∷ accepted) some = omega arith
 
-pub made-counted : (accepted : List Accepted) (singles : List Single) (texts : List (List ℕ)) (classes : List Classes) (rows : List Row)
-    → IsMade accepted singles texts classes rows
+pub made-counted : (accepted : List Accepted) (texts : List (List ℕ)) (classes : List Classes) (rows : List Row) → IsMade accepted texts classes rows
     → IsCounted (record { batch = record { texts = texts }; classes = classes; rows = rows })
-made-counted accepted singles texts classes rows made =
+made-counted accepted texts classes rows made =
     let Texts : List (List ℕ) → Type 0 = λ ts. IsCounted (record { batch = record { texts = ts }; classes = classes; rows = rows }) in
     let Tags : List Classes → Type 0 = λ cs. IsCounted (record { batch = record { texts = map (λ a. a.text) accepted }; classes = cs; rows = rows }) in
     let many : length (map (λ a. a.text) accepted) ≡ length accepted = length-map accepted (λ a. a.text) in
@@ -105,9 +91,9 @@ made-counted accepted singles texts classes rows made =
         games = map (λ a. a.game) accepted;
         are_games = zip-games accepted (recursion_from_All (λ a. IsTextOf a.text a.game) accepted made.known.games);
         classes_are = classes-of-games accepted;
-        tracks = made.count.tracks;
-        are_tracks = made.count.are_tracks;
-        tallied = made-rows accepted singles texts classes rows made;
+        tracks = made.counted.tracks;
+        are_tracks = made.counted.are_tracks;
+        tallied = made.counted.tallied;
       };
     }))
 
@@ -115,36 +101,32 @@ batch-made : (accepted : List Accepted) → accepted ≢ [] → batch_of (map ca
 batch-made [] some = absurd (some refl)
 batch-made (a ∷ accepted) some = ap (λ l. Some (record { texts = l })) (sym (texts-are (a ∷ accepted)))
 
-pub made-counts : (accepted : List Accepted) (singles : List Single) (texts : List (List ℕ)) (classes : List Classes) (rows : List Row)
-    → IsMade accepted singles texts classes rows
+pub made-counts : (accepted : List Accepted) (texts : List (List ℕ)) (classes : List Classes) (rows : List Row) → IsMade accepted texts classes rows
     → Counts (map candidate_as accepted) (record { batch = record { texts = texts }; classes = classes; rows = rows })
-made-counts accepted singles texts classes rows made =
-    let Z : List Game → Type 0 = λ gs. AllZip IsTrackOf gs made.count.tracks in
+made-counts accepted texts classes rows made =
+    let Z : List Game → Type 0 = λ gs. AllZip IsTrackOf gs made.counted.tracks in
     record {
       batch = batch-made accepted made.some ∙ ap (λ l. Some (record { texts = l })) (sym made.texts_are);
       classes = made.classes_are ∙ classes-are accepted;
-      tracks = made.count.tracks;
-      are_tracks = subst Z (games-are accepted) made.count.are_tracks;
-      tallied = made-rows accepted singles texts classes rows made;
+      tracks = made.counted.tracks;
+      are_tracks = subst Z (games-are accepted) made.counted.are_tracks;
+      tallied = made.counted.tallied;
     }
 
 -- the parts of a tally, as the code makes them
-pub made-of : (accepted lent : List Accepted) (singles : List Single) (texts made_texts : List (List ℕ)) (classes made_classes : List Classes) (rows made_rows : List Row)
+pub made-of : (accepted lent : List Accepted) (texts made_texts : List (List ℕ)) (classes made_classes : List Classes) (rows made_rows : List Row)
     → accepted ≢ [] → AreCandidates accepted → lent ≡ accepted
     → texts ≡ made_texts → made_texts ≡ map (λ a. a.text) accepted
     → classes ≡ made_classes → made_classes ≡ map (λ a. a.game.classes) accepted
-    → IsCountFrom 0 lent singles
-    → rows ≡ made_rows → ((tracks : List Track) → AreSingles tracks singles → Tallied tracks made_rows)
-    → ((tracks : List Track) → AreSingles tracks (singles_from 0 tracks))
-    → IsMade accepted singles texts classes rows
-made-of accepted lent singles texts made_texts classes made_classes rows made_rows some known borrowed t texts_are k classes_are count r rows_are law =
-    let C : List Accepted → Type 0 = λ l. IsCountFrom 0 l singles in
+    → rows ≡ made_rows → AreRowsOf lent made_rows
+    → IsMade accepted texts classes rows
+made-of accepted lent texts made_texts classes made_classes rows made_rows some known borrowed t texts_are k classes_are r counted =
+    let C : List Accepted → Type 0 = λ l. AreRowsOf l made_rows in
+    let R : List Row → Type 0 = λ l. AreRowsOf accepted l in
     record {
       some = some;
       known = known;
       texts_are = t ∙ texts_are;
       classes_are = k ∙ classes_are;
-      count = subst C borrowed count;
-      rows_are = λ tracks of. (let R : List Row → Type 0 = λ rows. Tallied tracks rows in subst R (sym r) (rows_are tracks of));
-      law = law;
+      counted = subst R (sym r) (subst C borrowed counted);
     }

@@ -1,17 +1,40 @@
 -- What becomes of one text more.
-use Rattle.std.proofs.Common.{◌≡◌, ◌++◌, List, [], ◌∷◌, map, sym, ap, ◌∙◌, subst, refl}
-use Rattle.std.proofs.lemmas.List.{append_assoc, append-nil, map_push}
+use Rattle.std.proofs.Common.{◌≡◌, ◌++◌, ◌+◌, ◌<◌, ℕ, false, if◌then◌else◌, List, [], ◌∷◌, Some, map, find, drop, length, get_or, sym, ap, ◌∙◌, subst, refl}
+use Rattle.std.proofs.lemmas.List.{append_assoc, append-nil, map_push, get_or-map, drop_more}
 use Rattle.explorer_model.specs.declared.fault.Refusal.{Refusal}
-use Rattle.explorer_model.specs.Imports.{Candidate, Examination, Accepted, Refused, verdict_of, verdicts, verdicts_from, and_candidate, candidates, refusals}
+use Rattle.explorer_model.specs.declared.archive.Game.{Game}
+use Rattle.explorer_model.specs.Imports.{has_id_of, Candidate, Examination, Accepted, Refused, verdict_of, verdicts, verdicts_from, and_candidate, candidates, refusals}
 use Rattle.batch_tally.specs.declared.accepting.Accepted.{Accepted as Kept}
 use Rattle.batch_tally.specs.declared.reading.Reading.{Reading}
-use Rattle.batch_tally.specs.Accepting.{candidate_as}
+use Rattle.batch_tally.specs.Accepting.{candidate_as, id_word_of}
 use Rattle.batch_tally.specs.Reading.{examination_as}
 
 -- what is accepted and refused so far, and what becomes of the rest behind it, are what becomes of all
 pub record Sorting (all : List Reading) (done : List Kept) (refused : List Refusal) (left : List Reading) : Type 0 where
   pub accepted : candidates (verdicts (map examination_as all)) ≡ map candidate_as done ++ candidates (verdicts_from (map candidate_as done) (map examination_as left))
   pub refusals_are : refusals (verdicts (map examination_as all)) ≡ refused ++ refusals (verdicts_from (map candidate_as done) (map examination_as left))
+
+-- the words of the ids of one text more
+pub words-more : (words more : List ℕ) (word : ℕ) (done next : List Kept) (y : Kept) → words ≡ map id_word_of done → more ≡ words ++ word ∷ []
+    → word ≡ id_word_of y → next ≡ done ++ y ∷ [] → more ≡ map id_word_of next
+words-more words more word done next y so_far pushed is grown =
+    pushed ∙ (λ i. so_far i ++ is i ∷ []) ∙ sym (map_push id_word_of done y) ∙ ap (λ l. map id_word_of l) (sym grown)
+
+pub word-at : (words : List ℕ) (done : List Kept) (place d : ℕ) (a : Kept) → words ≡ map id_word_of done → place < length done → a ≡ get_or done place a
+    → get_or words place d ≡ id_word_of a
+word-at words done place d a are below is =
+    ap (λ l. get_or l place d) are ∙ get_or-map id_word_of done place a d below ∙ ap id_word_of (sym is)
+
+-- a text that has another id is passed over
+pub id-passed : (game : Game) (done : List Kept) (place : ℕ) (a : Kept) → place < length done → a ≡ get_or done place a
+    → has_id_of game (candidate_as a) ≡ false
+    → find (has_id_of game) (map candidate_as done) ≡ find (has_id_of game) (map candidate_as (drop place done))
+    → find (has_id_of game) (map candidate_as done) ≡ find (has_id_of game) (map candidate_as (drop (place + 1) done))
+id-passed game done place a below is other so_far =
+    so_far
+    ∙ ap (λ l. find (has_id_of game) (map candidate_as l)) (drop_more done place a below)
+    ∙ ap (λ (x : Kept). find (has_id_of game) (candidate_as x ∷ map candidate_as (drop (place + 1) done))) (sym is)
+    ∙ ap (λ b. if b then Some (candidate_as a) else find (has_id_of game) (map candidate_as (drop (place + 1) done))) other
 
 pub begins : (all : List Reading) (done : List Kept) (refused : List Refusal) (left : List Reading) → done ≡ [] → refused ≡ [] → left ≡ all
     → Sorting all done refused left

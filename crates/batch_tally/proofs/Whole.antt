@@ -17,7 +17,7 @@ use Rattle.batch_tally.specs.declared.accepting.Accepted.{Accepted}
 use Rattle.batch_tally.specs.declared.reading.Reading.{Reading}
 use Rattle.batch_tally.specs.declared.tallying.Tallying.{Tallying}
 use Rattle.batch_tally.specs.Accepting.{candidate_as, AreCandidates}
-use Rattle.batch_tally.specs.Reading.{examination_as, IsReadingOf}
+use Rattle.batch_tally.specs.Reading.{examination_as, HasCount, IsReadingOf}
 use Rattle.batch_tally.specs.Tallying.{IsExaminationOfText, IsTallying, IsTallyMade}
 use Rattle.batch_tally.proofs.Candidates.{OfGame, HaveOtherIds, each-candidate, no-more-candidates, different-ids}
 use Rattle.batch_tally.proofs.Made.{classes-are}
@@ -86,6 +86,15 @@ are-candidates texts readings accepted few short each are =
       different = subst K (sym (classes-are accepted))
           (pairs-map (λ a b. a.id.bytes ≢ b.id.bytes) (λ c. c.game.classes) (map candidate_as accepted) (subst D (sym are) (different-ids readings)));
     }
+
+counted-each : (texts : List Placed) (readings : List Reading) → AllZip IsReadingOf texts readings → AllByRecursion HasCount readings
+counted-each [] [] each = tt
+counted-each [] (r ∷ readings) each = absurd each
+counted-each (t ∷ texts) [] each = absurd each
+counted-each (t ∷ texts) (r ∷ readings) each = (each.0.counted, counted-each texts readings each.1)
+
+pub have-counts : (texts : List Placed) (readings : List Reading) → AllZip IsReadingOf texts readings → All HasCount readings
+have-counts texts readings each = All-from_recursion HasCount readings (counted-each texts readings each)
 
 -- ---- the answer
 

@@ -1,23 +1,50 @@
 -- The singles of the games of a batch.
-use Rattle.std.specs.Prelude.{◌≡◌, ◌+◌, ◌*◌, ◌≤◌, ℕ, List, length, map}
-use Rattle.std.specs.List.{All, AllZip}
+use Rattle.std.specs.Prelude.{◌≡◌, ℕ, ◌+◌, ◌≤◌, Bool, List, [], ◌∷◌, ◌++◌, length, map}
+use Rattle.std.specs.List.{AllZip, filter}
+use Rattle.explorer_model.specs.declared.archive.Game.{Game}
+use Rattle.explorer_model.specs.Visits.{stage_limit}
+use Rattle.tally_rows.specs.declared.key_range.KeyRange.{KeyRange}
+use Rattle.tally_rows.specs.declared.row.Row.{Row}
 use Rattle.tally_rows.specs.declared.single.Single.{Single}
-use Rattle.tally_rows.specs.Games.{singles_from}
+use Rattle.tally_rows.specs.Games.{game_singles}
+use Rattle.tally_rows.specs.Tallied.{Tallied}
 use Rattle.tally_rows.specs.Tally.{IsTrackOf}
 use Rattle.tally_rows.specs.Track.{Track}
-use Rattle.explorer_model.specs.Imports.{group_limit}
-use Rattle.explorer_model.specs.Visits.{AreLegal, stage_limit}
+use Rattle.tally_rows.specs.Within.{is_in_range}
 use Rattle.batch_tally.specs.declared.accepting.Accepted.{Accepted}
-use Rattle.batch_tally.specs.declared.singles.Share.{Share}
 
--- the singles are those of the games' tracks, where the first game has this number
-pub record IsCountFrom (first : ℕ) (games : List Accepted) (singles : List Single) : Type 0 where
+-- the track is that of the game, and the singles are those of the track, under the number 0
+pub record CountsBy (track : Track) (game : Game) (singles : List Single) : Type 0 where
+  pub is_track : IsTrackOf game track
+  pub singles_are : singles ≡ game_singles 0 track
+
+-- the singles are those of the game, under the number 0
+pub record IsCountOf (game : Game) (singles : List Single) : Type 0 where
+  pub track : Track
+  pub counts : CountsBy track game singles
+  pub few : length singles ≤ stage_limit
+
+-- the tracks are those of the games, by which they are counted
+abbrev pub AreTracksOf : List Accepted → List Track → Type 0
+AreTracksOf games tracks = AllZip (λ a track. CountsBy track a.game a.singles.items) games tracks
+
+-- the single of the game of another number
+abbrev pub numbered : ℕ → Single → Single
+numbered number single = record single { number = number }
+
+-- whether a single is of the range
+abbrev pub is_kept : KeyRange → Single → Bool
+is_kept range single = is_in_range range single.row_key.key
+
+-- the singles of games in a range of keys, where the first game has this number
+abbrev pub singles_in : KeyRange → ℕ → List Accepted → List Single
+singles_in range first [] = []
+singles_in range first (a ∷ games) =
+    filter (is_kept range) (map (numbered first) a.singles.items)
+    ++ singles_in range (first + 1) games
+
+-- the rows count the games, whose numbers are their places
+pub record AreRowsOf (games : List Accepted) (rows : List Row) : Type 0 where
   pub tracks : List Track
-  pub are_tracks : AllZip IsTrackOf (map (λ accepted. accepted.game) games) tracks
-  pub singles_are : singles ≡ singles_from first tracks
-  pub few : length singles ≤ stage_limit * length games
-
--- what is known of a share whose singles are made
-pub record CanCount (share : Share) : Type 0 where
-  pub legal : All (λ accepted. AreLegal accepted.game) share.games.now
-  pub few : share.first + length share.games.now ≤ group_limit
+  pub are_tracks : AllZip IsTrackOf (map (λ a. a.game) games) tracks
+  pub tallied : Tallied tracks rows

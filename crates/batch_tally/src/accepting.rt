@@ -1,13 +1,16 @@
 //! Which texts of a group are accepted, and why the others are refused.
 ghost use Rattle.std.specs.Prelude.{◌≡◌, [], map, find, option_map, IfOk};
+ghost use Rattle.std.specs.List.{All};
 ghost use Rattle.explorer_model.specs.Imports.{has_id_of, verdicts, verdict_of, candidates, refusals};
-ghost use Rattle.batch_tally.specs.Accepting.{candidate_as, verdict_as};
-ghost use Rattle.batch_tally.specs.Reading.{examination_as};
+ghost use Rattle.batch_tally.specs.Accepting.{candidate_as, verdict_as, HasCountIfAccepted, IsCounted, id_word_of};
+ghost use Rattle.tally_rows.specs.SortEntry.{spelled};
+ghost use Rattle.batch_tally.specs.Reading.{HasCount, examination_as};
 
 use crate::reading::Reading;
 use explorer_model::archive::{Bytes, Game, GameId};
 use explorer_model::fault::{Refusal, Why};
 use std::alloc::{AllocError, Global};
+use tally_rows::{Single, word_at};
 
 /// A text with its game, whose id no text before it in its group has.
 #[derive(Debug, Drop)]
@@ -16,6 +19,8 @@ pub struct Accepted {
     pub place: u64,
     pub text: Bytes,
     pub game: Game,
+    /// What the game counts for, under the number 0.
+    pub singles: Vec<Single>,
 }
 
 /// What becomes of one text.
@@ -34,28 +39,42 @@ pub struct Accepting {
 
 /// Accepts each text that has a game, but for those whose id an accepted text before it has.
 pub fn accept(alloc: Global, readings: Vec<Reading>) -> Result<Accepting, AllocError>
+    requires { All HasCount readings.items }
+    ensures counted { IfOk result (λ group. All IsCounted group.accepted.items) }
     ensures accepted { IfOk result (λ group. map candidate_as group.accepted.items
         ≡ candidates (verdicts (map examination_as readings.items))) }
     ensures refused { IfOk result (λ group. group.refused.items
         ≡ refusals (verdicts (map examination_as readings.items))) }
 {
     let mut accepted = Vec::with_capacity(alloc, readings.len())?;
+    let mut words = Vec::with_capacity(alloc, readings.len())?;
     let mut refused = Vec::new(alloc);
     for reading in readings {
-        match judge(accepted.as_slice(), reading) {
-            Verdict::Accepted(candidate) => accepted.push(candidate)?,
+        match judge(accepted.as_slice(), words.as_slice(), reading) {
+            Verdict::Accepted(candidate) => {
+                words.push(id_word(&candidate.game))?;
+                accepted.push(candidate)?;
+            }
             Verdict::Refused(refusal) => refused.push(refusal)?,
         }
     }
     Ok(Accepting { accepted, refused })
 }
 
-/// What becomes of a text behind those that are accepted.
-fn judge(accepted: &[Accepted], reading: Reading) -> Verdict
-    ensures { verdict_as result
+/// What becomes of a text behind those that are accepted, whose ids these words are.
+fn judge(accepted: &[Accepted], words: &[u64], reading: Reading) -> Verdict
+    requires counted { HasCount reading }
+    requires words { words.now ≡ map id_word_of accepted.now }
+    ensures verdict { verdict_as result
         ≡ verdict_of (map candidate_as accepted.now) (examination_as reading) }
+    ensures counted { HasCountIfAccepted result }
 {
-    let Reading { place, text, game } = reading;
+    let Reading {
+        place,
+        text,
+        game,
+        singles,
+    } = reading;
     let game = match game {
         Ok(game) => game,
         Err(fault) => {
@@ -65,25 +84,52 @@ fn judge(accepted: &[Accepted], reading: Reading) -> Verdict
             });
         }
     };
-    match place_of_id(accepted, &game) {
+    match place_of_id(accepted, words, &game) {
         Some(first) => Verdict::Refused(Refusal {
             place,
             why: Why::Twice { first },
         }),
-        None => Verdict::Accepted(Accepted { place, text, game }),
+        None => Verdict::Accepted(Accepted {
+            place,
+            text,
+            game,
+            singles,
+        }),
     }
 }
 
 /// The place of the first accepted text that has the id of the game.
-fn place_of_id(accepted: &[Accepted], game: &Game) -> Option<u64>
+fn place_of_id(accepted: &[Accepted], words: &[u64], game: &Game) -> Option<u64>
+    requires { words.now ≡ map id_word_of accepted.now }
     ensures { result
         ≡ option_map (λ candidate. candidate.place)
         (find (has_id_of game.now) (map candidate_as accepted.now)) }
 {
-    for text in accepted {
-        if text.game.classes.id == game.classes.id {
+    let word = id_word(game);
+    for place in 0..accepted.len() {
+        let text = &accepted[place];
+        if has_id(text, words[place], game, word) {
             return Some(text.place);
         }
     }
     None
+}
+
+/// Have the text and the game one id? These words are those of their ids.
+fn has_id(text: &Accepted, of: u64, game: &Game, word: u64) -> bool
+    requires of { of ≡ id_word_of text.now }
+    requires word { word ≡ spelled game.now.classes.id.bytes 0 8 }
+    ensures { result ≡ has_id_of game.now (candidate_as text.now) }
+{
+    if of != word {
+        return false;
+    }
+    text.game.classes.id == game.classes.id
+}
+
+/// The number that the bytes of a game's id spell.
+fn id_word(game: &Game) -> u64
+    ensures { result ≡ spelled game.now.classes.id.bytes 0 8 }
+{
+    word_at(&game.classes.id.bytes, 0)
 }

@@ -2,8 +2,10 @@
 #![tactic(auto)]
 
 mod accepting;
+mod keyed_board;
 pub mod laws;
 mod leaves;
+mod ranges;
 mod reading;
 mod singles;
 mod step;

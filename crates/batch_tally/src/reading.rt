@@ -10,12 +10,14 @@ ghost use Rattle.std.specs.declared.alloc.AllocError.{AllocError};
 ghost use Rattle.std.specs.declared.alloc.Global.{Global};
 
 use crate::leaves::{all_made, joined};
+use crate::singles::singles_of;
 use explorer_model::archive::{Bytes, Game, Placed};
 use explorer_model::fault::{GameFault, Stop};
 use game_replay::replay;
 use outside::Gate;
 use std::alloc::{AllocError, Global};
 use std::thread::{Threads, map_vec};
+use tally_rows::Single;
 
 /// A text with its game, or the first of its faults.
 #[derive(Debug, Drop)]
@@ -24,6 +26,8 @@ pub struct Reading {
     pub place: u64,
     pub text: Bytes,
     pub game: Result<Game, GameFault>,
+    /// What the game counts for, under the number 0; none without a game.
+    pub singles: Vec<Single>,
 }
 
 /// The texts of one leaf.
@@ -34,8 +38,8 @@ pub struct Leaf {
     pub texts: Vec<Placed>,
 }
 
-/// Each text of at most 65,536 bytes, replayed. The texts go to as many leaves as there are workers, in order. The leaves work side
-/// by side, and each goes through the gate before its first text.
+/// Each text of at most 65,536 bytes, replayed and counted. The texts go to as many leaves as there are workers, in order. The leaves
+/// work side by side, and each goes through the gate before its first text.
 pub fn read_all<R: Threads + Sync, G: Gate>(
     rt: &R,
     alloc: Global,
@@ -100,7 +104,7 @@ fn read_leaves<R: Threads + Sync, G: Gate>(
     Ok(results)
 }
 
-/// Goes through the gate, and then replays the texts of the leaf.
+/// Goes through the gate, and then replays and counts the texts of the leaf.
 fn read_leaf<G: Gate>(alloc: Global, leaf: Leaf, gate: &G) -> Result<Vec<Reading>, AllocError>
     requires { All (λ text. length text.bytes ≤ text_limit) leaf.texts.items }
     ensures { IfOk result (λ readings. AllZip IsReadingOf leaf.texts.items readings.items) }
@@ -113,18 +117,28 @@ fn read_leaf<G: Gate>(alloc: Global, leaf: Leaf, gate: &G) -> Result<Vec<Reading
     Ok(readings)
 }
 
+/// The text with its game, if it has one, and with what the game counts for.
 fn read(alloc: Global, text: Placed) -> Result<Reading, AllocError>
     requires { length text.bytes ≤ text_limit }
     ensures { IfOk result (λ reading. IsReadingOf text reading) }
 {
-    let game = match replay(alloc, text.bytes.as_slice()) {
-        Ok(game) => Ok(game),
-        Err(Stop::Fault(fault)) => Err(fault),
-        Err(Stop::OutOfMemory) => return Err(AllocError),
-    };
-    Ok(Reading {
-        place: text.place,
-        text: text.bytes,
-        game,
-    })
+    let Placed { place, bytes } = text;
+    match replay(alloc, bytes.as_slice()) {
+        Ok(game) => {
+            let singles = singles_of(alloc, &game)?;
+            Ok(Reading {
+                place,
+                text: bytes,
+                game: Ok(game),
+                singles,
+            })
+        }
+        Err(Stop::Fault(fault)) => Ok(Reading {
+            place,
+            text: bytes,
+            game: Err(fault),
+            singles: Vec::new(alloc),
+        }),
+        Err(Stop::OutOfMemory) => Err(AllocError),
+    }
 }

@@ -1,7 +1,8 @@
 ghost use Rattle.std.specs.Prelude.{◌≡◌};
-ghost use Rattle.batch_tally.specs.Tag.{tag_of};
+ghost use Rattle.batch_tally.specs.Tag.{tag_after, tag_of};
 
 use explorer_model::chess::Move;
+use tally_rows::word_at;
 
 /// A position by the key of its tidy form, and the move that follows there, if the game goes on.
 #[derive(Clone, Copy, Debug)]
@@ -13,13 +14,17 @@ pub struct Step {
     pub ghost told: { tag ≡ tag_of key },
 }
 
-/// The tag of a key.
+/// The tag of a key: a number of its first 32 bytes, which tell most positions apart.
 #[tactic(auto, unfolding(crate::specs::Tag::tag_of))]
 pub fn tag_of(key: &[u8; 34]) -> u64
     ensures { result ≡ tag_of key.now }
 {
-    key.iter().fold(
-        0u64,
-        |tag, byte| tag.wrapping_mul(31).wrapping_add(u64::from(*byte)),
-    )
+    let half = tag_after(word_at(key, 0), word_at(key, 8));
+    tag_after(tag_after(half, word_at(key, 16)), word_at(key, 24))
+}
+
+fn tag_after(tag: u64, word: u64) -> u64
+    ensures { result ≡ tag_after tag word }
+{
+    tag.wrapping_mul(31).wrapping_add(word)
 }

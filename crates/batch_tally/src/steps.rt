@@ -5,10 +5,9 @@ ghost use Rattle.explorer_model.specs.Chess.{start};
 ghost use Rattle.explorer_model.specs.Visits.{AreLegalFrom, stage_limit};
 ghost use Rattle.batch_tally.specs.Steps.{IsStepAt, stages_within};
 
+use crate::keyed_board::KeyedBoard;
 use crate::step::{Step, tag_of};
 use explorer_model::chess::Move;
-use legal_moves::board::Board;
-use packed_keys::pack;
 use std::alloc::{AllocError, Global};
 
 /// The number of positions in which a game is looked for: those of plies 0 to 50.
@@ -20,12 +19,11 @@ pub fn steps_of(alloc: Global, moves: &[Move]) -> Result<Vec<Step>, AllocError>
     ensures { IfOk result
         (λ steps. AllZip IsStepAt (stages_within stage_limit start moves.now) steps.items) }
 {
-    let mut board = Board::start();
+    let mut board = KeyedBoard::start();
     let mut steps = Vec::with_capacity(alloc, STAGE_LIMIT)?;
     for ply in 0..STAGE_LIMIT {
         let next = move_at(moves, ply);
-        let tidy = board.tidy();
-        let key = pack(&tidy.position());
+        let key = board.tidy_key();
         let tag = tag_of(&key);
         steps.push(Step { key, next, tag })?;
         match next {

@@ -3,19 +3,19 @@ ghost use Rattle.std.specs.Prelude.{◌≡◌, ◌≤◌, length, map, IfOk};
 ghost use Rattle.std.specs.List.{All};
 ghost use Rattle.explorer_model.specs.Cuts.{text_limit};
 ghost use Rattle.explorer_model.specs.Imports.{group_limit};
-ghost use Rattle.batch_tally.specs.Accepting.{candidate_as, AreCandidates};
+ghost use Rattle.batch_tally.specs.Accepting.{candidate_as, AreCandidates, IsCounted};
 ghost use Rattle.batch_tally.specs.Tallying.{IsTallying, IsTallyMade};
 
 use crate::accepting::{Accepted, accept};
+use crate::ranges::rows_of_games;
 use crate::reading::read_all;
-use crate::singles::singles_of;
 use explorer_model::archive::{Batch, Bytes, Classes, Game, Placed, Texts};
 use explorer_model::fault::Refusal;
 use explorer_model::list::Items;
 use outside::Gate;
 use std::alloc::{AllocError, Global};
 use std::thread::Threads;
-use tally_rows::{Tally, rows_of};
+use tally_rows::Tally;
 
 /// What becomes of a list of texts.
 #[derive(Debug, Drop)]
@@ -75,14 +75,13 @@ fn tally_of<R: Threads + Sync>(
 ) -> Result<Option<Tally>, AllocError>
     requires some_workers { 1 ≤ workers }
     requires candidates { AreCandidates accepted.items }
+    requires counted { All IsCounted accepted.items }
     ensures { IfOk result (λ tally. IsTallyMade (map candidate_as accepted.items) tally) }
 {
     if accepted.is_empty() {
         return Ok(None);
     }
-    tally_rows::laws::singles_of_first_visits();
-    let singles = singles_of(rt, alloc, accepted.as_slice(), workers)?;
-    let rows = rows_of(alloc, singles)?;
+    let rows = rows_of_games(rt, alloc, accepted.as_slice(), workers)?;
     let (texts, classes) = texts_and_classes(alloc, accepted)?;
     Ok(Some(Tally::new(
         Batch {

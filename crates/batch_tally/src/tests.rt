@@ -8,7 +8,7 @@ use outside::{FreeGate, Gate};
 use std::alloc::{AllocError, Global};
 use std::sync::atomic::{AtomicU64, Ordering};
 use std::test::Fail;
-use std::thread::Threads;
+use std::thread::{self, Threads};
 
 /// A worked game with this id, and this movetext, which ends with `1-0`.
 fn text(alloc: Global, place: u64, id: &str, movetext: &str) -> Result<Placed, AllocError> {
@@ -70,10 +70,12 @@ fn counts_a_game_once_in_each_position(rt: HostRuntime) -> Result<(), Fail> {
         ("1. Nf3 Nf6 2. Ng1 Ng8 3. e4 1-0", 5),
     ];
     for (movetext, rows) in table {
-        let mut texts = Vec::new(rt.alloc());
-        texts.push(text(rt.alloc(), 0, "aaaaaaa1", movetext)?)?;
-        let tallying = tallied(&rt, rt.alloc(), texts, 1, &FreeGate)?;
-        assert_eq!(rt; row_count(&tallying), rows);
+        for workers in [1, 2, 8, 16] {
+            let mut texts = Vec::new(rt.alloc());
+            texts.push(text(rt.alloc(), 0, "aaaaaaa1", movetext)?)?;
+            let tallying = tallied(&rt, rt.alloc(), texts, workers, &FreeGate)?;
+            assert_eq!(rt; row_count(&tallying), rows);
+        }
     }
     Ok(())
 }
@@ -135,12 +137,13 @@ fn repeating(alloc: Global) -> Result<Vec<Placed>, AllocError> {
     Ok(texts)
 }
 
-/// Whether both have the same games, rows and refusals.
+/// Whether both have the same texts, rows, places and refusals.
 fn are_same(first: &Tallying, second: &Tallying) -> bool {
     let (Some(tally), Some(other)) = (&first.tally, &second.tally) else {
         return false;
     };
     tally.rows() == other.rows()
+        && tally.batch() == other.batch()
         && tally.classes().len() == other.classes().len()
         && first.places.as_slice() == second.places.as_slice()
         && first.refused.as_slice() == second.refused.as_slice()
@@ -255,6 +258,7 @@ impl Gate for HoldingGate {
                     self.leaves.fetch_or(1, Ordering::SeqCst);
                     break;
                 }
+                thread::yield_now();
             }
         }
         self.leaves.fetch_or(1u64 << (leaf % 64), Ordering::SeqCst);

@@ -10,14 +10,13 @@ use Rattle.explorer_model.specs.declared.archive.Game.{Game}
 use Rattle.explorer_model.specs.declared.archive.Placed.{Placed}
 use Rattle.explorer_model.specs.declared.fault.GameFault.{GameFault}
 use Rattle.explorer_model.specs.declared.fault.Refusal.{Refusal}
-use Rattle.explorer_model.specs.Imports.{Accepted, Candidate, Examination, Read, Refused, Verdict, and_candidate, batch_of, candidates, has_id_of, refusals, verdict_by, verdict_of, verdicts, verdicts_from}
+use Rattle.explorer_model.specs.Imports.{Accepted, Candidate, Examination, Read, Refused, Verdict, and_candidate, batch_of, candidates, has_id_of, refusals, Replayed, verdict_by, verdict_of, verdicts, verdicts_from}
 use Rattle.explorer_model.specs.Journal.{HaveDifferentIds}
 use Rattle.explorer_model.specs.Visits.{IsTextOf}
 use Rattle.tally_rows.specs.Tally.{Counted}
-use Rattle.batch_tally.specs.declared.reading.Reading.{Reading}
 use Rattle.batch_tally.specs.declared.tallying.Tallying.{Tallying}
 use Rattle.batch_tally.specs.Tallying.{IsExaminationOfText, IsTallying, IsTallyMade}
-use Rattle.batch_tally.proofs.Candidates.{accepted-is}
+use Rattle.batch_tally.proofs.Candidates.{replayed-is}
 use Rattle.ingest_desk.proofs.IdLemmas.{other_bytes}
 use Rattle.ingest_desk.proofs.RegisterLemmas.{OneGame}
 
@@ -130,9 +129,9 @@ kept_step : (t : Placed) (ts : List Placed) (e : Examination) (es : List Examina
     → map (λ (c : Candidate). c.text) (candidates (v ∷ verdicts_from (and_candidate earlier v) es))
     ≡ t.bytes ∷ map (λ (text : Placed). text.bytes) ts
 kept_step t ts e es earlier (Accepted c) verdict is kept none =
-    let reading : Reading = record { place = t.place; text = t.bytes; game = is.0 } in
+    let replayed : Replayed = record { place = t.place; text = t.bytes; game = is.0 } in
     let text : c.text ≡ t.bytes =
-    (accepted-is earlier reading c (ap (verdict_of earlier) (sym is.2) ∙ verdict)).text_is in
+    (replayed-is earlier replayed c (ap (verdict_of earlier) (sym is.2) ∙ verdict)).text_is in
     ap (λ x. x ∷ map (λ (c : Candidate). c.text) (candidates (verdicts_from (earlier ++ c ∷ []) es))) text
     ∙ ap (λ xs. t.bytes ∷ xs) (kept (earlier ++ c ∷ []) none)
 kept_step t ts e es earlier (Refused r) verdict is kept none = absurd (some_refused r _ none)

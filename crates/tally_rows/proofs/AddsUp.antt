@@ -15,6 +15,7 @@ use Rattle.tally_rows.specs.Track.{Track, has}
 use Rattle.tally_rows.specs.Row.{row_key_of, is_white, is_draw, is_black}
 use Rattle.tally_rows.specs.Tallied.{entries, has_move, mover_rating, rating_sum, track_month, IsTally, Tallied}
 use Rattle.tally_rows.specs.Adding.{sum_at, listed_at, SameAt, IsSound}
+use Rattle.tally_rows.specs.Within.{IsKey, TalliedWithin}
 use Rattle.tally_rows.proofs.Members.{IsIn, All-from_IsIn, All-IsIn, recursion-from_IsIn, recursion-IsIn, Any-IsIn, Found-from_Any, IsIn-from_Contains, Contains-IsIn, Found-map, count-positive, Found-from_count}
 use Rattle.tally_rows.proofs.RowOrder.{same_row_key-self}
 use Rattle.tally_rows.proofs.At.{NoneAt, sum_at-none, listed_at-none, sum_at-own, listed_at-own, row_or_none}
@@ -63,56 +64,75 @@ count-outcomes p (t ∷ ts) =
     one true outcomes.Black = refl
     one false outcome = refl
 
+-- where the rows add up at each key that passes, have such keys alone, are strictly sorted, and each counts some game, they are tallied there
+module _ (test : List ℕ → Bool) (tracks : List Track) (rows : List Row) (adds : (c : RowKey) → test c.key ≡ true → AddsUp tracks rows c)
+    (sound : All IsSound rows) (within : All (λ row. test row.key ≡ true) rows) (ordered : IsStrictlySortedBy row_order (map row_key_of rows)) where
+  each_within : (row : Row) → IsIn row rows → IsTally tracks row
+  each_within row m =
+      let at_row = adds (row_key_of row) (All-IsIn (λ r. test r.key ≡ true) rows within row m) in
+      let fine = All-IsIn IsSound rows sound row m in
+      record {
+        white = sym (sum_at-own (λ r. r.white) rows ordered row m) ∙ at_row.white;
+        draws = sym (sum_at-own (λ r. r.draws) rows ordered row m) ∙ at_row.draws;
+        black = sym (sum_at-own (λ r. r.black) rows ordered row m) ∙ at_row.black;
+        ratings = sym (sum_at-own (λ r. r.ratings) rows ordered row m) ∙ at_row.ratings;
+        top = sym fine.top ∙ ap (best before_by_rating 4) (sym (listed_at-own (λ r. r.top) rows ordered row m)) ∙ at_row.top;
+        recent = sym fine.recent ∙ ap (best before_by_month 4) (sym (listed_at-own (λ r. r.recent) rows ordered row m)) ∙ at_row.recent;
+      }
+
+  some_within : (row : Row) → IsIn row rows → Any (λ t. has (row_key_of row) t ≡ true) tracks
+  some_within row m =
+      let counts = each_within row m in
+      let fine = All-IsIn IsSound rows sound row m in
+      let found = Found-from_count (has (row_key_of row)) tracks
+      (omega (arith, count-outcomes (has (row_key_of row)) tracks, counts.white, counts.draws, counts.black, fine.some)) in
+      Any-IsIn (λ t. has (row_key_of row) t ≡ true) tracks found.value found.is_in found.holds
+
+  every_within : (c : RowKey) → test c.key ≡ true → Any (λ t. has c t ≡ true) tracks → Contains (map row_key_of rows) c
+  every_within c passes h =
+      let found = Found-from_Any (λ t. has c t ≡ true) tracks h in
+      let positive = count-positive (has c) tracks found.value found.is_in found.holds in
+      let at_c = adds c passes in
+      elim (row_or_none c rows) [
+        | inl m ↦ Contains-IsIn (map row_key_of rows) c m
+        | inr none ↦ absurd (omega (
+          arith,
+          positive,
+          count-outcomes (has c) tracks,
+          at_c.white,
+          at_c.draws,
+          at_c.black,
+          sum_at-none (λ r. r.white) c rows none,
+          sum_at-none (λ r. r.draws) c rows none,
+          sum_at-none (λ r. r.black) c rows none,
+        ))
+      ]
+
+  pub tallied_within_from : All (λ row. IsKey row.key) rows → TalliedWithin test tracks rows
+  tallied_within_from keys = record {
+    each = All-from_IsIn (IsTally tracks) rows each_within;
+    some = All-from_IsIn (λ row. Any (λ t. has (row_key_of row) t ≡ true) tracks) rows some_within;
+    every = every_within;
+    within = within;
+    keys = keys;
+    ordered = ordered;
+  }
+
+all_true : (rows : List Row) → All (λ row. true ≡ true) rows
+all_true rows = All-from_IsIn (λ row. true ≡ true) rows (λ row m. refl)
+
 -- where the rows add up, are strictly sorted, and each counts some game, they are tallied
 pub tallied_from : (tracks : List Track) (rows : List Row) → ((c : RowKey) → AddsUp tracks rows c) → All IsSound rows
     → IsStrictlySortedBy row_order (map row_key_of rows) → Tallied tracks rows
-tallied_from tracks rows adds sound ordered = record {
-  each = All-from_IsIn (IsTally tracks) rows each;
-  some = All-from_IsIn (λ row. Any (λ t. has (row_key_of row) t ≡ true) tracks) rows some;
-  every = every;
-  ordered = ordered;
-}
-  where
-    each : (row : Row) → IsIn row rows → IsTally tracks row
-    each row m =
-        let at_row = adds (row_key_of row) in
-        let fine = All-IsIn IsSound rows sound row m in
-        record {
-          white = sym (sum_at-own (λ r. r.white) rows ordered row m) ∙ at_row.white;
-          draws = sym (sum_at-own (λ r. r.draws) rows ordered row m) ∙ at_row.draws;
-          black = sym (sum_at-own (λ r. r.black) rows ordered row m) ∙ at_row.black;
-          ratings = sym (sum_at-own (λ r. r.ratings) rows ordered row m) ∙ at_row.ratings;
-          top = sym fine.top ∙ ap (best before_by_rating 4) (sym (listed_at-own (λ r. r.top) rows ordered row m)) ∙ at_row.top;
-          recent = sym fine.recent ∙ ap (best before_by_month 4) (sym (listed_at-own (λ r. r.recent) rows ordered row m)) ∙ at_row.recent;
-        }
-
-    some : (row : Row) → IsIn row rows → Any (λ t. has (row_key_of row) t ≡ true) tracks
-    some row m =
-        let counts = each row m in
-        let fine = All-IsIn IsSound rows sound row m in
-        let found = Found-from_count (has (row_key_of row)) tracks
-        (omega (arith, count-outcomes (has (row_key_of row)) tracks, counts.white, counts.draws, counts.black, fine.some)) in
-        Any-IsIn (λ t. has (row_key_of row) t ≡ true) tracks found.value found.is_in found.holds
-
-    every : (c : RowKey) → Any (λ t. has c t ≡ true) tracks → Contains (map row_key_of rows) c
-    every c h =
-        let found = Found-from_Any (λ t. has c t ≡ true) tracks h in
-        let positive = count-positive (has c) tracks found.value found.is_in found.holds in
-        let at_c = adds c in
-        elim (row_or_none c rows) [
-          | inl m ↦ Contains-IsIn (map row_key_of rows) c m
-          | inr none ↦ absurd (omega (
-            arith,
-            positive,
-            count-outcomes (has c) tracks,
-            at_c.white,
-            at_c.draws,
-            at_c.black,
-            sum_at-none (λ r. r.white) c rows none,
-            sum_at-none (λ r. r.draws) c rows none,
-            sum_at-none (λ r. r.black) c rows none,
-          ))
-        ]
+tallied_from tracks rows adds sound ordered =
+    let all : (c : RowKey) → true ≡ true → AddsUp tracks rows c = λ c passes. adds c in
+    record {
+      each = All-from_IsIn (IsTally tracks) rows (each_within (λ key. true) tracks rows all sound (all_true rows) ordered);
+      some = All-from_IsIn (λ row. Any (λ t. has (row_key_of row) t ≡ true) tracks) rows
+          (some_within (λ key. true) tracks rows all sound (all_true rows) ordered);
+      every = λ c. every_within (λ key. true) tracks rows all sound (all_true rows) ordered c refl;
+      ordered = ordered;
+    }
 
 -- tallied rows count some game each
 pub IsSound-tallied : (tracks : List Track) (rows : List Row) → Tallied tracks rows → All IsSound rows

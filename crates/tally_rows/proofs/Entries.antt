@@ -1,7 +1,7 @@
 -- One entry more of singles, and one single more that entries pick.
-use Rattle.std.proofs.Common.{◌≡◌, ℕ, ◌+◌, ◌<◌, List, [], ◌∷◌, ◌++◌, map, length, take, get_or, sym, ap, subst, ◌∙◌, arith}
+use Rattle.std.proofs.Common.{◌≡◌, ℕ, ◌+◌, ◌<◌, List, [], ◌∷◌, ◌++◌, length, take, get_or, sym, ap, subst, ◌∙◌, arith}
 use Rattle.std.specs.List.{All}
-use Rattle.std.proofs.lemmas.List.{map-append, map_more, take_more, get_or_read}
+use Rattle.std.proofs.lemmas.List.{map-append, take_more, get_or_read}
 use Rattle.std.proofs.lemmas.List.Elements.{All-push}
 use Rattle.tally_rows.specs.declared.single.Single.{Single}
 use Rattle.tally_rows.specs.declared.sort_entry.SortEntry.{SortEntry}
@@ -24,12 +24,3 @@ module _ (singles : List Single) (entries : List SortEntry) (i : ℕ) (s : Singl
       get_or_read singles i s below is other ∙ ap (λ (k : ℕ). get_or singles k other) (sym place) in
       All-push (IsEntryIn singles other) entries e (told other)
       (omega arith, subst (λ (x : Single). Tells e x.row_key) here tells)
-
-pub picked_more : (singles : List Single) (entries : List SortEntry) (sorted : List Single) (i : ℕ) (e : SortEntry) (s : Single)
-    → i < length entries → e ≡ get_or entries i e → e.at < length singles → s ≡ get_or singles e.at s
-    → ((other : Single) → sorted ≡ picked singles (take i entries) other)
-    → (other : Single) → sorted ++ s ∷ [] ≡ picked singles (take (i + 1) entries) other
-picked_more singles entries sorted i e s below is within at so_far other =
-    let chosen : SortEntry → Single = λ x. get_or singles x.at other in
-    (λ k. so_far other k ++ (get_or_read singles e.at s within at other ∙ ap chosen is) k ∷ [])
-    ∙ sym (map_more chosen entries i e below)

@@ -1,5 +1,5 @@
 -- The numbers of an entry compare as the parts of a row do.
-use Rattle.std.proofs.Common.{◌≡◌, ℕ, zero, suc, ◌+◌, ◌*◌, ◌<◌, ◌≤◌, ◌^◌, List, [], ◌∷◌, Option, Some, None, length, get_or, drop, refl, sym, ap, subst, ◌∙◌, arith}
+use Rattle.std.proofs.Common.{◌≡◌, ℕ, zero, suc, ◌+◌, ◌*◌, ◌<◌, ◌≤◌, ◌^◌, List, Option, Some, None, length, get_or, drop, refl, sym, ap, subst, ◌∙◌, arith}
 use Rattle.std.specs.declared.cmp.Ordering.{Ordering}
 use Rattle.std.specs.declared.cmp.Ordering.TheVariants.{Less, Equal, Greater}
 use Rattle.std.specs.Ordering.{on, nat_cmp, then_cmp, ordering_then, MatchOrdering}
@@ -59,7 +59,7 @@ none_last x = sym (nat_cmp_is (1 + x) 0 Greater (omega arith))
 
 -- ---- the words of a key
 
-abbrev AreBytes : List ℕ → Type 0
+abbrev pub AreBytes : List ℕ → Type 0
 AreBytes bytes = (i : ℕ) → get_or bytes i 0 < 256
 
 spelled_below : (bytes : List ℕ) → AreBytes bytes → (n at : ℕ) → spelled bytes at n < 256 ^ n
@@ -76,13 +76,13 @@ then_assoc Less q r = refl
 then_assoc Equal q r = refl
 then_assoc Greater q r = refl
 
-then_equal : (p : Ordering) → ordering_then p Equal ≡ p
+pub then_equal : (p : Ordering) → ordering_then p Equal ≡ p
 then_equal Less = refl
 then_equal Equal = refl
 then_equal Greater = refl
 
 -- what is left of two lists is in the order of the numbers that its first bytes spell, then of what is left behind them
-spelled_cmp : (n at : ℕ) (xs ys : List ℕ) → AreBytes xs → AreBytes ys → at + n ≤ length xs → at + n ≤ length ys
+pub spelled_cmp : (n at : ℕ) (xs ys : List ℕ) → AreBytes xs → AreBytes ys → at + n ≤ length xs → at + n ≤ length ys
     → slice_cmp nat_cmp (drop at xs) (drop at ys)
     ≡ ordering_then (nat_cmp (spelled xs at n) (spelled ys at n)) (slice_cmp nat_cmp (drop (at + n) xs) (drop (at + n) ys))
 spelled_cmp zero at xs ys small little within fits =

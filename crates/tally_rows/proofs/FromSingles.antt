@@ -1,12 +1,12 @@
 -- The rows of singles are tallied for the games whose singles these are.
-use Rattle.std.proofs.Common.{◌≡◌, ℕ, ◌+◌, ◌<◌, Bool, true, false, ◌&&◌, cond, is_some, List, [], ◌∷◌, ◌++◌, map, length, get_or, None, refl, sym, ap, subst, ◌∙◌, arith}
+use Rattle.std.proofs.Common.{◌≡◌, ℕ, ◌+◌, ◌<◌, Bool, true, false, ◌&&◌, cond, is_some, List, [], ◌∷◌, ◌++◌, map, length, get_or, refl, sym, ap, subst, ◌∙◌, arith}
 use Rattle.std.specs.List.{All, AllByRecursion, sum_by, flat_map, filter, enumerate_from}
 use Rattle.std.specs.List.Sorted.{IsPermutation, IsSorted}
 use Rattle.std.specs.declared.cmp.Ordering.{Ordering}
 use Rattle.std.specs.declared.cmp.Ordering.TheVariants.{Less, Equal, Greater}
 use Rattle.std.specs.Ordering.{is_lt, nat_cmp, ordering_then}
 use Rattle.std.proofs.lemmas.List.{get_or-map, length-map}
-use Rattle.std.proofs.lemmas.List.Elements.{All-from_recursion, All-get_or, All-weaker}
+use Rattle.std.proofs.lemmas.List.Elements.{All-from_recursion, recursion_from_All, All-get_or}
 use Rattle.std.proofs.lemmas.List.Sums.{sum_by-cons}
 use Rattle.std.proofs.lemmas.List.Sorted.{IsPermutation-map, sum_by-IsPermutation, All-permutation, length_permutation}
 use Rattle.explorer_model.specs.Best.{best, IsStrictTotalOrder}
@@ -18,17 +18,16 @@ use Rattle.tally_rows.specs.declared.row.Row.{Row}
 use Rattle.tally_rows.specs.declared.single.Single.{Single}
 use Rattle.tally_rows.specs.Adding.{sum_at, listed_at, SameAt, IsSound}
 use Rattle.tally_rows.specs.RowKey.{row_order, same_row_key}
-use Rattle.tally_rows.specs.Row.{row_key_of, row_of, is_white, is_draw, is_black, month_rank, combined_rows}
+use Rattle.tally_rows.specs.Row.{row_key_of, row_of, is_white, is_draw, is_black, month_rank, combined, combined_from, combined_rows}
 use Rattle.tally_rows.specs.Single.{single_of, AreSingles}
 use Rattle.tally_rows.specs.declared.sort_entry.SortEntry.{SortEntry}
-use Rattle.tally_rows.specs.SortEntry.{picked, IsEntryIn}
+use Rattle.tally_rows.specs.SortEntry.{any_single, picked, IsEntryIn}
+use Rattle.tally_rows.specs.Within.{AreSinglesWithin, IsKey, TalliedWithin}
 use Rattle.tally_rows.proofs.EntryOrder.{entry_order, entry_cmp}
-use Rattle.explorer_model.specs.declared.archive.Outcome.TheVariants as outcomes
-use Rattle.explorer_model.specs.declared.archive.Speed.TheVariants.{Blitz}
 use Rattle.tally_rows.specs.Tallied.{entries, has_move, mover_rating, rating_sum, track_month, Tallied}
 use Rattle.tally_rows.specs.Track.{Track, has}
-use Rattle.tally_rows.proofs.AddsUp.{AddsUp, AddsUp-same, tallied_from}
-use Rattle.tally_rows.proofs.Combining.{SameAt-combined_rows, IsSound-row_of, IsSound-combined_rows, combined_rows-ordered}
+use Rattle.tally_rows.proofs.AddsUp.{AddsUp, AddsUp-same, tallied_from, tallied_within_from}
+use Rattle.tally_rows.proofs.Combining.{SameAt-combined_rows, IsSound-row_of, IsSound-combined_rows, combined_rows-ordered, combined_from-nil, combined_from-same, combined_from-other, combined-row_key}
 use Rattle.tally_rows.proofs.EntryLists.{entry_of}
 use Rattle.tally_rows.proofs.Visits.{has-row_keys_at, row_keys_at-AreOf}
 use Rattle.tally_rows.proofs.Sums.{sum_by-map, sum_by-filter, sum_by-flat_map}
@@ -82,14 +81,15 @@ pub row_of-row_key : (s : Single) → row_key_of (row_of s) ≡ s.row_key
 unfolding row_of
 row_of-row_key s = refl
 
-module _ (tracks : List Track) (singles : List Single) (given : AreSingles tracks singles) (c : RowKey) where
+module _ (tracks : List Track) (singles : List Single) (c : RowKey)
+    (given : filter (λ s. same_row_key c s.row_key) singles ≡ map (single_of c) (filter (λ p. has c p.1) (enumerate_from 0 tracks))) where
   sum_at-singles : (f : Row → ℕ) (g : Track → ℕ) → ((p : ℕ × Track) → f (row_of (single_of c p)) ≡ g p.1)
       → sum_at f c (map row_of singles) ≡ sum_by (λ t. cond (has c t) (g t) 0) tracks
   sum_at-singles f g e =
       sum_by-map (λ row. cond (same_row_key c (row_key_of row)) (f row) 0) row_of singles
       ∙ ap (λ h. sum_by h singles) (λ i s. cond (same_row_key c (row_of-row_key s i)) (f (row_of s)) 0)
       ∙ sym (sum_by-filter (λ s. f (row_of s)) (λ s. same_row_key c s.row_key) singles)
-      ∙ ap (sum_by (λ s. f (row_of s))) (given.at c)
+      ∙ ap (sum_by (λ s. f (row_of s))) given
       ∙ sum_by-map (λ s. f (row_of s)) (single_of c) (filter (λ p. has c p.1) (enumerate_from 0 tracks))
       ∙ ap (λ h. sum_by h (filter (λ p. has c p.1) (enumerate_from 0 tracks))) (λ i p. e p i)
       ∙ sum_by-filter (λ p. g p.1) (λ p. has c p.1) (enumerate_from 0 tracks)
@@ -103,7 +103,7 @@ module _ (tracks : List Track) (singles : List Single) (given : AreSingles track
       flat_map-map (λ row. cond (same_row_key c (row_key_of row)) (f row) []) row_of singles
       ∙ ap (λ h. flat_map h singles) (λ i s. cond (same_row_key c (row_of-row_key s i)) (f (row_of s)) [])
       ∙ flat_map-filter (λ s. same_row_key c s.row_key) (λ s. f (row_of s)) singles
-      ∙ ap (flat_map (λ s. f (row_of s))) (given.at c)
+      ∙ ap (flat_map (λ s. f (row_of s))) given
       ∙ flat_map-map (λ s. f (row_of s)) (single_of c) (filter (λ p. has c p.1) (enumerate_from 0 tracks))
       ∙ flat_map-agree (λ p. has c p.1) (λ p. f (row_of (single_of c p))) (λ p. cond (is_some c.next) (entry_of rank p.0 p.1 ∷ []) []) e
       (enumerate_from 0 tracks)
@@ -187,55 +187,90 @@ row_keys_sorted singles other (e ∷ es) told h = λ k d low high.
     first_order _ (nat_cmp later.at sooner.at) (ap is_lt (sym apart) ∙ h k e low (omega arith)) in
     rw (at (k + 1) (omega arith), at k (omega arith)) tested
 
--- any single
-some : Single
-some = record {
-  row_key = record { key = []; next = None; month = record { year = 0; month = 0 }; speed = Blitz; group = record { value = 0 } };
-  number = 0;
-  outcome = outcomes.Draw;
-  rating = 0;
-  sum = 0;
-}
+keys_of : (singles : List Single) (other : Single) (entries : List SortEntry) → All (IsEntryIn singles other) entries
+    → AllByRecursion (λ (s : Single). IsKey s.row_key.key) (picked singles entries other)
+keys_of singles other entries told = each entries (recursion_from_All (IsEntryIn singles other) entries told)
+  where
+    each : (es : List SortEntry) → AllByRecursion (IsEntryIn singles other) es → AllByRecursion (λ (s : Single). IsKey s.row_key.key) (picked singles es other)
+    each [] h = tt
+    each (e ∷ es) h = (record { long = h.0.1.long; bytes = h.0.1.bytes }, each es h.1)
 
-Tallied-singles : (tracks : List Track) (singles sorted : List Single) → AreSingles tracks singles → IsPermutation singles sorted
-    → IsSorted row_order (map row_key_of (map row_of sorted)) → Tallied tracks (combined_rows (map row_of sorted))
-Tallied-singles tracks singles sorted given moved order =
-    let rows = map row_of sorted in
-    let adds = λ (c : RowKey).
-    AddsUp-same tracks rows (combined_rows rows) c (SameAt-combined_rows rows c)
-    (AddsUp-same tracks (map row_of singles) rows c (SameAt-permutation (map row_of singles) rows (IsPermutation-map row_of singles sorted moved) c)
-    (AddsUp-singles tracks singles given c)) in
-    tallied_from tracks (combined_rows rows) adds
-    (All-from_recursion IsSound (combined_rows rows) (IsSound-combined_rows rows (each sorted)))
-    (combined_rows-ordered rows order)
+-- ---- what holds of the parts of singles holds of those of their rows
+
+combined_from-parts : (P : RowKey → Type 0) (last : Row) (rows : List Row) → P (row_key_of last) → AllByRecursion (λ r. P (row_key_of r)) rows
+    → AllByRecursion (λ r. P (row_key_of r)) (combined_from last rows)
+combined_from-parts P last [] h all = subst (AllByRecursion (λ r. P (row_key_of r))) (sym (combined_from-nil last)) (h, tt)
+combined_from-parts P last (row ∷ rows) h all =
+    elim (same_row_key (row_key_of last) (row_key_of row)) as (λ b. same_row_key (row_key_of last) (row_key_of row) ≡ b
+    → AllByRecursion (λ r. P (row_key_of r)) (combined_from last (row ∷ rows))) [
+      | true ↦ λ e. subst (AllByRecursion (λ r. P (row_key_of r))) (sym (combined_from-same last row rows e))
+          (combined_from-parts P (combined last row) rows (subst P (sym (combined-row_key last row)) h) all.1)
+      | false ↦ λ e. subst (AllByRecursion (λ r. P (row_key_of r))) (sym (combined_from-other last row rows e)) (h, combined_from-parts P row rows all.0 all.1)
+    ] refl
+
+combined_rows-parts : (P : RowKey → Type 0) (singles : List Single) → AllByRecursion (λ s. P s.row_key) singles
+    → All (λ r. P (row_key_of r)) (combined_rows (map row_of singles))
+unfolding combined_rows
+combined_rows-parts P [] h = All-from_recursion (λ r. P (row_key_of r)) [] tt
+combined_rows-parts P (s ∷ ss) h =
+    All-from_recursion (λ r. P (row_key_of r)) (combined_from (row_of s) (map row_of ss))
+    (combined_from-parts P (row_of s) (map row_of ss) (subst P (sym (row_of-row_key s)) h.0) (each ss h.1))
+  where
+    each : (ss : List Single) → AllByRecursion (λ s. P s.row_key) ss → AllByRecursion (λ r. P (row_key_of r)) (map row_of ss)
+    each [] h = tt
+    each (t ∷ ts) h = (subst P (sym (row_of-row_key t)) h.0, each ts h.1)
+
+sound_rows : (singles : List Single) → All IsSound (combined_rows (map row_of singles))
+sound_rows singles = All-from_recursion IsSound (combined_rows (map row_of singles)) (IsSound-combined_rows (map row_of singles) (each singles))
   where
     each : (ss : List Single) → AllByRecursion IsSound (map row_of ss)
     each [] = tt
     each (s ∷ ss) = (IsSound-row_of s, each ss)
 
--- the singles are picked in the order of entries that stand for all of them
-pub Tallied-picked : (tracks : List Track) (singles sorted : List Single) (entries moved : List SortEntry) → AreSingles tracks singles
-    → ((other : Single) → picked singles entries other ≡ singles) → ((other : Single) → All (IsEntryIn singles other) entries)
-    → IsPermutation entries moved → IsSorted entry_order moved
-    → ((other : Single) → sorted ≡ picked singles moved other)
-    → Tallied tracks (combined_rows (map row_of sorted))
-Tallied-picked tracks singles sorted entries moved given all told places order is =
-    let chosen : SortEntry → Single = λ x. get_or singles x.at some in
-    let same : IsPermutation singles (map chosen moved) =
-    subst (λ (l : List Single). IsPermutation l (map chosen moved)) (all some) (IsPermutation-map chosen entries moved places) in
-    let stand : All (IsEntryIn singles some) moved = All-permutation (IsEntryIn singles some) entries moved places (told some) in
-    subst (λ (l : List Single). Tallied tracks (combined_rows (map row_of l))) (sym (is some))
-    (Tallied-singles tracks singles (picked singles moved some) given same (row_keys_sorted singles some moved stand order))
+adds_moved : (tracks : List Track) (singles sorted : List Single) (c : RowKey)
+    → filter (λ s. same_row_key c s.row_key) singles ≡ map (single_of c) (filter (λ p. has c p.1) (enumerate_from 0 tracks))
+    → IsPermutation singles sorted → AddsUp tracks (combined_rows (map row_of sorted)) c
+adds_moved tracks singles sorted c given moved =
+    let rows = map row_of sorted in
+    AddsUp-same tracks rows (combined_rows rows) c (SameAt-combined_rows rows c)
+    (AddsUp-same tracks (map row_of singles) rows c (SameAt-permutation (map row_of singles) rows (IsPermutation-map row_of singles sorted moved) c)
+    (AddsUp-singles tracks singles c given))
 
--- entries that stand for singles do so in each order
-pub places_within : (singles : List Single) (entries moved : List SortEntry) → ((other : Single) → All (IsEntryIn singles other) entries)
-    → IsPermutation entries moved → All (λ (entry : SortEntry). entry.at < length singles) moved
-places_within singles entries moved told places =
-    All-weaker (IsEntryIn singles some) (λ (entry : SortEntry). entry.at < length singles) (λ entry stands. stands.0) moved
-    (All-permutation (IsEntryIn singles some) entries moved places (told some))
+-- ---- singles that are picked in the order of entries that stand for all of them
 
-pub length-picked : (singles sorted : List Single) (entries moved : List SortEntry) → ((other : Single) → picked singles entries other ≡ singles)
-    → IsPermutation entries moved → ((other : Single) → sorted ≡ picked singles moved other) → length sorted ≡ length singles
-length-picked singles sorted entries moved all places is =
-    let chosen : SortEntry → Single = λ x. get_or singles x.at some in
-    ap length (is some) ∙ length-map moved chosen ∙ length_permutation entries moved places ∙ sym (length-map entries chosen) ∙ ap length (all some)
+module _ (singles : List Single) (entries moved : List SortEntry) (all : (other : Single) → picked singles entries other ≡ singles)
+    (told : (other : Single) → All (IsEntryIn singles other) entries) (places : IsPermutation entries moved) where
+  is_moved : IsPermutation singles (picked singles moved any_single)
+  is_moved =
+      let chosen : SortEntry → Single = λ x. get_or singles x.at any_single in
+      subst (λ (l : List Single). IsPermutation l (map chosen moved)) (all any_single) (IsPermutation-map chosen entries moved places)
+
+  -- entries that stand for singles do so in each order
+  pub stand_moved : All (IsEntryIn singles any_single) moved
+  stand_moved = All-permutation (IsEntryIn singles any_single) entries moved places (told any_single)
+
+  pub length-moved : length moved ≡ length singles
+  length-moved =
+      let chosen : SortEntry → Single = λ x. get_or singles x.at any_single in
+      length_permutation entries moved places ∙ sym (length-map entries chosen) ∙ ap length (all any_single)
+
+  module _ (order : IsSorted entry_order moved) where
+    pub Tallied-picked : (tracks : List Track) → AreSingles tracks singles → Tallied tracks (combined_rows (map row_of (picked singles moved any_single)))
+    Tallied-picked tracks given =
+        tallied_from tracks (combined_rows (map row_of (picked singles moved any_single)))
+        (λ c. adds_moved tracks singles (picked singles moved any_single) c (given.at c) is_moved)
+        (sound_rows (picked singles moved any_single))
+        (combined_rows-ordered (map row_of (picked singles moved any_single)) (row_keys_sorted singles any_single moved stand_moved order))
+
+    pub TalliedWithin-picked : (test : List ℕ → Bool) (tracks : List Track) → AreSinglesWithin test tracks singles
+        → TalliedWithin test tracks (combined_rows (map row_of (picked singles moved any_single)))
+    TalliedWithin-picked test tracks given =
+        let ss : List Single = picked singles moved any_single in
+        tallied_within_from test tracks (combined_rows (map row_of ss))
+        (λ c passes. adds_moved tracks singles ss c (given.at c passes) is_moved)
+        (sound_rows ss)
+        (combined_rows-parts (λ (k : RowKey). test k.key ≡ true) ss
+        (recursion_from_All (λ (s : Single). test s.row_key.key ≡ true) ss
+        (All-permutation (λ (s : Single). test s.row_key.key ≡ true) singles ss is_moved given.within)))
+        (combined_rows-ordered (map row_of ss) (row_keys_sorted singles any_single moved stand_moved order))
+        (combined_rows-parts (λ (k : RowKey). IsKey k.key) ss (keys_of singles any_single moved stand_moved))

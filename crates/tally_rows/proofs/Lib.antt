@@ -4,12 +4,14 @@ pub mod Bests
 pub mod RowOrder
 pub mod EntryOrder
 pub mod Entries
+pub mod SameNumbers
 pub mod At
 pub mod EntryLists
 pub mod AddsUp
 pub mod Combining
 pub mod Visits
 pub mod FromSingles
+pub mod Passing
 pub mod Both
 pub mod Grids
 pub mod Singles
@@ -20,4 +22,5 @@ pub mod Moves
 pub mod Recounting
 pub mod Joining
 pub mod Determined
+pub mod Ranges
 pub mod Turns

@@ -4,6 +4,7 @@ pub mod Row
 pub mod Tallied
 pub mod Single
 pub mod SortEntry
+pub mod Within
 pub mod Adding
 pub mod Grid
 pub mod Tally

@@ -79,6 +79,13 @@ pub record Fit (a b : Row) : Type 0 where
   pub black : a.black + b.black < 2 ^ 32
   pub ratings : a.ratings + b.ratings < 2 ^ 64
 
+-- one game more has room in the sums of a row
+pub record HasRoomForOne (row : Row) : Type 0 where
+  pub white : row.white + 1 < 2 ^ 32
+  pub draws : row.draws + 1 < 2 ^ 32
+  pub black : row.black + 1 < 2 ^ 32
+  pub ratings : row.ratings + 2 ^ 16 < 2 ^ 64
+
 -- the same row of games that stand later in the list of games
 unfoldable pub shifted_row : ℕ → Row → Row
 shifted_row by row =

@@ -1,6 +1,7 @@
 -- The numbers that singles are sorted by.
-use Rattle.std.specs.Prelude.{◌≡◌, ℕ, zero, suc, ◌+◌, ◌*◌, ◌<◌, ◌^◌, Option, Some, None, List, length, slice_index, slice_index_or, map}
-use Rattle.std.specs.List.{All}
+use Rattle.std.specs.Prelude.{◌≡◌, ℕ, zero, suc, ◌+◌, ◌*◌, ◌<◌, ◌^◌, Bool, ◌&&◌, ◌==◌, Option, Some, None, List, [], length, slice_index, slice_index_or, map}
+use Rattle.explorer_model.specs.declared.archive.Outcome.TheVariants as outcomes
+use Rattle.explorer_model.specs.declared.archive.Speed.TheVariants as speeds
 use Rattle.explorer_model.specs.declared.chess.Move.{Move}
 use Rattle.explorer_model.specs.declared.chess.Role.{Role}
 use Rattle.explorer_model.specs.Order.{speed_index, role_index}
@@ -41,6 +42,25 @@ pub record Tells (entry : SortEntry) (row_key : RowKey) : Type 0 where
   pub fourth : entry.fourth ≡ spelled row_key.key 24 8
   pub rest : entry.rest ≡ rest_of row_key
   pub group : entry.group ≡ row_key.group.value
+
+-- whether two entries have the same numbers, whatever their places
+abbrev pub same_numbers : SortEntry → SortEntry → Bool
+same_numbers x y =
+    (x.first == y.first)
+    && ((x.second == y.second)
+    && ((x.third == y.third)
+    && ((x.fourth == y.fourth)
+    && ((x.rest == y.rest) && (x.group == y.group)))))
+
+-- any single
+unfoldable pub any_single : Single
+any_single = record {
+  row_key = record { key = []; next = None; month = record { year = 0; month = 0 }; speed = speeds.Blitz; group = record { value = 0 } };
+  number = 0;
+  outcome = outcomes.Draw;
+  rating = 0;
+  sum = 0;
+}
 
 -- the singles that entries stand for, where any other than those of the list would do for what is beyond it
 abbrev pub picked : List Single → List SortEntry → Single → List Single

@@ -1,6 +1,6 @@
 //! Laws of tallied rows. Each is the contract of a function that has nothing to do.
 ghost use Rattle.std.specs.Prelude.{◌≡◌, ℕ, ◌<◌, ◌&&◌, Bool, false, List, ◌++◌, map, length, cond, slice_index_or};
-ghost use Rattle.std.specs.List.{All, AllZip};
+ghost use Rattle.std.specs.List.{All, AllZip, filter, flat_map};
 ghost use Rattle.std.specs.List.Sorted.{IsStrictlySortedBy};
 ghost use Rattle.explorer_model.specs.declared.chess.Position.{Position};
 ghost use Rattle.explorer_model.specs.declared.query.Filter.{Filter};
@@ -8,6 +8,7 @@ ghost use Rattle.explorer_model.specs.Keys.{key};
 ghost use Rattle.tally_rows.specs.Adding.{SameAt, IsSound};
 ghost use Rattle.tally_rows.specs.Cover.{JoinsMoves, Recounts, turn_of};
 ghost use Rattle.tally_rows.specs.declared.grid.Cell.{Cell};
+ghost use Rattle.tally_rows.specs.declared.key_range.KeyRange.{KeyRange};
 ghost use Rattle.tally_rows.specs.declared.row_key.RowKey.{RowKey};
 ghost use Rattle.tally_rows.specs.declared.row.Row.{Row};
 ghost use Rattle.tally_rows.specs.Grid.{IsShaped, zeros, no_games, plus, cell_of, added, chosen, total};
@@ -18,6 +19,7 @@ ghost use Rattle.tally_rows.specs.Recount.{GivesPicked};
 ghost use Rattle.tally_rows.specs.Row.{row_key_of, shifted_row};
 ghost use Rattle.tally_rows.specs.Tallied.{Tallied};
 ghost use Rattle.tally_rows.specs.Track.{Track};
+ghost use Rattle.tally_rows.specs.Within.{AreSinglesWithin, TalliedWithin, is_in_range, FollowFrom};
 
 /// Rows that have at each five parts what the rows of two lists of games have there are tallied for
 /// both lists together, where they are sound and in their order. The games of the second list stand
@@ -64,6 +66,22 @@ pub fn grid_sums_rows()
 /// What games count for in each position that they visit first are their singles.
 pub fn singles_of_first_visits()
     ensures { (tracks : List Track) → AreSingles tracks (singles_from 0 tracks) }
+{}
+
+/// What games count for in the positions whose key passes a test are those of their singles whose key passes.
+pub fn singles_of_passing_keys()
+    ensures { (test : List ℕ → Bool) (tracks : List Track)
+        → AreSinglesWithin test tracks
+        (filter (λ single. test single.row_key.key) (singles_from 0 tracks)) }
+{}
+
+/// Rows of ranges of keys that follow one another and leave no key out, those of one range after those of another, are tallied where
+/// those of each range are tallied within it.
+pub fn ranges_are_tallied()
+    ensures { (tracks : List Track) (ranges : List KeyRange) (parts : List (List Row))
+        → FollowFrom 0 ranges
+        → AllZip (λ range rows. TalliedWithin (is_in_range range) tracks rows) ranges parts
+        → Tallied tracks (flat_map (λ rows. rows) parts) }
 {}
 
 /// Whatever cover the games of a list have, what they say of a position, in the words of the answer,

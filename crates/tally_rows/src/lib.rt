@@ -2,6 +2,7 @@
 #![tactic(auto)]
 
 mod grid;
+mod key_range;
 pub mod laws;
 mod row;
 mod row_key;
@@ -13,8 +14,10 @@ mod tally;
 mod tests;
 
 pub use grid::{Cell, Grid};
+pub use key_range::{KeyRange, first_word};
 pub use row::Row;
 pub use row_key::RowKey;
 pub use rows::rows_of;
 pub use single::Single;
+pub use sort_entry::word_at;
 pub use tally::Tally;

@@ -1,7 +1,7 @@
 //! A row: games with five parts in common, counted.
-ghost use Rattle.std.specs.Prelude.{◌≡◌, ◌<◌, ◌^◌, cond, is_some};
+ghost use Rattle.std.specs.Prelude.{◌≡◌, ◌+◌, ◌<◌, ◌^◌, cond, is_some};
 ghost use Rattle.tally_rows.specs.RowKey.{same_row_key};
-ghost use Rattle.tally_rows.specs.Row.{row_key_of, combined, row_of, rating_entries, month_entries, is_white, is_draw, is_black, month_rank, Fit};
+ghost use Rattle.tally_rows.specs.Row.{row_key_of, combined, row_of, rating_entries, month_entries, is_white, is_draw, is_black, month_rank, Fit, HasRoomForOne};
 
 use crate::{RowKey, Single};
 use best_lists::{Best4, ByMonth, ByRating};
@@ -73,6 +73,23 @@ impl Row {
             top: top_of(single),
             recent: recent_of(single),
         }
+    }
+
+    /// Counts one more game. A game that is counted already counts twice.
+    #[tactic(auto, unfolding(crate::specs::Row::combined, crate::specs::Row::row_of))]
+    pub fn add(&mut self, single: &Single)
+        requires same { row_key_of self.old ≡ single.now.row_key }
+        requires room { HasRoomForOne self.old }
+        ensures row { self.new ≡ combined self.old (row_of single.now) }
+        ensures small { self.new.ratings < self.old.ratings + 2 ^ 16 }
+    {
+        let (white, draws, black) = counts_of(single.outcome);
+        self.white += white;
+        self.draws += draws;
+        self.black += black;
+        self.ratings += ratings_of(single);
+        self.top = self.top.join(&top_of(single));
+        self.recent = self.recent.join(&recent_of(single));
     }
 
     /// The row of the games of both. A game that counts in both counts twice.

@@ -1,11 +1,12 @@
 //! The rows of singles.
-ghost use Rattle.std.specs.Prelude.{◌≡◌, List, map, IfOk, ◌<◌, ◌^◌, length, vec_len};
+ghost use Rattle.std.specs.Prelude.{◌≡◌, ℕ, Bool, List, map, IfOk, ◌<◌, ◌^◌, length, vec_len};
 ghost use Rattle.std.specs.List.{All};
 ghost use Rattle.tally_rows.specs.Row.{row_of, combined_rows};
 ghost use Rattle.tally_rows.specs.Single.{AreSingles};
-ghost use Rattle.tally_rows.specs.SortEntry.{picked, IsEntryIn};
+ghost use Rattle.tally_rows.specs.SortEntry.{any_single, picked, IsEntryIn};
 ghost use Rattle.tally_rows.specs.Tallied.{Tallied};
 ghost use Rattle.tally_rows.specs.Track.{Track};
+ghost use Rattle.tally_rows.specs.Within.{AreSinglesWithin, TalliedWithin};
 ghost use Rattle.tally_rows.specs.declared.single.Single.{Single};
 
 use crate::sort_entry::SortEntry;
@@ -15,13 +16,14 @@ use std::alloc::{AllocError, Global};
 /// The rows of games, from the singles of each of them in each position that it visits.
 pub fn rows_of(alloc: Global, singles: Vec<Single>) -> Result<Vec<Row>, AllocError>
     requires { vec_len singles < 2 ^ 32 }
-    ensures { IfOk result (λ rows. (tracks : List Track) → AreSingles tracks singles.items
+    ensures all { IfOk result (λ rows. (tracks : List Track) → AreSingles tracks singles.items
         → Tallied tracks rows.items) }
+    ensures within { IfOk result (λ rows. (test : List ℕ → Bool) (tracks : List Track)
+        → AreSinglesWithin test tracks singles.items → TalliedWithin test tracks rows.items) }
 {
     let mut entries = entries_of(alloc, singles.as_slice())?;
     entries.sort_unstable();
-    let sorted = pick(alloc, singles.as_slice(), entries.as_slice())?;
-    combine_sorted(alloc, sorted.as_slice())
+    combine_sorted(alloc, singles.as_slice(), entries.as_slice())
 }
 
 /// An entry for each single, in the same order.
@@ -40,36 +42,30 @@ fn entries_of(alloc: Global, singles: &[Single]) -> Result<Vec<SortEntry>, Alloc
     Ok(entries)
 }
 
-/// The singles that the entries stand for, in the order of the entries.
-fn pick(alloc: Global, singles: &[Single], entries: &[SortEntry]) -> Result<Vec<Single>, AllocError>
-    requires { All (λ entry. entry.at < length singles.now) entries.now }
-    ensures { IfOk result (λ sorted. (other : Single)
-        → sorted.items ≡ picked singles.now entries.now other) }
+/// The rows of the singles that entries stand for. Those of one row stand next to each other.
+fn combine_sorted(
+    alloc: Global,
+    singles: &[Single],
+    entries: &[SortEntry],
+) -> Result<Vec<Row>, AllocError>
+    requires told { All (IsEntryIn singles.now any_single) entries.now }
+    requires few { length entries.now < 2 ^ 32 }
+    ensures { IfOk result (λ rows. rows.items
+        ≡ combined_rows (map row_of (picked singles.now entries.now any_single))) }
 {
-    let mut sorted = Vec::with_capacity(alloc, entries.len())?;
-    for entry in entries {
-        sorted.push(singles[entry.at as usize])?;
-    }
-    Ok(sorted)
-}
-
-/// The rows of singles that stand in the order of their parts.
-fn combine_sorted(alloc: Global, singles: &[Single]) -> Result<Vec<Row>, AllocError>
-    requires { length singles.now < 2 ^ 32 }
-    ensures { IfOk result (λ rows. rows.items ≡ combined_rows (map row_of singles.now)) }
-{
-    let mut rows = Vec::new(alloc);
-    let Some((first, rest)) = singles.split_first() else {
+    let mut rows = Vec::with_capacity(alloc, entries.len())?;
+    if entries.is_empty() {
         return Ok(rows);
-    };
-    let mut last = Row::of(first);
-    for single in rest {
-        let row = Row::of(single);
-        if last.has_row_key_of(&row) {
-            last = last.combine(&row);
+    }
+    let mut last = Row::of(&singles[entries[0].at as usize]);
+    for place in 1..entries.len() {
+        let entry = &entries[place];
+        let single = &singles[entry.at as usize];
+        if entry.has_numbers_of(&entries[place - 1]) {
+            last.add(single);
         } else {
             rows.push(last)?;
-            last = row;
+            last = Row::of(single);
         }
     }
     rows.push(last)?;

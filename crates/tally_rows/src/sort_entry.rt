@@ -1,6 +1,6 @@
 //! What singles are sorted by: their parts as few large numbers.
 ghost use Rattle.std.specs.Prelude.{◌≡◌, ℕ, ◌+◌, ◌<◌, ◌≤◌, ◌^◌, length, slice_index};
-ghost use Rattle.tally_rows.specs.SortEntry.{spelled, promotion_code, next_code, rest_of, Tells};
+ghost use Rattle.tally_rows.specs.SortEntry.{spelled, promotion_code, next_code, rest_of, Tells, same_numbers};
 
 use crate::RowKey;
 use explorer_model::chess::{Move, Role};
@@ -36,10 +36,22 @@ impl SortEntry {
             at,
         }
     }
+
+    /// Whether both have the same numbers, whatever their places.
+    pub fn has_numbers_of(&self, other: &SortEntry) -> bool
+        ensures { result ≡ same_numbers self.now other.now }
+    {
+        self.first == other.first
+            && self.second == other.second
+            && self.third == other.third
+            && self.fourth == other.fourth
+            && self.rest == other.rest
+            && self.group == other.group
+    }
 }
 
-/// The number that the eight bytes from a place on spell.
-fn word_at(key: &[u8], at: usize) -> u64
+/// The number that the eight bytes from a place on spell, the first of them worth the most.
+pub fn word_at(key: &[u8], at: usize) -> u64
     requires within { at + 8 ≤ length key.now }
     requires long { length key.now < 2 ^ 32 }
     ensures value { result ≡ spelled key.now at 8 }

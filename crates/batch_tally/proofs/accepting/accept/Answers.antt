@@ -1,27 +1,45 @@
-use Rattle.std.proofs.Common.{sym, ap, ◌∙◌, map}
+use Rattle.std.proofs.Common.{sym, ap, subst, ◌∙◌, map, List}
+use Rattle.std.specs.List.{All}
+use Rattle.std.proofs.lemmas.List.Elements.{All-push}
 use Rattle.explorer_model.specs.Imports.{verdict_of}
-use Rattle.batch_tally.specs.Accepting.{candidate_as}
-use Rattle.batch_tally.specs.Reading.{examination_as}
-use Rattle.batch_tally.proofs.Completing.{nothing-left}
-use Rattle.batch_tally.proofs.Verdicts.{one-accepted, one-refused, ends-accepted, ends-refused}
+use Rattle.batch_tally.specs.declared.accepting.Accepted.{Accepted}
+use Rattle.batch_tally.specs.Accepting.{candidate_as, IsCounted}
+use Rattle.batch_tally.specs.Reading.{examination_as, HasCount}
+use Rattle.batch_tally.proofs.Completing.{nothing-left, first-left, short-rest}
+use Rattle.batch_tally.proofs.Verdicts.{one-accepted, one-refused, ends-accepted, ends-refused, words-more}
 use Rattle.batch_tally.proofs.accepting.accept.Goals as goal
 
-pub loop-reading-preserved-in-Continue-branch-2 : goal.loop-reading-preserved-in-Continue-branch-2
-loop-reading-preserved-in-Continue-branch-2 c =
-    one-accepted _ _ _ _ _ _ _ _ c.in-Some.ensures.steps.0 c.in_ok-push-in-Accepted.ensures.items
-    (c.in-Accepted.ensures ∙ ap (λ l. verdict_of (map candidate_as l) (examination_as c.in-Some.reading)) c.as_slice.ensures.value)
-    c.loop-reading.invariant
+pub judge-requires-clause-counted : goal.judge-requires-clause-counted
+judge-requires-clause-counted c = first-left HasCount _ _ _ c.in-Some.ensures.steps.0 c.loop-reading.invariant.counts
+
+pub loop-reading-preserved-in-Continue-branch-4 : goal.loop-reading-preserved-in-Continue-branch-4
+loop-reading-preserved-in-Continue-branch-4 c = record {
+  sorting = one-accepted _ _ _ _ _ _ _ _ c.in-Some.ensures.steps.0 c.in_ok-push-in-Accepted-2.ensures.items
+      (c.in-Accepted.ensures.verdict ∙ ap (λ l. verdict_of (map candidate_as l) (examination_as c.in-Some.reading)) c.as_slice.ensures.value)
+      c.loop-reading.invariant.sorting;
+  counted = subst (λ (l : List Accepted). All IsCounted l) (sym c.in_ok-push-in-Accepted-2.ensures.items)
+      (All-push IsCounted c.loop-reading.accepted.items _ c.loop-reading.invariant.counted c.in-Accepted.ensures.counted);
+  words = words-more _ _ _ _ _ _ c.loop-reading.invariant.words c.in_ok-push-in-Accepted.ensures.items c.id_word.ensures c.in_ok-push-in-Accepted-2.ensures.items;
+  counts = short-rest HasCount _ _ _ c.in-Some.ensures.steps.0 c.loop-reading.invariant.counts;
+}
 
 pub loop-reading-preserved : goal.loop-reading-preserved
-loop-reading-preserved c =
-    one-refused _ _ _ _ _ _ _ _ c.in-Some.ensures.steps.0 c.in_ok-push-in-Refused.ensures.items
-    (c.in-Refused.ensures ∙ ap (λ l. verdict_of (map candidate_as l) (examination_as c.in-Some.reading)) c.as_slice.ensures.value)
-    c.loop-reading.invariant
+loop-reading-preserved c = record {
+  sorting = one-refused _ _ _ _ _ _ _ _ c.in-Some.ensures.steps.0 c.in_ok-push-in-Refused.ensures.items
+      (c.in-Refused.ensures.verdict ∙ ap (λ l. verdict_of (map candidate_as l) (examination_as c.in-Some.reading)) c.as_slice.ensures.value)
+      c.loop-reading.invariant.sorting;
+  counted = c.loop-reading.invariant.counted;
+  words = c.loop-reading.invariant.words;
+  counts = short-rest HasCount _ _ _ c.in-Some.ensures.steps.0 c.loop-reading.invariant.counts;
+}
+
+pub returns-clause-counted : goal.returns-clause-counted
+returns-clause-counted c = c.loop-reading.invariant.counted
 
 pub returns-clause-accepted : goal.returns-clause-accepted
 returns-clause-accepted c =
-    ends-accepted _ _ _ _ (nothing-left _ (sym c.loop-reading.reading-iterator.rest.ok.0 ∙ c.in-None.ensures.steps.0)) c.loop-reading.invariant
+    ends-accepted _ _ _ _ (nothing-left _ (sym c.loop-reading.reading-iterator.rest.ok.0 ∙ c.in-None.ensures.steps.0)) c.loop-reading.invariant.sorting
 
 pub returns-clause-refused : goal.returns-clause-refused
 returns-clause-refused c =
-    ends-refused _ _ _ _ (nothing-left _ (sym c.loop-reading.reading-iterator.rest.ok.0 ∙ c.in-None.ensures.steps.0)) c.loop-reading.invariant
+    ends-refused _ _ _ _ (nothing-left _ (sym c.loop-reading.reading-iterator.rest.ok.0 ∙ c.in-None.ensures.steps.0)) c.loop-reading.invariant.sorting

@@ -3,6 +3,6 @@ use Rattle.explorer_model.specs.Imports.{has_id_of}
 use Rattle.batch_tally.specs.Accepting.{candidate_as}
 use Rattle.batch_tally.proofs.accepting.place_of_id.Given as goal
 
-abbrev pub invariant-loop-text : goal.invariant-loop-text
-invariant-loop-text l =
-    find (has_id_of l.game) (map candidate_as l.accepted) ≡ find (has_id_of l.game) (map candidate_as (drop l.text-index l.accepted))
+abbrev pub invariant-loop-place : goal.invariant-loop-place
+invariant-loop-place l =
+    find (has_id_of l.game) (map candidate_as l.accepted) ≡ find (has_id_of l.game) (map candidate_as (drop l.place l.accepted))

@@ -1,22 +1,23 @@
-use Rattle.std.proofs.Common.{List, sym, subst}
-use Rattle.tally_rows.specs.declared.single.Single.{Single}
-use Rattle.batch_tally.specs.Singles.{IsCountFrom}
-use Rattle.batch_tally.proofs.LeafLemmas.{if-ok, made-each}
-use Rattle.batch_tally.proofs.ShareLemmas.{can-count, counted-all}
+use Rattle.std.proofs.Common.{List, [], map, ap, subst, ◌∙◌}
+use Rattle.std.specs.List.{AllZip}
+use Rattle.explorer_model.specs.declared.chess.Move.{Move}
+use Rattle.explorer_model.specs.Chess.{start}
+use Rattle.explorer_model.specs.Visits.{stage_limit}
+use Rattle.tally_rows.specs.Games.{first_steps, single_at}
+use Rattle.batch_tally.specs.Singles.{IsCountOf}
+use Rattle.batch_tally.specs.Steps.{step_as, IsStepAt, stages_within}
+use Rattle.batch_tally.proofs.Counting.{count-of}
+use Rattle.batch_tally.proofs.LeafLemmas.{if-ok}
 use Rattle.batch_tally.proofs.singles.singles_of.Goals as goal
 
-pub count_shares-requires-after_bounds : goal.count_shares-requires-after_bounds
-count_shares-requires-after_bounds g c κs within =
-    can-count c.args.games.now c.in_ok-shares.shares.items c.in_ok-shares.ensures c.requires.few c.requires.legal
-
 pub returns : goal.returns
-returns g c =
-    let shares = c.in_ok-shares.shares.items in
-    let parts = c.in_ok-parts.parts.items in
-    let results = c.in_ok-results in
-    let each = made-each (λ share singles. IsCountFrom share.first share.games.now singles.items) shares results.results.items parts
-    c.in_ok-parts.ensures results.ensures.count results.ensures.results in
-    let whole = counted-all (λ part. part.items) c.args.games.now shares parts c.in_ok-shares.ensures each in
-    if-ok _ _ c.joined.result (λ all is.
-    subst (λ (singles : List Single). IsCountFrom 0 c.args.games.now singles) (sym is) whole)
-    c.joined.ensures
+returns c =
+    let game = c.args.game.now in
+    let steps = c.in_ok-steps.steps.items in
+    let stepped : AllZip IsStepAt (stages_within stage_limit start game.moves) steps =
+    subst (λ (moves : List Move). AllZip IsStepAt (stages_within stage_limit start moves) steps) c.as_slice.ensures c.in_ok-steps.ensures in
+    if-ok _ (λ singles. IsCountOf game singles.items) c.first_visits.result
+    (λ singles is.
+    count-of game steps singles.items stepped
+    (is ∙ ap (λ l. map (single_at game.classes 0) (first_steps [] (map step_as l))) c.as_slice-2.ensures.value))
+    c.first_visits.ensures

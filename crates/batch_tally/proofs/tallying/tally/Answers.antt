@@ -1,5 +1,8 @@
-use Rattle.batch_tally.proofs.Whole.{are-candidates, is-tallying}
+use Rattle.batch_tally.proofs.Whole.{are-candidates, have-counts, is-tallying}
 use Rattle.batch_tally.proofs.tallying.tally.Goals as goal
+
+pub accept-requires : goal.accept-requires
+accept-requires g c = have-counts c.args.texts.items c.in_ok-readings.readings.items c.in_ok-readings.ensures
 
 pub tally_of-requires-clause-candidates : goal.tally_of-requires-clause-candidates
 tally_of-requires-clause-candidates g c = λ κs within.

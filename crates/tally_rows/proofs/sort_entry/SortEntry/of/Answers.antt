@@ -1,5 +1,4 @@
 use Rattle.std.proofs.Common.{rules, refl}
-use Rattle.tally_rows.specs.SortEntry.{Tells}
 use Rattle.tally_rows.proofs.sort_entry.SortEntry.of.Goals as goal
 
 pub returns-clause-parts : goal.returns-clause-parts

@@ -1,0 +1,100 @@
+//! A board whose key is kept while moves are played.
+ghost use Rattle.std.specs.Prelude.{◌≡◌, List, Option, length};
+ghost use Rattle.explorer_model.specs.declared.chess.Piece.{Piece};
+ghost use Rattle.explorer_model.specs.Board.{piece_at};
+ghost use Rattle.explorer_model.specs.Chess.{Legal, after, arriving, squares_after, start};
+ghost use Rattle.explorer_model.specs.Keys.{packed};
+ghost use Rattle.explorer_model.specs.Tidy.{IsTidyKey};
+ghost use Rattle.batch_tally.specs.KeyedBoard.{moved};
+
+use explorer_model::chess::{Move, Position, Role, arriving, piece_of};
+use explorer_model::square::halfway;
+use legal_moves::board::Board;
+use packed_keys::{key_of, pack_squares, write_square};
+use std::marker::Model;
+
+/// A board with its squares packed as in a key: a move writes few of them.
+#[derive(Clone, Copy, Debug)]
+pub struct KeyedBoard {
+    board: Board,
+    /// The squares as the first bytes of a key.
+    bytes: [u8; 32],
+}
+
+impl Model for KeyedBoard {
+    ghost use Rattle.explorer_model.specs.declared.chess.Position.{Position};
+    ghost use Rattle.explorer_model.specs.Keys.{packed};
+    ghost use Rattle.std.specs.Prelude.{◌≡◌};
+    ghost use Rattle.std.proofs.Common.{sym};
+
+    ghost Value = { Position };
+
+    ghost view = { λ b. b.board };
+
+    ghost invariant = { λ b. b.bytes ≡ packed b.board.squares };
+
+    ghost inverse = { λ p. record { board = p; bytes = packed p.squares } };
+
+    ghost inverse_ok = { λ b kept i. record { board = b.board; bytes = sym kept i } };
+}
+
+impl KeyedBoard {
+    /// The starting position (FIDE 2.3), with all four rights.
+    pub fn start() -> KeyedBoard
+        ensures { result ≡ start }
+    {
+        let board = Board::start();
+        let bytes = pack_squares(&board.as_position().squares);
+        KeyedBoard { board, bytes }
+    }
+
+    /// The key of the tidy form.
+    pub fn tidy_key(&self) -> [u8; 34]
+        ensures { IsTidyKey self.now result }
+    {
+        let position = self.board.as_position();
+        let en_passant = self.board.tidy_en_passant();
+        key_of(&self.bytes, position.turn, position.rights, en_passant)
+    }
+
+    /// Plays a legal move on this board.
+    pub fn play_on(&mut self, step: Move)
+        requires { Legal self.old step }
+        ensures { self.new ≡ after self.old step }
+    {
+        follow(&mut self.bytes, self.board.as_position(), step);
+        self.board.play_on(step);
+    }
+}
+
+/// Writes the squares that a move changes: a rook that castles goes first, or a pawn that is taken
+/// en passant.
+fn follow(bytes: &mut [u8; 32], position: &Position, m: Move)
+    requires whole { length position.now.squares ≡ 64 }
+    requires told { bytes.old ≡ packed position.now.squares }
+    ensures { bytes.new ≡ packed (squares_after position.now m) }
+{
+    if position.takes_en_passant(m) {
+        write_square(bytes, m.captured_en_passant(), None);
+        return move_packed(bytes, position, m);
+    }
+    if position.is_castling(m) {
+        let crossed = halfway(m.from.index, m.to.index);
+        let home = position.turn.rook_home(m.castling_side());
+        write_square(bytes, crossed, piece_of(position.turn, Role::Rook));
+        write_square(bytes, home, None);
+        return move_packed(bytes, position, m);
+    }
+    move_packed(bytes, position, m);
+}
+
+/// Writes the squares that a piece leaves and reaches.
+fn move_packed(bytes: &mut [u8; 32], position: &Position, m: Move)
+    ensures { (squares : List (Option Piece)) → length squares ≡ 64
+        → bytes.old ≡ packed squares → bytes.new ≡ packed (moved squares m.from.index m.to.index
+        (arriving (piece_at position.now.squares m.from.index) m.promotion)) }
+{
+    let arrives = arriving(position.piece_at(m.from), m.promotion);
+    write_square(bytes, m.from.index, None);
+    write_square(bytes, m.to.index, arrives);
+}

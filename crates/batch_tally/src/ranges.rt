@@ -1,0 +1,148 @@
+//! The rows of accepted games, made in ranges of keys side by side.
+ghost use Rattle.std.specs.Prelude.{◌≡◌, ℕ, List, ◌++◌, ◌+◌, ◌*◌, ◌^◌, ◌≤◌, ◌<◌, Result, Vec, map, length, vec_len, slice_index_or, OnOk, IfOk};
+ghost use Rattle.std.specs.List.{All, filter};
+ghost use Rattle.explorer_model.specs.Imports.{group_limit};
+ghost use Rattle.tally_rows.specs.Track.{Track};
+ghost use Rattle.tally_rows.specs.Within.{TalliedWithin, is_in_range, FollowFrom};
+ghost use Rattle.tally_rows.specs.declared.key_range.KeyRange.{KeyRange};
+ghost use Rattle.tally_rows.specs.declared.row.Row.{Row};
+ghost use Rattle.batch_tally.specs.Accepting.{IsCounted};
+ghost use Rattle.batch_tally.specs.Singles.{AreRowsOf, AreTracksOf, is_kept, numbered, singles_in};
+ghost use Rattle.std.specs.declared.alloc.AllocError.{AllocError};
+ghost use Rattle.std.specs.declared.alloc.Global.{Global};
+
+use crate::accepting::Accepted;
+use crate::leaves::{all_made, joined};
+use std::alloc::{AllocError, Global};
+use std::thread::{Threads, map_vec};
+use tally_rows::{KeyRange, Row, Single, first_word, rows_of};
+
+/// The rows of games, whose numbers are their places. Each leaf makes those of a range of keys, of which there are as many as
+/// workers, and the leaves work side by side.
+pub fn rows_of_games<R: Threads + Sync>(
+    rt: &R,
+    alloc: Global,
+    games: &[Accepted],
+    workers: usize,
+) -> Result<Vec<Row>, AllocError>
+    requires some_workers { 1 ≤ workers }
+    requires counted { All IsCounted games.now }
+    requires few { length games.now ≤ group_limit }
+    ensures { IfOk result (λ rows. AreRowsOf games.now rows.items) }
+{
+    tally_rows::laws::ranges_are_tallied();
+    let ranges = ranges_of(alloc, games, workers)?;
+    let results = rows_of_ranges(rt, alloc, games, ranges)?;
+    let parts = all_made(alloc, results)?;
+    joined(alloc, parts)
+}
+
+/// The rows in each range.
+fn rows_of_ranges<R: Threads + Sync>(
+    rt: &R,
+    alloc: Global,
+    games: &[Accepted],
+    ranges: Vec<KeyRange>,
+) -> Result<Vec<Result<Vec<Row>, AllocError>>, AllocError>
+    requires counted { All IsCounted games.now }
+    requires few { length games.now ≤ group_limit }
+    ensures count { IfOk result (λ results. length results.items ≡ length ranges.items) }
+    ensures results { IfOk result (λ results.
+        (n : ℕ) (d : Result (Vec Row Global) AllocError) (r : KeyRange) → n < length ranges.items
+        → IfOk (slice_index_or results.items n d) (λ rows. (tracks : List Track)
+        → AreTracksOf games.now tracks
+        → TalliedWithin (is_in_range (slice_index_or ranges.items n r)) tracks rows.items)) }
+{
+    let within = |range: KeyRange| -> Result<Vec<Row>, AllocError>
+        requires { All IsCounted games.now × (length games.now ≤ group_limit) }
+        ensures { IfOk result (λ rows. (tracks : List Track) → AreTracksOf games.entry.now tracks
+            → TalliedWithin (is_in_range range) tracks rows.items) }
+    { rows_within(alloc, games, range) };
+    let results = map_vec(rt, ranges, &within)?;
+    let _count = results.as_slice().len();
+    Ok(results)
+}
+
+/// The rows in a range of keys.
+fn rows_within(alloc: Global, games: &[Accepted], range: KeyRange) -> Result<Vec<Row>, AllocError>
+    requires counted { All IsCounted games.now }
+    requires few { length games.now ≤ group_limit }
+    ensures { IfOk result (λ rows. (tracks : List Track) → AreTracksOf games.now tracks
+        → TalliedWithin (is_in_range range) tracks rows.items) }
+{
+    tally_rows::laws::singles_of_passing_keys();
+    let singles = singles_within(alloc, games, range)?;
+    rows_of(alloc, singles)
+}
+
+/// What games count for in a range of keys, under their numbers.
+fn singles_within(
+    alloc: Global,
+    games: &[Accepted],
+    range: KeyRange,
+) -> Result<Vec<Single>, AllocError>
+    requires counted { All IsCounted games.now }
+    requires few { length games.now ≤ group_limit }
+    ensures singles { IfOk result (λ singles. singles.items ≡ singles_in range 0 games.now) }
+    ensures few { IfOk result (λ singles. vec_len singles < 2 ^ 32) }
+{
+    let mut singles = Vec::new(alloc);
+    let mut number = 0;
+    for accepted in games {
+        push_within(&mut singles, accepted.singles.as_slice(), range, number)?;
+        number += 1;
+    }
+    Ok(singles)
+}
+
+/// Puts what a game of this number counts for in a range of keys behind the others.
+fn push_within(
+    singles: &mut Vec<Single>,
+    of_game: &[Single],
+    range: KeyRange,
+    number: u32,
+) -> Result<(), AllocError>
+    ensures { OnOk result (singles.new.items ≡ singles.old.items
+        ++ filter (is_kept range) (map (numbered number) of_game.now)) }
+{
+    for single in of_game {
+        if range.contains(&single.row_key.key) {
+            singles.push(Single { number, ..*single })?;
+        }
+    }
+    Ok(())
+}
+
+/// Ranges of keys that follow one another, as many as there are workers. Any do; these have about as many singles each.
+fn ranges_of(alloc: Global, games: &[Accepted], workers: usize) -> Result<Vec<KeyRange>, AllocError>
+    requires { 1 ≤ workers }
+    ensures { IfOk result (λ ranges. FollowFrom 0 ranges.items) }
+{
+    let words = sample_of(alloc, games)?;
+    let mut ranges = Vec::with_capacity(alloc, workers)?;
+    let mut from = 0;
+    for part in 1..workers {
+        let place = words.len().saturating_mul(part) / workers;
+        let below = words.get(place).copied().unwrap_or(from).max(from);
+        ranges.push(KeyRange {
+            from,
+            below: Some(below),
+        })?;
+        from = below;
+    }
+    ranges.push(KeyRange { from, below: None })?;
+    Ok(ranges)
+}
+
+/// The first word of the key of one single of each game, the lesser ones first.
+fn sample_of(alloc: Global, games: &[Accepted]) -> Result<Vec<u64>, AllocError> {
+    let mut words = Vec::with_capacity(alloc, games.len())?;
+    for (number, accepted) in games.iter().enumerate() {
+        let singles = accepted.singles.as_slice();
+        if !singles.is_empty() {
+            words.push(first_word(&singles[number % singles.len()].row_key.key))?;
+        }
+    }
+    words.sort_unstable();
+    Ok(words)
+}

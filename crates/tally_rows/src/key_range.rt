@@ -1,0 +1,31 @@
+//! Ranges of keys.
+ghost use Rattle.std.specs.Prelude.{◌≡◌, ◌≤◌};
+ghost use Rattle.tally_rows.specs.Within.{first_word, is_in_range};
+
+use crate::sort_entry::word_at;
+
+/// Keys whose first eight bytes spell a number from one on, and below another where there is one.
+#[derive(Clone, Copy, Debug)]
+pub struct KeyRange {
+    pub from: u64,
+    pub below: Option<u64>,
+}
+
+impl KeyRange {
+    pub fn contains(&self, key: &[u8; 34]) -> bool
+        ensures { result ≡ is_in_range self.now key.now }
+    {
+        let word = first_word(key);
+        match self.below {
+            Some(below) => self.from <= word && word < below,
+            None => self.from <= word,
+        }
+    }
+}
+
+/// The number that the first eight bytes of a key spell, the first of them worth the most.
+pub fn first_word(key: &[u8; 34]) -> u64
+    ensures { result ≡ first_word key.now }
+{
+    word_at(key, 0)
+}
