@@ -5,3 +5,4 @@ pub mod AnswerLemmas
 pub mod PickingLemmas
 pub mod TallyingLemmas
 pub mod RecountLemmas
+pub mod SoundLemmas

@@ -36,7 +36,7 @@ use Rattle.ingest_desk.specs.declared.register.Register.{Register}
 use Rattle.ingest_desk.proofs.IdLemmas.{false_true, number-none, other_bytes}
 use Rattle.ingest_desk.proofs.RegisterLemmas.{OneGame, number-ids, one_games, texts_more}
 
-abbrev classes_of : List Game → List Classes
+abbrev pub classes_of : List Game → List Classes
 classes_of games = map (λ (game : Game). game.classes) games
 
 -- ---- a sound journal whose last batch is this one
@@ -86,7 +86,7 @@ clashes_none place number (c ∷ classes) none =
     ap (λ o. and_clash place o (clashes_from (place + 1) number (ids_of classes))) none.0
     ∙ clashes_none (place + 1) number classes none.1
 
-all_new : (stored : List Game) (classes : List Classes)
+pub all_new : (stored : List Game) (classes : List Classes)
     → HaveDifferentIds (classes_of stored ++ classes)
     → All (λ (c : Classes). numbers_of stored c.id.bytes ≡ None) classes
 all_new stored classes different k d lt =

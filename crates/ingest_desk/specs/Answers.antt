@@ -7,7 +7,7 @@ use Rattle.record_log.specs.Log.{Log}
 use Rattle.tally_rows.specs.Tally.{Counted}
 use Rattle.published_index.specs.Changes.{Change}
 use Rattle.ingest_desk.specs.Causes.{cause}
-use Rattle.ingest_desk.specs.Commits.{Refuses, Stores, Leaves, IsReceiptOf, Tells, IsMarked}
+use Rattle.ingest_desk.specs.Commits.{HoldsThen, IsMarked, IsReceiptOf, Leaves, Refuses, Stores, Tells}
 use Rattle.ingest_desk.specs.declared.fault.CommitFault.{CommitFault}
 use Rattle.ingest_desk.specs.declared.fault.CommitFault.TheVariants as faults
 use Rattle.ingest_desk.specs.declared.receipt.Receipt.{Receipt}
@@ -23,6 +23,7 @@ pub record IsAnswer {D J : Type 0} (disk : D → DiskState) (tally : Counted) (g
   pub stores : Stores answer tally.batch journal stored
   pub held_then : Option Change
   pub told : Tells answer stored held_then
+  pub holds : HoldsThen answer tally.batch held_then
   pub marked : IsMarked answer
 
 -- memory was there

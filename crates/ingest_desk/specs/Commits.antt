@@ -16,10 +16,15 @@ use Rattle.ingest_desk.specs.declared.fault.CommitFault.TheVariants as faults
 use Rattle.ingest_desk.specs.declared.mark.MarkKind.TheVariants as kinds
 use Rattle.ingest_desk.specs.declared.receipt.Receipt.{Receipt}
 
+-- no earlier commit met a disk fault
+abbrev pub IsOpenBy : Option Cause → Type 0
+IsOpenBy (Some (IsClosed before after)) = ⊥
+IsOpenBy _ = Unit {0}
+
 -- Want of memory before the batch is stored comes where nothing else is against it, or where a
--- change was held.
+-- change was held in a store that is not closed.
 abbrev pub MayLack : Option Cause → Option Change → Type 0
-MayLack cause held = (cause ≡ None) ⊎ (held ≢ None)
+MayLack cause held = (cause ≡ None) ⊎ ((held ≢ None) × IsOpenBy cause)
 
 -- Each answer has its cause; with a cause there is no other answer, but for want of memory where a
 -- change was held. A clash hands the tally back.
@@ -67,6 +72,20 @@ Tells (Ok receipt) journal held = (receipt.note ≡ journal) × (held ≡ None)
 Tells (Err (faults.Clash handed pairs note)) journal held = (note ≡ journal) × (held ≡ None)
 Tells (Err (faults.Full games bytes note)) journal held = (note ≡ journal) × (held ≡ None)
 Tells (Err _) journal held = Unit {0}
+
+-- the batch waits to be published behind the list
+pub record Waits (batch : Batch) (held : Option Change) : Type 0 where
+  pub segment : CountedSpan
+  pub held_is : held ≡ Some (AddOf segment)
+  pub batch_is : segment.span.batches ≡ batch ∷ []
+
+-- what is held after a disk fault, which is nothing, and where the batch is stored without memory
+-- to publish it
+abbrev pub HoldsThen : {J : Type 0} → Result (Receipt J) (CommitFault J)
+    → Batch → Option Change → Type 0
+HoldsThen (Err (faults.DiskFault before after mark)) batch held = held ≡ None
+HoldsThen (Err (faults.OutOfMemory true)) batch held = Waits batch held
+HoldsThen _ batch held = Unit {0}
 
 -- a mark has the kind of its answer
 abbrev pub IsMarked : {J : Type 0} → Result (Receipt J) (CommitFault J)

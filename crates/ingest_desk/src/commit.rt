@@ -10,7 +10,7 @@ ghost use Rattle.record_log.specs.Log.{EachImage};
 ghost use Rattle.manifest.specs.Manifest.{HasJournal, IsWithOrWithoutBatch};
 ghost use Rattle.published_index.specs.Cover.{list_limit};
 ghost use Rattle.ingest_desk.specs.Causes.{Judges, cause, cause_of_new};
-ghost use Rattle.ingest_desk.specs.Commits.{IsFaultOf, IsMarked, IsReceiptOf, IsStoring, Leaves, Refuses, Stores, Tells};
+ghost use Rattle.ingest_desk.specs.Commits.{HoldsThen, IsFaultOf, IsMarked, IsReceiptOf, IsStoring, Leaves, Refuses, Stores, Tells};
 ghost use Rattle.ingest_desk.specs.Registers.{IsSegmentOf};
 ghost use Rattle.ingest_desk.specs.Stored.{journal};
 
@@ -46,7 +46,9 @@ impl<D: Disk, J: Index> Ingest<D, J> {
         ensures receipt { IfOk result
             (λ receipt. IsReceiptOf receipt (journal self.old) tally.batch) }
         ensures told { Tells result (journal self.new) self.new.index.held }
+        ensures holds { HoldsThen result tally.batch self.new.index.held }
         ensures marked { IsMarked result }
+        ensures few { length self.new.index.list ≤ list_limit }
 
         ensures crash { self.old.manifest.fault ≡ None → LeavesOnly D.disk D.left_since
             self.old.manifest.disk self.new.manifest.disk
@@ -87,14 +89,16 @@ impl<D: Disk, J: Index> Ingest<D, J> {
         }
     }
 
-    /// What is true of each ingest: its journal is sound, and a crash leaves it.
+    /// What is true of each ingest: its journal is sound, a crash leaves it, and its list is short.
     fn known(&self)
         ensures sound { IsSound (journal self.now) }
         ensures crash { self.now.manifest.fault ≡ None → (batch : StoredBatch)
             → LeavesOnly D.disk D.left_since self.now.manifest.disk self.now.manifest.disk
             (IsWithOrWithoutBatch (journal self.now) batch) }
+        ensures few { length self.now.index.list ≤ list_limit }
     {
         let _register = &self.register;
+        let _list = self.publisher.list();
     }
 
     /// The counts of the disk fault that closed the store, if one did.
@@ -131,7 +135,9 @@ impl<D: Disk, J: Index> Ingest<D, J> {
         ensures receipt { IfOk result
             (λ receipt. IsReceiptOf receipt (journal self.old) tally.batch) }
         ensures told { Tells result (journal self.new) self.new.index.held }
+        ensures holds { HoldsThen result tally.batch self.new.index.held }
         ensures marked { IsMarked result }
+        ensures few { length self.new.index.list ≤ list_limit }
         ensures crash { LeavesOnly D.disk D.left_since
             self.old.manifest.disk self.new.manifest.disk
             (IsWithOrWithoutBatch (journal self.old) tally.batch) }

@@ -1,7 +1,8 @@
 //! What is stored and published.
-ghost use Rattle.std.specs.Prelude.{◌≡◌, None, IsOk, OnOk, length};
-ghost use Rattle.published_index.specs.Cover.{journal_of};
+ghost use Rattle.std.specs.Prelude.{◌≡◌, ◌≤◌, None, IsOk, OnOk, length};
+ghost use Rattle.published_index.specs.Cover.{journal_of, list_limit};
 ghost use Rattle.published_index.specs.Calls.{Retries};
+ghost use Rattle.published_index.specs.States.{IsPublishing};
 ghost use Rattle.explorer_model.specs.Journal.{IsSound};
 ghost use Rattle.ingest_desk.specs.Kept.{Keeps};
 ghost use Rattle.ingest_desk.specs.Stored.{journal};
@@ -44,7 +45,9 @@ impl<D: Disk, J: Index> Ingest<D, J> {
         ensures batches { result ≡ length (journal self.now) }
         ensures sound { IsSound (journal self.now) }
         ensures keeps { Keeps D.disk D.left_since (journal self.now) self.now.manifest }
+        ensures list { IsPublishing self.now.index }
     {
+        let _list = self.publisher.list();
         self.register.batches()
     }
 
@@ -70,8 +73,11 @@ impl<D: Disk, J: Index> Ingest<D, J> {
         ensures journal { journal self.new ≡ journal self.old }
         ensures none_held { OnOk result (self.new.index.held ≡ None) }
         ensures nothing { self.old.index.held ≡ None → IsOk result }
+        ensures few { length self.new.index.list ≤ list_limit }
     {
-        self.publisher.retry(rt)
+        let answer = self.publisher.retry(rt);
+        let _list = self.publisher.list();
+        answer
     }
 
     /// Ends the publisher, and gives the disk back. It waits for the readers that are inside.

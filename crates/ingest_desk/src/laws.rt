@@ -2,6 +2,9 @@
 ghost use Rattle.std.specs.Prelude.{◌≡◌, ℕ, List, Option, Result};
 ghost use Rattle.explorer_model.specs.declared.archive.Batch.{Batch};
 ghost use Rattle.explorer_model.specs.declared.archive.Game.{Game};
+ghost use Rattle.explorer_model.specs.declared.store.LogFault.{LogFault};
+ghost use Rattle.explorer_model.specs.Journal.{IsSound};
+ghost use Rattle.manifest.specs.Manifest.{HasJournal};
 ghost use Rattle.record_log.specs.Log.{Log};
 ghost use Rattle.tally_rows.specs.Tally.{Counted};
 ghost use Rattle.segment_blocks.specs.Segment.{CountedSpan};
@@ -9,8 +12,8 @@ ghost use Rattle.published_index.specs.Changes.{Change};
 ghost use Rattle.ingest_desk.specs.Answers.{HadMemory, IsAnswer};
 ghost use Rattle.ingest_desk.specs.declared.fault.CommitFault.{CommitFault};
 ghost use Rattle.ingest_desk.specs.declared.receipt.Receipt.{Receipt};
+ghost use Rattle.ingest_desk.specs.Openings.{IsWrong};
 ghost use Rattle.ingest_desk.specs.Picking.{HasNoneDue, IsPicked};
-ghost use Rattle.ingest_desk.specs.Recounts.{IsUnsoundAt};
 
 use disk_model::Disk;
 use published_index::Index;
@@ -32,4 +35,15 @@ pub fn picking_is_determined()
         → (left ≡ first) × (right ≡ second) }
     ensures either { (list : List CountedSpan) (left right : CountedSpan) → HasNoneDue list
         → IsPicked list left right → ⊥ }
+{}
+
+/// A file is opened with one answer, want of memory and faults of the disk aside: with this journal,
+/// or with this fault. A file whose journal is sound has no fault.
+pub fn opening_is_determined()
+    ensures opened { (file : List ℕ) (journal other : List Batch)
+        → HasJournal journal file → HasJournal other file → journal ≡ other }
+    ensures refused { (file : List ℕ) (fault other : LogFault)
+        → IsWrong fault file → IsWrong other file → fault ≡ other }
+    ensures either { (file : List ℕ) (journal : List Batch) (fault : LogFault)
+        → HasJournal journal file → IsSound journal → IsWrong fault file → ⊥ }
 {}

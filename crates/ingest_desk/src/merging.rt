@@ -104,6 +104,7 @@ impl<D: Disk, J: Index> Ingest<D, J> {
         ensures none_held { OnOk result (self.new.index.held ≡ None) }
         ensures manifest { self.new.manifest ≡ self.old.manifest }
         ensures journal { journal self.new ≡ journal self.old }
+        ensures few { length self.new.index.list ≤ list_limit }
     {
         let segments = self.publisher.list().segments();
         if segments.len() < LIST_LIMIT {
