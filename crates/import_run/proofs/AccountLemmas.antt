@@ -32,7 +32,7 @@ unread_one refusal examination examinations refused is rest =
     let P : Examination → Type 0 = λ e. AreRefusedAs (e ∷ examinations) (refusal ∷ refused) in
     subst P (sym is) (λ earlier. ap (λ (l : List Verdict). Refused refusal ∷ l) (rest earlier))
 
-unread : (cuts : List Cut) (examinations : List Examination) → texts_in cuts ≡ 0 → AllZip IsExaminationOf cuts examinations → (refused : List Refusal) × AreRefusedAs examinations refused
+pub unread : (cuts : List Cut) (examinations : List Examination) → texts_in cuts ≡ 0 → AllZip IsExaminationOf cuts examinations → (refused : List Refusal) × AreRefusedAs examinations refused
 unfolding verdicts_from
 unread [] [] none each = ([], λ earlier. refl)
 unread [] (examination ∷ examinations) none each = absurd each
@@ -57,7 +57,7 @@ verdicts_after earlier (examination ∷ first) rest = by_verdict (verdict_of ear
         → (last : List Candidate) × (verdict ∷ verdicts_from (and_candidate earlier verdict) (first ++ rest) ≡ (verdict ∷ verdicts_from (and_candidate earlier verdict) first) ++ verdicts_from last rest)
     by_verdict verdict each = ((each verdict).0, ap (λ (l : List Verdict). verdict ∷ l) (each verdict).1)
 
-with_refused : (first rest : List Examination) (refused : List Refusal) → AreRefusedAs rest refused → verdicts (first ++ rest) ≡ verdicts first ++ map Refused refused
+pub with_refused : (first rest : List Examination) (refused : List Refusal) → AreRefusedAs rest refused → verdicts (first ++ rest) ≡ verdicts first ++ map Refused refused
 with_refused first rest refused are =
     let behind = verdicts_after [] first rest in
     behind.1 ∙ ap (λ (l : List Verdict). verdicts first ++ l) (are behind.0)

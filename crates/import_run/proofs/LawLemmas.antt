@@ -72,10 +72,10 @@ all_taken (Some xs) (Some ys) bytes stream is next at_end =
     let same : xs ≡ bytes = cc in
     sym (next ∙ ap (λ (l : List ℕ). stream ++ l) at_end ∙ append-nil stream) ∙ same
 
-abbrev SameBatches : Type 0
+abbrev pub SameBatches : Type 0
 SameBatches = (stored : List Game) (groups : List (List Cut)) (batches others : List Batch) (refused other : List Refusal) → Accounted stored groups batches refused → Accounted stored groups others other → batches ≡ others
 
-abbrev SameRefused : Type 0
+abbrev pub SameRefused : Type 0
 SameRefused = (stored : List Game) (groups : List (List Cut)) (batches others : List Batch) (refused other : List Refusal) → Accounted stored groups batches refused → Accounted stored groups others other → refused ≡ other
 
 -- whole groups of the same bytes are settled alike
@@ -99,13 +99,13 @@ same_front (b ∷ front) (c ∷ other) last last' e =
     ap (λ (n : ℕ). n ∷ front) head ∙ ap (λ (l : List ℕ). c ∷ l) (same_front front other last last' tail)
 
 module _ {D J : Type 0} (disk : D → DiskState) (left_since : D → ℕ → List ℕ → Type 0) (one : OneGame) (same_batches : SameBatches) (same_refused : SameRefused) where
-  whole_of : (bytes : List ℕ) (source source_after : Stream) (before after : Stored D) (report : Report J) → source.left ≡ Some bytes → (is : ImportsAlone disk left_since source before source_after after report)
-      → report.end ≡ ends.Whole → Accounted is.start.games (groups (cuts bytes)) is.batches report.refused.items
+  pub whole_of : (bytes : List ℕ) (source source_after : Stream) (before after : Stored D) (report : Report J) → source.left ≡ Some bytes → (is : ImportsAlone disk left_since source before source_after after report)
+      → report.end ≡ ends.Whole → AreSettled is.start (groups (cuts bytes)) is.batches report.refused.items
   whole_of bytes source source_after before after report told is whole =
       let P : End J → Type 0 = λ e. StandsAt e is.start is.stream source_after.left is.batches report.refused.items in
       let stands = subst P whole is.stands in
-      let A : List ℕ → Type 0 = λ s. Accounted is.start.games (groups (cuts s)) is.batches report.refused.items in
-      subst A (all_taken source.left source_after.left bytes is.stream told is.reads.next stands.0) stands.2.accounted
+      let A : List ℕ → Type 0 = λ s. AreSettled is.start (groups (cuts s)) is.batches report.refused.items in
+      subst A (all_taken source.left source_after.left bytes is.stream told is.reads.next stands.0) stands.2
 
   pub same_whole : (bytes : List ℕ) (source source_after source_other : Stream) (before after other_after : Stored D) (report other : Report J) → source.left ≡ Some bytes
       → (first : ImportsAlone disk left_since source before source_after after report) → (second : ImportsAlone disk left_since source before source_other other_after other)
@@ -115,8 +115,8 @@ module _ {D J : Type 0} (disk : D → DiskState) (left_since : D → ℕ → Lis
       let G : List Batch → Type 0 = λ j. AreGamesOf j second.start.games in
       let games = same_games one (texts_of first.start.journal) second.start.games first.start.games (subst G journals second.start.are_games) first.start.are_games in
       let A : List Game → Type 0 = λ gs. Accounted gs (groups (cuts bytes)) second.batches other.refused.items in
-      let a = whole_of bytes source source_after before after report told first is in
-      let b = subst A games (whole_of bytes source source_other before other_after other told second also) in (
+      let a = (whole_of bytes source source_after before after report told first is).accounted in
+      let b = subst A games (whole_of bytes source source_other before other_after other told second also).accounted in (
         same_batches first.start.games (groups (cuts bytes)) first.batches second.batches report.refused.items other.refused.items a b,
         same_refused first.start.games (groups (cuts bytes)) first.batches second.batches report.refused.items other.refused.items a b,
       )

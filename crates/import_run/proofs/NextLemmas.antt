@@ -40,7 +40,7 @@ no_kept (c ∷ cs) e = absurd (some_none _ e)
     some_none : (b : Batch) → Some b ≡ None → ⊥
     some_none b e = cc
 
-by_batch : (journal : List Batch) (games : List Game) (cuts : List Cut) (examinations : List Examination) → AreGamesOf journal games → AllZip IsExaminationOf cuts examinations
+pub by_batch : (journal : List Batch) (games : List Game) (cuts : List Cut) (examinations : List Examination) → AreGamesOf journal games → AllZip IsExaminationOf cuts examinations
     → (o : Option Batch) → batch_of (candidates (verdicts_behind (numbers_of games) examinations)) ≡ o → AreGamesOf (journal ++ cons_option o []) (and_games games examinations)
 by_batch journal games cuts examinations are each None is =
     let P : List Game → Type 0 = λ g. AreGamesOf (journal ++ []) g in

@@ -19,7 +19,7 @@ same_front (cut ∷ front) (first ∷ other) text text' rest rest' texts all =
     let later = same_front front other text text' rest rest' fewer tail in
     (ap (λ (c : Cut). c ∷ (front ++ Text text ∷ [])) head ∙ ap (λ (l : List Cut). first ∷ l) later.0, later.1)
 
-same_group : (group other rest rest' : List Cut) → IsWhole group → IsWhole other → group ++ rest ≡ other ++ rest' → (group ≡ other) × (rest ≡ rest')
+pub same_group : (group other rest rest' : List Cut) → IsWhole group → IsWhole other → group ++ rest ≡ other ++ rest' → (group ≡ other) × (rest ≡ rest')
 same_group group other rest rest' whole whole' all =
     let one = ap (λ (l : List Cut). l ++ rest) whole.ends ∙ append_assoc whole.front (Text whole.text ∷ []) rest in
     let two = ap (λ (l : List Cut). l ++ rest') whole'.ends ∙ append_assoc whole'.front (Text whole'.text ∷ []) rest' in
@@ -27,7 +27,7 @@ same_group group other rest rest' whole whole' all =
     (whole.ends ∙ both.0 ∙ sym whole'.ends, both.1)
 
 -- cuts that begin with a whole group are no group in hand
-no_hand : (group rest hand : List Cut) → IsWhole group → group ++ rest ≡ hand → texts_in hand < 512 → ⊥
+pub no_hand : (group rest hand : List Cut) → IsWhole group → group ++ rest ≡ hand → texts_in hand < 512 → ⊥
 no_hand group rest hand whole all few =
     let texts = ap texts_in all in
     omega (arith, texts, texts-append group rest, texts_whole group whole, few)

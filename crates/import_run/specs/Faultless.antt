@@ -1,7 +1,14 @@
 -- Words of laws: imports without faults.
-use Rattle.std.specs.Prelude.{◌≡◌, ⊤, ◌<◌, ◌-◌, ◌^◌, ℕ, List, Some, None, length}
+use Rattle.std.specs.Prelude.{◌≡◌, ⊤, ◌<◌, ◌+◌, ◌-◌, ◌^◌, ℕ, List, [], ◌++◌, Some, None, length, map, sum_by}
+use Rattle.std.specs.List.{AllZip}
 use Rattle.disk_model.specs.Disk.{DiskState}
-use Rattle.explorer_model.specs.Journal.{input_limit}
+use Rattle.explorer_model.specs.declared.archive.Batch.{Batch}
+use Rattle.explorer_model.specs.declared.archive.Game.{Game}
+use Rattle.explorer_model.specs.declared.archive.Placed.{Placed}
+use Rattle.explorer_model.specs.declared.fault.Refusal.{Refusal}
+use Rattle.explorer_model.specs.Cuts.{Text, cuts}
+use Rattle.explorer_model.specs.Journal.{AreWithin, HaveDifferentIds, byte_count, game_count, input_limit}
+use Rattle.explorer_model.specs.Visits.{IsTextOf, texts_of}
 use Rattle.outside.specs.Stream.{Stream}
 use Rattle.ingest_desk.specs.Stored.{Stored}
 use Rattle.ingest_desk.specs.declared.report.End.{End}
@@ -30,3 +37,31 @@ EndsWithoutFault ends.Whole = ⊤
 EndsWithoutFault (ends.Full games bytes note) = ⊤
 EndsWithoutFault ends.OutOfMemory = ⊤
 EndsWithoutFault _ = ⊥
+
+-- ---- streams of new games
+
+abbrev pub HasGame : Placed → Game → Type 0
+HasGame text game = IsTextOf text.bytes game
+
+-- each cut of the stream is a text with a game, and no two of these games and the stored ones have
+-- one id
+pub record HasNewGames (stored : List Game) (bytes : List ℕ) : Type 0 where
+  pub texts : List Placed
+  pub all : cuts bytes ≡ map (λ text. Text text) texts
+  pub games : List Game
+  pub are_games : AllZip HasGame texts games
+  pub different : HaveDifferentIds (map (λ game. game.classes) (stored ++ games))
+
+-- the texts pass no limit behind the journal
+abbrev pub FindRoom : List Batch → List Placed → Type 0
+FindRoom journal texts = AreWithin (game_count journal + length texts)
+    (byte_count journal + sum_by (λ text. length text.bytes) texts)
+
+-- all the texts stand behind those of the journal, in their order, and none is refused; or memory
+-- was wanting
+abbrev pub StoresAll : {J : Type 0} → End J → List Batch → List Placed → List Refusal → List Batch
+    → Type 0
+StoresAll ends.Whole before texts refused after =
+    (refused ≡ []) × (texts_of after ≡ texts_of before ++ map (λ text. text.bytes) texts)
+StoresAll ends.OutOfMemory before texts refused after = ⊤
+StoresAll _ before texts refused after = ⊥

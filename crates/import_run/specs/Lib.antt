@@ -14,4 +14,5 @@ pub mod SinceLaws
 pub mod Taking
 pub mod Alone
 pub mod Faultless
+pub mod Determined
 pub mod Counting

@@ -1,8 +1,12 @@
 //! Importers of bodies: a handle on a desk, and an ingest of one's own.
 ghost use Rattle.std.specs.Prelude.{◌≡◌, ◌<◌, ◌≤◌, ◌^◌, ◌∷◌, [], None, Some, length, option_map};
-ghost use Rattle.ingest_desk.specs.Importers.{TellsAll, call_of};
-ghost use Rattle.ingest_desk.specs.Reporting.{games_of};
+ghost use Rattle.std.specs.Thread.{IsSync};
+ghost use Rattle.explorer_model.specs.Cuts.{cuts};
+ghost use Rattle.explorer_model.specs.Wire.{body_limit};
+ghost use Rattle.ingest_desk.specs.Importers.{CountsRose, EndsInMemory, TellsAll, call_of, ending_of as ending_by};
+ghost use Rattle.ingest_desk.specs.Reporting.{Reports, games_of};
 ghost use Rattle.import_run.specs.Counting.{counts_of};
+ghost use Rattle.import_run.specs.Determined.{ImportsBody};
 
 use crate::desk::Seat;
 use crate::ends::{EndCounts, ending_of};
@@ -116,13 +120,23 @@ impl<D: Disk, J: Index> Importer<J> for OwnIngest<D, J> {
       calls = option_map (λ calls. calls.items) own.calls;
     } };
 
-    fn import<R: Wait + Threads + Sync>(
-        &mut self,
-        rt: &R,
-        alloc: Global,
-        body: &[u8],
-    ) -> Report<J> {
+    fn import<R: Wait + Threads + Sync>(&mut self, rt: &R, alloc: Global, body: &[u8]) -> Report<J>
+        requires shares { IsSync R.row }
+        requires few { length body.now ≤ body_limit }
+        ensures reports { Reports (cuts body.now) result }
+        ensures in_memory { EndsInMemory (ending_by result.end) }
+        ensures few { games_of result.receipts.items < 2 ^ 32 }
+        ensures counts { CountsRose (ending_by result.end)
+            (counts_of self.old.counts) (counts_of self.new.counts) }
+        ensures told { TellsAll (option_map (λ calls. calls.items) self.old.calls)
+            (option_map (λ calls. calls.items) self.new.calls) (call_of body.now result ∷ []) }
+
+        ensures alone { ImportsBody D.disk D.left_since body.now self.old.ingest self.new.ingest
+            result }
+    {
+        let _before = self.ingest.batches();
         let report = import_bytes(rt, alloc, body, &mut self.ingest, self.workers, &FreeGate);
+        let _after = self.ingest.batches();
         self.counts.add(&report.end);
         let calls = self.calls.take();
         self.calls = with_call(alloc, calls, body, &report);

@@ -1,14 +1,19 @@
 //! Laws of imports. Each is the contract of a function that has nothing to do.
-ghost use Rattle.std.specs.Prelude.{◌≡◌, ℕ, List, None, Some};
+ghost use Rattle.std.specs.Prelude.{◌≡◌, ℕ, List, None, Some, length};
 ghost use Rattle.explorer_model.specs.declared.archive.Batch.{Batch};
+ghost use Rattle.explorer_model.specs.declared.archive.Game.{Game};
+ghost use Rattle.explorer_model.specs.Visits.{AreGamesOf};
 ghost use Rattle.manifest.specs.Manifest.{HasJournal, IsWithOrWithoutBatch};
+ghost use Rattle.ingest_desk.specs.Importers.{call_of};
 ghost use Rattle.ingest_desk.specs.Kept.{Keeps};
 ghost use Rattle.outside.specs.Stream.{Stream};
 ghost use Rattle.ingest_desk.specs.Stored.{Stored, journal};
+ghost use Rattle.ingest_desk.specs.declared.mark.Mark.{Mark};
 ghost use Rattle.ingest_desk.specs.declared.report.Report.{Report};
 ghost use Rattle.ingest_desk.specs.declared.report.End.TheVariants as ends;
 ghost use Rattle.import_run.specs.Alone.{ImportsAlone};
-ghost use Rattle.import_run.specs.Faultless.{CanEnd, EndsWithoutFault, IsFaultless};
+ghost use Rattle.import_run.specs.Determined.{AreAlike, ImportsBody, IsPlainEnd};
+ghost use Rattle.import_run.specs.Faultless.{CanEnd, EndsWithoutFault, FindRoom, HasNewGames, IsFaultless, StoresAll};
 
 use batch_tally::laws::accounting_is_determined;
 use disk_model::Disk;
@@ -24,6 +29,21 @@ pub fn an_import_without_faults_ends<D: Disk, J: Index>()
         → CanEnd D.disk source before → IsFaultless D.disk source source_after before after
         → EndsWithoutFault report.end }
 {}
+
+/// An import without faults into a store that is open, of a told stream below the bound that is texts
+/// of new games alone and finds room, stores all of them, or memory is wanting.
+pub fn new_games_are_stored<D: Disk, J: Index>()
+    ensures { (source source_after : Stream) (before after : Stored D) (report : Report J)
+        (stored : List Game)
+        → ImportsAlone D.disk D.left_since source before source_after after report
+        → (can : CanEnd D.disk source before)
+        → IsFaultless D.disk source source_after before after
+        → AreGamesOf (journal before) stored → (new : HasNewGames stored can.bytes)
+        → FindRoom (journal before) new.texts
+        → StoresAll report.end (journal before) new.texts report.refused.items (journal after) }
+{
+    game_is_determined();
+}
 
 /// Two imports into one store store the same batches and refuse the same texts: where both come to
 /// the end of one told stream; and where both took the same bytes, and a read failed behind them or
@@ -50,6 +70,43 @@ pub fn imports_are_determined<D: Disk, J: Index>()
         → first.stream ≡ second.stream
         → report.end ≡ ends.TooMuch n → other.end ≡ ends.TooMuch n'
         → (first.batches ≡ second.batches) × (report.refused.items ≡ other.refused.items) }
+{
+    game_is_determined();
+    accounting_is_determined();
+}
+
+/// Two imports of one told stream into one store have one end and come to the same, unless a call of
+/// the disk or a read fails, the bound is reached or memory is wanting. Where the disk fails, those come
+/// to the same that stored as many batches.
+pub fn ends_are_determined<D: Disk, J: Index>()
+    ensures plain { (bytes : List ℕ) (source source_after source_other : Stream)
+        (before after other_after : Stored D) (report other : Report J)
+        → source.left ≡ Some bytes
+        → (first : ImportsAlone D.disk D.left_since source before source_after after report)
+        → (second : ImportsAlone D.disk D.left_since source before source_other other_after other)
+        → IsPlainEnd report.end → IsPlainEnd other.end
+        → AreAlike first.batches second.batches report other × (report.end ≡ other.end) }
+    ensures disk_fault { (bytes : List ℕ) (source source_after source_other : Stream)
+        (before after other_after : Stored D) (report other : Report J) (a b a' b' : ℕ)
+        (mark mark' : Mark J) → source.left ≡ Some bytes
+        → (first : ImportsAlone D.disk D.left_since source before source_after after report)
+        → (second : ImportsAlone D.disk D.left_since source before source_other other_after other)
+        → report.end ≡ ends.DiskFault a b mark → other.end ≡ ends.DiskFault a' b' mark'
+        → length first.batches ≡ length second.batches
+        → AreAlike first.batches second.batches report other }
+{
+    game_is_determined();
+    accounting_is_determined();
+}
+
+/// Two importers over ingests of their own tell one call of one body into one store, but for these
+/// ends.
+pub fn calls_are_determined<D: Disk, J: Index>()
+    ensures { (body : List ℕ) (before after other_after : Stored D) (report other : Report J)
+        → ImportsBody D.disk D.left_since body before after report
+        → ImportsBody D.disk D.left_since body before other_after other
+        → IsPlainEnd report.end → IsPlainEnd other.end
+        → call_of body report ≡ call_of body other }
 {
     game_is_determined();
     accounting_is_determined();

@@ -87,6 +87,8 @@ pub fn import_bytes<C: Committer<J>, J: Index, G: Gate, R: Wait + Threads + Sync
     requires some_workers { 1 ≤ workers }
     requires few_workers { workers ≤ 16 }
     requires few { length bytes.now ≤ body_limit }
+    ensures told { (start : Known) → C.told committer.old ≡ Some (store_of start)
+        → ComesQuietly start bytes.now (Some []) result (C.told committer.new) }
     ensures beside { ComesQuietlyBeside bytes.now (Some []) result }
     ensures since { C.since committer.old committer.new }
 {

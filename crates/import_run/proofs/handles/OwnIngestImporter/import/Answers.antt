@@ -1,6 +1,7 @@
 use Rattle.std.proofs.Common.{◌≡◌}
 use Rattle.explorer_model.specs.Imports.{groups}
 use Rattle.explorer_model.specs.Cuts.{cuts}
+use Rattle.import_run.proofs.BodyLemmas.{imports_body}
 use Rattle.import_run.proofs.ComeBesideLemmas.{ends_in_memory, few_games, marked_so}
 use Rattle.import_run.proofs.handles.OwnIngestImporter.import.Goals as goal
 
@@ -20,3 +21,8 @@ returns-clause-few g c = few_games c.args.body.now c.import_bytes-report.result 
 
 pub with_call-requires : goal.with_call-requires
 with_call-requires g c = few_games c.args.body.now c.import_bytes-report.result c.requires.few c.import_bytes-report.ensures.beside
+
+pub returns-clause-alone : goal.returns-clause-alone
+returns-clause-alone g c =
+    imports_body g.D.Disk.disk g.D.Disk.left_since c.args.self.now.ingest c.import_bytes-report.new.committer c.import_bytes-report.ensures.since c.args.body.now c.import_bytes-report.result
+    c.batches-before.ensures.sound c.batches-after.ensures.sound c.batches-after.ensures.keeps c.import_bytes-report.ensures.told
