@@ -13,12 +13,12 @@ use Rattle.lookup.proofs.RowNexts.{moves-have}
 use Rattle.tally_rows.specs.declared.row.Row.{Row}
 use Rattle.tally_rows.proofs.Members.{IsIn, recursion-from_IsIn}
 
-sum-cons : (hit : NumberedRow) (hits : List NumberedRow) (test : Row → Bool) (count : Row → ℕ)
+pub sum-cons : (hit : NumberedRow) (hits : List NumberedRow) (test : Row → Bool) (count : Row → ℕ)
     → sum_where (hit ∷ hits) test count ≡ cond (test hit.row) (count hit.row) 0 + sum_where hits test count
 unfolding sum_where
 sum-cons hit hits test count = sum_by-cons (λ (h : NumberedRow). cond (test h.row) (count h.row) 0) hit hits
 
-sum-nil : (test : Row → Bool) (count : Row → ℕ) → sum_where [] test count ≡ 0
+pub sum-nil : (test : Row → Bool) (count : Row → ℕ) → sum_where [] test count ≡ 0
 unfolding sum_where
 sum-nil test count = refl
 

@@ -1,5 +1,5 @@
 -- A game's first visit of a position is its track's first step with the position's key.
-use Rattle.std.proofs.Common.{◌≡◌, ◌↔◌, ◌+◌, ℕ, zero, suc, Bool, true, false, true≢false, if◌then◌else◌, List, [], ◌∷◌, take, length, find, bytes_eq, Option, Some, None, Result, Ok, Err, sym, ap, ◌∙◌, subst, refl, inl, inr}
+use Rattle.std.proofs.Common.{◌≡◌, ◌↔◌, ℕ, zero, suc, Bool, true, false, true≢false, if◌then◌else◌, List, [], ◌∷◌, take, length, find, bytes_eq, Option, Some, None, sym, ap, ◌∙◌, subst, refl, inl, inr}
 use Rattle.std.specs.Prelude.{option_map}
 use Rattle.std.specs.List.{AllByRecursion, AllZip}
 use Rattle.std.proofs.lemmas.Slice.Eq.{bytes_eq-Decides}

@@ -11,12 +11,16 @@ pub mod RowNexts
 pub mod Averages
 pub mod LineLoops
 pub mod LegalMoves
-pub mod Selecting
+pub mod Sorting
+pub mod SortedLines
+pub mod Grouping
+pub mod GroupedRows
 pub mod Rows
 pub mod Once
 pub mod RowMoves
 pub mod Places
 pub mod Listings
+pub mod OnlyGames
 pub mod FromHits
 pub mod Looking
 pub mod PartLoops

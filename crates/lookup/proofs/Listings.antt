@@ -1,10 +1,10 @@
 -- The games of entries are found by their numbers.
-use Rattle.std.proofs.Common.{◌≡◌, ℕ, suc, ◌+◌, ◌-◌, ◌<◌, ◌≤◌, ◌==◌, Bool, true, false, ◌&&◌, ◌||◌, cond, ◌⊎◌, inl, inr, List, [], ◌∷◌, ◌++◌, length, take, get_or, map, filter, Option, Some, None, is_some, option_map, Result, Ok, Err, IfOk, bytes_eq, refl, sym, ap, ◌∙◌, subst, arith}
+use Rattle.std.proofs.Common.{◌≡◌, ℕ, suc, ◌+◌, ◌-◌, ◌==◌, Bool, true, false, ◌&&◌, ◌||◌, cond, ◌⊎◌, inl, inr, List, [], ◌∷◌, ◌++◌, length, take, map, filter, Option, Some, None, is_some, option_map, Result, Ok, Err, IfOk, bytes_eq, refl, sym, ap, ◌∙◌, subst, arith}
 use Rattle.std.specs.Prelude.{option_and_then, filter_map}
 use Rattle.std.specs.List.{All, AllByRecursion, AllZip, Contains, find, flat_map, list_any, slice_get, enumerate_from, cons_option}
 use Rattle.std.proofs.lemmas.Bool.Decides.{nat_tests}
 use Rattle.std.proofs.lemmas.List.{map-append, length-map}
-use Rattle.std.proofs.lemmas.List.Elements.{All-head, All-take}
+use Rattle.std.proofs.lemmas.List.Elements.{All-take}
 use Rattle.std.proofs.lemmas.Slice.Eq.{bytes_eq-Decides}
 use Rattle.std.proofs.lemmas.Option.{slice_get-map, slice_get_within}
 use Rattle.best_lists.proofs.BestLaws.{All-best}
@@ -19,7 +19,7 @@ use Rattle.explorer_model.specs.declared.archive.Game.{Game}
 use Rattle.explorer_model.specs.declared.chess.Move.{Move}
 use Rattle.explorer_model.specs.declared.query.Filter.{Filter}
 use Rattle.lookup.specs.Hits.{NumberedRow, rows_from}
-use Rattle.lookup.specs.Listing.{lists_number, next_where, all_classes, listed_where, AreEntriesOf, IsListingOf, IsOnlyListingOf}
+use Rattle.lookup.specs.Listing.{lists_number, next_where, all_classes, listed_where, AreEntriesOf, IsListingOf}
 use Rattle.lookup.specs.Sums.{entries_where}
 use Rattle.lookup.specs.Parts.{tracks_in}
 use Rattle.lookup.proofs.Places.{get-left, get-right}
@@ -84,10 +84,10 @@ pub recent-lists : ListsGames (λ row. row.recent)
 recent-lists tracks row part entry m = best-at track_month (has_move (row_key_of row)) before_by_month tracks row.recent entry part.recent m
 
 -- the move of a row is what a game plays in the position
-record Plays (key : List ℕ) (track : Track) (row : Row) : Type 0 where
-  next : Move
-  of_row : row.next ≡ Some next
-  of_track : visit key track ≡ Some (Some next)
+pub record Plays (key : List ℕ) (track : Track) (row : Row) : Type 0 where
+  pub next : Move
+  pub of_row : row.next ≡ Some next
+  pub of_track : visit key track ≡ Some (Some next)
 
 visited-by : (key : List ℕ) (t : Track) (o : Option (Option Move)) (c : RowKey)
     → option_map (λ next. record { key = key; next = next; month = t.classes.month; speed = t.classes.speed; group = t.classes.group }) o ≡ Some c
@@ -114,18 +114,18 @@ plays-there key track row of plays = plays-by key track row of row.next refl pla
 -- ---- the games of the entries of rows
 
 -- the game at a place plays the move of the row
-record IsPlayedAt (key : List ℕ) (tracks : List Track) (place : ℕ) (row : Row) : Type 0 where
-  track : Track
-  at : slice_get tracks place ≡ Some track
-  plays : Plays key track row
+pub record IsPlayedAt (key : List ℕ) (tracks : List Track) (place : ℕ) (row : Row) : Type 0 where
+  pub track : Track
+  pub at : slice_get tracks place ≡ Some track
+  pub plays : Plays key track row
 
 -- so does the game of each entry of the list of a row, by its number
-record Tells (list : Row → List Entry) (key : List ℕ) (first : ℕ) (tracks : List Track) (hit : NumberedRow) (entry : Entry) : Type 0 where
-  place : ℕ
-  is : entry.number + hit.first ≡ first + place
-  played : IsPlayedAt key tracks place hit.row
+pub record Tells (list : Row → List Entry) (key : List ℕ) (first : ℕ) (tracks : List Track) (hit : NumberedRow) (entry : Entry) : Type 0 where
+  pub place : ℕ
+  pub is : entry.number + hit.first ≡ first + place
+  pub played : IsPlayedAt key tracks place hit.row
 
-in-either : {X : Type 0} (xs ys : List X) (x : X) → IsIn x (xs ++ ys) → IsIn x xs ⊎ IsIn x ys
+pub in-either : {X : Type 0} (xs ys : List X) (x : X) → IsIn x (xs ++ ys) → IsIn x xs ⊎ IsIn x ys
 in-either [] ys x m = inr m
 in-either (y ∷ xs) ys x (inl e) = inl (inl e)
 in-either (y ∷ xs) ys x (inr m) = elim (in-either xs ys x m) [ inl l ↦ inl (inr l) | inr r ↦ inr r ]
@@ -196,7 +196,7 @@ module _ (list : Row → List Entry) (lists : ListsGames list) (key : List ℕ) 
         };
       }
 
-  rows-tell : (parts : List Part) (each : AllByRecursion IsPart parts) (first : ℕ) (hit : NumberedRow) → IsIn hit (rows_from key pick first parts)
+  pub rows-tell : (parts : List Part) (each : AllByRecursion IsPart parts) (first : ℕ) (hit : NumberedRow) → IsIn hit (rows_from key pick first parts)
       → (entry : Entry) → IsIn entry (list hit.row) → Tells list key first (all_of (tracks_in parts each)) hit entry
   unfolding rows_from
   rows-tell [] each first hit m entry n = absurd m
@@ -213,7 +213,7 @@ module _ (list : Row → List Entry) (lists : ListsGames list) (key : List ℕ) 
       ]
 
 -- what is known of all games
-classes-tracks : (parts : List Part) (each : AllByRecursion IsPart parts)
+pub classes-tracks : (parts : List Part) (each : AllByRecursion IsPart parts)
     → all_classes parts ≡ map (λ track. track.classes) (all_of (tracks_in parts each))
 classes-tracks [] each = refl
 classes-tracks (part ∷ parts) each =
@@ -283,7 +283,7 @@ both-found next classes m c is_next are =
     ap (option_and_then {U = Listed} (λ (n : Move). option_map {U = Listed} (λ (d : Classes). record { next = n; classes = d }) classes)) is_next
     ∙ ap (option_map {U = Listed} (λ (d : Classes). record { next = m; classes = d })) are
 
-track-listed : (key : List ℕ) (found : Option Track) (track : Track) (m : Move) → found ≡ Some track → visit key track ≡ Some (Some m)
+pub track-listed : (key : List ℕ) (found : Option Track) (track : Track) (m : Move) → found ≡ Some track → visit key track ≡ Some (Some m)
     → option_and_then (λ (t : Track). listed_by (visit key t) t) found ≡ Some (record { next = m; classes = track.classes })
 track-listed key found track m is plays =
     ap (option_and_then (λ (t : Track). listed_by (visit key t) t)) is ∙ ap (λ v. listed_by v track) plays
@@ -347,21 +347,6 @@ listings list lists parts hits entries listed is = λ key wanted test each are.
     (stands-listed list test hits entry
     (IsIn-from_Contains (entries_where hits test list) entry
     (All-IsIn (λ e. Contains (entries_where hits test list) e) entries are.stand entry m))))
-
-pub only-listing : (list : Row → List Entry) → ListsGames list → (parts : List Part) (hits : List NumberedRow) (entry : Entry) (game : Option Listed)
-    → game ≡ listed_where list parts hits entry.number
-    → IsOnlyListingOf list parts hits (entry ∷ []) game
-only-listing list lists parts hits entry game is = λ key wanted test each are.
-    let found = entry-found list lists key (meets wanted any_next) parts each entry hits are.rows
-    (stands-listed list test hits entry
-    (IsIn-from_Contains (entries_where hits test list) entry
-    (All-head (λ e. Contains (entries_where hits test list) e) entry [] are.stand))) in
-    is ∙ found.found_is ∙ sym found.listing_is
-
-pub alone : (entries : List Entry) (d : Entry) → 1 ≤ length entries → length entries < 2 → entries ≡ get_or entries 0 d ∷ []
-alone [] d some few = absurd (omega arith)
-alone (e ∷ []) d some few = refl
-alone (e ∷ f ∷ es) d some few = absurd (omega arith)
 
 -- the best of entries stand among them
 pub best-stand : (before : Entry → Entry → Bool) (n : ℕ) (entries : List Entry) → All (λ entry. Contains entries entry) (best before n entries)

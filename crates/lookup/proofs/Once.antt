@@ -1,6 +1,6 @@
 -- Values, each once, with one value more.
-use Rattle.std.proofs.Common.{◌≡◌, Bool, true, false, not, ◌||◌, cond, List, [], ◌∷◌, ◌++◌, filter, refl, ap, ◌∙◌, append-nil}
-use Rattle.std.specs.List.{list_any}
+use Rattle.std.proofs.Common.{◌≡◌, Bool, true, false, not, ◌||◌, cond, List, [], ◌∷◌, ◌++◌, filter, refl, sym, ap, ◌∙◌, append-nil}
+use Rattle.std.specs.List.{list_any, AllByRecursion, IsDistinct}
 use Rattle.std.proofs.lemmas.List.Elements.{filter-append}
 use Rattle.explorer_model.specs.Counting.{distinct}
 
@@ -68,6 +68,58 @@ module _ {X : Type 0} (same : X → X → Bool) (transitive : (x y z : X) → sa
       let q : X → Bool = λ m. not (same x m) in
       let is_other = neither-left (same x y) (list_any p (filter q zs)) known in
       ap (λ l. x ∷ filter q l) is ∙ ap (λ l. x ∷ l) (filter-append q zs (y ∷ []) ∙ ap (λ l. filter q zs ++ l) (filter-one x y false is_other))
+
+  -- what is the same as one of the values is the same as one of them, each once
+  first-by : (x y : X) (zs : List X) (b c : Bool) → same x y ≡ b → (b ≡ false → c ≡ true → list_any (λ m. same m y) (filter (λ m. not (same x m)) zs) ≡ true)
+      → (b || c) ≡ true → (same x y || list_any (λ m. same m y) (filter (λ m. not (same x m)) zs)) ≡ true
+  first-by x y zs true c is later some = ap (λ b. b || list_any (λ m. same m y) (filter (λ m. not (same x m)) zs)) is
+  first-by x y zs false c is later some =
+      ap (λ b. b || list_any (λ m. same m y) (filter (λ m. not (same x m)) zs)) is ∙ later refl some
+
+  any-once : (xs : List X) (y : X) → list_any (λ m. same m y) xs ≡ true → list_any (λ m. same m y) (distinct same xs) ≡ true
+  any-once [] y some = some
+  any-once (x ∷ xs) y some =
+      first-by x y (distinct same xs) (same x y) (list_any (λ m. same m y) xs) refl
+      (λ other later. any-kept x y (distinct same xs) other (any-once xs y later)) some
+
+  none-by : (a b : Bool) → (a ≡ true → b ≡ true) → b ≡ false → a ≡ false
+  none-by false b gives none = refl
+  none-by true b gives none = sym (gives refl) ∙ none
+
+  pub none-once : (xs : List X) (y : X) → list_any (λ m. same m y) (distinct same xs) ≡ false → list_any (λ m. same m y) xs ≡ false
+  none-once xs y none = none-by (list_any (λ m. same m y) xs) (list_any (λ m. same m y) (distinct same xs)) (any-once xs y) none
+
+  apart-one : (x y : X) (zs : List X) (b : Bool) → same x y ≡ b → AllByRecursion (λ z. same x z ≡ false) zs
+      → AllByRecursion (λ z. same x z ≡ false) (cond (not b) (y ∷ zs) zs)
+  apart-one x y zs true is each = each
+  apart-one x y zs false is each = (is, each)
+
+  apart-kept : (x : X) (xs : List X) → AllByRecursion (λ y. same x y ≡ false) (filter (λ y. not (same x y)) xs)
+  apart-kept x [] = tt
+  apart-kept x (y ∷ ys) = apart-one x y (filter (λ z. not (same x z)) ys) (same x y) refl (apart-kept x ys)
+
+  apart-filter : (p : X → Bool) (x : X) (xs : List X) → AllByRecursion (λ y. same x y ≡ false) xs → AllByRecursion (λ y. same x y ≡ false) (filter p xs)
+  apart-filter p x [] each = tt
+  apart-filter p x (y ∷ ys) each =
+      elim (p y) as (λ b. AllByRecursion (λ z. same x z ≡ false) (cond b (y ∷ filter p ys) (filter p ys))) [
+        | true ↦ (each.0, apart-filter p x ys each.1)
+        | false ↦ apart-filter p x ys each.1
+      ]
+
+  once-filter : (p : X → Bool) (xs : List X) → IsDistinct same xs → IsDistinct same (filter p xs)
+  unfolding IsDistinct
+  once-filter p [] once = tt
+  once-filter p (x ∷ xs) once =
+      elim (p x) as (λ b. IsDistinct same (cond b (x ∷ filter p xs) (filter p xs))) [
+        | true ↦ (apart-filter p x xs once.0, once-filter p xs once.1)
+        | false ↦ once-filter p xs once.1
+      ]
+
+  -- they are different
+  pub once-distinct : (xs : List X) → IsDistinct same (distinct same xs)
+  unfolding IsDistinct
+  once-distinct [] = tt
+  once-distinct (x ∷ xs) = (apart-kept x (distinct same xs), once-filter (λ y. not (same x y)) (distinct same xs) (once-distinct xs))
 
   -- with one value more, by whether it is there already
   pub once-more : (xs : List X) (y : X) (b : Bool) → list_any (λ m. same m y) (distinct same xs) ≡ b

@@ -13,10 +13,10 @@ use Rattle.lookup.specs.Sums.{moves_in, months_in}
 use Rattle.lookup.proofs.Once.{once-more}
 use Rattle.lookup.proofs.Rows.{hit-next}
 
-same_move-transitive : (x y z : Move) → is_same_move x y ≡ true → is_same_move y z ≡ true → is_same_move x z ≡ true
+pub same_move-transitive : (x y z : Move) → is_same_move x y ≡ true → is_same_move y z ≡ true → is_same_move x z ≡ true
 same_move-transitive x y z h k = grind (arith, nat_tests)
 
-same_month-transitive : (x y z : Month) → is_same_month x y ≡ true → is_same_month y z ≡ true → is_same_month x z ≡ true
+pub same_month-transitive : (x y z : Month) → is_same_month x y ≡ true → is_same_month y z ≡ true → is_same_month x z ≡ true
 same_month-transitive x y z h k = grind (arith, nat_tests)
 
 pub moves-none : moves_in [] ≡ []

@@ -97,7 +97,7 @@ module _ (test : Row → Bool) (list : Row → List Entry) where
       let f : NumberedRow → List Entry = λ h. cond (test h.row) (map (moved_by h.first) (list h.row)) [] in
       flat_map-append f hits (hit ∷ []) ∙ ap (λ l. flat_map f hits ++ l) (append-nil (f hit))
 
-  entries-next : (hits : List Hit) (i : ℕ) (hit : Hit) → i < length hits → hit ≡ get_or hits i hit → (b : Bool) → test hit.row.now ≡ b
+  pub entries-next : (hits : List Hit) (i : ℕ) (hit : Hit) → i < length hits → hit ≡ get_or hits i hit → (b : Bool) → test hit.row.now ≡ b
       → entries_where (take (i + 1) (map hit_as hits)) test list
       ≡ entries_where (take i (map hit_as hits)) test list ++ cond b (map (moved_by hit.first) (list hit.row.now)) []
   entries-next hits i hit within is b holds =

@@ -1,10 +1,10 @@
 pub mod FromRows
+pub mod Groups
+pub mod GroupSums
 pub mod Hits
 pub mod Lines
 pub mod Listing
 pub mod MoveSums
-pub mod RowTests
 pub mod SegmentRows
-pub mod Selection
 pub mod Sums
 pub mod Parts

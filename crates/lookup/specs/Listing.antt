@@ -1,5 +1,5 @@
 -- The games of entries, as they are looked up by their numbers.
-use Rattle.std.specs.Prelude.{◌≡◌, ℕ, ◌+◌, ◌==◌, Bool, List, map, Option, Some, option_map, option_and_then}
+use Rattle.std.specs.Prelude.{◌≡◌, ℕ, ◌+◌, ◌==◌, Bool, List, map, Option, None, Some, option_map, option_and_then}
 use Rattle.std.specs.List.{All, AllByRecursion, Contains, find, flat_map, list_any, slice_get}
 use Rattle.best_lists.specs.declared.entry.Entry.{Entry}
 use Rattle.explorer_model.specs.Counting.{any_next}
@@ -9,11 +9,13 @@ use Rattle.explorer_model.specs.declared.chess.Move.{Move}
 use Rattle.explorer_model.specs.declared.query.Filter.{Filter}
 use Rattle.lookup.specs.declared.listing.Listing.{Listing}
 use Rattle.lookup.specs.declared.listing.Listing.TheVariants.{Top, Recent}
+use Rattle.lookup.specs.declared.moves.Shown.{Shown}
+use Rattle.lookup.specs.declared.moves.Shown.TheVariants.{One}
 use Rattle.lookup.specs.Hits.{NumberedRow, rows_from}
 use Rattle.lookup.specs.Sums.{entries_where}
 use Rattle.lookup.specs.Parts.{tracks_in}
 use Rattle.tally_rows.specs.declared.row.Row.{Row}
-use Rattle.tally_rows.specs.Cover.{meets, listing, only_entry}
+use Rattle.tally_rows.specs.Cover.{meets, listing}
 use Rattle.tally_rows.specs.Recount.{all_of}
 use Rattle.lookup.specs.Parts.{Part, IsPart}
 
@@ -35,12 +37,21 @@ module _ (list : Row → List Entry) where
 abbrev pub all_classes : List Part → List Classes
 all_classes parts = flat_map (λ part. part.classes) parts
 
+-- the game of a number, where this move follows in it
+abbrev pub listed_as : List Part → Move → ℕ → Option Listed
+listed_as parts next number =
+    option_map (λ classes. record { next = next; classes = classes })
+    (slice_get (all_classes parts) number)
+
 -- the game of a number, with its move
 abbrev pub listed_where : (Row → List Entry) → List Part → List NumberedRow → ℕ → Option Listed
 listed_where list parts hits number =
-    option_and_then (λ next. option_map (λ classes. record { next = next; classes = classes })
-    (slice_get (all_classes parts) number))
-    (next_where list hits number)
+    option_and_then (λ next. listed_as parts next number) (next_where list hits number)
+
+-- the game of a move, where what is shown of the move is one game
+abbrev pub shown_game : List Part → Move → Shown → Option Listed
+shown_game parts next (One entry) = listed_as parts next entry.number
+shown_game parts next _ = None
 
 -- the rows are those of a position, and the entries are theirs
 pub record AreEntriesOf (list : Row → List Entry) (key : List ℕ) (wanted : Filter)
@@ -56,11 +67,3 @@ IsListingOf list parts hits entries listed =
     (key : List ℕ) (wanted : Filter) (test : Row → Bool) (each : AllByRecursion IsPart parts)
     → AreEntriesOf list key wanted parts hits test entries
     → map Some listed ≡ map (listing key (all_of (tracks_in parts each))) entries
-
--- the game of the one entry is listed, or nothing
-abbrev pub IsOnlyListingOf : (Row → List Entry) → List Part → List NumberedRow → List Entry
-    → Option Listed → Type 0
-IsOnlyListingOf list parts hits entries game =
-    (key : List ℕ) (wanted : Filter) (test : Row → Bool) (each : AllByRecursion IsPart parts)
-    → AreEntriesOf list key wanted parts hits test entries
-    → game ≡ option_and_then (listing key (all_of (tracks_in parts each))) (only_entry entries)

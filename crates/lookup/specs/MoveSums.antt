@@ -8,17 +8,17 @@ use Rattle.explorer_model.specs.Counting.{total, before_in_time}
 use Rattle.explorer_model.specs.Uci.{uci_text}
 use Rattle.lookup.specs.declared.moves.MoveSum.{MoveSum}
 use Rattle.lookup.specs.Hits.{NumberedRow}
-use Rattle.lookup.specs.Sums.{plays, totals_where, ratings_where}
+use Rattle.lookup.specs.GroupSums.{shown_by}
+use Rattle.lookup.specs.Sums.{plays, totals_where, ratings_where, entries_where}
 
 -- a move, with the sums of the rows in whose games it is played
 abbrev pub sum_as : List NumberedRow → Move → MoveSum
-sum_as hits next =
-    record {
-      next = next;
-      totals = totals_where hits (plays next);
-      ratings = ratings_where hits
-          (plays next);
-    }
+sum_as hits next = record {
+  next = next;
+  totals = totals_where hits (plays next);
+  ratings = ratings_where hits (plays next);
+  shown = shown_by (entries_where hits (plays next) (λ row. row.top));
+}
 
 -- the greater total first, then the lesser text of UCI
 abbrev pub before_as_sum : MoveSum → MoveSum → Bool

@@ -1,6 +1,6 @@
 -- Statement. Parts of a journal: batches that stand one after another, with what their tags say and
 -- the rows that count their games. Tallies are parts of one batch, segments of some.
-use Rattle.std.specs.Prelude.{◌≡◌, ℕ, ◌+◌, List, [], ◌∷◌, map, length}
+use Rattle.std.specs.Prelude.{ℕ, ◌+◌, List, [], ◌∷◌, map, length}
 use Rattle.std.specs.List.{AllByRecursion, flat_map}
 use Rattle.std.specs.Arc.{arc_value}
 use Rattle.explorer_model.specs.declared.archive.Batch.{Batch}

@@ -4,28 +4,21 @@ ghost use Rattle.std.specs.List.{All};
 ghost use Rattle.best_lists.specs.Entry.{moved_by};
 ghost use Rattle.explorer_model.specs.Best.{best};
 ghost use Rattle.lookup.specs.Hits.{hit_as, AreSound};
-ghost use Rattle.lookup.specs.RowTests.{row_test};
-ghost use Rattle.lookup.specs.Sums.{any_row, plays, top_where, recent_where};
+ghost use Rattle.lookup.specs.Sums.{any_row, top_where, recent_where};
 
 use crate::hits::Hit;
-use crate::row_tests::RowTest;
 use best_lists::{Best4, ByMonth, ByRating, Ranking};
-use explorer_model::chess::Move;
-
-/// The best games of the rows with the move, by the sum of both ratings.
-pub fn top_of_move(hits: &[Hit], next: Move) -> Best4<ByRating>
-    requires { AreSound (map hit_as hits.now) }
-    ensures { result ≡ top_where (map hit_as hits.now) (plays next) }
-{
-    top_where(hits, RowTest::Plays(next))
-}
 
 /// The best games of all the rows, by the sum of both ratings.
 pub fn top_of(hits: &[Hit]) -> Best4<ByRating>
     requires { AreSound (map hit_as hits.now) }
     ensures { result ≡ top_where (map hit_as hits.now) any_row }
 {
-    top_where(hits, RowTest::Any)
+    let mut top = Best4::empty();
+    for hit in hits {
+        top = join_moved(&top, &hit.row.top, hit.first);
+    }
+    top
 }
 
 /// The latest games of all the rows.
@@ -38,20 +31,6 @@ pub fn recent_of(hits: &[Hit]) -> Best4<ByMonth>
         recent = join_moved(&recent, &hit.row.recent, hit.first);
     }
     recent
-}
-
-/// The best games of the rows that meet the test, by the sum of both ratings.
-fn top_where(hits: &[Hit], test: RowTest) -> Best4<ByRating>
-    requires { AreSound (map hit_as hits.now) }
-    ensures { result ≡ top_where (map hit_as hits.now) (row_test test) }
-{
-    let mut top = Best4::empty();
-    for hit in hits {
-        if test.holds_for(hit.row) {
-            top = join_moved(&top, &hit.row.top, hit.first);
-        }
-    }
-    top
 }
 
 /// The best of a list and of a batch's list whose first game has the number `first`.

@@ -42,7 +42,7 @@ fn is_in_groups(filter: &Filter, group: Group) -> bool
 }
 
 /// Months in their order in time.
-fn month_number(month: Month) -> u32
+pub fn month_number(month: Month) -> u32
     ensures { result ≡ month_number month }
 {
     12 * u32::from(month.year) + u32::from(month.month)

@@ -1,27 +1,20 @@
 //! The months of rows, with the totals of each.
-ghost use Rattle.std.specs.Prelude.{◌≡◌, map, IfOk};
-ghost use Rattle.std.specs.List.{list_any};
-ghost use Rattle.explorer_model.specs.Counting.{is_same_month};
+ghost use Rattle.std.specs.Prelude.{◌≡◌, ◌≤◌, map, IfOk, OnOk, length};
+ghost use Rattle.std.specs.List.{All};
+ghost use Rattle.explorer_model.specs.Counting.{month_number};
+ghost use Rattle.lookup.specs.Groups.{changed_at};
+ghost use Rattle.lookup.specs.GroupSums.{HasRoom, line_with, no_line, no_totals};
 ghost use Rattle.lookup.specs.Hits.{hit_as, AreSound};
 ghost use Rattle.lookup.specs.Sums.{months_in, month_line, history_in};
 
+use crate::filter::month_number;
+use crate::groups::place_of;
 use crate::hits::Hit;
-use crate::row_tests::{RowTest, is_same_month, month_number};
-use crate::selection::{Ranked, keep_best};
-use crate::sums::sums_where;
-use explorer_model::answer::MonthLine;
-use explorer_model::archive::Month;
+use crate::totals::with_row;
+use explorer_model::answer::{MonthLine, Totals};
 use std::alloc::{AllocError, Global};
-
-impl Ranked for MonthLine {
-    ghost use Rattle.lookup.specs.MoveSums.{before_as_line};
-
-    ghost before = { before_as_line };
-
-    fn is_before(&self, other: &MonthLine) -> bool {
-        month_number(self.month) < month_number(other.month)
-    }
-}
+use std::collections::HashMap;
+use tally_rows::Row;
 
 /// A line for each month of the rows, ascending.
 pub fn history_of(alloc: Global, hits: &[Hit]) -> Result<Vec<MonthLine>, AllocError>
@@ -29,8 +22,11 @@ pub fn history_of(alloc: Global, hits: &[Hit]) -> Result<Vec<MonthLine>, AllocEr
     ensures { IfOk result (λ lines. lines.items ≡ history_in (map hit_as hits.now)) }
 {
     let mut lines = lines_of_months(alloc, hits)?;
-    let all = lines.len();
-    keep_best(&mut lines, all);
+    lines.sort_unstable_by_key(
+        |line|
+            ensures { result ≡ month_number line.now.month }
+        { month_number(line.month) },
+    );
     Ok(lines)
 }
 
@@ -40,34 +36,35 @@ fn lines_of_months(alloc: Global, hits: &[Hit]) -> Result<Vec<MonthLine>, AllocE
     ensures { IfOk result (λ lines. lines.items
         ≡ map (month_line (map hit_as hits.now)) (months_in (map hit_as hits.now))) }
 {
-    let months = months_in(alloc, hits)?;
-    let mut lines = Vec::with_capacity(alloc, months.len())?;
-    for month in &months {
-        let totals = sums_where(hits, RowTest::OfMonth(*month)).totals;
-        lines.push(MonthLine {
-            month: *month,
-            totals,
-        })?;
+    let mut places = HashMap::new(alloc);
+    let mut lines = Vec::new(alloc);
+    for hit in hits {
+        let place = place_of(&mut places, month_number(hit.row.month), lines.len())?;
+        add_row(&mut lines, place, hit.row)?;
     }
     Ok(lines)
 }
 
-/// The months of the rows, each once, as they first come.
-fn months_in(alloc: Global, hits: &[Hit]) -> Result<Vec<Month>, AllocError>
-    ensures { IfOk result (λ months. months.items ≡ months_in (map hit_as hits.now)) }
+/// Adds the row to the line at the place, or behind the last one to a line of its own.
+fn add_row(lines: &mut Vec<MonthLine>, place: usize, row: &Row) -> Result<(), AllocError>
+    requires room { All (λ line. HasRoom line.totals row.now) lines.old.items }
+    requires alone { HasRoom no_totals row.now }
+    requires place { place ≤ length lines.old.items }
+    ensures { OnOk result (lines.new.items ≡ changed_at (line_with row.now)
+        (line_with row.now (no_line row.now.month)) place lines.old.items) }
 {
-    let mut months = Vec::new(alloc);
-    for hit in hits {
-        if !has_month(&months, hit.row.month) {
-            months.push(hit.row.month)?;
-        }
+    if place < lines.len() {
+        let line = &lines[place];
+        let totals = with_row(&line.totals, row);
+        lines[place] = MonthLine {
+            month: line.month,
+            totals,
+        };
+    } else {
+        lines.push(MonthLine {
+            month: row.month,
+            totals: with_row(&Totals::default(), row),
+        })?;
     }
-    Ok(months)
-}
-
-/// Whether the month is among the months.
-fn has_month(months: &[Month], month: Month) -> bool
-    ensures { result ≡ list_any (λ known. is_same_month known month) months.now }
-{
-    months.iter().any(|known| is_same_month(*known, month))
+    Ok(())
 }

@@ -4,6 +4,7 @@
 mod answer;
 mod best_games;
 mod filter;
+mod groups;
 mod history;
 mod hits;
 pub mod laws;
@@ -12,12 +13,9 @@ mod listing;
 mod moves;
 mod notation;
 mod parts;
-mod row_tests;
 mod rows_at;
 mod segment_rows;
-mod selection;
 pub mod snapshot;
-mod sums;
 #[cfg(test)]
 mod tests;
 mod totals;

@@ -1,22 +1,18 @@
 //! The lines of moves in an answer.
-ghost use Rattle.std.specs.Prelude.{◌≡◌, ◌≢◌, ◌↔◌, ◌/◌, ◌*◌, ◌<◌, ◌≤◌, ℕ, List, map, IfOk, option_and_then};
+ghost use Rattle.std.specs.Prelude.{◌≡◌, ◌≢◌, ◌↔◌, ◌/◌, ◌*◌, ◌<◌, ◌≤◌, map, IfOk};
 ghost use Rattle.std.specs.List.{AllByRecursion, AllPairs, AllZip, Contains};
 ghost use Rattle.explorer_model.specs.declared.chess.Move.{Move};
-ghost use Rattle.explorer_model.specs.declared.query.Filter.{Filter};
 ghost use Rattle.explorer_model.specs.Chess.{Legal};
-ghost use Rattle.explorer_model.specs.Counting.{any_next, total};
-ghost use Rattle.lookup.specs.Hits.{hit_as, rows_from, look_limit, AreSound};
+ghost use Rattle.explorer_model.specs.Counting.{total};
+ghost use Rattle.lookup.specs.Hits.{hit_as, look_limit, AreSound};
 ghost use Rattle.lookup.specs.Lines.{IsAveraged, IsLineMade};
+ghost use Rattle.lookup.specs.Listing.{shown_game};
 ghost use Rattle.lookup.specs.MoveSums.{sum_as};
-ghost use Rattle.lookup.specs.Sums.{top_where, plays};
-ghost use Rattle.lookup.specs.Parts.{IsPart, parts_in, tracks_in};
-ghost use Rattle.tally_rows.specs.Cover.{meets, listing, only_entry};
-ghost use Rattle.tally_rows.specs.Recount.{all_of};
+ghost use Rattle.lookup.specs.Parts.{parts_in};
 
-use crate::best_games::top_of_move;
 use crate::hits::Hit;
-use crate::listing::only_listed;
-use crate::moves::MoveSum;
+use crate::listing::listed;
+use crate::moves::{MoveSum, Shown};
 use crate::notation::san_of;
 use crate::parts::Parts;
 use explorer_model::answer::{Listed, MoveLine};
@@ -73,7 +69,7 @@ fn line_of(
         san: san_of(alloc, board, legal, sum.next)?,
         average: average_of(sum),
         totals: sum.totals,
-        game: only_game(alloc, parts, hits, sum.next)?,
+        game: only_game(parts, sum)?,
     })
 }
 
@@ -88,19 +84,12 @@ fn average_of(sum: &MoveSum) -> u32
 }
 
 /// The game of a move that just one game plays.
-fn only_game(
-    alloc: Global,
-    parts: &Parts,
-    hits: &[Hit],
-    next: Step,
-) -> Result<Option<Listed>, AllocError>
-    requires { AreSound (map hit_as hits.now) }
+fn only_game(parts: &Parts, sum: &MoveSum) -> Result<Option<Listed>, AllocError>
     ensures { IfOk result
-        (λ game. (key : List ℕ) (wanted : Filter)
-        (each : AllByRecursion IsPart (parts_in parts.now))
-        → map hit_as hits.now ≡ rows_from key (meets wanted any_next) 0 (parts_in parts.now)
-        → game ≡ option_and_then (listing key (all_of (tracks_in (parts_in parts.now) each)))
-        (only_entry (top_where (map hit_as hits.now) (plays next)))) }
+        (λ game. game ≡ shown_game (parts_in parts.now) sum.now.next sum.now.shown) }
 {
-    only_listed(alloc, parts, hits, top_of_move(hits, next).entries())
+    match sum.shown {
+        Shown::One(entry) => listed(parts, sum.next, entry.number),
+        Shown::Nothing | Shown::Several => Ok(None),
+    }
 }

@@ -1,9 +1,9 @@
 //! The games that are shown, by their numbers.
-ghost use Rattle.std.specs.Prelude.{◌≡◌, ℕ, ◌+◌, ◌==◌, map, filter_map, IfOk, option_map};
-ghost use Rattle.std.specs.List.{list_any, slice_get};
+ghost use Rattle.std.specs.Prelude.{◌≡◌, ◌+◌, ◌==◌, map, filter_map, IfOk};
+ghost use Rattle.std.specs.List.{list_any};
 ghost use Rattle.lookup.specs.Hits.{hit_as};
 ghost use Rattle.lookup.specs.Parts.{parts_in};
-ghost use Rattle.lookup.specs.Listing.{list_of, next_where, all_classes, listed_where, IsListingOf, IsOnlyListingOf};
+ghost use Rattle.lookup.specs.Listing.{list_of, next_where, listed_as, listed_where, IsListingOf};
 
 use crate::hits::Hit;
 use crate::parts::Parts;
@@ -61,24 +61,6 @@ pub fn listed_by_month(
     listed_in(alloc, parts, hits, Listing::Recent, entries)
 }
 
-/// The game of the one entry of the `top` lists of the rows, or None where `entries` has none or more. Fails only where memory
-/// runs out.
-pub fn only_listed(
-    alloc: Global,
-    parts: &Parts,
-    hits: &[Hit],
-    entries: &[Entry],
-) -> Result<Option<Listed>, AllocError>
-    ensures { IfOk result
-        (λ game. IsOnlyListingOf (λ row. row.top) (parts_in parts.now)
-        (map hit_as hits.now) entries.now game) }
-{
-    let [entry] = entries else {
-        return Ok(None);
-    };
-    game_of(alloc, parts, hits, Listing::Top, entry.number)
-}
-
 /// The games that are found by the numbers of the entries, in order.
 fn listed_in(
     alloc: Global,
@@ -93,7 +75,7 @@ fn listed_in(
 {
     let mut listed = Vec::with_capacity(alloc, entries.len())?;
     for entry in entries {
-        if let Some(game) = game_of(alloc, parts, hits, list, entry.number)? {
+        if let Some(game) = game_of(parts, hits, list, entry.number)? {
             listed.push(game)?;
         }
     }
@@ -102,7 +84,6 @@ fn listed_in(
 
 /// The game of a number.
 fn game_of(
-    alloc: Global,
     parts: &Parts,
     hits: &[Hit],
     list: Listing,
@@ -114,19 +95,12 @@ fn game_of(
     let Some(next) = next_in(hits, list, number) else {
         return Ok(None);
     };
-    listed(alloc, parts, next, number)
+    listed(parts, next, number)
 }
 
 /// The game of a number with its next move.
-fn listed(
-    alloc: Global,
-    parts: &Parts,
-    next: Move,
-    number: u32,
-) -> Result<Option<Listed>, AllocError>
-    ensures { IfOk result (λ listed. listed
-        ≡ option_map (λ classes. record { next = next; classes = classes })
-        (slice_get (all_classes (parts_in parts.now)) number)) }
+pub fn listed(parts: &Parts, next: Move, number: u32) -> Result<Option<Listed>, AllocError>
+    ensures { IfOk result (λ listed. listed ≡ listed_as (parts_in parts.now) next number) }
 {
     let Some(classes) = parts.classes_of(number as usize) else {
         return Ok(None);

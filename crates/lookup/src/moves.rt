@@ -1,23 +1,34 @@
 //! The moves of rows, with what their games add up to.
-ghost use Rattle.std.specs.Prelude.{◌≡◌, map, IfOk};
-ghost use Rattle.std.specs.List.{list_any};
-ghost use Rattle.std.specs.Ordering.{nat_cmp, is_lt};
-ghost use Rattle.std.specs.Cmp.Lexicographic.{slice_cmp};
+ghost use Rattle.std.specs.Prelude.{◌≡◌, ◌+◌, ◌≤◌, ◌<◌, ◌^◌, map, length, IfOk, OnOk};
+ghost use Rattle.std.specs.List.{All};
+ghost use Rattle.std.specs.Ordering.{is_lt};
 ghost use Rattle.explorer_model.specs.Best.{best};
-ghost use Rattle.explorer_model.specs.Counting.{is_same_move, total};
-ghost use Rattle.explorer_model.specs.Uci.{uci_text};
-ghost use Rattle.lookup.specs.Hits.{hit_as, AreSound};
-ghost use Rattle.lookup.specs.MoveSums.{sum_as};
+ghost use Rattle.explorer_model.specs.Counting.{total};
+ghost use Rattle.best_lists.specs.Entry.{moved_by};
+ghost use Rattle.lookup.specs.Groups.{changed_at};
+ghost use Rattle.lookup.specs.GroupSums.{HasRoomFor, sum_with, no_sum, move_number, shown_with};
+ghost use Rattle.lookup.specs.Hits.{hit_as, AreSound, IsSound};
+ghost use Rattle.lookup.specs.MoveSums.{sum_as, before_as_sum};
 ghost use Rattle.lookup.specs.Sums.{moves_in, before_by_total};
 
+use crate::groups::place_of;
 use crate::hits::Hit;
-use crate::row_tests::{RowTest, is_same_move};
-use crate::selection::{Ranked, keep_best};
-use crate::sums::sums_where;
+use crate::totals::with_row;
+use best_lists::Entry;
 use explorer_model::answer::Totals;
 use explorer_model::chess::Move;
 use fen_uci::write_uci;
 use std::alloc::{AllocError, Global};
+use std::cmp::Ordering;
+use std::collections::HashMap;
+
+/// What the `top` lists of a move's rows show: no game, one, or more.
+#[derive(Clone, Copy, Debug)]
+pub enum Shown {
+    Nothing,
+    One(Entry),
+    Several,
+}
 
 /// A move with the totals of the games that play it, and the sum of the ratings of those who play it.
 #[derive(Clone, Copy, Debug)]
@@ -25,80 +36,7 @@ pub struct MoveSum {
     pub next: Move,
     pub totals: Totals,
     pub ratings: u64,
-}
-
-impl Ranked for MoveSum {
-    ghost use Rattle.lookup.specs.MoveSums.{before_as_sum};
-
-    ghost before = { before_as_sum };
-
-    fn is_before(&self, other: &MoveSum) -> bool {
-        let (own, others) = (total(&self.totals), total(&other.totals));
-        own > others || own == others && is_text_before(self.next, other.next)
-    }
-}
-
-/// Whether the text of UCI of the first is the lesser.
-fn is_text_before(a: Move, b: Move) -> bool
-    ensures { result ≡ is_lt (slice_cmp nat_cmp (uci_text a) (uci_text b)) }
-{
-    write_uci(a).as_slice().cmp(write_uci(b).as_slice()).is_lt()
-}
-
-/// All games of the totals, in a type that holds any sum of three `u64`.
-fn total(totals: &Totals) -> u128
-    ensures { result ≡ total totals.now }
-{
-    u128::from(totals.white) + u128::from(totals.draws) + u128::from(totals.black)
-}
-
-/// The moves of the rows, each once, as they first come.
-fn moves_in(alloc: Global, hits: &[Hit]) -> Result<Vec<Move>, AllocError>
-    ensures { IfOk result (λ moves. moves.items ≡ moves_in (map hit_as hits.now)) }
-{
-    let mut moves = Vec::new(alloc);
-    for hit in hits {
-        if let Some(next) = hit.row.next {
-            if !has_move(&moves, next) {
-                moves.push(next)?;
-            }
-        }
-    }
-    Ok(moves)
-}
-
-/// Whether the move is among the moves.
-fn has_move(moves: &[Move], next: Move) -> bool
-    ensures { result ≡ list_any (λ known. is_same_move known next) moves.now }
-{
-    moves.iter().any(|known| is_same_move(*known, next))
-}
-
-/// What the rows with the move add up to.
-pub fn sum_of(hits: &[Hit], next: Move) -> MoveSum
-    requires { AreSound (map hit_as hits.now) }
-    ensures { result ≡ sum_as (map hit_as hits.now) next }
-{
-    let sums = sums_where(hits, RowTest::Plays(next));
-    MoveSum {
-        next,
-        totals: sums.totals,
-        ratings: sums.ratings,
-    }
-}
-
-/// The sums of each move of the rows.
-fn sums_of_moves(alloc: Global, hits: &[Hit]) -> Result<Vec<MoveSum>, AllocError>
-    requires { AreSound (map hit_as hits.now) }
-    ensures { IfOk result (λ sums. sums.items
-        ≡ map (sum_as (map hit_as hits.now)) (moves_in (map hit_as hits.now))) }
-{
-    let moves = moves_in(alloc, hits)?;
-    let mut sums = Vec::with_capacity(alloc, moves.len())?;
-    for next in &moves {
-        sums.push(sum_of(hits, *next))?;
-    }
-    Ok(sums)
+    pub shown: Shown,
 }
 
 /// The sums of the moves that are listed first, at most `most`: by the greater total, then by the lesser text of UCI.
@@ -108,6 +46,118 @@ pub fn first_moves(alloc: Global, hits: &[Hit], most: u32) -> Result<Vec<MoveSum
         (best (before_by_total (map hit_as hits.now)) most (moves_in (map hit_as hits.now)))) }
 {
     let mut sums = sums_of_moves(alloc, hits)?;
-    keep_best(&mut sums, most as usize);
+    sums.sort_unstable_by(
+        |a, b|
+            ensures { is_lt result ≡ before_as_sum a.now b.now }
+        { order_of(a, b) },
+    );
+    sums.truncate(most as usize);
     Ok(sums)
+}
+
+/// The sums of each move of the rows, as they first come.
+fn sums_of_moves(alloc: Global, hits: &[Hit]) -> Result<Vec<MoveSum>, AllocError>
+    requires { AreSound (map hit_as hits.now) }
+    ensures { IfOk result (λ sums. sums.items
+        ≡ map (sum_as (map hit_as hits.now)) (moves_in (map hit_as hits.now))) }
+{
+    let mut places = HashMap::new(alloc);
+    let mut sums = Vec::new(alloc);
+    for hit in hits {
+        if let Some(next) = hit.row.next {
+            let place = place_of(&mut places, move_number(next), sums.len())?;
+            add_hit(&mut sums, place, next, hit)?;
+        }
+    }
+    Ok(sums)
+}
+
+/// Adds the row to the sum at the place, or behind the last one to a sum of its own.
+fn add_hit(sums: &mut Vec<MoveSum>, place: usize, next: Move, hit: &Hit) -> Result<(), AllocError>
+    requires room { All (λ sum. HasRoomFor sum (hit_as hit.now)) sums.old.items }
+    requires alone { HasRoomFor (no_sum next) (hit_as hit.now) }
+    requires sound { IsSound (hit_as hit.now) }
+    requires place { place ≤ length sums.old.items }
+    ensures { OnOk result (sums.new.items ≡ changed_at (sum_with (hit_as hit.now))
+        (sum_with (hit_as hit.now) (no_sum next)) place sums.old.items) }
+{
+    if place < sums.len() {
+        let sum = sums[place];
+        sums[place] = with_hit(&sum, hit);
+    } else {
+        sums.push(with_hit(&MoveSum::of_no_game(next), hit))?;
+    }
+    Ok(())
+}
+
+impl MoveSum {
+    fn of_no_game(next: Move) -> MoveSum
+        ensures { result ≡ no_sum next }
+    {
+        MoveSum {
+            next,
+            totals: Totals::default(),
+            ratings: 0,
+            shown: Shown::Nothing,
+        }
+    }
+}
+
+/// The sum with the games of the row.
+fn with_hit(sum: &MoveSum, hit: &Hit) -> MoveSum
+    requires room { HasRoomFor sum.now (hit_as hit.now) }
+    requires sound { IsSound (hit_as hit.now) }
+    ensures { result ≡ sum_with (hit_as hit.now) sum.now }
+{
+    MoveSum {
+        next: sum.next,
+        totals: with_row(&sum.totals, hit.row),
+        ratings: sum.ratings + hit.row.ratings,
+        shown: with_entries(sum.shown, hit.row.top.entries(), hit.first),
+    }
+}
+
+/// What is shown with the entries of a batch whose first game has the number `first`.
+fn with_entries(shown: Shown, entries: &[Entry], first: u32) -> Shown
+    requires { All (λ entry. entry.number + first < 2 ^ 32) entries.now }
+    ensures { result ≡ shown_with shown (map (moved_by first) entries.now) }
+{
+    match (shown, entries) {
+        (_, []) => shown,
+        (Shown::Nothing, [entry]) => Shown::One(Entry {
+            rank: entry.rank,
+            number: entry.number + first,
+        }),
+        _ => Shown::Several,
+    }
+}
+
+/// How two moves are listed.
+fn order_of(a: &MoveSum, b: &MoveSum) -> Ordering
+    ensures { is_lt result ≡ before_as_sum a.now b.now }
+{
+    match total(&b.totals).cmp(&total(&a.totals)) {
+        Ordering::Equal => write_uci(a.next)
+            .as_slice()
+            .cmp(write_uci(b.next).as_slice()),
+        unequal => unequal,
+    }
+}
+
+/// All games of the totals, in a type that holds any sum of three `u64`.
+fn total(totals: &Totals) -> u128
+    ensures { result ≡ total totals.now }
+{
+    u128::from(totals.white) + u128::from(totals.draws) + u128::from(totals.black)
+}
+
+/// A number that tells the move apart from all others.
+fn move_number(next: Move) -> u32
+    ensures { result ≡ move_number next }
+{
+    let promotion = match next.promotion {
+        Some(role) => u32::from(role.index()) + 1,
+        None => 0,
+    };
+    4096 * promotion + 64 * u32::from(next.from.index) + u32::from(next.to.index)
 }

@@ -3,6 +3,7 @@ ghost use Rattle.std.specs.Prelude.{◌≡◌, ◌<◌, ℕ, nat_lt, if◌then�
 ghost use Rattle.explorer_model.specs.declared.query.Filter.{Filter};
 ghost use Rattle.explorer_model.specs.Counting.{group_place};
 ghost use Rattle.explorer_model.specs.Order.{speed_index};
+ghost use Rattle.lookup.specs.GroupSums.{HasRoom, totals_with};
 ghost use Rattle.lookup.specs.Hits.{AreSound, hit_as, in_cells};
 ghost use Rattle.lookup.specs.Sums.{totals_where, ratings_where};
 ghost use Rattle.tally_rows.specs.Grid.{Fit, added, cell_at, cell_of, chosen, total};
@@ -23,6 +24,18 @@ pub fn totals_of(hits: &[Hit], wanted: &Filter) -> Totals
 {
     let grid = grid_of(hits);
     grid.sum_of(&wanted.speeds, &wanted.groups).totals
+}
+
+/// The totals with the games of the row.
+pub fn with_row(totals: &Totals, row: &Row) -> Totals
+    requires { HasRoom totals.now row.now }
+    ensures { result ≡ totals_with row.now totals.now }
+{
+    Totals {
+        white: totals.white + u64::from(row.white),
+        draws: totals.draws + u64::from(row.draws),
+        black: totals.black + u64::from(row.black),
+    }
 }
 
 /// The sums of the rows by speed and group.

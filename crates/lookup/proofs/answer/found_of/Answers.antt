@@ -5,7 +5,7 @@ use Rattle.explorer_model.specs.declared.chess.Position.{Position}
 use Rattle.explorer_model.specs.Chess.{Legal}
 use Rattle.explorer_model.specs.Counting.{any_next}
 use Rattle.explorer_model.specs.Finds.{IsFound}
-use Rattle.lookup.specs.Hits.{NumberedRow, hit_as, in_cells, in_months, rows_from, AreSound}
+use Rattle.lookup.specs.Hits.{NumberedRow, hit_as, in_cells, rows_from, AreSound}
 use Rattle.lookup.specs.Lines.{IsPutTogether}
 use Rattle.lookup.specs.Parts.{Part, journal_of, parts_in}
 use Rattle.lookup.specs.Sums.{moves_in, totals_where}

@@ -1,12 +1,9 @@
-use Rattle.std.proofs.Common.{◌≡◌, ◌≤◌, ◌<◌, ◌^◌, ◌+◌, ℕ, List, map, subst, sym, ap, ◌∙◌}
+use Rattle.std.proofs.Common.{◌≤◌, ◌+◌, ℕ, List, map, subst, ◌∙◌}
 use Rattle.std.specs.Arc.{arc_value}
-use Rattle.std.specs.List.{All, sum_by}
+use Rattle.std.specs.List.{sum_by}
 use Rattle.explorer_model.specs.declared.archive.Batch.{Batch}
-use Rattle.explorer_model.specs.declared.chess.Position.{Position}
 use Rattle.explorer_model.specs.Finds.{IsFound}
 use Rattle.explorer_model.specs.Spans.{Covers}
-use Rattle.explorer_model.specs.Tidy.{IsTidyKey}
-use Rattle.legal_moves.specs.Tidy.{IsTidied}
 use Rattle.lookup.specs.Parts.{journal_of, segment_part}
 use Rattle.lookup.specs.SegmentRows.{row_steps}
 use Rattle.lookup.proofs.Journal.{segments-journal}

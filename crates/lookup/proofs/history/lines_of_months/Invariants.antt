@@ -1,7 +1,14 @@
 use Rattle.std.proofs.Common.{◌≡◌, map, take}
+use Rattle.explorer_model.specs.Counting.{month_number}
+use Rattle.lookup.specs.Groups.{TellsPlaces}
 use Rattle.lookup.specs.Hits.{hit_as}
-use Rattle.lookup.specs.Sums.{month_line}
+use Rattle.lookup.specs.Sums.{month_line, months_in}
 use Rattle.lookup.proofs.history.lines_of_months.Given as goal
 
-abbrev pub invariant-loop-month : goal.invariant-loop-month
-invariant-loop-month l = l.lines.items ≡ map (month_line (map hit_as l.hits)) (take l.month-index l.month-items)
+abbrev pub invariant-loop-hit : goal.invariant-loop-hit
+invariant-loop-hit l =
+    let hits = take l.hit-index (map hit_as l.hits) in
+    record {
+      lines : l.lines.items ≡ map (month_line hits) (months_in hits);
+      places : TellsPlaces l.places (map month_number (months_in hits));
+    }

@@ -1,5 +1,4 @@
 use Rattle.std.proofs.Common.{List, subst, ap, ◌∙◌, length}
-use Rattle.std.specs.List.{AllZip}
 use Rattle.explorer_model.specs.declared.archive.Batch.{Batch}
 use Rattle.explorer_model.specs.Visits.{AreGamesOf}
 use Rattle.tally_rows.specs.Cover.{turn_of}

@@ -1,5 +1,10 @@
-use Rattle.std.proofs.Common.{refl, ap, ◌∙◌, ◌/◌}
-use Rattle.explorer_model.specs.Counting.{total}
+use Rattle.std.proofs.Common.{map, refl, ap, ◌∙◌, ◌/◌}
+use Rattle.explorer_model.specs.Counting.{any_next, total}
+use Rattle.tally_rows.specs.Cover.{meets}
+use Rattle.lookup.specs.Hits.{hit_as}
+use Rattle.lookup.specs.Listing.{shown_game}
+use Rattle.lookup.specs.Parts.{parts_in}
+use Rattle.lookup.proofs.OnlyGames.{only-game}
 use Rattle.lookup.proofs.lines.line_of.Goals as goal
 
 pub returns : goal.returns
@@ -8,5 +13,7 @@ returns c = λ key wanted each rows. record {
   san = c.in_ok-san_of.ensures;
   average = c.average_of.ensures ∙ ap (λ sum. sum.ratings / total sum.totals) c.requires.sum;
   totals = ap (λ sum. sum.totals) c.requires.sum;
-  game = c.in_ok-only_game.ensures key wanted each rows;
+  game = c.in_ok-only_game.ensures
+      ∙ ap (λ sum. shown_game (parts_in c.args.parts.now) c.args.sum.now.next sum.shown) c.requires.sum
+      ∙ only-game key (meets wanted any_next) (parts_in c.args.parts.now) each c.args.sum.now.next (map hit_as c.args.hits.now) rows;
 }

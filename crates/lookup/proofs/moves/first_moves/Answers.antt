@@ -1,13 +1,13 @@
-use Rattle.std.proofs.Common.{map, refl, ap, ◌∙◌}
-use Rattle.best_lists.proofs.BestLaws.{best-map}
-use Rattle.explorer_model.specs.Best.{best}
+use Rattle.std.proofs.Common.{map, rules, ◌∙◌}
+use Rattle.std.proofs.lemmas.Fn.{always_returns_same}
 use Rattle.lookup.specs.Hits.{hit_as}
-use Rattle.lookup.specs.MoveSums.{sum_as, before_as_sum}
-use Rattle.lookup.specs.Sums.{moves_in, before_by_total}
+use Rattle.lookup.specs.MoveSums.{before_as_sum}
+use Rattle.lookup.proofs.SortedLines.{sums-sorted, sum-order}
 use Rattle.lookup.proofs.moves.first_moves.Goals as goal
 
 pub returns : goal.returns
 returns c =
-    let hits = map hit_as c.args.hits.now in
-    c.keep_best.ensures ∙ ap (best before_as_sum c.args.most) c.in_ok-sums.ensures
-    ∙ best-map (sum_as hits) (before_by_total hits) before_as_sum (λ a b. refl) c.args.most (moves_in hits)
+    c.truncate.ensures.items
+    ∙ sums-sorted (map hit_as c.args.hits.now) c.args.most c.in_ok-sums.sums.items c.sort_unstable_by.new.self.items c.in_ok-sums.ensures
+    c.sort_unstable_by.ensures.permutation
+    (c.sort_unstable_by.ensures.sorted before_as_sum sum-order (always_returns_same _ _ _ (λ a r q k. search rules)))

@@ -1,7 +1,7 @@
-use Rattle.std.proofs.Common.{◌≡◌, ◌<◌, ◌≤◌, ◌-◌, length, Some, None, sym, ap, ◌∙◌, arith, drop, get_or, map, ◌+◌, List}
+use Rattle.std.proofs.Common.{◌≡◌, ◌<◌, ◌≤◌, ◌-◌, length, sym, ap, ◌∙◌, arith, drop, map, ◌+◌, List}
 use Rattle.std.specs.Arc.{arc_value}
 use Rattle.std.specs.List.{slice_get}
-use Rattle.lookup.specs.Parts.{Part, segment_part}
+use Rattle.lookup.specs.Parts.{segment_part}
 use Rattle.lookup.specs.Listing.{all_classes}
 use Rattle.lookup.proofs.PartLoops.{mapped-at, mapped-within, mapped-past}
 use Rattle.lookup.proofs.Places.{classes-here, classes-later, classes-none}

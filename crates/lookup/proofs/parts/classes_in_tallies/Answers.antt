@@ -1,6 +1,5 @@
-use Rattle.std.proofs.Common.{◌≡◌, ◌<◌, ◌≤◌, ◌-◌, length, Some, None, sym, ap, ◌∙◌, arith, drop, get_or, map, ◌+◌, List}
+use Rattle.std.proofs.Common.{◌<◌, ◌≤◌, ◌-◌, length, Some, sym, ap, ◌∙◌, arith, drop, get_or, map, ◌+◌, List}
 use Rattle.std.specs.List.{slice_get}
-use Rattle.std.proofs.lemmas.List.{drop_all}
 use Rattle.std.proofs.lemmas.Option.{slice_get-get_or}
 use Rattle.lookup.specs.Parts.{Part, tallied_part}
 use Rattle.lookup.specs.Listing.{all_classes}
