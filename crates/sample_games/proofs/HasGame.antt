@@ -45,7 +45,7 @@ pub record IsDrawn (plies : ℕ) (p : Position) (moves : List Move) : Type 0 whe
 no-moves : (plies : ℕ) (p : Position) (moves : List Move) → moves ≡ [] → IsDrawn plies p moves
 no-moves plies p moves none = subst (IsDrawn plies p) (sym none) (record { legal = tt; few = omega arith })
 
-drawn-legal : (plies : ℕ) (p : Position) (before : Lcg) (moves : List Move) (behind : Lcg) → DrawsMoves plies p before moves behind → IsDrawn plies p moves
+pub drawn-legal : (plies : ℕ) (p : Position) (before : Lcg) (moves : List Move) (behind : Lcg) → DrawsMoves plies p before moves behind → IsDrawn plies p moves
 drawn-legal zero p before moves behind draws = no-moves zero p moves draws.0
 drawn-legal (suc plies) p before moves behind (inl ends) = no-moves (suc plies) p moves ends.1
 drawn-legal (suc plies) p before moves behind (inr (legal, m, rest, order, picks, draws, is)) =

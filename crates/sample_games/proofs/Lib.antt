@@ -1,5 +1,6 @@
 pub mod MovetextLemmas
 pub mod Ordered
+pub mod Cutting
 pub mod Determined
 pub mod Drawing
 pub mod Ids

@@ -1,2 +1,3 @@
 pub mod Movetexts
 pub mod Samples
+pub mod Streams

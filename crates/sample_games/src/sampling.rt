@@ -13,7 +13,7 @@ use std::alloc::{AllocError, Global};
 pub fn sample(alloc: Global, index: u32, draws: &mut Lcg64Xsh32) -> Result<Bytes, AllocError>
     requires { index < 131072 }
     ensures sample { IfOk result (λ text. IsSample index draws.old text draws.new) }
-    ensures short { IfOk result (λ text. length text ≤ 65536) }
+    ensures short { IfOk result (λ text. length text ≤ 2048) }
 {
     let plies = 20 + draw(draws, 41);
     let movetext = draw_movetext(alloc, plies, draws)?;
