@@ -14,12 +14,12 @@ use Rattle.explorer_model.specs.declared.fault.Stop.TheVariants as stops
 use Rattle.explorer_model.specs.Timeline.{IsPrefix}
 use Rattle.explorer_model.proofs.Timelines.{prefix-self}
 use Rattle.explorer.specs.declared.fault.Fault.{Fault}
-use Rattle.explorer.specs.declared.fault.Fault.TheVariants as faults
+use Rattle.explorer.specs.declared.serving.Unserved.TheVariants as whys
 use Rattle.explorer.specs.declared.workers.Worker.{Worker}
 use Rattle.explorer.specs.declared.workers.Worker.TheVariants.{File, Reader, Merger}
-use Rattle.explorer.specs.Serve.{IsMaybe, IsRefusal}
+use Rattle.explorer.specs.Serve.{IsMaybe}
 use Rattle.explorer.specs.Served.{DoorRun, FileRun, IsImported, IsServedFrom, Service, file_at, files_back, files_out}
-use Rattle.explorer.specs.Serving.{AreOut, CannotOpenSo, GivesUpFor, HasGivenUp, HasWorked, WorksOver, due}
+use Rattle.explorer.specs.Serving.{AreOut, HasGivenUp, HasWorked, WorksOver, due}
 use Rattle.explorer.specs.Workers.{AreNamed, CanReturn, FilesOut, FilesRefused, GivenBack, IsFileOf, calls_of, name_at}
 use Rattle.explorer.proofs.HostCalls.{if_some}
 use Rattle.explorer.proofs.ServedLemmas.{GivenRest, due-is, given-rest, name-at-front, returned-files, same-file}
@@ -139,6 +139,13 @@ files-handed thing (n ∷ ns) =
       sum_by-cons (λ name. handed thing (FileOut name)) n ns,
       files-handed thing ns,
     )
+
+-- at most one call, which was refused
+abbrev IsRefusal : List HostCall → Type 0
+IsRefusal calls =
+    (calls ≡ []) ⊎ (((name : List ℕ) × (calls ≡ FileRefused name ∷ []))
+    ⊎ ((address : List ℕ) × (readers : ℕ) × (connections : ℕ)
+    × (calls ≡ DoorsRefused address readers connections ∷ [])))
 
 -- a call that was refused hands nothing out, and gives nothing back
 record IsIdle (calls : List HostCall) : Type 0 where
@@ -289,46 +296,6 @@ maybe-doors : (a : List ℕ) (r c : ℕ) (refusal : List HostCall) → IsMaybe (
 maybe-doors a r c refusal (inl is) = inl is
 maybe-doors a r c refusal (inr is) = inr (inr (a, r, c, is))
 
--- why nothing was served, once a name was refused or memory was wanting
-why-file : (service : Service) (names : List (List ℕ)) (name : List ℕ) (refusal : List HostCall) (fault : Fault) (before after : HostState)
-    → CannotOpenSo name fault → Rises before.own_faults after.own_faults → IsPrefix (names ++ name ∷ []) service.files
-    → IsPrefix names service.files → IsMaybe (FileRefused name) refusal → GivesUpFor service names refusal fault before after
-why-file service names name refusal (faults.CannotOpen told) before after so rises next front maybe =
-    (rises, inl (rw so next, rw so maybe))
-why-file service names name refusal faults.OutOfMemory before after so rises next front maybe = (maybe-file name refusal maybe, front)
-why-file service names name refusal faults.Usage before after so rises next front maybe = absurd so
-why-file service names name refusal (faults.BadParameter p) before after so rises next front maybe = absurd so
-why-file service names name refusal faults.ReadFault before after so rises next front maybe = absurd so
-why-file service names name refusal faults.WriteFault before after so rises next front maybe = absurd so
-why-file service names name refusal faults.DiskFault before after so rises next front maybe = absurd so
-why-file service names name refusal (faults.NotEmpty n) before after so rises next front maybe = absurd so
-why-file service names name refusal faults.NotAStore before after so rises next front maybe = absurd so
-why-file service names name refusal (faults.OtherFormat n) before after so rises next front maybe = absurd so
-why-file service names name refusal (faults.Damaged n) before after so rises next front maybe = absurd so
-why-file service names name refusal (faults.Full n m) before after so rises next front maybe = absurd so
-why-file service names name refusal faults.CannotAccept before after so rises next front maybe = absurd so
-why-file service names name refusal faults.TooMuchInput before after so rises next front maybe = absurd so
-
-why-doors : (service : Service) (refusal : List HostCall) (fault : Fault) (before after : HostState)
-    → CannotOpenSo service.address fault → Rises before.own_faults after.own_faults
-    → IsMaybe (DoorsRefused service.address service.readers service.connections) refusal
-    → GivesUpFor service service.files refusal fault before after
-why-doors service refusal (faults.CannotOpen told) before after so rises maybe = (rises, inr (refl, so, maybe))
-why-doors service refusal faults.OutOfMemory before after so rises maybe =
-    (maybe-doors service.address service.readers service.connections refusal maybe, prefix-self service.files)
-why-doors service refusal faults.Usage before after so rises maybe = absurd so
-why-doors service refusal (faults.BadParameter p) before after so rises maybe = absurd so
-why-doors service refusal faults.ReadFault before after so rises maybe = absurd so
-why-doors service refusal faults.WriteFault before after so rises maybe = absurd so
-why-doors service refusal faults.DiskFault before after so rises maybe = absurd so
-why-doors service refusal (faults.NotEmpty n) before after so rises maybe = absurd so
-why-doors service refusal faults.NotAStore before after so rises maybe = absurd so
-why-doors service refusal (faults.OtherFormat n) before after so rises maybe = absurd so
-why-doors service refusal (faults.Damaged n) before after so rises maybe = absurd so
-why-doors service refusal (faults.Full n m) before after so rises maybe = absurd so
-why-doors service refusal faults.CannotAccept before after so rises maybe = absurd so
-why-doors service refusal faults.TooMuchInput before after so rises maybe = absurd so
-
 shorter : (names : List (List ℕ)) (name : List ℕ) (all : List (List ℕ)) → IsPrefix (names ++ name ∷ []) all → IsPrefix names all
 shorter names name all p = record { rest = name ∷ p.rest; is = p.is ∙ append_assoc names (name ∷ []) p.rest }
 
@@ -357,10 +324,11 @@ module _ {F G J : Type 0} (source : F → Stream) (door : G → Connections) (se
       front-can source door service.files r.front (shorter r.front r.name service.files r.next) workers before r.middle now r.handed
       n.refusal (maybe-file r.name n.refusal n.maybe) n.is
 
-  pub file-given-up : (after : HostState) (fault : Fault) (r : FilesRefused source service.files workers before now)
-      → GivenBack source door service.files 0 workers now after → CannotOpenSo r.name fault
-      → HasGivenUp service fault before after × GivesBack before after
-  file-given-up after fault r back so =
+  pub file-given-up : (after : HostState) (at : ℕ) (r : FilesRefused source service.files workers before now)
+      → GivenBack source door service.files 0 workers now after → at < length service.files → length workers ≡ at
+      → HasGivenUp service (whys.NoFile at) before after × GivesBack before after
+  file-given-up after at r back below is =
+      let named : name_at service.files at ≡ r.name = ap (λ (k : ℕ). name_at service.files k) (sym is) ∙ sym r.at in
       let n = noted-refusal (FileRefused r.name) r.middle.calls now.calls r.refused.calls in
       let up = gave-up source door service.files r.front (shorter r.front r.name service.files r.next) workers before r.middle now r.handed
       n.refusal (maybe-file r.name n.refusal n.maybe) n.is after back in
@@ -374,7 +342,8 @@ module _ {F G J : Type 0} (source : F → Stream) (door : G → Connections) (se
           calls = up.calls;
           disks = up.disks ∙ (ap (λ (h : HostState). h.disks) r.refused.rest ∙ ap (λ (h : HostState). h.disks) r.handed.rest);
           disk_faults = up.disk_faults ∙ (ap (λ (h : HostState). h.disk_faults) r.refused.rest ∙ ap (λ (h : HostState). h.disk_faults) r.handed.rest);
-          why = why-file service r.front r.name n.refusal fault before after so rises r.next (shorter r.front r.name service.files r.next) n.maybe;
+          placed = below;
+          cause = (rises, rw named r.next, rw named n.maybe);
         },
         up.gives_back,
       )
@@ -418,7 +387,7 @@ module _ {F G J : Type 0} (source : F → Stream) (door : G → Connections) (se
   -- memory was wanting for the doors
   pub starved : (middle after : HostState) → FilesOut source service.files workers before middle
       → now ≡ record middle { links = now.links } → GivenBack source door service.files 0 workers now after
-      → HasGivenUp service faults.OutOfMemory before after × GivesBack before after
+      → HasGivenUp service whys.NoMemory before after × GivesBack before after
   starved middle after out same back =
       let up = gave-up source door service.files service.files (prefix-self service.files) workers before middle now out
       [] (inl refl) (ap (λ (h : HostState). h.calls) same) after back in (
@@ -429,16 +398,17 @@ module _ {F G J : Type 0} (source : F → Stream) (door : G → Connections) (se
           calls = up.calls;
           disks = up.disks ∙ (ap (λ (h : HostState). h.disks) same ∙ ap (λ (h : HostState). h.disks) out.rest);
           disk_faults = up.disk_faults ∙ (ap (λ (h : HostState). h.disk_faults) same ∙ ap (λ (h : HostState). h.disk_faults) out.rest);
-          why = (inl refl, prefix-self service.files);
+          placed = tt;
+          cause = (refl, refl);
         },
         up.gives_back,
       )
 
-  pub doors-given-up : (middle after : HostState) (fault : Fault) → FilesOut source service.files workers before middle
+  pub doors-given-up : (middle after : HostState) → FilesOut source service.files workers before middle
       → RefusesDoors service.address service.readers service.connections middle now
-      → GivenBack source door service.files 0 workers now after → CannotOpenSo service.address fault
-      → HasGivenUp service fault before after × GivesBack before after
-  doors-given-up middle after fault out refuses back so =
+      → GivenBack source door service.files 0 workers now after
+      → HasGivenUp service whys.NoAddress before after × GivesBack before after
+  doors-given-up middle after out refuses back =
       let n = noted-refusal (DoorsRefused service.address service.readers service.connections) middle.calls now.calls refuses.calls in
       let up = gave-up source door service.files service.files (prefix-self service.files) workers before middle now out
       n.refusal (maybe-doors service.address service.readers service.connections n.refusal n.maybe) n.is after back in
@@ -452,7 +422,8 @@ module _ {F G J : Type 0} (source : F → Stream) (door : G → Connections) (se
           calls = up.calls;
           disks = up.disks ∙ (ap (λ (h : HostState). h.disks) refuses.rest ∙ ap (λ (h : HostState). h.disks) out.rest);
           disk_faults = up.disk_faults ∙ (ap (λ (h : HostState). h.disk_faults) refuses.rest ∙ ap (λ (h : HostState). h.disk_faults) out.rest);
-          why = why-doors service n.refusal fault before after so rises n.maybe;
+          placed = tt;
+          cause = (rises, refl, n.maybe);
         },
         up.gives_back,
       )
@@ -528,6 +499,8 @@ module _ {F G J : Type 0} (source : F → Stream) (service : Service) (workers :
           files = files-same;
           disks = ap (λ (h : HostState). h.disks) hands.rest ∙ ap (λ (h : HostState). h.disks) out.rest;
           disk_faults = ap (λ (h : HostState). h.disk_faults) hands.rest ∙ ap (λ (h : HostState). h.disk_faults) out.rest;
+          file_faults = ap (λ (h : HostState). h.file_faults) hands.rest ∙ ap (λ (h : HostState). h.file_faults) out.rest;
+          door_faults = ap (λ (h : HostState). h.door_faults) hands.rest ∙ ap (λ (h : HostState). h.door_faults) out.rest;
           over = over;
         },
         gives-back backs (DoorsOut service.address service.readers service.connections ∷ files_out service.files) before after

@@ -29,6 +29,8 @@ use Rattle.published_index.specs.States.{Watching, watching}
 use Rattle.ingest_desk.specs.Stored.{Nameless, Stored, journal, stored_by}
 use Rattle.explorer.specs.declared.serving.Done as came
 use Rattle.explorer.specs.declared.serving.Outcome.{Outcome}
+use Rattle.explorer.specs.declared.serving.Unserved.{Unserved}
+use Rattle.explorer.specs.declared.serving.Unserved.TheVariants as whys
 use Rattle.explorer.specs.declared.serving.Outcome.TheVariants as outcomes
 use Rattle.explorer.specs.Faults.{fault_of_opening}
 use Rattle.record_log.specs.Log.{EachImage, Log}
@@ -45,9 +47,10 @@ use Rattle.explorer.specs.declared.fault.Fault.{Fault}
 use Rattle.explorer.specs.declared.fault.Fault.TheVariants as faults
 use Rattle.explorer.specs.Concluding.{Concludes, EndsBy, TellsLonger}
 use Rattle.explorer.specs.Lines.{Done, Ending, Stopped}
-use Rattle.explorer.specs.Serve.{HasNoStore, IsMaybe, IsServed, IsWorkedTo, Listens, RefusesAddress, RefusesOneFile, Reports, Serves, ServesBy, listening_line}
+use Rattle.explorer.specs.Serve.{HasNoStore, HasStore, IsServed, IsWorkedTo, Listens, RefusesAddress, RefusesOneFile, Reports, Serves, ServesBy, listening_line}
 use Rattle.explorer.specs.Served.{DoorRun, FileRun, IsGivenUp, IsImported, IsServedFrom, IsServedIn, IsStoredIn, IsWorked, Service, fault_of_door, fault_of_doors, fault_of_import, file_at, files_back, files_out, first_fault, serve_report}
-use Rattle.explorer.specs.Serving.{CannotOpenSo, FilesServed, HasGivenUp, HasWorked, IsGivenUpSo, ListensSo, WroteLine, lines_told}
+use Rattle.explorer.specs.Serving.{AreCounted, FilesServed, HasGivenUp, HasWorked, IsGivenUpSo, IsToldBy, ListensSo, WroteLine, lines_told}
+use Rattle.explorer.specs.Workers.{name_at}
 use Rattle.explorer.specs.World.{IsFaultless, World, WriteFails, world}
 use Rattle.explorer.proofs.BracketLemmas.{added-both}
 use Rattle.explorer.proofs.HostCalls.{if_some, same_bytes}
@@ -182,58 +185,54 @@ module _ (service : Service) (before lent used after : HostState) (given returns
   pub disk-stays : used.disk_faults ≡ lent.disk_faults → returns.faults ≡ 0 → after.disk_faults ≡ before.disk_faults
   disk-stays same none = takes.counts.same none ∙ (same ∙ ap (λ (h : HostState). h.disk_faults) hands.rest)
 
+  has-store : (opening : List Batch) → IfSome given.content (HasJournal opening) → HasStore service before
+  has-store opening read = record {
+    opening = opening;
+    told = subst (λ (c : Option (List ℕ)). IfSome c (HasJournal opening)) hands.content read;
+  }
+
   -- no door was handed out
-  lacking : (errors output input : Stream) → HasGivenUp service faults.OutOfMemory lent used → returns.content ≡ given.content
-      → ServesBy service (world input output errors before) (world input output errors after) (Stopped faults.OutOfMemory)
-  lacking errors output input h same =
-      inr (inl (h.names, h.why.1, h.refusal, h.why.0, is-given-up h.names h.files h.refusal h.calls same, refl))
+  no-file : (opening : List Batch) (at : ℕ) → IfSome given.content (HasJournal opening) → HasGivenUp service (whys.NoFile at) lent used
+      → returns.content ≡ given.content → RefusesOneFile service (name_at service.files at) before after
+  no-file opening at read h same = record {
+    store = has-store opening read;
+    names = h.names;
+    next = h.cause.1;
+    refusal = h.refusal;
+    noted = h.cause.2;
+    given_up = is-given-up h.names h.files h.refusal h.calls same;
+    rises = own-rises h.cause.0;
+  }
 
-  no-name : (errors output input : Stream) (name : _) (h : HasGivenUp service (faults.CannotOpen name) lent used) → returns.content ≡ given.content
-      → (IsPrefix (h.names ++ string_bytes name ∷ []) service.files × IsMaybe (FileRefused (string_bytes name)) h.refusal)
-      ⊎ ((h.names ≡ service.files) × (string_bytes name ≡ service.address)
-      × IsMaybe (DoorsRefused service.address service.readers service.connections) h.refusal)
-      → ServesBy service (world input output errors before) (world input output errors after) (Stopped (faults.CannotOpen name))
-  no-name errors output input name h same (inl file) = (
-    inr (inl (record {
-      names = h.names;
-      next = file.0;
-      refusal = h.refusal;
-      noted = file.1;
-      given_up = is-given-up h.names h.files h.refusal h.calls same;
-      rises = own-rises h.why.0;
-    })),
-    refl,
-  )
-  no-name errors output input name h same (inr doors) = (
-    inr (inr (
-      doors.1,
-      record {
-        refusal = h.refusal;
-        noted = doors.2;
-        given_up = subst (λ (ns : List (List ℕ)). IsGivenUp service ns h.refusal before after) doors.0
-            (is-given-up h.names h.files h.refusal h.calls same);
-        rises = own-rises h.why.0;
-      },
-    )),
-    refl,
-  )
+  no-address : (opening : List Batch) → IfSome given.content (HasJournal opening) → HasGivenUp service whys.NoAddress lent used
+      → returns.content ≡ given.content → RefusesAddress service before after
+  no-address opening read h same = record {
+    store = has-store opening read;
+    refusal = h.refusal;
+    noted = h.cause.2;
+    given_up = subst (λ (ns : List (List ℕ)). IsGivenUp service ns h.refusal before after) h.cause.1
+        (is-given-up h.names h.files h.refusal h.calls same);
+    rises = own-rises h.cause.0;
+  }
 
-  pub gives-up : (errors output input : Stream) (fault : Fault) → HasGivenUp service fault lent used → returns.content ≡ given.content
+  no-memory : HasGivenUp service whys.NoMemory lent used → returns.content ≡ given.content → IsGivenUp service service.files [] before after
+  no-memory h same =
+      subst (λ (ns : List (List ℕ)). IsGivenUp service ns [] before after) h.cause.0
+      (subst (λ (cs : List HostCall). IsGivenUp service h.names cs before after) h.cause.1
+      (is-given-up h.names h.files h.refusal h.calls same))
+
+  pub gives-up : (errors output input : Stream) (opening : List Batch) (why : Unserved) (fault : Fault) → IfSome given.content (HasJournal opening)
+      → HasGivenUp service why lent used → returns.content ≡ given.content → IsToldBy service why fault
       → ServesBy service (world input output errors before) (world input output errors after) (Stopped fault)
-  gives-up errors output input faults.OutOfMemory h same = lacking errors output input h same
-  gives-up errors output input (faults.CannotOpen name) h same = no-name errors output input name h same h.why.1
-  gives-up errors output input faults.Usage h same = absurd h.why
-  gives-up errors output input (faults.BadParameter p) h same = absurd h.why
-  gives-up errors output input faults.ReadFault h same = absurd h.why
-  gives-up errors output input faults.WriteFault h same = absurd h.why
-  gives-up errors output input faults.DiskFault h same = absurd h.why
-  gives-up errors output input (faults.NotEmpty n) h same = absurd h.why
-  gives-up errors output input faults.NotAStore h same = absurd h.why
-  gives-up errors output input (faults.OtherFormat n) h same = absurd h.why
-  gives-up errors output input (faults.Damaged n) h same = absurd h.why
-  gives-up errors output input (faults.Full n m) h same = absurd h.why
-  gives-up errors output input faults.CannotAccept h same = absurd h.why
-  gives-up errors output input faults.TooMuchInput h same = absurd h.why
+  gives-up errors output input opening (whys.NoFile at) fault read h same told =
+      subst (λ (f : Fault). ServesBy service (world input output errors before) (world input output errors after) (Stopped f)) (sym told.1)
+      (inr (inl (rw told.2 (no-file opening at read h same))), refl)
+  gives-up errors output input opening whys.NoAddress fault read h same told =
+      subst (λ (f : Fault). ServesBy service (world input output errors before) (world input output errors after) (Stopped f)) (sym told.1)
+      (inr (inr (told.2, no-address opening read h same)), refl)
+  gives-up errors output input opening whys.NoMemory fault read h same told =
+      subst (λ (f : Fault). ServesBy service (world input output errors before) (world input output errors after) (Stopped f)) (sym told)
+      (inl (service.files, prefix-self service.files, no-memory h same, refl))
 
   -- doors were handed out and served
   pub is-worked : (opening journal : List Batch) (first : Option Fault) (lines : Option (List ℕ)) (told : Bool)
@@ -442,21 +441,21 @@ module _ (service : Service) (before after : World) (worked : IsWorked service b
     (same_input : after.input ≡ before.input) (reports : Reports service worked.files before after) where
   -- a worker had a fault
   by-worker : (fault : Fault) → IsWorkers fault → IsWorkedTo service (Some fault) before after
-      → ServesBy service before after (Stopped fault)
-  by-worker faults.ReadFault is to = to
-  by-worker (faults.Full games bytes) is to = to
-  by-worker faults.TooMuchInput is to = to
-  by-worker faults.CannotAccept is to = to
-  by-worker faults.OutOfMemory is to = inr (inr (worked, reports.listens, inr reports))
-  by-worker faults.Usage is to = absurd is
-  by-worker (faults.BadParameter p) is to = absurd is
-  by-worker faults.WriteFault is to = absurd is
-  by-worker faults.DiskFault is to = absurd is
-  by-worker (faults.NotEmpty n) is to = absurd is
-  by-worker faults.NotAStore is to = absurd is
-  by-worker (faults.OtherFormat n) is to = absurd is
-  by-worker (faults.Damaged n) is to = absurd is
-  by-worker (faults.CannotOpen name) is to = absurd is
+      → AreCounted (Some fault) before.host after.host → ServesBy service before after (Stopped fault)
+  by-worker faults.ReadFault is to counted = (to, counted.files refl)
+  by-worker (faults.Full games bytes) is to counted = to
+  by-worker faults.TooMuchInput is to counted = to
+  by-worker faults.CannotAccept is to counted = (to, counted.doors refl)
+  by-worker faults.OutOfMemory is to counted = inr (worked, reports.listens, inr reports)
+  by-worker faults.Usage is to counted = absurd is
+  by-worker (faults.BadParameter p) is to counted = absurd is
+  by-worker faults.WriteFault is to counted = absurd is
+  by-worker faults.DiskFault is to counted = absurd is
+  by-worker (faults.NotEmpty n) is to counted = absurd is
+  by-worker faults.NotAStore is to counted = absurd is
+  by-worker (faults.OtherFormat n) is to counted = absurd is
+  by-worker (faults.Damaged n) is to counted = absurd is
+  by-worker (faults.CannotOpen name) is to counted = absurd is
 
   to-first : (first : Option Fault) → first ≡ first_fault worked.files worked.doors
       → after.host.disk_faults ≡ before.host.disk_faults → IsWorkedTo service first before after
@@ -501,18 +500,19 @@ module _ (service : Service) (before after : World) (worked : IsWorked service b
       → (failed ≡ true → Rises before.host.disk_faults after.host.disk_faults)
       → (failed ≡ false → after.host.disk_faults ≡ before.host.disk_faults)
       → first ≡ first_fault worked.files worked.doors
+      → AreCounted first before.host after.host
       → (first ≡ None → told ≡ true → SeesAll service before.host after.host worked)
       → (ending : Ending) → EndsBy failed first told listens lines before.errors after.errors ending
       → ServesBy service before after ending
-  ends-by true first told listens lines wrote rises stays is sees ending by =
+  ends-by true first told listens lines wrote rises stays is counted sees ending by =
       subst (λ (e : Ending). ServesBy service before after e) (sym by) (rises refl, inr (worked, reports))
-  ends-by false (Some fault) told listens lines wrote rises stays is sees ending by =
+  ends-by false (Some fault) told listens lines wrote rises stays is counted sees ending by =
       subst (λ (e : Ending). ServesBy service before after e) (sym by)
       (by-worker fault (subst (λ (o : Option Fault). IfSome o IsWorkers) (sym is) (of-workers worked.files worked.doors))
-      (to-first (Some fault) is (stays refl)))
-  ends-by false None false listens lines wrote rises stays is sees ending by =
-      subst (λ (e : Ending). ServesBy service before after e) (sym by) (inr (inr (worked, reports.listens, inr reports)))
-  ends-by false None true listens lines wrote rises stays is sees ending by =
+      (to-first (Some fault) is (stays refl)) counted)
+  ends-by false None false listens lines wrote rises stays is counted sees ending by =
+      subst (λ (e : Ending). ServesBy service before after e) (sym by) (inr (worked, reports.listens, inr reports))
+  ends-by false None true listens lines wrote rises stays is counted sees ending by =
       by-sinks listens lines wrote (is-served is (stays refl) (sees refl refl)) ending by
 
 module _ {A E : Type 0} (service : Service) (before after : World) (worked : IsWorked service before.host after.host)
@@ -521,6 +521,7 @@ module _ {A E : Type 0} (service : Service) (before after : World) (worked : IsW
     (rises : failed ≡ true → Rises before.host.disk_faults after.host.disk_faults)
     (stays : failed ≡ false → after.host.disk_faults ≡ before.host.disk_faults)
     (first_is : first ≡ first_fault worked.files worked.doors)
+    (counted : AreCounted first before.host after.host)
     (sees : first ≡ None → told ≡ true → SeesAll service before.host after.host worked) where
   listened : Listens service before after
   listened = record {
@@ -532,13 +533,13 @@ module _ {A E : Type 0} (service : Service) (before after : World) (worked : IsW
       → (ending : Ending) → Concludes lines failed first told listens before.errors after.errors ending
       → ServesBy service before after ending
   concludes None are ending by =
-      subst (λ (e : Ending). ServesBy service before after e) (sym by.1) (inr (inr (worked, listened, inl by.0)))
+      subst (λ (e : Ending). ServesBy service before after e) (sym by.1) (inr (worked, listened, inl by.0))
   concludes (Some lines) are ending by =
       let reports : Reports service worked.files before after = record {
         listens = listened;
         errors = subst (λ (l : List ℕ). Writes (l ∷ []) before.errors after.errors) are (reported-by lines before.errors after.errors by.0);
       } in
-      ends-by service before after worked same_input reports failed first told listens lines wrote rises stays first_is sees ending by.1
+      ends-by service before after worked same_input reports failed first told listens lines wrote rises stays first_is counted sees ending by.1
 
 module _ (service : Service) (before lent used after : HostState) (given returns : DiskState)
     (hands : HandsDisk service.store given before lent) (takes : TakesDisk service.store returns used after)
@@ -561,6 +562,15 @@ module _ (service : Service) (before lent used after : HostState) (given returns
         seen = seen-longer opening journal l.longer w.handed w.over.doors l.extends seen;
       }
 
+  -- a count that rose over the workers rose in the run
+  pub worked-counted : AreCounted first before after
+  worked-counted = record {
+    files = λ is. rw (ap (λ (h : HostState). h.file_faults) takes.rest, sym (w.file_faults ∙ ap (λ (h : HostState). h.file_faults) hands.rest))
+        (w.over.counted.files is);
+    doors = λ is. rw (ap (λ (h : HostState). h.door_faults) takes.rest, sym (w.door_faults ∙ ap (λ (h : HostState). h.door_faults) hands.rest))
+        (w.over.counted.doors is);
+  }
+
   pub worked-disk : used.disk_faults ≡ lent.disk_faults
   worked-disk = w.over.disk_faults ∙ w.disk_faults
 
@@ -573,7 +583,7 @@ module _ (service : Service) (before lent after : HostState) (given returns : Di
   closed = is-given-up service before lent lent after given returns hands takes [] [] [] refl same
 
   starved-by : ServesBy service (world input output errors before) (world input output errors after) (Stopped faults.OutOfMemory)
-  starved-by = inr (inl ([], prefix-nil service.files, [], inl refl, closed, refl))
+  starved-by = inl ([], prefix-nil service.files, closed, refl)
 
   closes : GivesBack before after
   closes = rounds service before lent lent after given returns hands takes (λ thing. refl)
@@ -623,41 +633,24 @@ module _ (service : Service) (before lent after : HostState) (given returns : Di
         gives_back = closes;
       })
 
-refused-store : (service : Service) (before after : HostState) (input output errors : Stream) (fault : Fault)
-    → RefusesDisk service.store before after → CannotOpenSo service.store fault
-    → ServesBy service (world input output errors before) (world input output errors after) (Stopped fault)
-refused-store service before after input output errors (faults.CannotOpen name) refuses so = (inl (so, refuses), refl)
-refused-store service before after input output errors faults.OutOfMemory refuses so = inl (refuses, refl)
-refused-store service before after input output errors faults.Usage refuses so = absurd so
-refused-store service before after input output errors (faults.BadParameter p) refuses so = absurd so
-refused-store service before after input output errors faults.ReadFault refuses so = absurd so
-refused-store service before after input output errors faults.WriteFault refuses so = absurd so
-refused-store service before after input output errors faults.DiskFault refuses so = absurd so
-refused-store service before after input output errors (faults.NotEmpty n) refuses so = absurd so
-refused-store service before after input output errors faults.NotAStore refuses so = absurd so
-refused-store service before after input output errors (faults.OtherFormat n) refuses so = absurd so
-refused-store service before after input output errors (faults.Damaged n) refuses so = absurd so
-refused-store service before after input output errors (faults.Full n m) refuses so = absurd so
-refused-store service before after input output errors faults.CannotAccept refuses so = absurd so
-refused-store service before after input output errors faults.TooMuchInput refuses so = absurd so
-
-pub refuses-store : (service : Service) (before after : HostState) (input output errors : Stream) (fault : Fault)
-    → RefusesDisk service.store before after → CannotOpenSo service.store fault
-    → Serves service (world input output errors before) (world input output errors after) (Stopped fault)
-refuses-store service before after input output errors fault refuses so = record {
-  by = refused-store service before after input output errors fault refuses so;
+pub refuses-store : (service : Service) (before after : HostState) (input output errors : Stream) (name : _)
+    → RefusesDisk service.store before after → string_bytes name ≡ service.store
+    → Serves service (world input output errors before) (world input output errors after) (Stopped (faults.CannotOpen name))
+refuses-store service before after input output errors name refuses is = record {
+  by = (inl (is, refuses), refl);
   gives_back = refused-gives-back service.store before after refuses;
 }
 
 -- files or doors were refused, or memory was wanting for them
 pub gives-up-so : (service : Service) (before lent used after : HostState) (given returns : DiskState)
     → HandsDisk service.store given before lent → TakesDisk service.store returns used after
-    → (input output later errors : Stream) (fault : Fault) → HasGivenUp service fault lent used → returns.content ≡ given.content
+    → (input output later errors : Stream) (opening : List Batch) (why : Unserved) (fault : Fault) → IfSome given.content (HasJournal opening)
+    → HasGivenUp service why lent used → returns.content ≡ given.content → IsToldBy service why fault
     → GivesBack lent used → later ≡ output
     → Serves service (world input output errors before) (world input later errors after) (Stopped fault)
-gives-up-so service before lent used after given returns hands takes input output later errors fault h same g is =
+gives-up-so service before lent used after given returns hands takes input output later errors opening why fault read h same told g is =
     subst (λ (s : Stream). Serves service (world input output errors before) (world input s errors after) (Stopped fault)) (sym is) (record {
-      by = gives-up service before lent used after given returns hands takes errors output input fault h same;
+      by = gives-up service before lent used after given returns hands takes errors output input opening why fault read h same told;
       gives_back = rounds service before lent used after given returns hands takes g;
     })
 
@@ -683,6 +676,7 @@ served-so service before lent used after given returns hands takes opening journ
           (λ is. disk-rises service before lent used after given returns hands takes disk (some_faults is))
           (λ is. disk-stays service before lent used after given returns hands takes disk (no_faults is))
           w.over.first_is
+          (worked-counted service before lent used after given returns hands takes opening journal first lines told w read)
           (sees-all service before lent used after given returns hands takes opening journal first lines told w read some l)
           lines w.over.lines_are ending by;
       gives_back = rounds service before lent used after given returns hands takes g;
@@ -713,17 +707,17 @@ all-watching passes n opening now are is =
     subst (λ (ps : List Watching). AllByRecursion (λ pass. pass ≡ watching now) ps) (sym are)
     (subst (λ (j : List Batch). AllByRecursion (λ pass. pass ≡ watching now) (replicate n (watching j))) is (replicate-all n (watching now)))
 
-pub given-up-so : (outcome : Outcome) (fault : Fault) → outcome ≡ outcomes.GivenUp fault → IsGivenUpSo outcome
-given-up-so outcome fault is = subst IsGivenUpSo (sym is) tt
+pub given-up-so : (outcome : Outcome) (why : Unserved) → outcome ≡ outcomes.GivenUp why → IsGivenUpSo outcome
+given-up-so outcome why is = subst IsGivenUpSo (sym is) tt
 
-pub files-given-up : (service : Service) (opening journal : List Batch) (outcome : Outcome) (fault : Fault) (before after : HostState)
-    → outcome ≡ outcomes.GivenUp fault → FilesServed service opening journal outcome before after → HasGivenUp service fault before after
-files-given-up service opening journal outcome fault before after is served =
+pub files-given-up : (service : Service) (opening journal : List Batch) (outcome : Outcome) (why : Unserved) (before after : HostState)
+    → outcome ≡ outcomes.GivenUp why → FilesServed service opening journal outcome before after → HasGivenUp service why before after
+files-given-up service opening journal outcome why before after is served =
     subst (λ (o : Outcome). FilesServed service opening journal o before after) is served
 
-pub silent-so : (line : List ℕ) (outcome : Outcome) (fault : Fault) (old new : Stream) → outcome ≡ outcomes.GivenUp fault
+pub silent-so : (line : List ℕ) (outcome : Outcome) (why : Unserved) (old new : Stream) → outcome ≡ outcomes.GivenUp why
     → ListensSo line outcome old new → new ≡ old
-silent-so line outcome fault old new is listens = subst (λ (o : Outcome). ListensSo line o old new) is listens
+silent-so line outcome why old new is listens = subst (λ (o : Outcome). ListensSo line o old new) is listens
 
 pub files-worked : (service : Service) (opening journal : List Batch) (outcome : Outcome) (done : came.Done) (before after : HostState)
     → outcome ≡ outcomes.Worked done → FilesServed service opening journal outcome before after

@@ -7,8 +7,9 @@ use Rattle.std.specs.Global.{Global}
 use Rattle.std.proofs.lemmas.List.{length-append, length-map}
 use Rattle.std.proofs.lemmas.List.Sums.{sum_by-append, sum_by-cons}
 use Rattle.outside.specs.Doors.{Connections}
-use Rattle.outside.specs.Stream.{Reads, Rises, Stream}
-use Rattle.host.specs.Hosts.{ADisk, ADoor, AFile, DoorBack, DoorsOut, FileBack, FileOut, HostCall, HostState, Thing, added, handed, noted, returned}
+use Rattle.outside.specs.Stream.{NeverFalls, Reads, Rises, Stream}
+use Rattle.outside.proofs.StreamLemmas.{never_falls-same, never_falls-trans, rises-later, rises-stays}
+use Rattle.host.specs.Hosts.{ADisk, ADoor, AFile, Counts, DoorBack, DoorsOut, FileBack, FileOut, HostCall, HostState, Thing, added, handed, noted, returned}
 use Rattle.explorer_model.specs.declared.archive.Batch.{Batch}
 use Rattle.explorer_model.specs.declared.fault.Refusal.{Refusal}
 use Rattle.explorer_model.specs.Cuts.{Cut, cuts}
@@ -33,6 +34,7 @@ use Rattle.session.proofs.StoredLemmas.{has-stored-body}
 use Rattle.explorer.proofs.HostCalls.{if_some}
 use Rattle.explorer.proofs.WorkerLists.{zip-length}
 use Rattle.explorer.specs.declared.fault.Fault.{Fault}
+use Rattle.explorer.specs.declared.fault.Fault.TheVariants as faults
 use Rattle.explorer.specs.declared.workers.FileWork.{FileWork}
 use Rattle.explorer.specs.declared.workers.ReaderWork.{ReaderWork}
 use Rattle.explorer.specs.declared.workers.Worker.{Worker}
@@ -273,6 +275,173 @@ module _ {F G J : Type 0} (source : F → Stream) (door : G → Connections) (al
   door-runs (d ∷ ds) at (File f ∷ ws) (w' ∷ ws') are works = absurd are.0
   door-runs (d ∷ ds) at (Merger ∷ ws) (w' ∷ ws') are works = absurd are.0
 
+-- ---- counts of the host
+
+counts-never : (faults before after : ℕ) → Counts faults before after → NeverFalls before after
+counts-never zero before after c = never_falls-same before after (c.same refl)
+counts-never (suc n) before after c = (c.rises (omega arith)).never_falls
+
+-- a read of a file failed that comes back
+abbrev pub ReadFailed : {F G J : Type 0} → (F → Stream) → List (Worker F G J) → Type 0
+ReadFailed source [] = ⊥
+ReadFailed source (File file ∷ workers) = (0 < (source file.source).read_faults) ⊎ ReadFailed source workers
+ReadFailed source (Reader reader ∷ workers) = ReadFailed source workers
+ReadFailed source (Merger ∷ workers) = ReadFailed source workers
+
+-- a door failed to accept that comes back
+abbrev pub AcceptFailed : {F G J : Type 0} → (G → Connections) → List (Worker F G J) → Type 0
+AcceptFailed door [] = ⊥
+AcceptFailed door (File file ∷ workers) = AcceptFailed door workers
+AcceptFailed door (Reader reader ∷ workers) = (0 < (door reader.door).faults) ⊎ AcceptFailed door workers
+AcceptFailed door (Merger ∷ workers) = AcceptFailed door workers
+
+module _ {F G J : Type 0} (source : F → Stream) (door : G → Connections) (names : List (List ℕ)) where
+  one-files-never : (name : List ℕ) (worker : Worker F G J) (before after : HostState) → TakesWorker source door name worker before after
+      → NeverFalls before.file_faults after.file_faults
+  one-files-never name (File f) before after takes =
+      counts-never (source f.source).read_faults before.file_faults after.file_faults takes.counts
+  one-files-never name (Reader r) before after takes =
+      never_falls-same before.file_faults after.file_faults (ap (λ (h : HostState). h.file_faults) takes.rest)
+  one-files-never name Merger before after takes =
+      never_falls-same before.file_faults after.file_faults (ap (λ (h : HostState). h.file_faults) takes)
+
+  one-doors-never : (name : List ℕ) (worker : Worker F G J) (before after : HostState) → TakesWorker source door name worker before after
+      → NeverFalls before.door_faults after.door_faults
+  one-doors-never name (File f) before after takes =
+      never_falls-same before.door_faults after.door_faults (ap (λ (h : HostState). h.door_faults) takes.rest)
+  one-doors-never name (Reader r) before after takes =
+      counts-never (door r.door).faults before.door_faults after.door_faults takes.counts
+  one-doors-never name Merger before after takes =
+      never_falls-same before.door_faults after.door_faults (ap (λ (h : HostState). h.door_faults) takes)
+
+  files-never : (at : ℕ) (workers : List (Worker F G J)) (before after : HostState) → GivenBack source door names at workers before after
+      → NeverFalls before.file_faults after.file_faults
+  files-never at [] before after back = never_falls-same before.file_faults after.file_faults (ap (λ (h : HostState). h.file_faults) back)
+  files-never at (w ∷ ws) before after back =
+      never_falls-trans before.file_faults back.0.file_faults after.file_faults (files-never (at + 1) ws before back.0 back.1)
+      (one-files-never (name_at names at) w back.0 after back.2)
+
+  doors-never : (at : ℕ) (workers : List (Worker F G J)) (before after : HostState) → GivenBack source door names at workers before after
+      → NeverFalls before.door_faults after.door_faults
+  doors-never at [] before after back = never_falls-same before.door_faults after.door_faults (ap (λ (h : HostState). h.door_faults) back)
+  doors-never at (w ∷ ws) before after back =
+      never_falls-trans before.door_faults back.0.door_faults after.door_faults (doors-never (at + 1) ws before back.0 back.1)
+      (one-doors-never (name_at names at) w back.0 after back.2)
+
+  files-rise : (at : ℕ) (workers : List (Worker F G J)) (before after : HostState) → GivenBack source door names at workers before after
+      → ReadFailed source workers → Rises before.file_faults after.file_faults
+  files-rise at [] before after back failed = absurd failed
+  files-rise at (File f ∷ ws) before after back (inl some) =
+      rises-later before.file_faults back.0.file_faults after.file_faults (files-never (at + 1) ws before back.0 back.1) (back.2.counts.rises some)
+  files-rise at (File f ∷ ws) before after back (inr failed) =
+      rises-stays before.file_faults back.0.file_faults after.file_faults (files-rise (at + 1) ws before back.0 back.1 failed)
+      (one-files-never (name_at names at) (File f) back.0 after back.2)
+  files-rise at (Reader r ∷ ws) before after back failed =
+      rises-stays before.file_faults back.0.file_faults after.file_faults (files-rise (at + 1) ws before back.0 back.1 failed)
+      (one-files-never (name_at names at) (Reader r) back.0 after back.2)
+  files-rise at (Merger ∷ ws) before after back failed =
+      rises-stays before.file_faults back.0.file_faults after.file_faults (files-rise (at + 1) ws before back.0 back.1 failed)
+      (one-files-never (name_at names at) Merger back.0 after back.2)
+
+  doors-rise : (at : ℕ) (workers : List (Worker F G J)) (before after : HostState) → GivenBack source door names at workers before after
+      → AcceptFailed door workers → Rises before.door_faults after.door_faults
+  doors-rise at [] before after back failed = absurd failed
+  doors-rise at (Reader r ∷ ws) before after back (inl some) =
+      rises-later before.door_faults back.0.door_faults after.door_faults (doors-never (at + 1) ws before back.0 back.1) (back.2.counts.rises some)
+  doors-rise at (Reader r ∷ ws) before after back (inr failed) =
+      rises-stays before.door_faults back.0.door_faults after.door_faults (doors-rise (at + 1) ws before back.0 back.1 failed)
+      (one-doors-never (name_at names at) (Reader r) back.0 after back.2)
+  doors-rise at (File f ∷ ws) before after back failed =
+      rises-stays before.door_faults back.0.door_faults after.door_faults (doors-rise (at + 1) ws before back.0 back.1 failed)
+      (one-doors-never (name_at names at) (File f) back.0 after back.2)
+  doors-rise at (Merger ∷ ws) before after back failed =
+      rises-stays before.door_faults back.0.door_faults after.door_faults (doors-rise (at + 1) ws before back.0 back.1 failed)
+      (one-doors-never (name_at names at) Merger back.0 after back.2)
+
+-- the first fault that there is, is one of the two
+or-either : {A : Type 0} (o p : Option A) (x : A) → option_or o p ≡ Some x → (o ≡ Some x) ⊎ (p ≡ Some x)
+or-either None p x is = inr is
+or-either (Some y) p x is = inl is
+
+either-map : {A B C D : Type 0} → A ⊎ B → (A → C) → (B → D) → C ⊎ D
+either-map (inl a) f g = inl (f a)
+either-map (inr b) f g = inr (g b)
+
+either-last : {A B : Type 0} → A ⊎ B → (A → ⊥) → B
+either-last (inl a) never = absurd (never a)
+either-last (inr b) never = b
+
+import-read : {J : Type 0} (end : End J) (old new : Stream) → ReadFaultsAre end old new → fault_of_import (ending_of end) ≡ Some faults.ReadFault
+    → 0 < new.read_faults
+import-read ends.Whole old new f is = absurd (cc)
+import-read (ends.ReadFault from to) old new f is = omega (arith, f.1, f.2.rose)
+import-read (ends.DiskFault from to mark) old new f is = absurd (cc)
+import-read (ends.Closed from to mark) old new f is = absurd (cc)
+import-read (ends.Full games bytes note) old new f is = absurd (cc)
+import-read (ends.TooMuch bytes) old new f is = absurd (cc)
+import-read ends.OutOfMemory old new f is = absurd (cc)
+
+import-accepts : (ending : ImportEnding) → fault_of_import ending ≡ Some faults.CannotAccept → ⊥
+import-accepts endings.Whole is = absurd (cc)
+import-accepts (endings.ReadFault from to) is = absurd (cc)
+import-accepts (endings.DiskFault from to) is = absurd (cc)
+import-accepts (endings.Closed from to) is = absurd (cc)
+import-accepts (endings.Full games bytes) is = absurd (cc)
+import-accepts (endings.TooMuch bytes) is = absurd (cc)
+import-accepts endings.OutOfMemory is = absurd (cc)
+
+door-reads : (end : DoorEnd) → fault_of_door end ≡ Some faults.ReadFault → ⊥
+door-reads door_ends.Whole is = absurd (cc)
+door-reads door_ends.AcceptFault is = absurd (cc)
+
+door-accepts : (end : DoorEnd) (old new : Connections) → EndsDoor end old new → fault_of_door end ≡ Some faults.CannotAccept → 0 < new.faults
+door-accepts door_ends.Whole old new e is = absurd (cc)
+door-accepts door_ends.AcceptFault old new e is = omega (arith, e.1.rose)
+
+module _ {F G J : Type 0} (source : F → Stream) (door : G → Connections) where
+  fault-is : (file file' : FileWork F J) (i : ImportsFile source file file')
+      → fault_of {F = F} {G = G} {J = J} (File file') ≡ fault_of_import (ending_of i.report.end)
+  fault-is file file' i = ap (λ (r : Option (Report J)). fault_of {F = F} {G = G} {J = J} (File (record { source = file'.source; report = r }))) i.report_is
+
+  read-failed : (workers returned : List (Worker F G J)) → AllZip (Works source door) workers returned
+      → fault_in returned ≡ Some faults.ReadFault → ReadFailed source returned
+  read-failed [] [] works is = absurd (cc)
+  read-failed [] (w ∷ ws) works is = absurd works
+  read-failed (w ∷ ws) [] works is = absurd works
+  read-failed (File f ∷ ws) (File f' ∷ ws') works is =
+      either-map (or-either (fault_of {F = F} {G = G} {J = J} (File f')) (fault_in ws') faults.ReadFault is)
+      (λ o. import-read works.0.report.end (source f.source) (source f'.source) works.0.imports.faults (sym (fault-is f f' works.0) ∙ o))
+      (read-failed ws ws' works.1)
+  read-failed (Reader r ∷ ws) (Reader r' ∷ ws') works is =
+      read-failed ws ws' works.1 (either-last (or-either (fault_of_door r'.end) (fault_in ws') faults.ReadFault is) (door-reads r'.end))
+  read-failed (Merger ∷ ws) (Merger ∷ ws') works is = read-failed ws ws' works.1 is
+  read-failed (File f ∷ ws) (Reader r ∷ ws') works is = absurd works.0
+  read-failed (File f ∷ ws) (Merger ∷ ws') works is = absurd works.0
+  read-failed (Reader r ∷ ws) (File f ∷ ws') works is = absurd works.0
+  read-failed (Reader r ∷ ws) (Merger ∷ ws') works is = absurd works.0
+  read-failed (Merger ∷ ws) (File f ∷ ws') works is = absurd works.0
+  read-failed (Merger ∷ ws) (Reader r ∷ ws') works is = absurd works.0
+
+  accept-failed : (workers returned : List (Worker F G J)) → AllZip (Works source door) workers returned
+      → fault_in returned ≡ Some faults.CannotAccept → AcceptFailed door returned
+  accept-failed [] [] works is = absurd (cc)
+  accept-failed [] (w ∷ ws) works is = absurd works
+  accept-failed (w ∷ ws) [] works is = absurd works
+  accept-failed (File f ∷ ws) (File f' ∷ ws') works is =
+      accept-failed ws ws' works.1 (either-last (or-either (fault_of {F = F} {G = G} {J = J} (File f')) (fault_in ws') faults.CannotAccept is)
+      (λ o. import-accepts (ending_of works.0.report.end) (sym (fault-is f f' works.0) ∙ o)))
+  accept-failed (Reader r ∷ ws) (Reader r' ∷ ws') works is =
+      either-map (or-either (fault_of_door r'.end) (fault_in ws') faults.CannotAccept is)
+      (λ o. door-accepts r'.end (door r.door) (door r'.door) works.0.ends o)
+      (accept-failed ws ws' works.1)
+  accept-failed (Merger ∷ ws) (Merger ∷ ws') works is = accept-failed ws ws' works.1 is
+  accept-failed (File f ∷ ws) (Reader r ∷ ws') works is = absurd works.0
+  accept-failed (File f ∷ ws) (Merger ∷ ws') works is = absurd works.0
+  accept-failed (Reader r ∷ ws) (File f ∷ ws') works is = absurd works.0
+  accept-failed (Reader r ∷ ws) (Merger ∷ ws') works is = absurd works.0
+  accept-failed (Merger ∷ ws) (File f ∷ ws') works is = absurd works.0
+  accept-failed (Merger ∷ ws) (Reader r ∷ ws') works is = absurd works.0
+
 -- ---- all workers
 
 record Splits {A : Type 0} (R : A → A → Type 0) (xs ys all : List A) : Type 0 where
@@ -312,6 +481,8 @@ module _ {F G J : Type 0} (source : F → Stream) (door : G → Connections) (na
     pub door_runs : DoorRuns source door names opening handed (0 + length names) readers
     pub named : AreNamed names 0 workers
     pub long : length names ≤ length workers
+    pub read_failed : fault_in workers ≡ Some faults.ReadFault → ReadFailed source workers
+    pub accept_failed : fault_in workers ≡ Some faults.CannotAccept → AcceptFailed door workers
 
   named-others : (at : ℕ) (readers readers' : List (Worker F G J)) (ds : List Connections) → AllZip (IsReaderOf door opening) ds readers
       → AllZip (Works source door) readers readers' → AreNamed names at (readers' ++ Merger ∷ [])
@@ -358,6 +529,8 @@ module _ {F G J : Type 0} (source : F → Stream) (door : G → Connections) (na
         named = rw is (named-files 0 names files s.front (t.front ++ Merger ∷ []) (omega arith) are s.fronts
             (λ n. named-others n h.readers t.front handed h.are_readers t.fronts));
         long = rw is (omega (arith, count, length-append s.front (t.front ++ Merger ∷ [])));
+        read_failed = read-failed source door all all' works;
+        accept_failed = accept-failed source door all all' works;
       }
 
 -- ---- what comes back
@@ -469,10 +642,10 @@ module _ {F G J : Type 0} (source : F → Stream) (door : G → Connections) (na
       → WorksOver names opening journal handed_doors first lines told host after
   works-over journal after first lines told first_is lines_are knows back =
       let given = given-rest source door names 0 workers host after back in
-      let faults : fault_in workers ≡ fault_in (r.files ++ (r.readers ++ Merger ∷ [])) = ap (λ (ws : List (Worker F G J)). fault_in ws) r.are in
+      let fault : fault_in workers ≡ fault_in (r.files ++ (r.readers ++ Merger ∷ [])) = ap (λ (ws : List (Worker F G J)). fault_in ws) r.are in
       let known = λ (t : told ≡ true). all-both (IsTold journal journal) r.files (r.readers ++ Merger ∷ [])
       (subst (λ (ws : List (Worker F G J)). AllByRecursion (IsTold journal journal) ws) r.are (knows t)) in
-      let none = λ (n : first ≡ None). sym faults ∙ (sym first_is ∙ n) in
+      let none = λ (n : first ≡ None). sym fault ∙ (sym first_is ∙ n) in
       record {
         files = r.file_runs.runs;
         imported = r.file_runs.imported;
@@ -481,7 +654,11 @@ module _ {F G J : Type 0} (source : F → Stream) (door : G → Connections) (na
         calls = given.calls ∙ ap (λ (cs : List HostCall). added cs host.calls) returned-calls;
         disks = given.disks;
         disk_faults = given.disk_faults;
-        first_is = first_is ∙ (faults ∙ r.file_runs.first r.door_runs.runs r.door_runs.first);
+        first_is = first_is ∙ (fault ∙ r.file_runs.first r.door_runs.runs r.door_runs.first);
+        counted = record {
+          files = λ is. files-rise source door names 0 workers host after back (r.read_failed (sym first_is ∙ is));
+          doors = λ is. doors-rise source door names 0 workers host after back (r.accept_failed (sym first_is ∙ is));
+        };
         lines_are = if_some lines _ _ (λ l is. is ∙ (ap (λ (ws : List (Worker F G J)). lines_in names ws) r.are ∙ r.file_runs.lines)) lines_are;
         stored = λ n t. r.file_runs.stored journal (known t).0 (none n);
         seen = λ n t. r.door_runs.seen journal (all-both (IsTold journal journal) r.readers (Merger ∷ []) (known t).1).0

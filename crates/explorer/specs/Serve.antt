@@ -58,16 +58,15 @@ pub record IsServed (service : Service) (before after : World) : Type 0 where
 abbrev pub IsMaybe : HostCall → List HostCall → Type 0
 IsMaybe call calls = (calls ≡ []) ⊎ (calls ≡ call ∷ [])
 
--- at most one call, which was refused
-abbrev pub IsRefusal : List HostCall → Type 0
-IsRefusal calls =
-    (calls ≡ []) ⊎ (((name : List ℕ) × (calls ≡ FileRefused name ∷ []))
-    ⊎ ((address : List ℕ) × (readers : ℕ) × (connections : ℕ)
-    × (calls ≡ DoorsRefused address readers connections ∷ [])))
+-- the store is one, and was opened
+pub record HasStore (service : Service) (before : HostState) : Type 0 where
+  pub opening : List Batch
+  pub told : IfSome (before.disks service.store) (HasJournal opening)
 
 -- the file of this name was refused, behind those of these names
 pub record RefusesOneFile (service : Service) (name : List ℕ) (before after : HostState)
     : Type 0 where
+  pub store : HasStore service before
   pub names : List (List ℕ)
   pub next : IsPrefix (names ++ name ∷ []) service.files
   pub refusal : List HostCall
@@ -77,6 +76,7 @@ pub record RefusesOneFile (service : Service) (name : List ℕ) (before after : 
 
 -- the doors were refused
 pub record RefusesAddress (service : Service) (before after : HostState) : Type 0 where
+  pub store : HasStore service before
   pub refusal : List HostCall
   pub noted : IsMaybe (DoorsRefused service.address service.readers service.connections) refusal
   pub given_up : IsGivenUp service service.files refusal before after
@@ -104,16 +104,13 @@ DiskFails service before after =
     ⊎ ((worked : IsWorked service before.host after.host)
     × Reports service worked.files before after))
 
--- memory was wanting: to tell that the store was refused, or before doors were handed out, or for
--- the lines, or for a worker
+-- memory was wanting: before doors were handed out, or for the lines, or for a worker
 abbrev pub LacksMemory : Service → World → World → Type 0
 LacksMemory service before after =
-    (RefusesDisk service.store before.host after.host × IsSilent before after)
-    ⊎ (((names : List (List ℕ)) × IsPrefix names service.files
-    × (refusal : List HostCall) × IsRefusal refusal
-    × IsGivenUp service names refusal before.host after.host × IsSilent before after)
+    ((names : List (List ℕ)) × IsPrefix names service.files
+    × IsGivenUp service names [] before.host after.host × IsSilent before after)
     ⊎ ((worked : IsWorked service before.host after.host) × Listens service before after
-    × ((after.errors ≡ before.errors) ⊎ Reports service worked.files before after)))
+    × ((after.errors ≡ before.errors) ⊎ Reports service worked.files before after))
 
 -- a run of `serve`, by its ending; no other can be
 abbrev pub ServesBy : Service → World → World → Ending → Type 0
@@ -122,12 +119,14 @@ ServesBy service before after (Stopped WriteFault) =
     IsServed service before after × WriteFails before after
 ServesBy service before after (Stopped ReadFault) =
     IsWorkedTo service (Some ReadFault) before after
+    × Rises before.host.file_faults after.host.file_faults
 ServesBy service before after (Stopped (Full games bytes)) =
     IsWorkedTo service (Some (Full games bytes)) before after
 ServesBy service before after (Stopped TooMuchInput) =
     IsWorkedTo service (Some TooMuchInput) before after
 ServesBy service before after (Stopped CannotAccept) =
     IsWorkedTo service (Some CannotAccept) before after
+    × Rises before.host.door_faults after.host.door_faults
 ServesBy service before after (Stopped DiskFault) = DiskFails service before after
 ServesBy service before after (Stopped NotAStore) = HasNoStore service logs.NotALog before after
 ServesBy service before after (Stopped (OtherFormat number)) =

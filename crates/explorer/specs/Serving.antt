@@ -1,5 +1,5 @@
 -- Bridge: how far the serving of a store has come, between the calls of the host.
-use Rattle.std.specs.Prelude.{◌≡◌, ◌⊎◌, ⊤, ◌≤◌, ◌+◌, ℕ, Bool, true, List, [], ◌∷◌, ◌++◌, map, sum_by, string_bytes, Option, None, Some, IfSome, Result, Ok, Err, Vec}
+use Rattle.std.specs.Prelude.{◌≡◌, ⊤, ◌<◌, ◌≤◌, ◌+◌, ℕ, Bool, true, List, [], ◌∷◌, ◌++◌, length, map, sum_by, string_bytes, Option, None, Some, IfSome, Result, Ok, Err, String, Vec}
 use Rattle.std.specs.Global.{Global}
 use Rattle.std.specs.List.{AllZip}
 use Rattle.outside.specs.Doors.{Connections}
@@ -8,18 +8,21 @@ use Rattle.host.specs.Hosts.{AreFresh, DoorBack, DoorsOut, DoorsRefused, FileOut
 use Rattle.explorer_model.specs.declared.archive.Batch.{Batch}
 use Rattle.explorer_model.specs.Timeline.{IsPrefix}
 use Rattle.explorer.specs.declared.fault.Fault.{Fault}
-use Rattle.explorer.specs.declared.fault.Fault.TheVariants.{CannotOpen, OutOfMemory}
+use Rattle.explorer.specs.declared.fault.Fault.TheVariants.{CannotAccept, CannotOpen, OutOfMemory, ReadFault}
 use Rattle.explorer.specs.declared.order.Order.{Order}
 use Rattle.explorer.specs.declared.serving.Outcome.{Outcome}
 use Rattle.explorer.specs.declared.serving.Outcome.TheVariants.{GivenUp, Worked}
-use Rattle.explorer.specs.Serve.{IsMaybe, IsRefusal}
+use Rattle.explorer.specs.declared.serving.Unserved.{Unserved}
+use Rattle.explorer.specs.declared.serving.Unserved.TheVariants.{NoFile, NoAddress, NoMemory}
+use Rattle.explorer.specs.Serve.{IsMaybe}
 use Rattle.explorer.specs.Served.{DoorRun, FileRun, IsImported, IsServedFrom, IsServedIn, IsStoredIn, Service, file_at, files_back, files_out, first_fault, serve_report}
+use Rattle.explorer.specs.Workers.{name_at}
 
 abbrev pub service_of : Order → Service
 service_of order = record {
-  store = order.store.now;
-  address = order.address.now;
-  files = map string_bytes order.files.now;
+  store = string_bytes order.store;
+  address = string_bytes order.address;
+  files = map string_bytes order.files.items;
   workers = order.workers;
   readers = order.readers;
   connections = order.connections;
@@ -42,6 +45,12 @@ abbrev pub lines_told : {E : Type 0} → Result (Vec ℕ Global) E → Option (L
 lines_told (Ok lines) = Some lines.items
 lines_told (Err refused) = None
 
+-- a count of the host rose where that is the first fault: a file came back with a read that failed,
+-- or a door with an accept that did
+pub record AreCounted (first : Option Fault) (before after : HostState) : Type 0 where
+  pub files : first ≡ Some ReadFault → Rises before.file_faults after.file_faults
+  pub doors : first ≡ Some CannotAccept → Rises before.door_faults after.door_faults
+
 -- The workers did what they had to with the files of these names and these doors, and all came back.
 -- These are the first fault, the lines of what is refused, and whether the journal begins with all
 -- that was told and seen.
@@ -57,6 +66,7 @@ pub record WorksOver (names : List (List ℕ)) (opening journal : List Batch)
   pub disks : after.disks ≡ before.disks
   pub disk_faults : after.disk_faults ≡ before.disk_faults
   pub first_is : first ≡ first_fault files doors
+  pub counted : AreCounted first before after
   pub lines_are : IfSome lines (λ lines. lines ≡ serve_report names files)
   pub stored : first ≡ None → told ≡ true
       → AllZip (IsStoredIn journal) (map (file_at before) names) files
@@ -64,33 +74,43 @@ pub record WorksOver (names : List (List ℕ)) (opening journal : List Batch)
 
 -- ---- files and doors are asked for, and come back
 
--- the name could not be opened; or there is no memory to tell that
-abbrev pub CannotOpenSo : List ℕ → Fault → Type 0
-CannotOpenSo name (CannotOpen told) = string_bytes told ≡ name
-CannotOpenSo name OutOfMemory = ⊤
-CannotOpenSo name _ = ⊥
+-- the place of a file that was refused is one of a name
+abbrev pub IsPlaced : Service → Unserved → Type 0
+IsPlaced service (NoFile at) = at < length service.files
+IsPlaced service NoAddress = ⊤
+IsPlaced service NoMemory = ⊤
+
+-- the fault that tells why nothing was served: it has the name that was refused
+abbrev pub IsToldBy : Service → Unserved → Fault → Type 0
+IsToldBy service (NoFile at) fault =
+    (name : String Global) × (fault ≡ CannotOpen name)
+    × (string_bytes name ≡ name_at service.files at)
+IsToldBy service NoAddress fault =
+    (name : String Global) × (fault ≡ CannotOpen name) × (string_bytes name ≡ service.address)
+IsToldBy service NoMemory fault = fault ≡ OutOfMemory
 
 -- why no door was handed out, where files of these names were
-abbrev pub GivesUpFor : Service → List (List ℕ) → List HostCall → Fault → HostState → HostState
+abbrev pub GivesUpFor : Service → List (List ℕ) → List HostCall → Unserved → HostState → HostState
     → Type 0
-GivesUpFor service names refusal OutOfMemory before after =
-    IsRefusal refusal × IsPrefix names service.files
-GivesUpFor service names refusal (CannotOpen name) before after =
+GivesUpFor service names refusal (NoFile at) before after =
     Rises before.own_faults after.own_faults
-    × ((IsPrefix (names ++ string_bytes name ∷ []) service.files
-    × IsMaybe (FileRefused (string_bytes name)) refusal)
-    ⊎ ((names ≡ service.files) × (string_bytes name ≡ service.address)
-    × IsMaybe (DoorsRefused service.address service.readers service.connections) refusal))
-GivesUpFor service names refusal _ before after = ⊥
+    × IsPrefix (names ++ name_at service.files at ∷ []) service.files
+    × IsMaybe (FileRefused (name_at service.files at)) refusal
+GivesUpFor service names refusal NoAddress before after =
+    Rises before.own_faults after.own_faults × (names ≡ service.files)
+    × IsMaybe (DoorsRefused service.address service.readers service.connections) refusal
+GivesUpFor service names refusal NoMemory before after =
+    (names ≡ service.files) × (refusal ≡ [])
 
-pub record HasGivenUp (service : Service) (fault : Fault) (before after : HostState) : Type 0 where
+pub record HasGivenUp (service : Service) (why : Unserved) (before after : HostState) : Type 0 where
   pub names : List (List ℕ)
   pub files : List Stream
   pub refusal : List HostCall
   pub calls : after.calls ≡ added (files_back names files ++ (refusal ++ files_out names)) before.calls
   pub disks : after.disks ≡ before.disks
   pub disk_faults : after.disk_faults ≡ before.disk_faults
-  pub why : GivesUpFor service names refusal fault before after
+  pub placed : IsPlaced service why
+  pub cause : GivesUpFor service names refusal why before after
 
 -- the doors were handed out and worked over with the files
 pub record HasWorked (service : Service) (opening journal : List Batch) (first : Option Fault)
@@ -103,17 +123,19 @@ pub record HasWorked (service : Service) (opening journal : List Batch) (first :
   pub files : middle.files ≡ before.files
   pub disks : middle.disks ≡ before.disks
   pub disk_faults : middle.disk_faults ≡ before.disk_faults
+  pub file_faults : middle.file_faults ≡ before.file_faults
+  pub door_faults : middle.door_faults ≡ before.door_faults
   pub over : WorksOver service.files opening journal handed first lines told middle after
 
 -- what became of files and doors that were asked for
 abbrev pub FilesServed : Service → List Batch → List Batch → Outcome → HostState → HostState → Type 0
-FilesServed service opening journal (GivenUp fault) before after =
-    HasGivenUp service fault before after
+FilesServed service opening journal (GivenUp why) before after =
+    HasGivenUp service why before after
 FilesServed service opening journal (Worked done) before after =
     HasWorked service opening journal done.first (lines_told done.lines) done.told before after
 
 abbrev pub IsGivenUpSo : Outcome → Type 0
-IsGivenUpSo (GivenUp fault) = ⊤
+IsGivenUpSo (GivenUp why) = ⊤
 IsGivenUpSo (Worked done) = ⊥
 
 -- the line was written, or could not be
@@ -123,5 +145,5 @@ WroteLine line (Err failed) old new = FailsToTake line old new
 
 -- the address is told once the doors are there
 abbrev pub ListensSo : List ℕ → Outcome → Stream → Stream → Type 0
-ListensSo line (GivenUp fault) old new = new ≡ old
+ListensSo line (GivenUp why) old new = new ≡ old
 ListensSo line (Worked done) old new = WroteLine line done.listens old new

@@ -1,12 +1,12 @@
 ghost use Rattle.std.specs.Prelude.{◌≤◌};
 
 /// What is asked of the command `serve`.
-#[derive(Clone, Copy, Debug)]
-pub struct Order<'a> {
-    pub store: &'a str,
-    pub address: &'a str,
+#[derive(Debug, Drop)]
+pub struct Order {
+    pub store: String,
+    pub address: String,
     /// Files that are imported meanwhile.
-    pub files: &'a [String],
+    pub files: Vec<String>,
     /// How many threads work at once in one import, 1 to 16.
     pub workers: usize,
     /// How many doors there are, 1 to 64.

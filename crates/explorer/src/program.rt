@@ -128,10 +128,10 @@ fn run_command<R: AllocGlobal + Wait + Threads + Sync, I: Source, O: Sink, E: Si
         } => serve(
             rt,
             rt.alloc(),
-            &Order {
-                store: store.as_str(),
-                address: address.as_str(),
-                files: files.as_slice(),
+            Order {
+                store,
+                address,
+                files,
                 workers: usize::from(workers),
                 readers: usize::from(readers),
                 connections,

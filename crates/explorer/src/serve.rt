@@ -1,5 +1,5 @@
 //! The command `serve`: a store is served at an address while files are imported into it.
-ghost use Rattle.std.specs.Prelude.{◌≡◌, ◌<◌, ◌≤◌, ◌+◌, ◌++◌, [], length, vec_capacity, true, false, IfOk, IfSome};
+ghost use Rattle.std.specs.Prelude.{◌≡◌, ◌<◌, ◌≤◌, ◌+◌, ◌++◌, [], length, string_bytes, vec_capacity, true, false, IfOk, IfSome};
 ghost use Rattle.outside.specs.Stream.{Stream};
 ghost use Rattle.disk_model.specs.Disk.{DiskState};
 ghost use Rattle.host.specs.Hosts.{ADisk, HandsDisk, HostState, IsOut};
@@ -7,25 +7,24 @@ ghost use Rattle.manifest.specs.Manifest.{HasJournal};
 ghost use Rattle.published_index.specs.Cover.{journal_of};
 ghost use Rattle.ingest_desk.specs.Stored.{journal};
 ghost use Rattle.explorer.specs.Concluding.{Concludes, TellsLonger};
-ghost use Rattle.explorer.specs.Faults.{fault_of_opening};
 ghost use Rattle.explorer.specs.Lines.{ending_of};
 ghost use Rattle.explorer.specs.Serve.{Serves, listening_line};
-ghost use Rattle.explorer.specs.Serving.{lines_told, service_of};
+ghost use Rattle.explorer.specs.Serving.{IsPlaced, IsToldBy, lines_told, service_of};
 ghost use Rattle.explorer.specs.World.{world};
 
 use crate::fault::Fault;
+use crate::opening::fault_of_opening;
 use crate::order::Order;
 use crate::report::write_lines;
-use crate::serving::{Done, Outcome, cannot_open, serve_files};
+use crate::serving::{Done, Outcome, Unserved, serve_files};
 use crate::workers::Worker;
 use disk_model::Disk;
-use explorer_model::store::LogFault;
 use host::Host;
 use host::laws::what_is_handed_out_is_out;
 use ingest_desk::{Ingest, Unnamed, open};
 use outside::{Failed, Sink};
 use published_index::Index;
-use record_log::{Back, OpenFault};
+use record_log::Back;
 use std::alloc::{AllocError, Global};
 use std::marker::Brand;
 use std::sync::Wait;
@@ -36,7 +35,7 @@ use std::thread::Threads;
 pub fn serve<R: Wait + Threads + Sync, O: Sink, E: Sink, H: Host>(
     rt: &R,
     alloc: Global,
-    order: &Order<'_>,
+    order: Order,
     output: &mut O,
     errors: &mut E,
     host: &mut H,
@@ -44,12 +43,13 @@ pub fn serve<R: Wait + Threads + Sync, O: Sink, E: Sink, H: Host>(
     ensures { (input : Stream) →
         let before = world input (O.sink output.old) (E.sink errors.old) (H.host host.old) in
         let after = world input (O.sink output.new) (E.sink errors.new) (H.host host.new) in
-        Serves (service_of order.now) before after (ending_of result) }
+        Serves (service_of order) before after (ending_of result) }
 {
     // law: a disk that was handed out is to be given back
     what_is_handed_out_is_out();
-    let Ok(disk) = host.disk(order.store) else {
-        return Err(cannot_open(alloc, order.store));
+    let name = order.store.as_str();
+    let Ok(disk) = host.disk(name) else {
+        return Err(Fault::CannotOpen { name: order.store });
     };
     match open(rt, alloc, disk, order.workers, order.readers) {
         Ok(store) => serve_store::<R, O, E, H, Brand>(
@@ -58,25 +58,12 @@ pub fn serve<R: Wait + Threads + Sync, O: Sink, E: Sink, H: Host>(
         Err(back) => {
             let Back { disk, fault } = back;
             let failed = has_failed(&disk);
-            host.close(order.store, disk);
+            host.close(name, disk);
             if failed {
                 return Err(Fault::DiskFault);
             }
-            Err(opening_fault(fault))
+            Err(fault_of_opening(fault))
         }
-    }
-}
-
-/// Why a store was not opened whose disk has no fault.
-fn opening_fault(fault: OpenFault) -> Fault
-    ensures { result ≡ fault_of_opening fault }
-{
-    match fault {
-        OpenFault::Log(LogFault::NotALog) => Fault::NotAStore,
-        OpenFault::Log(LogFault::OtherFormat { number }) => Fault::OtherFormat { number },
-        OpenFault::Log(LogFault::Damaged { at }) => Fault::Damaged { gate: at },
-        OpenFault::DiskFault { .. } => Fault::DiskFault,
-        OpenFault::OutOfMemory => Fault::OutOfMemory,
     }
 }
 
@@ -84,37 +71,38 @@ fn opening_fault(fault: OpenFault) -> Fault
 fn serve_store<R: Wait + Threads + Sync, O: Sink, E: Sink, H: Host, J: Index + Send + Sync>(
     rt: &R,
     alloc: Global,
-    order: &Order<'_>,
+    order: Order,
     output: &mut O,
     errors: &mut E,
     host: &mut H,
     store: Unnamed<H::Disk>,
 ) -> Result<(), Fault>
     requires name { store.index.name ≡ J.name }
-    requires readers { store.index.readers ≡ order.now.readers }
-    requires out { IsOut (ADisk order.now.store.now) (H.host host.old) }
+    requires readers { store.index.readers ≡ order.readers }
+    requires out { IsOut (ADisk (string_bytes order.store)) (H.host host.old) }
     ensures { (given : DiskState) (earlier : HostState) (input : Stream)
-        → HandsDisk order.now.store.now given earlier (H.host host.old)
+        → HandsDisk (string_bytes order.store) given earlier (H.host host.old)
         → IfSome given.content (HasJournal (journal_of store.index.list))
         → (H.Disk.disk store.manifest.disk).content ≡ given.content →
         let before = world input (O.sink output.old) (E.sink errors.old) earlier in
         let after = world input (O.sink output.new) (E.sink errors.new) (H.host host.new) in
-        Serves (service_of order.now) before after (ending_of result) }
+        Serves (service_of order) before after (ending_of result) }
 {
-    let Ok(list) = room_for(alloc, order) else {
-        host.close(order.store, store.into_disk(rt));
+    let name = order.store.as_str();
+    let Ok(list) = room_for(alloc, &order) else {
+        host.close(name, store.into_disk(rt));
         return Err(Fault::OutOfMemory);
     };
-    let Ok(line) = listening_line(alloc, order.address) else {
+    let Ok(line) = listening_line(alloc, order.address.as_str()) else {
         list.destroy_empty();
-        host.close(order.store, store.into_disk(rt));
+        host.close(name, store.into_disk(rt));
         return Err(Fault::OutOfMemory);
     };
     let (ingest, passes) = match store.named::<J>(alloc) {
         Ok(named) => named,
         Err(store) => {
             list.destroy_empty();
-            host.close(order.store, store.into_disk(rt));
+            host.close(name, store.into_disk(rt));
             return Err(Fault::OutOfMemory);
         }
     };
@@ -123,7 +111,7 @@ fn serve_store<R: Wait + Threads + Sync, O: Sink, E: Sink, H: Host, J: Index + S
         alloc,
         output,
         host,
-        order,
+        &order,
         line.as_slice(),
         ingest,
         passes,
@@ -131,10 +119,29 @@ fn serve_store<R: Wait + Threads + Sync, O: Sink, E: Sink, H: Host, J: Index + S
     );
     let disk = disk_of(rt, ingest);
     let failed = has_failed(&disk);
-    host.close(order.store, disk);
+    host.close(name, disk);
     match outcome {
-        Outcome::GivenUp(fault) => Err(fault),
+        Outcome::GivenUp(why) => Err(unserved_fault(order, why)),
         Outcome::Worked(done) => conclude(errors, done, failed),
+    }
+}
+
+/// The fault by which a run ends that handed out no door.
+fn unserved_fault(order: Order, why: Unserved) -> Fault
+    requires { IsPlaced (service_of order) why }
+    ensures { IsToldBy (service_of order) why result }
+{
+    match why {
+        Unserved::NoFile { at } => {
+            let mut files = order.files;
+            Fault::CannotOpen {
+                name: files.swap_remove(at),
+            }
+        }
+        Unserved::NoAddress => Fault::CannotOpen {
+            name: order.address,
+        },
+        Unserved::NoMemory => Fault::OutOfMemory,
     }
 }
 
@@ -159,11 +166,11 @@ fn has_failed<D: Disk>(disk: &D) -> bool
 /// An empty list with room for a worker for each file and each door, and one that merges.
 fn room_for<F, G, J: Index>(
     alloc: Global,
-    order: &Order<'_>,
+    order: &Order,
 ) -> Result<Vec<Worker<F, G, J>>, AllocError>
     ensures empty { IfOk result (λ list. list.items ≡ []) }
     ensures room { IfOk result (λ list.
-        length order.now.files.now + order.now.readers + 1 ≤ vec_capacity list) }
+        length order.now.files.items + order.now.readers + 1 ≤ vec_capacity list) }
 {
     let Some(count) = order.files.len().checked_add(order.readers + 1) else {
         return Err(AllocError);

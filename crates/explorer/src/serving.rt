@@ -6,7 +6,7 @@ ghost use Rattle.host.specs.Hosts.{GivesBack};
 ghost use Rattle.outside.specs.Stream.{FailsToTake, Takes};
 ghost use Rattle.published_index.specs.States.{watching};
 ghost use Rattle.ingest_desk.specs.Stored.{journal};
-ghost use Rattle.explorer.specs.Serving.{AreOut, CannotOpenSo, FilesServed, IsGivenUpSo, ListensSo, WorksOver, lines_told, service_of};
+ghost use Rattle.explorer.specs.Serving.{AreOut, FilesServed, IsGivenUpSo, ListensSo, WorksOver, lines_told, service_of};
 ghost use Rattle.explorer.specs.Workers.{FilesOut, FilesRefused, HasReaders, IsFileOf};
 
 use crate::fault::Fault;
@@ -28,8 +28,18 @@ use std::thread::Threads;
 #[derive(Debug, Drop)]
 pub enum Outcome {
     /// No door was handed out.
-    GivenUp(Fault),
+    GivenUp(Unserved),
     Worked(Done),
+}
+
+/// Why no door was handed out.
+#[derive(Clone, Copy, Debug)]
+pub enum Unserved {
+    /// The file was refused whose name stands at this place.
+    NoFile { at: usize },
+    /// Doors to the address were refused.
+    NoAddress,
+    NoMemory,
 }
 
 /// What the workers came to.
@@ -120,7 +130,7 @@ pub fn serve_files<R: Wait + Threads + Sync, O: Sink, H: Host, J: Index + Send +
     alloc: Global,
     output: &mut O,
     host: &mut H,
-    order: &Order<'_>,
+    order: &Order,
     line: &[u8],
     ingest: Ingest<H::Disk, J>,
     passes: Vec<Pass<J>>,
@@ -129,7 +139,7 @@ pub fn serve_files<R: Wait + Threads + Sync, O: Sink, H: Host, J: Index + Send +
     requires passes { vec_len passes ≡ order.now.readers }
     requires opening { AllByRecursion (λ pass. pass ≡ watching (journal ingest)) passes.items }
     requires empty { list.items ≡ [] }
-    requires room { length order.now.files.now + order.now.readers + 1 ≤ vec_capacity list }
+    requires room { length order.now.files.items + order.now.readers + 1 ≤ vec_capacity list }
     ensures served { FilesServed (service_of order.now) (journal ingest) (journal result.0) result.1
         (H.host host.old) (H.host host.new) }
     ensures kept { IsGivenUpSo result.1 → result.0 ≡ ingest }
@@ -138,12 +148,13 @@ pub fn serve_files<R: Wait + Threads + Sync, O: Sink, H: Host, J: Index + Send +
 {
     let mut list = list;
     let mut ingest = ingest;
-    if !open_files(host, order.files, &mut list) {
-        let fault = cannot_open(alloc, order.files[list.len()].as_str());
-        let _told = give_back(host, order.files, &mut ingest, list);
-        return (ingest, Outcome::GivenUp(fault));
+    let names = order.files.as_slice();
+    if !open_files(host, names, &mut list) {
+        let at = list.len();
+        let _told = give_back(host, names, &mut ingest, list);
+        return (ingest, Outcome::GivenUp(Unserved::NoFile { at }));
     }
-    let stop = match host.doors(order.address, order.readers, order.connections) {
+    let stop = match host.doors(order.address.as_str(), order.readers, order.connections) {
         Ok(doors) => {
             let (ingest, done) = serve_doors(
                 rt, alloc, output, host, order, line, ingest, doors, passes, list,
@@ -152,20 +163,10 @@ pub fn serve_files<R: Wait + Threads + Sync, O: Sink, H: Host, J: Index + Send +
         }
         Err(stop) => stop,
     };
-    let _told = give_back(host, order.files, &mut ingest, list);
+    let _told = give_back(host, names, &mut ingest, list);
     match stop {
-        Stop::Fault(Failed) => (ingest, Outcome::GivenUp(cannot_open(alloc, order.address))),
-        Stop::OutOfMemory => (ingest, Outcome::GivenUp(Fault::OutOfMemory)),
-    }
-}
-
-/// That the host has nothing to give under a name.
-pub fn cannot_open(alloc: Global, name: &str) -> Fault
-    ensures { CannotOpenSo name.now result }
-{
-    match String::from_str(alloc, name) {
-        Ok(name) => Fault::CannotOpen { name },
-        Err(AllocError) => Fault::OutOfMemory,
+        Stop::Fault(Failed) => (ingest, Outcome::GivenUp(Unserved::NoAddress)),
+        Stop::OutOfMemory => (ingest, Outcome::GivenUp(Unserved::NoMemory)),
     }
 }
 
@@ -175,7 +176,7 @@ fn serve_doors<R: Wait + Threads + Sync, O: Sink, H: Host, J: Index + Send + Syn
     alloc: Global,
     output: &mut O,
     host: &mut H,
-    order: &Order<'_>,
+    order: &Order,
     line: &[u8],
     ingest: Ingest<H::Disk, J>,
     doors: Vec<H::Door>,
@@ -185,10 +186,10 @@ fn serve_doors<R: Wait + Threads + Sync, O: Sink, H: Host, J: Index + Send + Syn
     requires even { vec_len doors ≡ vec_len passes }
     requires room { vec_len list + vec_len doors + 1 ≤ vec_capacity list }
     requires files { AllZip (IsFileOf H.File.source (H.host host.old))
-        (map string_bytes order.now.files.now) list.items }
-    requires out { AreOut (map string_bytes order.now.files.now) (vec_len doors) (H.host host.old) }
+        (map string_bytes order.now.files.items) list.items }
+    requires out { AreOut (map string_bytes order.now.files.items) (vec_len doors) (H.host host.old) }
     requires opening { AllByRecursion (λ pass. pass ≡ watching (journal ingest)) passes.items }
-    ensures over { WorksOver (map string_bytes order.now.files.now) (journal ingest)
+    ensures over { WorksOver (map string_bytes order.now.files.items) (journal ingest)
         (journal result.0) (map H.Door.door doors.items) result.1.first
         (lines_told result.1.lines) result.1.told
         (H.host host.old) (H.host host.new) }
@@ -201,8 +202,9 @@ fn serve_doors<R: Wait + Threads + Sync, O: Sink, H: Host, J: Index + Send + Syn
     let (mut ingest, list) = work_all(rt, alloc, ingest, list, order.workers);
     let caught_up = publishes_all(rt, &mut ingest);
     let first = first_fault(list.as_slice());
-    let lines = report_lines(alloc, order.files, list.as_slice());
-    let told = give_back(host, order.files, &mut ingest, list);
+    let names = order.files.as_slice();
+    let lines = report_lines(alloc, names, list.as_slice());
+    let told = give_back(host, names, &mut ingest, list);
     let done = Done {
         first,
         lines,

@@ -25,7 +25,7 @@ pub returns-in-Serve : goal.returns-in-Serve
 returns-in-Serve g c =
     let before = world (g.I.Source.source c.args.input.now) (g.O.Sink.sink c.args.output.now) (g.E.Sink.sink c.args.errors.now) (g.H.Host.host c.args.host.now) in
     let after = world (g.I.Source.source c.args.input.now) (g.O.Sink.sink c.serve.new.output) (g.E.Sink.sink c.serve.new.errors) (g.H.Host.host c.serve.new.host) in
-    let files : map string_bytes c.as_slice.result.now ≡ map string_bytes c.in-Serve.files.items = rw c.as_slice.ensures.value refl in
-    let same = same_service c.as_str.result.now (string_bytes c.in-Serve.store) c.as_str-in-Serve.result.now (string_bytes c.in-Serve.address) (map string_bytes c.as_slice.result.now) (map string_bytes c.in-Serve.files.items)
-    c.from-in-Serve.result c.in-Serve.workers c.from-in-Serve-2.result c.in-Serve.readers c.in-Serve.connections c.as_str.ensures.value c.as_str-in-Serve.ensures.value files (search rules) (search rules) in
+    let files = map string_bytes c.in-Serve.files.items in
+    let same = same_service (string_bytes c.in-Serve.store) (string_bytes c.in-Serve.store) (string_bytes c.in-Serve.address) (string_bytes c.in-Serve.address) files files
+    c.from-in-Serve.result c.in-Serve.workers c.from-in-Serve-2.result c.in-Serve.readers c.in-Serve.connections refl refl refl (search rules) (search rules) in
     rw c.in-Serve.is (subst (λ (s : Service). Serves s before after (ending_of c.serve.result)) same (c.serve.ensures (g.I.Source.source c.args.input.now)))

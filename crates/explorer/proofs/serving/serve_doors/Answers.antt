@@ -1,19 +1,19 @@
-use Rattle.std.proofs.Common.{rules, ◌≡◌, ◌+◌, ◌++◌, List, ℕ, true, None, Some, IfOk, IfSome, map, length, string_bytes, sym, ap, subst, ◌∙◌, arith}
+use Rattle.std.proofs.Common.{rules, ◌≡◌, ◌+◌, ◌++◌, List, ℕ, true, None, Some, IfOk, IfSome, map, length, string_bytes, refl, sym, ap, subst, ◌∙◌, arith}
 use Rattle.std.proofs.lemmas.List.{length-map}
 use Rattle.std.specs.List.{AllByRecursion}
 use Rattle.ingest_desk.specs.Stored.{Stored, journal}
 use Rattle.explorer.specs.declared.workers.Worker.{Worker}
 use Rattle.explorer.specs.Serving.{AreOut, lines_told}
-use Rattle.explorer.specs.Workers.{IsTold, fault_in, lines_in}
+use Rattle.explorer.specs.Workers.{GivenBack, IsTold, fault_in, lines_in}
 use Rattle.explorer.proofs.ServedLemmas.{Returned, can-return, ok-lines, returned-workers, works-over}
 use Rattle.explorer.proofs.serving.serve_doors.Goals as goal
 use Rattle.explorer.proofs.serving.serve_doors.Goals.{After-work_all-ingest}
 use Rattle.explorer.proofs.serving.serve_doors.Given.{Over}
 
 returned : (g : Over) (c : After-work_all-ingest g)
-    → Returned g.H.File.Source.source g.H.Door.Door.door (map string_bytes c.args.order.now.files.now) (g.H.Host.host c.args.host.now)
+    → Returned g.H.File.Source.source g.H.Door.Door.door (map string_bytes c.args.order.now.files.items) (g.H.Host.host c.args.host.now)
     (journal c.args.ingest) (map g.H.Door.Door.door c.args.doors.items) c.work_all-ingest.result.1.items
-returned g c = returned-workers g.H.File.Source.source g.H.Door.Door.door (map string_bytes c.args.order.now.files.now) (g.H.Host.host c.args.host.now)
+returned g c = returned-workers g.H.File.Source.source g.H.Door.Door.door (map string_bytes c.args.order.now.files.items) (g.H.Host.host c.args.host.now)
     (journal c.args.ingest) (map g.H.Door.Door.door c.args.doors.items) c.args.list.items c.with_readers-list.result.items c.work_all-ingest.result.1.items
     c.requires.files (c.with_readers-list.ensures (journal c.args.ingest) c.requires.opening) c.work_all-ingest.ensures
 
@@ -23,28 +23,33 @@ report_lines-lines-requires g c =
     omega (
       arith,
       r.long,
-      length-map c.args.order.now.files.now string_bytes,
+      length-map c.args.order.now.files.items string_bytes,
       ap (λ (ws : List (Worker g.row.H-File.Denot g.row.H-Door.Denot g.row.J.Denot)). length ws) c.as_slice-2.ensures.value,
     )
 
 pub give_back-told-requires-clause-named : goal.give_back-told-requires-clause-named
-give_back-told-requires-clause-named g c = λ κs within. (returned g (goal.at.give_back-told-requires-clause-named g c).After-work_all-ingest).named
+give_back-told-requires-clause-named g c = λ κs within.
+    rw c.as_slice-names.ensures.value (returned g (goal.at.give_back-told-requires-clause-named g c).After-work_all-ingest).named
 
 pub give_back-told-requires-clause-out : goal.give_back-told-requires-clause-out
 give_back-told-requires-clause-out g c = λ κs within.
     let r = returned g (goal.at.give_back-told-requires-clause-out g c).After-work_all-ingest in
     let count : c.args.doors.len ≡ length (map g.H.Door.Door.door c.args.doors.items) = c.args.doors.ok.0 ∙ sym (length-map c.args.doors.items g.H.Door.Door.door) in
-    can-return g.H.File.Source.source g.H.Door.Door.door (map string_bytes c.args.order.now.files.now) (g.H.Host.host c.args.host.now)
+    rw c.as_slice-names.ensures.value (can-return g.H.File.Source.source g.H.Door.Door.door (map string_bytes c.args.order.now.files.items) (g.H.Host.host c.args.host.now)
     (journal c.args.ingest) (map g.H.Door.Door.door c.args.doors.items) c.work_all-ingest.result.1.items r (g.H.Host.host c.args.host.now)
-    (subst (λ (n : ℕ). AreOut (map string_bytes c.args.order.now.files.now) n (g.H.Host.host c.args.host.now)) count c.requires.out)
+    (subst (λ (n : ℕ). AreOut (map string_bytes c.args.order.now.files.items) n (g.H.Host.host c.args.host.now)) count c.requires.out))
 
 pub returns-clause-over : goal.returns-clause-over
 returns-clause-over g c =
     let r = returned g (goal.at.returns-clause-over g c).After-work_all-ingest in
     let list = c.work_all-ingest.result.1.items in
-    let names = map string_bytes c.args.order.now.files.now in
+    let names = map string_bytes c.args.order.now.files.items in
     let first = c.first_fault-first.ensures ∙ ap (λ (ws : List (Worker g.row.H-File.Denot g.row.H-Door.Denot g.row.J.Denot)). fault_in ws) c.as_slice.ensures.value in
-    let lines = ok-lines c.report_lines-lines.result _ (subst (λ (ws : List (Worker g.row.H-File.Denot g.row.H-Door.Denot g.row.J.Denot)). IfOk c.report_lines-lines.result (λ l. l.items ≡ lines_in names ws)) c.as_slice-2.ensures.value c.report_lines-lines.ensures) in
+    let told-names = map string_bytes c.as_slice-names.result.now in
+    let same : told-names ≡ names = rw c.as_slice-names.ensures.value refl in
+    let lines = ok-lines c.report_lines-lines.result _
+    (subst (λ (ns : List (List ℕ)). IfOk c.report_lines-lines.result (λ l. l.items ≡ lines_in ns list)) same
+    (subst (λ (ws : List (Worker g.row.H-File.Denot g.row.H-Door.Denot g.row.J.Denot)). IfOk c.report_lines-lines.result (λ l. l.items ≡ lines_in told-names ws)) c.as_slice-2.ensures.value c.report_lines-lines.ensures)) in
     works-over g.H.File.Source.source g.H.Door.Door.door names (g.H.Host.host c.args.host.now) (journal c.args.ingest)
     (map g.H.Door.Door.door c.args.doors.items) list r (journal c.give_back-told.new.ingest) (g.H.Host.host c.give_back-told.new.host)
     c.first_fault-first.result (lines_told c.report_lines-lines.result) c.both.result first lines
@@ -52,4 +57,5 @@ returns-clause-over g c =
     let b = c.both.ensures all in
     subst (λ (i : Stored g.row.H-Disk.Denot). AllByRecursion (IsTold (journal i) (journal i)) list) (sym c.give_back-told.ensures.same)
     (c.give_back-told.ensures.told b.1 (c.publishes_all-caught_up.ensures b.0)))
-    c.give_back-told.ensures.back
+    (subst (λ (ns : List (List ℕ)). GivenBack g.H.File.Source.source g.H.Door.Door.door ns 0 list (g.H.Host.host c.args.host.now) (g.H.Host.host c.give_back-told.new.host)) same
+    c.give_back-told.ensures.back)

@@ -2,8 +2,8 @@ use Rattle.std.proofs.Common.{rules, ◌≡◌, ◌+◌, ◌<◌, List, ℕ, fal
 use Rattle.std.proofs.lemmas.List.{length-map}
 use Rattle.host.specs.Hosts.{GivesBack}
 use Rattle.ingest_desk.specs.Stored.{journal}
-use Rattle.explorer.specs.declared.fault.Fault.TheVariants.{OutOfMemory}
-use Rattle.explorer.specs.Serving.{AreOut, CannotOpenSo, HasGivenUp, HasWorked, lines_told, service_of}
+use Rattle.explorer.specs.declared.serving.Unserved.TheVariants.{NoFile, NoAddress, NoMemory}
+use Rattle.explorer.specs.Serving.{AreOut, HasGivenUp, HasWorked, lines_told, service_of}
 use Rattle.explorer.specs.Workers.{name_at}
 use Rattle.explorer.proofs.HostCalls.{name_is}
 use Rattle.explorer.proofs.BracketLemmas.{doors-files, doors-given-up, doors-out, doors-worked, file-given-up, file-refused-can, file-refused-named, starved, stopped-can, stopped-named}
@@ -13,41 +13,37 @@ use Rattle.explorer.proofs.serving.serve_files.Given.{Over}
 
 pub give_back-told-requires-clause-named : goal.give_back-told-requires-clause-named
 give_back-told-requires-clause-named g c = λ κs within.
-    file-refused-named g.H.File.Source.source g.H.Door.Door.door (service_of c.args.order.now) _ (g.H.Host.host c.args.host.now)
-    (g.H.Host.host c.open_files.new.host) (c.open_files.ensures.refused c.if-not-open_files.true)
+    rw c.as_slice-names.ensures.value (file-refused-named g.H.File.Source.source g.H.Door.Door.door (service_of c.args.order.now) _ (g.H.Host.host c.args.host.now)
+    (g.H.Host.host c.open_files.new.host) (rw c.as_slice-names.ensures.value at (c.open_files.ensures.refused c.if-not-open_files.true)))
 
 pub give_back-told-requires-clause-out : goal.give_back-told-requires-clause-out
 give_back-told-requires-clause-out g c = λ κs within.
-    file-refused-can g.H.File.Source.source g.H.Door.Door.door (service_of c.args.order.now) _ (g.H.Host.host c.args.host.now)
-    (g.H.Host.host c.open_files.new.host) (c.open_files.ensures.refused c.if-not-open_files.true)
+    rw c.as_slice-names.ensures.value (file-refused-can g.H.File.Source.source g.H.Door.Door.door (service_of c.args.order.now) _ (g.H.Host.host c.args.host.now)
+    (g.H.Host.host c.open_files.new.host) (rw c.as_slice-names.ensures.value at (c.open_files.ensures.refused c.if-not-open_files.true)))
 
 pub give_back-told-requires-2-clause-named : goal.give_back-told-requires-2-clause-named
 give_back-told-requires-2-clause-named g c = λ κs within.
-    stopped-named g.H.File.Source.source g.H.Door.Door.door (service_of c.args.order.now) _ (g.H.Host.host c.args.host.now)
+    rw c.as_slice-names.ensures.value (stopped-named g.H.File.Source.source g.H.Door.Door.door (service_of c.args.order.now) _ (g.H.Host.host c.args.host.now)
     (g.H.Host.host c.doors.new.self) c.in-Err.stop (g.H.Host.host c.open_files.new.host)
-    (c.open_files.ensures.opened c.if-not-open_files.false) c.in-Err.ensures.fails
+    (rw c.as_slice-names.ensures.value at (c.open_files.ensures.opened c.if-not-open_files.false)) (rw c.as_str.ensures.value at c.in-Err.ensures.fails))
 
 pub give_back-told-requires-2-clause-out : goal.give_back-told-requires-2-clause-out
 give_back-told-requires-2-clause-out g c = λ κs within.
-    stopped-can g.H.File.Source.source g.H.Door.Door.door (service_of c.args.order.now) _ (g.H.Host.host c.args.host.now)
+    rw c.as_slice-names.ensures.value (stopped-can g.H.File.Source.source g.H.Door.Door.door (service_of c.args.order.now) _ (g.H.Host.host c.args.host.now)
     (g.H.Host.host c.doors.new.self) c.in-Err.stop (g.H.Host.host c.open_files.new.host)
-    (c.open_files.ensures.opened c.if-not-open_files.false) c.in-Err.ensures.fails
+    (rw c.as_slice-names.ensures.value at (c.open_files.ensures.opened c.if-not-open_files.false)) (rw c.as_str.ensures.value at c.in-Err.ensures.fails))
 
 given-up : (g : Over) (c : After-drop-passes g)
-    → HasGivenUp (service_of c.args.order.now) c.cannot_open-fault.result (g.H.Host.host c.args.host.now) (g.H.Host.host c.give_back-told.new.host)
+    → HasGivenUp (service_of c.args.order.now) (NoFile c.len-at.result) (g.H.Host.host c.args.host.now) (g.H.Host.host c.give_back-told.new.host)
     × GivesBack (g.H.Host.host c.args.host.now) (g.H.Host.host c.give_back-told.new.host)
 given-up g c =
-    let r = c.open_files.ensures.refused c.if-not-open_files.true in
+    let r = rw c.as_slice-names.ensures.value at (c.open_files.ensures.refused c.if-not-open_files.true) in
     let list = c.open_files.new.list.items in
-    let few : c.len.result < length (map string_bytes c.args.order.now.files.now) =
-    omega (arith, c.open_files.ensures.few c.if-not-open_files.true, c.len.ensures, length-map c.args.order.now.files.now string_bytes) in
-    let place : length list ≡ c.len.result = omega (arith, c.len.ensures, c.open_files.new.list.ok.0) in
-    let name = c.as_str.ensures.value
-    ∙ (sym (name_is string_bytes c.args.order.now.files.now c.len.result c.index-order-len.result few)
-    ∙ (ap (λ (k : ℕ). name_at (map string_bytes c.args.order.now.files.now) k) (sym place) ∙ sym r.at)) in
+    let few : c.len-at.result < length (map string_bytes c.args.order.now.files.items) =
+    omega (arith, rw c.as_slice-names.ensures.value at (c.open_files.ensures.few c.if-not-open_files.true), c.len-at.ensures, length-map c.args.order.now.files.items string_bytes) in
+    let place : length list ≡ c.len-at.result = omega (arith, c.len-at.ensures, c.open_files.new.list.ok.0) in
     file-given-up g.H.File.Source.source g.H.Door.Door.door (service_of c.args.order.now) list (g.H.Host.host c.args.host.now)
-    (g.H.Host.host c.open_files.new.host) (g.H.Host.host c.give_back-told.new.host) c.cannot_open-fault.result r c.give_back-told.ensures.back
-    (subst (λ (n : List ℕ). CannotOpenSo n c.cannot_open-fault.result) name c.cannot_open-fault.ensures)
+    (g.H.Host.host c.open_files.new.host) (g.H.Host.host c.give_back-told.new.host) c.len-at.result r (rw c.as_slice-names.ensures.value at c.give_back-told.ensures.back) few place
 
 pub returns-then-not-open_files-clause-served : goal.returns-then-not-open_files-clause-served
 returns-then-not-open_files-clause-served g c = (given-up g (goal.at.returns-then-not-open_files-clause-served g c).After-drop-passes).0
@@ -62,7 +58,7 @@ worked : (g : Over) (c : After-serve_doors-ingest g)
 worked g c =
     doors-worked g.H.File.Source.source (service_of c.args.order.now) c.open_files.new.list.items (map g.H.Door.Door.door c.in-Ok.doors.items)
     (g.H.Host.host c.args.host.now) (g.H.Host.host c.open_files.new.host) (g.H.Host.host c.doors.new.self)
-    (c.open_files.ensures.opened c.if-not-open_files.false) c.in-Ok.ensures.hands
+    (rw c.as_slice-names.ensures.value at (c.open_files.ensures.opened c.if-not-open_files.false)) (rw c.as_str.ensures.value at c.in-Ok.ensures.hands)
     (journal c.args.ingest) (journal c.serve_doors-ingest.result.0) c.serve_doors-ingest.result.1.first (lines_told c.serve_doors-ingest.result.1.lines)
     c.serve_doors-ingest.result.1.told (g.H.Host.host c.serve_doors-ingest.new.host) c.serve_doors-ingest.ensures.over
 
@@ -73,12 +69,12 @@ pub returns-in-Ok-clause-gives_back : goal.returns-in-Ok-clause-gives_back
 returns-in-Ok-clause-gives_back g c = (worked g (goal.at.returns-in-Ok-clause-gives_back g c).After-serve_doors-ingest).1
 
 refused : (g : Over) (c : After-drop-passes-in-Fault g)
-    → HasGivenUp (service_of c.args.order.now) c.cannot_open.result (g.H.Host.host c.args.host.now) (g.H.Host.host c.give_back-told-2.new.host)
+    → HasGivenUp (service_of c.args.order.now) NoAddress (g.H.Host.host c.args.host.now) (g.H.Host.host c.give_back-told-2.new.host)
     × GivesBack (g.H.Host.host c.args.host.now) (g.H.Host.host c.give_back-told-2.new.host)
 refused g c =
     doors-given-up g.H.File.Source.source g.H.Door.Door.door (service_of c.args.order.now) c.open_files.new.list.items (g.H.Host.host c.args.host.now)
-    (g.H.Host.host c.doors.new.self) (g.H.Host.host c.open_files.new.host) (g.H.Host.host c.give_back-told-2.new.host) c.cannot_open.result
-    (c.open_files.ensures.opened c.if-not-open_files.false) (rw c.in-Fault.is at c.in-Err.ensures.fails) c.give_back-told-2.ensures.back c.cannot_open.ensures
+    (g.H.Host.host c.doors.new.self) (g.H.Host.host c.open_files.new.host) (g.H.Host.host c.give_back-told-2.new.host)
+    (rw c.as_slice-names.ensures.value at (c.open_files.ensures.opened c.if-not-open_files.false)) (rw c.as_str.ensures.value at (rw c.in-Fault.is at c.in-Err.ensures.fails)) (rw c.as_slice-names.ensures.value at c.give_back-told-2.ensures.back)
 
 pub returns-in-Fault-clause-served : goal.returns-in-Fault-clause-served
 returns-in-Fault-clause-served g c = (refused g (goal.at.returns-in-Fault-clause-served g c).After-drop-passes-in-Fault).0
@@ -87,12 +83,12 @@ pub returns-in-Fault-clause-gives_back : goal.returns-in-Fault-clause-gives_back
 returns-in-Fault-clause-gives_back g c = (refused g (goal.at.returns-in-Fault-clause-gives_back g c).After-drop-passes-in-Fault).1
 
 lacking : (g : Over) (c : In-OutOfMemory g)
-    → HasGivenUp (service_of c.args.order.now) OutOfMemory (g.H.Host.host c.args.host.now) (g.H.Host.host c.give_back-told-2.new.host)
+    → HasGivenUp (service_of c.args.order.now) NoMemory (g.H.Host.host c.args.host.now) (g.H.Host.host c.give_back-told-2.new.host)
     × GivesBack (g.H.Host.host c.args.host.now) (g.H.Host.host c.give_back-told-2.new.host)
 lacking g c =
     starved g.H.File.Source.source g.H.Door.Door.door (service_of c.args.order.now) c.open_files.new.list.items (g.H.Host.host c.args.host.now)
     (g.H.Host.host c.doors.new.self) (g.H.Host.host c.open_files.new.host) (g.H.Host.host c.give_back-told-2.new.host)
-    (c.open_files.ensures.opened c.if-not-open_files.false) (rw c.in-OutOfMemory.is at c.in-Err.ensures.fails) c.give_back-told-2.ensures.back
+    (rw c.as_slice-names.ensures.value at (c.open_files.ensures.opened c.if-not-open_files.false)) (rw c.in-OutOfMemory.is at c.in-Err.ensures.fails) (rw c.as_slice-names.ensures.value at c.give_back-told-2.ensures.back)
 
 pub returns-clause-served : goal.returns-clause-served
 returns-clause-served g c = (lacking g (goal.at.returns-clause-served g c).In-OutOfMemory).0
@@ -104,13 +100,13 @@ pub serve_doors-ingest-requires-clause-files : goal.serve_doors-ingest-requires-
 serve_doors-ingest-requires-clause-files g c = λ κs within.
     doors-files g.H.File.Source.source (service_of c.args.order.now) c.open_files.new.list.items (map g.H.Door.Door.door c.in-Ok.doors.items)
     (g.H.Host.host c.args.host.now) (g.H.Host.host c.open_files.new.host) (g.H.Host.host c.doors.new.self)
-    (c.open_files.ensures.opened c.if-not-open_files.false) c.in-Ok.ensures.hands
+    (rw c.as_slice-names.ensures.value at (c.open_files.ensures.opened c.if-not-open_files.false)) (rw c.as_str.ensures.value at c.in-Ok.ensures.hands)
 
 pub serve_doors-ingest-requires-clause-out : goal.serve_doors-ingest-requires-clause-out
 serve_doors-ingest-requires-clause-out g c = λ κs within.
     let count : c.args.order.now.readers ≡ c.in-Ok.doors.len =
     omega (arith, c.in-Ok.ensures.hands.fresh.number, length-map c.in-Ok.doors.items g.H.Door.Door.door, c.in-Ok.doors.ok.0) in
-    subst (λ (n : ℕ). AreOut (map string_bytes c.args.order.now.files.now) n (g.H.Host.host c.doors.new.self)) count
+    subst (λ (n : ℕ). AreOut (map string_bytes c.args.order.now.files.items) n (g.H.Host.host c.doors.new.self)) count
     (doors-out g.H.File.Source.source (service_of c.args.order.now) c.open_files.new.list.items (map g.H.Door.Door.door c.in-Ok.doors.items)
     (g.H.Host.host c.args.host.now) (g.H.Host.host c.open_files.new.host) (g.H.Host.host c.doors.new.self)
-    (c.open_files.ensures.opened c.if-not-open_files.false) c.in-Ok.ensures.hands)
+    (rw c.as_slice-names.ensures.value at (c.open_files.ensures.opened c.if-not-open_files.false)) (rw c.as_str.ensures.value at c.in-Ok.ensures.hands))
