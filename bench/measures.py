@@ -1,0 +1,408 @@
+"""The measures: each takes the options and answers tables of figures of one run."""
+import contextlib
+import http.client
+import os
+import pathlib
+import re
+import threading
+import time
+import urllib.parse
+
+import measuring
+from measuring import Ran, Trouble
+
+SCID_IMPORT = """
+set id [sc_base create SCID4 [lindex $argv 0]]
+sc_base import $id [lindex $argv 1]
+sc_base close $id
+exit
+"""
+SCID_TREE = """
+set id [sc_base open [lindex $argv 0]]
+set file [open [lindex $argv 1]]
+while {[gets $file fen] >= 0} {
+  sc_game startBoard $fen
+  set begin [clock microseconds]
+  sc_filter search $id tree board
+  sc_tree stats $id tree 0
+  puts [expr {[clock microseconds] - $begin}]
+}
+exit
+"""
+START = "rnbqkbnr/pppppppp/8/8/8/8/PPPPPPPP/RNBQKBNR w KQkq -"
+
+
+def table(title, head, rows, *notes):
+    return {"title": title, "head": head, "rows": [list(map(str, row)) for row in rows], "notes": list(notes)}
+
+
+def ratio(one, other):
+    return f"{one / other:.2f}" if other else "-"
+
+
+def script(name, text):
+    place = measuring.work_folder() / name
+    place.write_text(text, encoding="utf-8")
+    return place
+
+
+def imported(pgn, workers):
+    """A run of `explorer import` into a new store."""
+    store = measuring.work_folder() / "import.store"
+    store.unlink(missing_ok=True)
+    Ran([measuring.explorer(), "create", store])
+    ran = Ran([measuring.explorer(), "import", store, pgn, "--workers", workers])
+    store.unlink()
+    return ran
+
+
+def scid_imported(pgn):
+    """A run of Scid's import into a new base, which is left as scid-base."""
+    base = measuring.work_folder() / "scid-base"
+    for ending in (".si4", ".sg4", ".sn4"):
+        base.with_suffix(ending).unlink(missing_ok=True)
+    return Ran(["tkscid", script("import.tcl", SCID_IMPORT), base, pgn])
+
+
+def others(pgn, rounds):
+    """Runs of the other programs that read a file of games, by name."""
+    found = {}
+    if measuring.has("tkscid"):
+        found["Scid, import"] = measuring.best(rounds, lambda: scid_imported(pgn))
+    if measuring.has("pgn-extract"):
+        found["pgn-extract -r"] = measuring.best(rounds, lambda: Ran(["pgn-extract", "-r"], stdin=pgn, statuses=(0, 1)))
+    if measuring.has("polyglot"):
+        book = measuring.work_folder() / "polyglot.bin"
+        words = ["polyglot", "make-book", "-pgn", pgn, "-bin", book, "-max-ply", "50", "-min-game", "1"]
+        found["polyglot make-book, 50 plies"] = measuring.best(rounds, lambda: Ran(words))
+    return found
+
+
+def speeds(title, runs, games):
+    """Games a second and peaks, with the ratios to each program that is not the explorer's."""
+    beside = [name for name in runs if not name.startswith("explorer")]
+    head = ["program", "games a second", "processor seconds", "peak MB",
+            *(f"ratio to {name.partition(',')[0].split()[0]}" for name in beside)]
+    rows = [[name, f"{games / ran.seconds:,.0f}", f"{ran.processor_seconds:.1f}", f"{ran.peak:.0f}",
+             *(ratio(runs[other].seconds, ran.seconds) for other in beside)] for name, ran in runs.items()]
+    return table(title, head, rows)
+
+
+def count(options):
+    """`explorer count` beside Scid's import and pgn-extract."""
+    pgn = measuring.games(options.archive, options.few)
+    runs = {}
+    for workers in options.workers:
+        words = [measuring.explorer(), "count", "", "--workers", workers]
+        ran = measuring.best(options.rounds, lambda words=words: Ran(words, stdin=pgn))
+        runs[f"explorer count, {workers} workers"] = ran
+    return [speeds(f"Count of {options.few:,} games", {**runs, **others(pgn, options.rounds)}, options.few)]
+
+
+def imports(options):
+    """`explorer import` beside Scid, pgn-extract and polyglot."""
+    tables = []
+    for games in (options.few, options.many):
+        pgn = measuring.games(options.archive, games)
+        rounds = options.rounds if games == options.few else 1
+        runs = {f"explorer import, {workers} workers": measuring.best(rounds, lambda w=workers: imported(pgn, w))
+                for workers in options.workers}
+        tables.append(speeds(f"Import of {games:,} games", {**runs, **others(pgn, rounds)}, games))
+    return tables
+
+
+def instructions(options):
+    """Instructions of `explorer count` for a game, by valgrind."""
+    measuring.need("valgrind", "valgrind")
+    pgn = measuring.games(options.archive, 500)
+    words = ["valgrind", "--tool=callgrind", "--callgrind-out-file=/dev/null", measuring.explorer(), "count", "",
+             "--workers", "1"]
+    counted = [int(re.search(r"Collected : (\d+)", Ran(words, stdin=stdin).output)[1]) for stdin in (pgn, None)]
+    return [table("Instructions of `explorer count` for a game of 500, without those of an empty input",
+                  ["instructions a game"], [[f"{(counted[0] - counted[1]) / 500:,.0f}"]])]
+
+
+def query(options):
+    """`explorer query`: opening a store and answering."""
+    store = measuring.store_of(measuring.games(options.archive, options.many))
+    rows = []
+    for workers in options.workers:
+        words = [measuring.explorer(), "query", store, "", "--workers", workers]
+        ran = measuring.best(options.rounds, lambda words=words: Ran(words))
+        rows.append([f"{workers} workers", f"{ran.seconds:.2f}", f"{ran.processor_seconds:.2f}", f"{ran.peak:.0f}"])
+    return [table(f"`explorer query` on a store of {options.many:,} games, from the start of the process to its end",
+                  ["", "seconds", "processor seconds", "peak MB"], rows)]
+
+
+@contextlib.contextmanager
+def serving(options, readers, *files):
+    """A server over a copy of the store of many games, by its port and process."""
+    store = measuring.work_folder() / "serve.store"
+    kept = measuring.store_of(measuring.games(options.archive, options.many))
+    store.write_bytes(kept.read_bytes())
+    port = measuring.free_port()
+    words = [measuring.explorer(), "serve", store, f"127.0.0.1:{port}", *files, "--readers", readers,
+             "--connections", "1000000", "--workers", options.importers]
+    with measuring.running(words) as process:
+        yield port, process
+    store.unlink()
+
+
+def target(fen="", **others):
+    pairs = {"fen": fen, **others} if fen else others
+    return "/lichess?" + urllib.parse.urlencode(pairs)
+
+
+def times_of(port, targets, rounds):
+    """Seconds from each request to the end of its reply, by target, over one open connection; and the bodies."""
+    times, bodies = {}, {}
+    connection = http.client.HTTPConnection("127.0.0.1", port)
+    for _ in range(rounds):
+        for at in targets:
+            begin = time.perf_counter()
+            connection.request("GET", at)
+            reply = connection.getresponse()
+            bodies[at] = reply.read()
+            times.setdefault(at, []).append(time.perf_counter() - begin)
+            if reply.getheader("Connection") == "close":
+                connection.close()
+    connection.close()
+    return times, bodies
+
+
+def spread(seconds):
+    """Mean and 99th percentile, in milliseconds."""
+    ordered = sorted(seconds)
+    return [f"{1000 * sum(ordered) / len(ordered):.3f}", f"{1000 * ordered[len(ordered) * 99 // 100]:.3f}"]
+
+
+def resident_of(process):
+    """How much memory a process holds, and held at its peak."""
+    status = pathlib.Path(f"/proc/{process}/status").read_text(encoding="utf-8")
+    held, peak = (int(re.search(rf"{name}:\s+(\d+)", status)[1]) / 1024 for name in ("VmRSS", "VmHWM"))
+    return f"{held:.0f} MB, and {peak:.0f} MB at its peak"
+
+
+def scid_times(fens):
+    """Milliseconds of Scid's tree for each position, in a base that an import has left."""
+    place = script("tree.fen", "".join(f"{fen} 0 1\n" for fen in fens))
+    base = measuring.work_folder() / "scid-base"
+    return [int(word) / 1000 for word in Ran(["tkscid", script("tree.tcl", SCID_TREE), base, place]).output.split()]
+
+
+def lookups(options):
+    """Replies at single positions, one after another, beside Scid's tree."""
+    pgn = measuring.games(options.archive, options.many)
+    fens = measuring.positions(pgn, 1000)
+    rows = []
+    with serving(options, 2) as (port, process):
+        asked = [("start", [target()]), ("start, with history", [target(history="true")]),
+                 ("after 1. e4 c5", [target(play="e2e4,c7c5")])]
+        asked += [(f"position {at + 1}", [target(fen)]) for at, fen in enumerate(fens[::100][:10])]
+        for name, targets in asked:
+            times, _ = times_of(port, targets, options.replies)
+            rows.append([name, *spread(times[targets[0]])])
+        times, _ = times_of(port, [target(fen) for fen in fens], 3)
+        rows.append([f"{len(fens)} positions", *spread([min(taken) for taken in times.values()])])
+        resident = resident_of(process.pid)
+    notes = ["A reply is taken from the request that is sent to the last byte that is read, by a client in Python.",
+             f"The server holds {resident}."]
+    if measuring.has("tkscid"):
+        scid_imported(pgn)
+        taken = scid_times([START, *fens])
+        rows += [["Scid's tree: start", f"{taken[0]:.3f}", ""],
+                 [f"Scid's tree: {len(fens)} positions", *spread([one / 1000 for one in taken[1:]])]]
+        notes.append("Scid was asked for each position once.")
+    head = ["asked", "mean ms", "99th percentile ms"]
+    return [table(f"GET /lichess over {options.many:,} games", head, rows, *notes)]
+
+
+WRK = """
+local paths = {}
+for line in io.lines("%s") do paths[#paths + 1] = line end
+local thread_count = 0
+function setup(thread) thread:set("offset", thread_count * 97); thread_count = thread_count + 1 end
+local at = 0
+function request()
+  at = at + 1
+  return wrk.format("GET", paths[(at + offset) %% #paths + 1])
+end
+"""
+
+
+def load(port, paths, connections, seconds):
+    """Requests a second and latencies in ms of wrk over paths, which are asked in turn."""
+    listed = script("paths", "\n".join(paths) + "\n")
+    ran = Ran(["wrk", "--latency", "-t", min(connections, 4), "-c", connections, "-d", f"{seconds}s",
+               "-s", script("paths.lua", WRK % listed), f"http://127.0.0.1:{port}"])
+    rate = re.search(r"Requests/sec:\s+([\d.]+)", ran.output)
+    middle, last = (re.search(rf"{part}%\s+([\d.]+)(us|ms|s)\b", ran.output) for part in (50, 99))
+    bad = re.search(r"Non-2xx or 3xx responses: (\d+)|Socket errors: (.*)", ran.output)
+    if not (rate and middle and last):
+        raise Trouble(f"wrk says {ran.output[-300:]}")
+    scale = {"us": 0.001, "ms": 1, "s": 1000}
+    return {"rate": float(rate[1]), "p50": float(middle[1]) * scale[middle[2]], "p99": float(last[1]) * scale[last[2]],
+            "bad": bad[0] if bad else ""}
+
+
+NGINX = """
+{user}
+worker_processes 4;
+daemon off;
+pid {folder}/nginx.pid;
+error_log {folder}/error.log;
+events {{ worker_connections 256; }}
+http {{
+  access_log off;
+  default_type application/json;
+  sendfile on;
+  tcp_nopush on;
+  open_file_cache max=4096;
+  keepalive_requests 1000;
+  server {{ listen 127.0.0.1:{port}; root {folder}/site; }}
+}}
+"""
+
+
+@contextlib.contextmanager
+def nginx(bodies):
+    """nginx over the same bodies as files, by its port and the paths."""
+    folder = measuring.work_folder() / "nginx"
+    (folder / "site").mkdir(parents=True, exist_ok=True)
+    for at, body in enumerate(bodies):
+        (folder / "site" / str(at)).write_bytes(body)
+    port = measuring.free_port()
+    user = "user root;" if os.geteuid() == 0 else ""
+    (folder / "nginx.conf").write_text(NGINX.format(user=user, folder=folder, port=port), encoding="utf-8")
+    with measuring.running(["nginx", "-c", folder / "nginx.conf"], ready=port):
+        yield port, [f"/{at}" for at in range(len(bodies))]
+
+
+def bodies_of(pgn):
+    """The games of a file in bodies of 512."""
+    texts = re.split(rb"(?m)(?=^\[Event )", pathlib.Path(pgn).read_bytes())[1:]
+    return [b"".join(texts[start:start + 512]) for start in range(0, len(texts), 512)]
+
+
+class Poster(threading.Thread):
+    """Posts bodies until it is told to stop, and counts those that were answered 200."""
+
+    def __init__(self, port, bodies):
+        super().__init__()
+        self.port, self.bodies, self.is_stopped, self.stored = port, bodies, False, 0
+
+    def run(self):
+        while self.bodies and not self.is_stopped:
+            with contextlib.suppress(OSError, http.client.HTTPException):
+                connection = http.client.HTTPConnection("127.0.0.1", self.port, timeout=60)
+                connection.request("POST", "/import", self.bodies.pop(), {"Connection": "close"})
+                self.stored += connection.getresponse().status == 200
+                connection.close()
+
+
+def loaded(options, connections, paths):
+    """What wrk gets of one server, idle and while games are posted, at the start and at many positions."""
+    found, bodies = [], bodies_of(more_games(options))
+    kinds = (("start", paths[:1]), (f"{len(paths) - 1} positions", paths[1:]))
+    with serving(options, connections + 1) as (port, _):
+        for what, listed in kinds:
+            found.append((f"explorer, idle, {what}", what, load(port, listed, connections, options.seconds)))
+        for what, listed in kinds:
+            poster = Poster(port, bodies)
+            poster.start()
+            got = load(port, listed, connections, options.seconds)
+            is_short, poster.is_stopped = not bodies, True
+            poster.join()
+            state = f"while {512 * poster.stored:,} games are posted{' (and then idle)' if is_short else ''}"
+            found.append((f"explorer, {state}, {what}", what, got))
+    return found
+
+
+def more_games(options):
+    """Games that stand in the archive behind those of the store."""
+    pgn = measuring.games(options.archive, options.many + options.more)
+    place = measuring.work_folder() / "more.pgn"
+    texts = re.split(rb"(?m)(?=^\[Event )", pgn.read_bytes())
+    place.write_bytes(b"".join(texts[-options.more:]))
+    return place
+
+
+def replies(options):
+    """Replies a second by wrk, beside nginx serving the same bodies."""
+    measuring.need("wrk", "wrk")
+    pgn = measuring.games(options.archive, options.many)
+    paths = [target(), *(target(fen) for fen in measuring.positions(pgn, 1000))]
+    with serving(options, 2) as (port, _):
+        bodies = times_of(port, paths, 1)[1]
+    rows = []
+    for connections in options.connections:
+        found = loaded(options, connections, paths)
+        static = {}
+        if measuring.has("nginx"):
+            with nginx([bodies[path] for path in paths]) as (port, files):
+                for what, listed in (("start", files[:1]), (f"{len(files) - 1} positions", files[1:])):
+                    static[what] = load(port, listed, connections, options.seconds)
+                    found.append((f"nginx, {what}", what, static[what]))
+        for name, what, got in found:
+            beside = ratio(got["rate"], static[what]["rate"]) if static else "-"
+            latencies = [f"{got[part]:.2f}" for part in ("p50", "p99")]
+            rows.append([name, connections, f"{got['rate']:,.0f}", *latencies, beside, got["bad"]])
+    head = ["server", "connections", "a second", "median ms", "99th percentile ms", "ratio to nginx", "faults"]
+    title = f"Replies a second over {options.many:,} games, by wrk over open connections, a reader each"
+    return [table(title, head, rows)]
+
+
+def perft(options):
+    """Leaves of the tree of legal moves a second, beside stockfish."""
+    lines = measuring.build("perft", f"{START} 0 1", str(options.depth))
+    found = re.search(r": (\d+) in ([\d.]+) s", lines)
+    if not found:
+        raise Trouble(f"bench/perft says {lines[-200:]}")
+    rate = int(found[1]) / max(float(found[2]), 0.001)
+    rows = [["legal_moves", options.depth, f"{rate / 1e6:.1f}", ""]]
+    if measuring.has("stockfish"):
+        place = script("perft", f"position startpos\ngo perft {options.depth + 1}\nquit\n")
+        ran = measuring.best(options.rounds, lambda: Ran(["stockfish"], stdin=place))
+        leaves = int(re.search(r"Nodes searched: (\d+)", ran.output)[1])
+        start = measuring.best(options.rounds, lambda: Ran(["stockfish", "quit"])).seconds
+        other = leaves / max(ran.seconds - start, 0.01)
+        rows[0][3] = ratio(rate, other)
+        rows.append(["stockfish, without its start", options.depth + 1, f"{other / 1e6:.1f}", "1.00"])
+    return [table("Leaves of the tree of legal moves from the start, one thread",
+                  ["program", "depth", "million a second", "ratio to stockfish"], rows)]
+
+
+def gate(options):
+    """The time of `rt ci`, with what it keeps on this machine."""
+    ran = Ran(["rt", "ci"], cwd=measuring.TOP)
+    last = ran.output.strip().splitlines()[-1]
+    return [table("The gate, `rt ci`", ["minutes", "processor minutes", "its last line"],
+                  [[f"{ran.seconds / 60:.1f}", f"{ran.processor_seconds / 60:.1f}", last]],
+                  "What an earlier run has passed on this machine is not proved again.")]
+
+
+def printed(name, *words):
+    """What a script of this folder prints, a figure a line."""
+    lines = measuring.build(name, *words).strip().splitlines()
+    return [table(f"`bench/{name}`", ["figure"], [[line.strip()] for line in lines if line.strip()])]
+
+
+def wire(_):
+    """Replies of the wire alone, beside nginx."""
+    return printed("wire")
+
+
+def lookup(options):
+    """Answers alone, without a server."""
+    return printed("lookup", measuring.store_of(measuring.games(options.archive, options.many)))
+
+
+def steps(options):
+    """The steps of a store: tally, commits, merges, opening, entering."""
+    return printed("steps", measuring.games(options.archive, options.many), more_games(options))
+
+
+MEASURES = {
+    "count": count, "instructions": instructions, "import": imports, "query": query, "lookups": lookups,
+    "lookup": lookup, "replies": replies, "perft": perft, "wire": wire, "steps": steps, "gate": gate,
+}
