@@ -1,5 +1,4 @@
-"""Explorers for the tests of the tools: the program's own server where the program has one, else a
-stand-in that counts by `explorer count`; and one with canned replies.
+"""Explorers for the tests of the tools: the program's own server over a store, and one with canned replies.
 
 The program is that of the variable EXPLORER, or the one that ./explorer has built.
 """
@@ -104,44 +103,16 @@ class CannedExplorer(StandIn):
         return self.imported if method == "POST" else self.answer
 
 
-class CountingExplorer(StandIn):
-    """Keeps the games that are sent, and answers over them by `explorer count`."""
-
-    def __init__(self, games=b""):
-        self.games = games
-        super().__init__()
-
-    def reply_to(self, method, target, body):
-        if method == "POST":
-            return 200, self.stored(body)
-        status, answer, lines = count(target.partition("?")[2], self.games)
-        if status == 3:
-            parameter = lines[-1].removeprefix("bad parameter ")
-            return 400, compact({"error": "malformed parameter", "parameter": parameter})
-        return 200, answer
-
-    def stored(self, body):
-        lines = [line.partition(" ") for line in count("", body)[2]]
-        refused = [{"place": int(place), "why": why} for place, _, why in lines]
-        texts = len(re.findall(rb"^\[Event ", body, re.MULTILINE))
-        self.games += body
-        self.batches += 1
-        stored = texts - sum(line["why"] != "Preamble" for line in refused)
-        return compact({"batches": self.batches, "refused": refused, "stored": stored})
-
-
-def has_server():
-    shown = subprocess.run([program(), "--help"], capture_output=True, check=False)
-    return b"serve" in shown.stdout + shown.stderr
-
-
 @contextlib.contextmanager
-def served():
-    """The address of the program's own server over a new store."""
+def explorer(games=b""):
+    """The address of a server over a new store of some games."""
     folder = tempfile.mkdtemp()
-    store = os.path.join(folder, "store")
+    store, archive = os.path.join(folder, "store"), os.path.join(folder, "games.pgn")
     address = f"127.0.0.1:{free_port()}"
     subprocess.run([program(), "create", store], check=True, stdout=subprocess.DEVNULL)
+    if games:
+        pathlib.Path(archive).write_bytes(games)
+        subprocess.run([program(), "import", store, archive], check=True, stdout=subprocess.DEVNULL)
     server = subprocess.Popen([program(), "serve", store, address], stdout=subprocess.PIPE)
     try:
         if server.stdout.readline() != f"listening {address}\n".encode():
@@ -152,13 +123,6 @@ def served():
         server.wait()
         server.stdout.close()
         shutil.rmtree(folder)
-
-
-@contextlib.contextmanager
-def explorer():
-    """The address of an explorer without games."""
-    with served() if has_server() else CountingExplorer().running() as address:
-        yield address
 
 
 def run_tool(path, *words, data=b"", **options):

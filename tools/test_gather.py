@@ -46,7 +46,7 @@ class Joining(unittest.TestCase):
         self.addCleanup(self.contexts.close)
 
     def stores(self, parts):
-        return [self.contexts.enter_context(support.CountingExplorer(part).running()) for part in parts]
+        return [self.contexts.enter_context(support.explorer(part)) for part in parts]
 
     def test_four_parts_answer_as_the_whole(self):
         addresses = self.stores(PARTS)

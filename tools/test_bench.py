@@ -1,0 +1,54 @@
+#!/usr/bin/env python3
+"""Tests of bench/run on a few games: what it writes, and what it says where a measure cannot be taken."""
+import os
+import pathlib
+import tempfile
+import unittest
+
+import support
+
+TOOL = str(support.TOP / "bench/run")
+
+
+class Run(unittest.TestCase):
+    def setUp(self):
+        folder = tempfile.TemporaryDirectory()
+        self.addCleanup(folder.cleanup)
+        self.folder = pathlib.Path(folder.name)
+        self.output = self.folder / "RESULTS.md"
+
+    def run_tool(self, *words, program=None):
+        kept = {"EXPLORER_BENCH": str(self.folder / "kept"), "EXPLORER": program or support.program()}
+        return support.run_tool(TOOL, "--output", str(self.output), *words, env={**os.environ, **kept})
+
+    def test_a_measure_is_written(self):
+        few = ["--few", "5", "--many", "5", "--rounds", "1", "--workers", "1,2"]
+        status, _, errors = self.run_tool("--archive", str(support.GAMES), "--only", "count,query", *few)
+        self.assertEqual(status, 0, errors)
+        text = self.output.read_text(encoding="utf-8")
+        for words in ("## count", "| explorer count, 2 workers | ", "## query", "| 1 workers | "):
+            self.assertIn(words, text)
+
+    def test_too_few_games_are_told(self):
+        status, _, errors = self.run_tool("--archive", str(support.GAMES), "--only", "count")
+        self.assertEqual(status, 1)
+        told = "count was not taken: the archive has 5 games that can be counted, and 20000 are asked for"
+        self.assertIn(told, errors)
+
+    def test_a_missing_program_is_told(self):
+        words = ["--archive", str(support.GAMES), "--only", "count", "--few", "5"]
+        status, _, errors = self.run_tool(*words, program="/nowhere")
+        self.assertEqual(status, 1)
+        self.assertIn("there is no program /nowhere: build it by ./explorer, or name it in EXPLORER", errors)
+
+    def test_help_and_faulty_words(self):
+        self.assertIn("usage: bench/run", self.run_tool("--help", program="x")[1])
+        faulty = (["--archive", "/nowhere"], ["--archive", TOOL, "--only", "x"], ["--workers", "x"], ["--few", "0"])
+        for words in faulty:
+            status, _, errors = self.run_tool(*words, program="x")
+            self.assertEqual(status, 2)
+            self.assertIn("bench/run: error:", errors)
+
+
+if __name__ == "__main__":
+    unittest.main()
