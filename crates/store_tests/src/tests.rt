@@ -1,5 +1,6 @@
 //! Segments of worked games.
 mod connections;
+mod desk;
 mod merges;
 mod published;
 mod segments;

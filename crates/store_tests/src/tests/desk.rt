@@ -1,0 +1,363 @@
+//! A desk at its limit, behind a disk fault, and beside another worker.
+ghost use Rattle.std.specs.Prelude.{◌≡◌};
+
+use super::{tally_of, text};
+use disk_model::{Disk, MemDisk};
+use explorer_model::store::LogFault;
+use ingest_desk::{CommitFault, Ingest, InstallFault, Receipt, Standing, Unnamed, fresh, open};
+use manifest::create;
+use outside::FreeGate;
+use published_index::{Index, Pass};
+use record_log::OpenFault;
+use segment_merge::merge;
+use std::alloc::{AllocError, Global};
+use std::marker::Brand;
+use std::process::Abort;
+use std::sync::Wait;
+use std::test::Fail;
+use std::thread::Threads;
+use tally_rows::Tally;
+
+/// How many games a store may have.
+const LIMIT: u32 = 131_072;
+
+/// The tally of so many games without a move, with ids by their numbers.
+fn games<R: Threads + Sync>(rt: &R, alloc: Global, first: u32, count: u32) -> Result<Tally, Fail> {
+    let mut texts = Vec::new(alloc);
+    for number in first..first.saturating_add(count) {
+        texts.push(text(alloc, number, 0, "")?)?;
+    }
+    tally_of(rt, alloc, texts)
+}
+
+/// The file of a store: batches of games without a move, with ids by their numbers. It has at most
+/// one batch more than a store may have.
+fn store_file(alloc: Global, games: u32) -> Result<Vec<u8>, AllocError> {
+    let mut file = b"OPENEXP1\x01\0\0\0".to_vec(alloc)?;
+    for batch in 0..257u32 {
+        let first = batch * 512;
+        if first < games {
+            push_record(alloc, &mut file, first, (games - first).min(512))?;
+        }
+    }
+    file.push(0)?;
+    Ok(file)
+}
+
+/// Puts the record of a batch behind a file: its gate, its length, and its texts behind their count.
+fn push_record(
+    alloc: Global,
+    file: &mut Vec<u8>,
+    first: u32,
+    count: u32,
+) -> Result<(), AllocError> {
+    let mut payload = Vec::new(alloc);
+    payload.extend_from_slice(&count.to_le_bytes()[..2])?;
+    for number in first..first.saturating_add(count) {
+        let game = text(alloc, number, 0, "")?.bytes;
+        payload.extend_from_slice(&(game.len() as u64).to_le_bytes()[..4])?;
+        payload.extend_from_slice(game.as_slice())?;
+    }
+    file.push(1)?;
+    file.extend_from_slice(&(payload.len() as u64).to_le_bytes()[..4])?;
+    file.extend_from_slice(payload.as_slice())
+}
+
+/// A disk with a file, and room for some batches more.
+fn disk_with(alloc: Global, file: &[u8]) -> Result<MemDisk, Fail> {
+    if file.len() > 100_000_000 {
+        return Err(Fail::from("a large file"));
+    }
+    let mut disk = MemDisk::new(alloc, file.len() + 10_000, Vec::new(alloc))?;
+    if disk.write_at(0, file).is_err() {
+        return Err(Fail::from("not written"));
+    }
+    Ok(disk)
+}
+
+/// An ingest of a new store on a disk, of whose calls these fail.
+fn new_store<R: Wait>(rt: &R, alloc: Global, failing: Vec<u64>) -> Result<Unnamed<MemDisk>, Fail> {
+    let Ok(manifest) = create(MemDisk::new(alloc, 1_000_000, failing)?) else {
+        return Err(Fail::from("not created"));
+    };
+    match fresh(rt, alloc, manifest, 1) {
+        Ok(unnamed) => Ok(unnamed),
+        Err(_) => Err(Fail::from("no room")),
+    }
+}
+
+/// The ingest and its passes.
+fn named<J: Index, R: Wait>(
+    rt: &R,
+    alloc: Global,
+    unnamed: Unnamed<MemDisk>,
+) -> Result<(Ingest<MemDisk, J>, Vec<Pass<J>>), Fail>
+    requires { unnamed.index.name ≡ J.name }
+{
+    match unnamed.named::<J>(alloc) {
+        Ok(named) => Ok(named),
+        Err(unnamed) => {
+            let _disk = unnamed.into_disk(rt);
+            Err(Fail::from("no room for the passes"))
+        }
+    }
+}
+
+// ---- limits
+
+#[test]
+fn store_below_its_limit_takes_one_game(rt: HostRuntime) -> Result<(), Fail> {
+    let alloc: Global = rt.alloc();
+    let file = store_file(alloc, LIMIT - 1)?;
+    let Ok(unnamed) = open(&rt, alloc, disk_with(alloc, file.as_slice())?, 4, 1) else {
+        return Err(Fail::from("not opened"));
+    };
+    fills::<Brand, _>(&rt, alloc, unnamed)
+}
+
+fn fills<J: Index, R: Threads + Wait + Abort + Sync>(
+    rt: &R,
+    alloc: Global,
+    unnamed: Unnamed<MemDisk>,
+) -> Result<(), Fail>
+    requires { unnamed.index.name ≡ J.name }
+{
+    let (mut ingest, _passes) = named::<J, R>(rt, alloc, unnamed)?;
+    let outcome = fill(rt, alloc, &mut ingest);
+    let _disk = ingest.into_disk(rt);
+    outcome
+}
+
+/// Two games are too many behind the last but one, one is not, and then there is no room.
+fn fill<J: Index, R: Threads + Wait + Abort + Sync>(
+    rt: &R,
+    alloc: Global,
+    ingest: &mut Ingest<MemDisk, J>,
+) -> Result<(), Fail> {
+    // Each text has 195 bytes.
+    let two = games(rt, alloc, LIMIT - 1, 2)?;
+    let full = room_of(ingest.commit(rt, alloc, two));
+    assert_eq!(rt; full, Some((131_071, 131_071 * 195)));
+    let one = games(rt, alloc, LIMIT - 1, 1)?;
+    let Ok(receipt) = ingest.commit(rt, alloc, one) else {
+        return Err(Fail::from("the last game is not stored"));
+    };
+    assert_eq!(rt;
+        (receipt.batches(), receipt.first(), receipt.games()),
+        (257, 131_071, 1)
+    );
+    let more = games(rt, alloc, LIMIT, 1)?;
+    let full = room_of(ingest.commit(rt, alloc, more));
+    assert_eq!(rt; full, Some((131_072, 131_072 * 195)));
+    Ok(())
+}
+
+/// How many games and bytes a full store has.
+fn room_of<J: Index>(answer: Result<Receipt<J>, CommitFault<J>>) -> Option<(u64, u64)> {
+    match answer {
+        Err(CommitFault::Full { games, bytes, .. }) => Some((games, bytes)),
+        _ => None,
+    }
+}
+
+#[test]
+fn store_beyond_its_limit_is_damaged_at_the_last_record(rt: HostRuntime) -> Result<(), Fail> {
+    let alloc: Global = rt.alloc();
+    let file = store_file(alloc, LIMIT + 1)?;
+    match open(&rt, alloc, disk_with(alloc, file.as_slice())?, 4, 1) {
+        Ok(unnamed) => {
+            let _disk = unnamed.into_disk(&rt);
+            Err(Fail::from("opened"))
+        }
+        Err(back) => {
+            let OpenFault::Log(LogFault::Damaged { at }) = back.fault else {
+                return Err(Fail::from("another fault"));
+            };
+            // A record has a gate, a length, a count, and each text behind its length.
+            assert_eq!(rt; at, 12 + 256 * (1 + 4 + 2 + 512 * (4 + 195)));
+            Ok(())
+        }
+    }
+}
+
+// ---- another worker
+
+#[test]
+fn job_whose_two_another_worker_joined_is_gone(rt: HostRuntime) -> Result<(), Fail> {
+    let alloc: Global = rt.alloc();
+    let unnamed = new_store(&rt, alloc, Vec::new(alloc))?;
+    joins::<Brand, _>(&rt, alloc, unnamed)
+}
+
+fn joins<J: Index, R: Threads + Wait + Abort + Sync>(
+    rt: &R,
+    alloc: Global,
+    unnamed: Unnamed<MemDisk>,
+) -> Result<(), Fail>
+    requires { unnamed.index.name ≡ J.name }
+{
+    let (mut ingest, _passes) = named::<J, R>(rt, alloc, unnamed)?;
+    let outcome = join_first_two(rt, alloc, &mut ingest);
+    let _disk = ingest.into_disk(rt);
+    outcome
+}
+
+/// Two workers have the job of the first two of three batches, and one of them comes later.
+fn join_first_two<J: Index, R: Threads + Wait + Abort + Sync>(
+    rt: &R,
+    alloc: Global,
+    ingest: &mut Ingest<MemDisk, J>,
+) -> Result<(), Fail> {
+    for (first, count) in [(0, 512), (512, 512), (1024, 1)] {
+        let tally = games(rt, alloc, first, count)?;
+        if ingest.commit(rt, alloc, tally).is_err() {
+            return Err(Fail::from("not stored"));
+        }
+    }
+    let (Some(job), Some(late)) = (ingest.pick()?, ingest.pick()?) else {
+        return Err(Fail::from("the first two are due"));
+    };
+    let merged = merge(rt, alloc, &job.left, &job.right, 1, &FreeGate)?;
+    let merged_late = merge(rt, alloc, &late.left, &late.right, 2, &FreeGate)?;
+    assert!(rt; ingest.install(rt, alloc, job, merged).is_ok());
+    let Err(InstallFault::Gone { spans }) = ingest.install(rt, alloc, late, merged_late) else {
+        return Err(Fail::from("joined twice"));
+    };
+    let wanted = [
+        Standing { first: 0, count: 2 },
+        Standing { first: 2, count: 1 },
+    ];
+    assert!(rt; spans.as_slice() == wanted.as_slice());
+    Ok(())
+}
+
+// ---- faults
+
+#[test]
+fn second_sync_of_the_second_commit_fails(rt: HostRuntime) -> Result<(), Fail> {
+    let alloc: Global = rt.alloc();
+    // The disk's calls: three of the creation, four of the first commit, and of the second one a
+    // write, a sync, and a write before the second sync.
+    let unnamed = new_store(&rt, alloc, vec![in alloc; 10]?)?;
+    let disk = breaks::<Brand, _>(&rt, alloc, unnamed)?;
+    let Ok(unnamed) = open(&rt, alloc, disk, 1, 1) else {
+        return Err(Fail::from("not opened"));
+    };
+    // All of the second batch was written.
+    let (batches, _disk) = counted::<Brand, _>(&rt, alloc, unnamed)?;
+    assert_eq!(rt; batches, 2);
+    Ok(())
+}
+
+fn breaks<J: Index, R: Threads + Wait + Abort + Sync>(
+    rt: &R,
+    alloc: Global,
+    unnamed: Unnamed<MemDisk>,
+) -> Result<MemDisk, Fail>
+    requires { unnamed.index.name ≡ J.name }
+{
+    let (mut ingest, passes) = named::<J, R>(rt, alloc, unnamed)?;
+    let outcome = go_on_behind_a_fault(rt, alloc, &mut ingest, passes);
+    let disk = ingest.into_disk(rt);
+    outcome?;
+    Ok(disk)
+}
+
+/// The second batch meets a disk fault, the third finds the store closed, and readers go on.
+fn go_on_behind_a_fault<J: Index, R: Threads + Wait + Abort + Sync>(
+    rt: &R,
+    alloc: Global,
+    ingest: &mut Ingest<MemDisk, J>,
+    mut passes: Vec<Pass<J>>,
+) -> Result<(), Fail> {
+    let mut pass = passes.pop().ok_or("a pass")?;
+    let mut faults = Vec::new(alloc);
+    for number in 0..3 {
+        let tally = games(rt, alloc, number, 1)?;
+        faults.push(fault_of(ingest.commit(rt, alloc, tally)))?;
+        assert_eq!(rt; pass.enter(alloc)?.batches(), 1);
+    }
+    let wanted = [None, Some(("disk fault", 0, 1)), Some(("closed", 0, 1))];
+    assert!(rt; faults.as_slice() == wanted.as_slice());
+    assert_eq!(rt; ingest.batches(), 1);
+    assert!(rt; matches!(ingest.catch_up(rt), Ok(None)));
+    pass.learn(ingest.tell());
+    assert_eq!(rt; pass.front(), 1);
+    Ok(())
+}
+
+/// The fault of the disk that an answer tells of, with its counts.
+fn fault_of<J: Index>(
+    answer: Result<Receipt<J>, CommitFault<J>>,
+) -> Option<(&'static str, u64, u64)> {
+    match answer {
+        Err(CommitFault::DiskFault { before, after, .. }) => Some(("disk fault", before, after)),
+        Err(CommitFault::Closed { before, after, .. }) => Some(("closed", before, after)),
+        _ => None,
+    }
+}
+
+/// How many batches a store has.
+fn counted<J: Index, R: Wait>(
+    rt: &R,
+    alloc: Global,
+    unnamed: Unnamed<MemDisk>,
+) -> Result<(u32, MemDisk), Fail>
+    requires { unnamed.index.name ≡ J.name }
+{
+    let (ingest, _passes) = named::<J, R>(rt, alloc, unnamed)?;
+    let batches = ingest.batches();
+    Ok((batches, ingest.into_disk(rt)))
+}
+
+/// Without memory for its publication a change is held, and the next commit publishes it. An
+/// allocation that fails here makes it so.
+#[test]
+fn held_changes_are_published_by_the_next_commit(rt: HostRuntime) -> Result<(), Fail> {
+    let alloc: Global = rt.alloc();
+    let unnamed = new_store(&rt, alloc, Vec::new(alloc))?;
+    holds::<Brand, _>(&rt, alloc, unnamed)
+}
+
+fn holds<J: Index, R: Threads + Wait + Abort + Sync>(
+    rt: &R,
+    alloc: Global,
+    unnamed: Unnamed<MemDisk>,
+) -> Result<(), Fail>
+    requires { unnamed.index.name ≡ J.name }
+{
+    let (mut ingest, _passes) = named::<J, R>(rt, alloc, unnamed)?;
+    let outcome = hold(rt, alloc, &mut ingest);
+    let _disk = ingest.into_disk(rt);
+    outcome
+}
+
+/// Commits two batches and joins them, and commits a third.
+fn hold<J: Index, R: Threads + Wait + Abort + Sync>(
+    rt: &R,
+    alloc: Global,
+    ingest: &mut Ingest<MemDisk, J>,
+) -> Result<(), Fail> {
+    for number in 0..2 {
+        let tally = games(rt, alloc, number, 1)?;
+        assert!(rt; is_stored(&ingest.commit(rt, alloc, tally)));
+    }
+    let last = games(rt, alloc, 2, 1)?;
+    ingest.catch_up(rt)?;
+    let job = ingest.pick()?.ok_or("two are due")?;
+    let merged = merge(rt, alloc, &job.left, &job.right, 1, &FreeGate)?;
+    let installed = ingest.install(rt, alloc, job, merged).is_ok();
+    assert!(rt; ingest.commit(rt, alloc, last).is_ok());
+    let list = ingest.publisher().list();
+    assert_eq!(rt; list.batches(), 3);
+    assert!(rt; !installed || list.segments().len() == 2);
+    Ok(())
+}
+
+/// Whether a batch is stored, be it published or held.
+fn is_stored<J: Index>(answer: &Result<Receipt<J>, CommitFault<J>>) -> bool {
+    matches!(
+        answer,
+        Ok(_) | Err(CommitFault::OutOfMemory { stored: true })
+    )
+}
