@@ -1,35 +1,37 @@
 -- How a run of `count` ends.
-use Rattle.std.proofs.Common.{◌≡◌, ◌⊎◌, inl, inr, ℕ, ◌≤◌, List, [], ◌∷◌, ◌++◌, None, Some, Result, Ok, Err, length, codes, refl, sym, ap, subst, ◌∙◌, arith}
-use Rattle.std.specs.Prelude.{IsErrAnd, OnOk, OnErr}
-use Rattle.outside.specs.Stream.{Stream, Takes, FailsToTake, Writes}
+use Rattle.std.proofs.Common.{◌≡◌, ◌⊎◌, ⊎_elim, inl, inr, ℕ, ◌<◌, ◌-◌, ◌^◌, ◌≤◌, List, [], ◌∷◌, ◌++◌, Option, None, Some, Result, Ok, Err, length, codes, refl, sym, ap, subst, ◌∙◌, arith}
+use Rattle.std.specs.Prelude.{IsErrAnd, OnOk, OnErr, Vec}
+use Rattle.std.specs.Global.{Global}
+use Rattle.disk_model.specs.Disk.{DiskState}
+use Rattle.outside.specs.Stream.{Rises, Stream, Takes, FailsToTake, Writes}
 use Rattle.host.specs.Hosts.{HostState}
 use Rattle.outside.specs.declared.stream.Failed.{Failed}
 use Rattle.outside.proofs.StreamLemmas.{reads-none}
-use Rattle.explorer_model.specs.declared.answer.Found.{Found}
 use Rattle.explorer_model.specs.declared.archive.Batch.{Batch}
 use Rattle.explorer_model.specs.declared.fault.Refusal.{Refusal}
 use Rattle.explorer_model.specs.declared.fault.Stop.{Stop}
 use Rattle.explorer_model.specs.declared.fault.Stop.TheVariants as stops
 use Rattle.explorer_model.specs.declared.query.BadParameter.{BadParameter}
 use Rattle.explorer_model.specs.declared.query.Query.{Query}
-use Rattle.explorer_model.specs.Answer.{answer_body}
-use Rattle.explorer_model.specs.Finds.{IsFound}
-use Rattle.explorer_model.specs.Journal.{input_limit}
+use Rattle.explorer_model.specs.Journal.{IsSound, input_limit}
 use Rattle.explorer_model.specs.Query.{QueryReads}
 use Rattle.explorer_model.specs.Stop as model
-use Rattle.tally_rows.specs.Tally.{Counted}
+use Rattle.ingest_desk.specs.declared.report.ImportEnding.{ImportEnding}
+use Rattle.ingest_desk.specs.declared.report.ImportEnding.TheVariants as endings
+use Rattle.import_run.specs.Committing.{Known}
+use Rattle.import_run.specs.Ending.{IsCutOff, IsTooMuch}
 use Rattle.explorer.specs.declared.fault.Fault.{Fault}
 use Rattle.explorer.specs.declared.fault.Fault.TheVariants as faults
-use Rattle.explorer.specs.declared.import.End.{End}
-use Rattle.explorer.specs.declared.import.End.TheVariants as ends
-use Rattle.explorer.specs.declared.import.Imported.{Imported}
-use Rattle.explorer.specs.Count.{Answers, Counts, CountsBy}
-use Rattle.explorer.specs.Faults.{fault_of_end, fault_of_query}
-use Rattle.explorer.specs.Importing.{FaultsAre, Imports, ReadsWithin, StandsAt, batches_of}
+use Rattle.explorer.specs.declared.importing.Came.{Came}
+use Rattle.explorer.specs.Answer.{IsAnswer, answer_line}
+use Rattle.explorer.specs.Count.{Answers, BreaksOff, CountedBy, CountedTo, Counts, CountsBy, ImportsNew, ReadsWithin}
+use Rattle.explorer.specs.Faults.{fault_by, fault_of_query}
+use Rattle.explorer.specs.Imported.{FaultsBy, ImportedIn, IsAllSettled, IsFullAt, StandsBy, StoredBy, new_store}
 use Rattle.explorer.specs.Lines.{AreLinesOf, Ending, Stopped, ending_of}
 use Rattle.explorer.specs.Report.{report}
 use Rattle.explorer.specs.Run.{Starves}
 use Rattle.explorer.specs.World.{World, WriteFails, world}
+use Rattle.explorer.proofs.NewStoreLemmas.{known_is_new}
 
 -- ---- want of memory
 
@@ -39,20 +41,116 @@ starves_at_once before = record { ending_is = refl; stream = []; reads = reads-n
 pub starves_reading : (input input' output errors : Stream) (host : HostState) → ReadsWithin input input' → Starves (world input output errors host) (world input' output errors host) (Stopped faults.OutOfMemory)
 starves_reading input input' output errors host within = record { ending_is = refl; stream = within.stream; reads = within.reads; within = within.within; rest = refl }
 
-stands_within : (end : End) (stream : List ℕ) (batches : List Batch) (refused : List Refusal) (after : Stream) → StandsAt end stream batches refused after → length stream ≤ input_limit
-stands_within ends.Whole stream batches refused after stands = omega (arith, stands.1)
-stands_within ends.ReadFault stream batches refused after stands = omega (arith, stands.below)
-stands_within ends.TooMuchInput stream batches refused after stands = omega (arith, stands.at)
-stands_within (ends.Full games bytes) stream batches refused after stands = omega (arith, stands.below)
+-- nothing was read
+pub within_nothing : (input : Stream) → ReadsWithin input input
+within_nothing input = record { stream = []; reads = reads-none input; within = omega arith }
 
-pub starves_later : (input input' output errors : Stream) (host : HostState) (imported : Imported) → Imports input input' imported → Starves (world input output errors host) (world input' output errors host) (Stopped faults.OutOfMemory)
-starves_later input input' output errors host imported imports = record {
-  ending_is = refl;
-  stream = imports.stream;
-  reads = imports.reads;
-  within = stands_within imported.end imports.stream _ _ input' imports.stands;
-  rest = refl;
-}
+within_by : (ending : ImportEnding) (start : Known) (stream : List ℕ) (left : Option (List ℕ)) (batches : List Batch) (refused : List Refusal) → StandsBy ending start stream left batches refused → length stream ≤ input_limit
+within_by endings.Whole start stream left batches refused stands = omega (arith, stands.below)
+within_by (endings.ReadFault first last) start stream left batches refused stands = omega (arith, stands.below)
+within_by (endings.TooMuch bytes) start stream left batches refused stands = omega (arith, stands.at)
+within_by (endings.DiskFault first last) start stream left batches refused stands = omega (arith, stands.0.below)
+within_by (endings.Closed first last) start stream left batches refused stands = absurd stands
+within_by (endings.Full games bytes) start stream left batches refused stands = omega (arith, stands.0.below)
+within_by endings.OutOfMemory start stream left batches refused stands = omega (arith, stands.below)
+
+-- an import reads no more than it may
+pub within : (journal stored : List Batch) (disk disk_after : DiskState) (source source_after : Stream) (came : Came) → ImportedIn journal stored disk disk_after source source_after came → ReadsWithin source source_after
+within journal stored disk disk_after source source_after came is =
+    record { stream = is.stream; reads = is.reads; within = within_by came.ending is.start is.stream source_after.left is.batches came.refused.items is.stands }
+
+-- ---- an import into a new store
+
+module _ (query : Query) (journal stored : List Batch) (empty : journal ≡ []) (disk disk_after : DiskState) (source source_after : Stream) (came : Came) (is : ImportedIn journal stored disk disk_after source source_after came) where
+  started : is.start ≡ new_store
+  started = known_is_new is.start (is.journal_is ∙ empty) is.sound
+
+  stands_new : StandsBy came.ending new_store is.stream source_after.left is.batches came.refused.items
+  stands_new =
+      let P : Known → Type 0 = λ k. StandsBy came.ending k is.stream source_after.left is.batches came.refused.items in
+      subst P started is.stands
+
+  stored_by_ending : (ending : ImportEnding) → came.ending ≡ ending → StoredBy ending is.batches stored
+  stored_by_ending ending e =
+      let P : ImportEnding → Type 0 = λ f. StoredBy f (is.start.journal ++ is.batches) stored in
+      let Q : Known → Type 0 = λ k. StoredBy ending (k.journal ++ is.batches) stored in
+      subst Q started (subst P e is.stored_are)
+
+  stands_at : (ending : ImportEnding) → came.ending ≡ ending → StandsBy ending new_store is.stream source_after.left is.batches came.refused.items
+  stands_at ending e =
+      let P : ImportEnding → Type 0 = λ f. StandsBy f new_store is.stream source_after.left is.batches came.refused.items in
+      subst P e stands_new
+
+  faults_at : (ending : ImportEnding) → came.ending ≡ ending → FaultsBy ending disk disk_after source source_after
+  faults_at ending e =
+      let P : ImportEnding → Type 0 = λ f. FaultsBy f disk disk_after source source_after in
+      subst P e is.faults
+
+  new_by : (Stands : List ℕ → List Batch → List Refusal → Type 0) → Stands is.stream is.batches came.refused.items → stored ≡ is.batches → ImportsNew Stands source source_after is.batches came.refused.items
+  new_by Stands stands same = record { stream = is.stream; reads = is.reads; stands = stands; sound = subst (λ (j : List Batch). IsSound j) same is.is_sound }
+
+  some_none : (fault : Fault) → Some fault ≡ None → ⊥
+  some_none fault e = cc
+
+  -- the input was read to its end
+  pub counted_all : (after published : List Batch) (line : Vec ℕ Global) → fault_by came.ending ≡ None → after ≡ stored → published ≡ after → IsAnswer query published line
+      → CountedTo query disk.faults disk_after.faults source source_after came.refused.items (Ok line)
+  counted_all after published line none same told answer = by_ending came.ending refl none
+    where
+      by_ending : (ending : ImportEnding) → came.ending ≡ ending → fault_by ending ≡ None → CountedTo query disk.faults disk_after.faults source source_after came.refused.items (Ok line)
+      by_ending endings.Whole e none =
+          let stored_is : stored ≡ is.batches = stored_by_ending endings.Whole e in
+          let A : List Batch → Type 0 = λ j. IsAnswer query j line in (
+            is.batches,
+            (
+              new_by (λ stream. IsAllSettled new_store stream source_after.left) (stands_at endings.Whole e) stored_is,
+              subst A (told ∙ same ∙ stored_is) answer,
+              (faults_at endings.Whole e).reads,
+            ),
+          )
+      by_ending (endings.ReadFault first last) e none = absurd (some_none _ none)
+      by_ending (endings.DiskFault first last) e none = absurd (some_none _ none)
+      by_ending (endings.Closed first last) e none = absurd (some_none _ none)
+      by_ending (endings.Full games bytes) e none = absurd (some_none _ none)
+      by_ending (endings.TooMuch bytes) e none = absurd (some_none _ none)
+      by_ending endings.OutOfMemory e none = absurd (some_none _ none)
+
+  -- the import ended early
+  pub counted_early : (fault : Fault) → fault_by came.ending ≡ Some fault → (fault ≡ faults.OutOfMemory → ⊥) → CountedTo query disk.faults disk_after.faults source source_after came.refused.items (Err fault)
+  counted_early fault ends differs = by_ending came.ending refl ends
+    where
+      so : (other : Fault) → Some other ≡ Some fault → CountedTo query disk.faults disk_after.faults source source_after came.refused.items (Err other)
+          → CountedTo query disk.faults disk_after.faults source source_after came.refused.items (Err fault)
+      so other e counted =
+          let same : other ≡ fault = cc in
+          subst (λ (f : Fault). CountedTo query disk.faults disk_after.faults source source_after came.refused.items (Err f)) same counted
+
+      none_some : None ≡ Some fault → ⊥
+      none_some e = cc
+
+      by_ending : (ending : ImportEnding) → came.ending ≡ ending → fault_by ending ≡ Some fault → CountedTo query disk.faults disk_after.faults source source_after came.refused.items (Err fault)
+      by_ending endings.Whole e ends = absurd (none_some ends)
+      by_ending (endings.ReadFault first last) e ends =
+          so faults.ReadFault ends (
+            is.batches,
+            (new_by (IsCutOff new_store) (stands_at (endings.ReadFault first last) e) (stored_by_ending (endings.ReadFault first last) e), (faults_at (endings.ReadFault first last) e).1),
+          )
+      by_ending (endings.DiskFault first last) e ends = so faults.DiskFault ends (is.batches, (faults_at (endings.DiskFault first last) e).0)
+      by_ending (endings.Closed first last) e ends = absurd (stands_at (endings.Closed first last) e)
+      by_ending (endings.Full games bytes) e ends =
+          so (faults.Full games bytes) ends (
+            is.batches,
+            (
+              new_by (λ stream. IsFullAt games bytes new_store stream source_after.left) (stands_at (endings.Full games bytes) e) (stored_by_ending (endings.Full games bytes) e),
+              (faults_at (endings.Full games bytes) e).reads,
+            ),
+          )
+      by_ending (endings.TooMuch bytes) e ends =
+          so faults.TooMuchInput ends (
+            is.batches,
+            (new_by (IsTooMuch new_store) (stands_at (endings.TooMuch bytes) e) (stored_by_ending (endings.TooMuch bytes) e), (faults_at (endings.TooMuch bytes) e).reads),
+          )
+      by_ending endings.OutOfMemory e ends = let same : faults.OutOfMemory ≡ fault = cc in absurd (differs (sym same))
 
 -- ---- results
 
@@ -100,14 +198,17 @@ writes_as chunk other old new is writes = subst (λ (l : List ℕ). Writes (l �
 
 -- ---- an import that ends early
 
-pub broken : (text : List ℕ) (query : Query) (input input' output errors errors' : Stream) (host : HostState) (imported : Imported) (fault : Fault) (lines : List ℕ) → QueryReads text (Ok query) → Imports input input' imported
-    → fault_of_end imported.end ≡ Some fault → lines ≡ report imported.refused.items → Writes (lines ∷ []) errors errors'
+no_rise : Rises 0 0 → ⊥
+no_rise rises = ⊎_elim (λ (less : 0 < 0). omega (arith, less)) (λ (most : 0 ≡ 2 ^ 64 - 1). omega (arith, most)) rises.rose
+
+pub broken : (text : List ℕ) (query : Query) (input input' output errors errors' : Stream) (host : HostState) (refused : List Refusal) (fault : Fault) (lines : List ℕ) → QueryReads text (Ok query) → CountedTo query 0 0 input input' refused (Err fault)
+    → lines ≡ report refused → Writes (lines ∷ []) errors errors'
     → Counts text (world input output errors host) (world input' output errors' host) (Stopped fault)
-broken text query input input' output errors errors' host imported fault lines reads imports ends_by lines_are writes =
-    (Ok query, reads, by_end imported.end ends_by imports.stands imports.faults)
+broken text query input input' output errors errors' host refused fault lines reads (batches, counted) lines_are writes =
+    (Ok query, reads, by_fault fault counted)
   where
-    told : Writes (report imported.refused.items ∷ []) errors errors'
-    told = writes_as lines (report imported.refused.items) errors errors' lines_are writes
+    told : Writes (report refused ∷ []) errors errors'
+    told = writes_as lines (report refused) errors errors' lines_are writes
 
     before : World
     before = world input output errors host
@@ -115,54 +216,41 @@ broken text query input input' output errors errors' host imported fault lines r
     after : World
     after = world input' output errors' host
 
-    as_told : (other : Fault) → Some other ≡ Some fault → CountsBy (Ok query) before after (Stopped other) → CountsBy (Ok query) before after (Stopped fault)
-    as_told other is counts = let same : other ≡ fault = cc in subst (λ (f : Fault). CountsBy (Ok query) before after (Stopped f)) same counts
+    off : (Stands : List ℕ → List Batch → List Refusal → Type 0) → ImportsNew Stands input input' batches refused → BreaksOff Stands before after
+    off Stands imports = record { batches = batches; refused = refused; imports = imports; output = refl; errors = told; host = refl }
 
-    by_end : (end : End) → fault_of_end end ≡ Some fault → StandsAt end imports.stream (batches_of imported.tallies.items) imported.refused.items input' → FaultsAre end input input' → CountsBy (Ok query) before after (Stopped fault)
-    by_end ends.Whole is stands failed = cc
-    by_end ends.ReadFault is stands failed =
-        as_told faults.ReadFault is (record { stream = imports.stream; reads = imports.reads; refused = imported.refused.items; stands = stands; output = refl; errors = told; host = refl }, failed)
-    by_end ends.TooMuchInput is stands failed =
-        as_told faults.TooMuchInput is (record { stream = imports.stream; reads = imports.reads; refused = imported.refused.items; stands = stands; output = refl; errors = told; host = refl }, failed)
-    by_end (ends.Full games bytes) is stands failed =
-        as_told (faults.Full games bytes) is (record { stream = imports.stream; reads = imports.reads; refused = imported.refused.items; stands = stands; output = refl; errors = told; host = refl }, failed)
+    by_fault : (fault : Fault) → CountedBy query 0 0 input input' batches refused (Err fault) → CountsBy (Ok query) before after (Stopped fault)
+    by_fault faults.ReadFault (imports, rises) = (off (IsCutOff new_store) imports, rises)
+    by_fault faults.TooMuchInput (imports, came) = (off (IsTooMuch new_store) imports, came)
+    by_fault (faults.Full games bytes) (imports, came) = (off (λ stream. IsFullAt games bytes new_store stream input'.left) imports, came)
+    by_fault faults.DiskFault rises = absurd (no_rise rises)
+    by_fault faults.Usage counted = absurd counted
+    by_fault (faults.BadParameter parameter) counted = absurd counted
+    by_fault faults.WriteFault counted = absurd counted
+    by_fault (faults.NotEmpty size) counted = absurd counted
+    by_fault faults.NotAStore counted = absurd counted
+    by_fault (faults.OtherFormat number) counted = absurd counted
+    by_fault (faults.Damaged gate) counted = absurd counted
+    by_fault faults.OutOfMemory counted = absurd counted
+    by_fault (faults.CannotOpen name) counted = absurd counted
+    by_fault faults.CannotAccept counted = absurd counted
 
 -- ---- an import to the end of the input
 
--- what was found in tallies, and its line
-abbrev IsAnswerOf : List Counted → Query → List ℕ → Type 0
-IsAnswerOf tallies query line = (found : Found) × IsFound (batches_of tallies) query found × (line ≡ answer_body found ++ codes "\n")
-
-pub answered : (query : Query) (input input' output output' errors errors' : Stream) (host : HostState) (imported : Imported) (tallies : List Counted) (lines line chunk : List ℕ) → Imports input input' imported
-    → fault_of_end imported.end ≡ None → lines ≡ report imported.refused.items → Writes (lines ∷ []) errors errors' → tallies ≡ imported.tallies.items → IsAnswerOf tallies query line → chunk ≡ line
+pub answered : (query : Query) (input input' output output' errors errors' : Stream) (host : HostState) (refused : List Refusal) (line : Vec ℕ Global) (lines chunk : List ℕ) → CountedTo query 0 0 input input' refused (Ok line)
+    → lines ≡ report refused → Writes (lines ∷ []) errors errors' → chunk ≡ line.items
     → Writes (chunk ∷ []) output output' → Answers query (world input output errors host) (world input' output' errors' host)
-answered query input input' output output' errors errors' host imported tallies lines line chunk imports none lines_are told tallies_are answer chunk_is writes = by_end imported.end none imports.stands
-  where
-    by_end : (end : End) → fault_of_end end ≡ None → StandsAt end imports.stream (batches_of imported.tallies.items) imported.refused.items input' → Answers query (world input output errors host) (world input' output' errors' host)
-    by_end ends.ReadFault is stands = cc
-    by_end ends.TooMuchInput is stands = cc
-    by_end (ends.Full games bytes) is stands = cc
-    by_end ends.Whole is stands = record {
-      stream = imports.stream;
-      reads = imports.reads;
-      at_end = stands.0;
-      below = stands.1;
-      batches = batches_of imported.tallies.items;
-      refused = imported.refused.items;
-      stored = stands.2;
-      found = answer.0;
-      is_found = subst (λ (l : List Counted). IsFound (batches_of l) query answer.0) tallies_are answer.1;
-      output = writes_as chunk (answer_body answer.0 ++ codes "\n") output output' (chunk_is ∙ answer.2) writes;
-      errors = writes_as lines (report imported.refused.items) errors errors' lines_are told;
-      host = refl;
-    }
+answered query input input' output output' errors errors' host refused line lines chunk (batches, (imports, (found, is_found, line_is), came)) lines_are told chunk_is writes = record {
+  batches = batches;
+  refused = refused;
+  imports = imports;
+  found = found;
+  is_found = is_found;
+  output = writes_as chunk (answer_line found) output output' (chunk_is ∙ line_is) writes;
+  errors = writes_as lines (report refused) errors errors' lines_are told;
+  host = refl;
+}
 
 -- no read failed
-pub all_came : (input input' : Stream) (imported : Imported) → Imports input input' imported → fault_of_end imported.end ≡ None → input'.read_faults ≡ input.read_faults
-all_came input input' imported imports none = by_end imported.end none imports.faults
-  where
-    by_end : (end : End) → fault_of_end end ≡ None → FaultsAre end input input' → input'.read_faults ≡ input.read_faults
-    by_end ends.Whole is same = same
-    by_end ends.ReadFault is rises = cc
-    by_end ends.TooMuchInput is same = same
-    by_end (ends.Full games bytes) is same = same
+pub all_came : (query : Query) (input input' : Stream) (refused : List Refusal) (line : Vec ℕ Global) → CountedTo query 0 0 input input' refused (Ok line) → input'.read_faults ≡ input.read_faults
+all_came query input input' refused line (batches, counted) = counted.2

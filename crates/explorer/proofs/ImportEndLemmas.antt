@@ -2,26 +2,26 @@
 use Rattle.std.proofs.Common.{◌≡◌, ◌⊎◌, inl, inr, ⊎_elim, ℕ, ◌<◌, ◌++◌, List, [], ◌∷◌, Option, None, Some, length, refl, sym, ap, subst, ◌∙◌, arith}
 use Rattle.std.specs.Prelude.{IfSome, string_bytes}
 use Rattle.disk_model.specs.Disk.{DiskState, IsQuiet}
-use Rattle.outside.specs.Stream.{NeverFalls, Rises, Stream, Writes}
-use Rattle.outside.proofs.StreamLemmas.{rises-later}
+use Rattle.outside.specs.Stream.{Rises, Stream, Writes}
 use Rattle.explorer_model.specs.declared.archive.Batch.{Batch}
 use Rattle.explorer_model.specs.declared.store.LogFault.TheVariants as log
 use Rattle.explorer_model.specs.Journal.{game_count}
 use Rattle.manifest.specs.Manifest.{HasJournal}
 use Rattle.record_log.specs.declared.fault.OpenFault.{OpenFault}
 use Rattle.record_log.specs.declared.fault.OpenFault.TheVariants as opening
-use Rattle.host.specs.Hosts.{ADisk, FileBack, FileOut, FileRefused, HandsFile, HostCall, HostState, IsOut, RefusesFile, TakesFile, handed, noted, out, returned}
+use Rattle.host.specs.Hosts.{ADisk, FileBack, FileOut, FileRefused, HandsDisk, HandsFile, HostCall, HostState, IsOut, RefusesFile, TakesDisk, TakesFile, handed, noted, out, returned}
 use Rattle.ingest_desk.specs.declared.report.ImportEnding.{ImportEnding}
 use Rattle.ingest_desk.specs.declared.report.ImportEnding.TheVariants as endings
 use Rattle.explorer.specs.declared.fault.Fault.{Fault}
 use Rattle.explorer.specs.declared.fault.Fault.TheVariants as faults
-use Rattle.explorer.specs.declared.import_store.Came.{Came}
-use Rattle.explorer.specs.Faults.{fault_of_opening}
-use Rattle.explorer.specs.ImportStore.{FaultsBy, ImportedIn, ImportsBy, ImportsTo, IsTold, OutcomeBy, UsesBoth, fault_by, totals}
+use Rattle.explorer.specs.declared.importing.Came.{Came}
+use Rattle.explorer.specs.Faults.{fault_by, fault_of_opening}
+use Rattle.explorer.specs.Imported.{FaultsBy, ImportedTo}
+use Rattle.explorer.specs.ImportStore.{ImportsBy, ImportsInto, ImportsTo, IsTold, LacksMemory, OutcomeBy, UsesBoth, totals}
 use Rattle.explorer.specs.Lines.{Ending, Done, Stopped}
 use Rattle.ingest_desk.specs.Openings.{IsNotOpened}
 use Rattle.explorer.specs.Opened.{NotOpened, OpensTo}
-use Rattle.explorer.specs.Stores.{OnlyHost, UsesDisk}
+use Rattle.explorer.specs.Stores.{IsSized, OnlyHost, UsesDisk}
 use Rattle.explorer.specs.World.{World}
 
 -- ---- a store that is not opened
@@ -32,14 +32,14 @@ not_opened (opening.Log log.NotALog) store file before after uses only = (uses, 
 not_opened (opening.Log (log.OtherFormat number)) store file before after uses only = (uses, only)
 not_opened (opening.Log (log.Damaged at)) store file before after uses only = (uses, only)
 not_opened (opening.DiskFault first last) store file before after uses only = inl (uses, only)
-not_opened opening.OutOfMemory store file before after uses only = ap (λ (w : World). w.input) only
+not_opened opening.OutOfMemory store file before after uses only = inl (inl uses, only)
 
 module _ {D : Type 0} (disk : D → DiskState) (left_since : D → ℕ → List ℕ → Type 0) (old new : D) (quiet : IsQuiet disk left_since old new) where
   kept : (disk new).content ≡ (disk old).content
   kept = ap (λ (s : DiskState). s.content) quiet.rest
 
-  pub opens_to : (journal : List Batch) → IfSome (disk old).content (HasJournal journal) → OpensTo journal (disk old) (disk new)
-  opens_to journal read = record { read = read; kept = kept; falls = quiet.never_falls }
+  pub opens_to : (journal : List Batch) → IfSome (disk old).content (HasJournal journal) → (disk new).faults ≡ (disk old).faults → OpensTo journal (disk old) (disk new)
+  opens_to journal read no_fault = record { read = read; kept = kept; no_fault = no_fault }
 
   pub refused_by : (fault : OpenFault) → IsNotOpened disk fault old new → NotOpened fault (disk old) (disk new)
   refused_by (opening.Log fault) is = record { wrong = is; kept = kept }
@@ -51,42 +51,85 @@ module _ {D : Type 0} (disk : D → DiskState) (left_since : D → ℕ → List 
 
 -- ---- an import that was told
 
-later_faults : (e : ImportEnding) (disk opened disk_after : DiskState) (source source_after : Stream) → NeverFalls disk.faults opened.faults → FaultsBy e opened disk_after source source_after → FaultsBy e disk disk_after source source_after
-later_faults endings.Whole disk opened disk_after source source_after falls f = f
-later_faults (endings.ReadFault first last) disk opened disk_after source source_after falls f = f
-later_faults (endings.DiskFault first last) disk opened disk_after source source_after falls f = (rises-later disk.faults opened.faults disk_after.faults falls f.0, f.1)
-later_faults (endings.Closed first last) disk opened disk_after source source_after falls f = f
-later_faults (endings.Full games bytes) disk opened disk_after source source_after falls f = f
-later_faults (endings.TooMuch bytes) disk opened disk_after source source_after falls f = f
-later_faults endings.OutOfMemory disk opened disk_after source source_after falls f = f
+-- no call of the disk failed when it was opened
+from_opening : (e : ImportEnding) (disk opened disk_after : DiskState) (source source_after : Stream) → opened.faults ≡ disk.faults → FaultsBy e opened disk_after source source_after → FaultsBy e disk disk_after source source_after
+from_opening endings.Whole disk opened disk_after source source_after same f = record { calls = f.calls ∙ same; reads = f.reads }
+from_opening (endings.ReadFault first last) disk opened disk_after source source_after same f = (f.0 ∙ same, f.1)
+from_opening (endings.DiskFault first last) disk opened disk_after source source_after same f = (subst (λ (n : ℕ). Rises n disk_after.faults) same f.0, f.1)
+from_opening (endings.Closed first last) disk opened disk_after source source_after same f = record { calls = f.calls ∙ same; reads = f.reads }
+from_opening (endings.Full games bytes) disk opened disk_after source source_after same f = record { calls = f.calls ∙ same; reads = f.reads }
+from_opening (endings.TooMuch bytes) disk opened disk_after source source_after same f = record { calls = f.calls ∙ same; reads = f.reads }
+from_opening endings.OutOfMemory disk opened disk_after source source_after same f = record { calls = f.calls ∙ same; reads = f.reads }
+
+-- what the import came to, over the host
+pub imports_into : (store file : List ℕ) (before after : HostState) (journal : List Batch) (disk opened disk_after : DiskState) (source source_after : Stream) (came : Came)
+    → UsesBoth store file disk disk_after source source_after before after → OpensTo journal disk opened → ImportedTo journal opened disk_after source source_after came
+    → ImportsInto came.ending store file before after
+imports_into store file before after journal disk opened disk_after source source_after came uses opens (stored, is) =
+    let J : List Batch → Type 0 = λ j. IfSome disk.content (HasJournal j) in
+    record {
+      disk = disk;
+      disk_after = disk_after;
+      source = source;
+      source_after = source_after;
+      uses = uses;
+      start = is.start;
+      sound = is.sound;
+      read = subst J (sym is.journal_is) opens.read;
+      stream = is.stream;
+      reads = is.reads;
+      batches = is.batches;
+      refused = came.refused.items;
+      stands = is.stands;
+      stored = stored;
+      stored_are = is.stored_are;
+      is_sound = is.is_sound;
+      holds = is.holds;
+      faults = from_opening came.ending disk opened disk_after source source_after opens.no_fault is.faults;
+    }
+
+pub uses_both : (store file : List ℕ) (disk disk_after : DiskState) (source source_after : Stream) (before opened given taken after : HostState) → IsSized disk → HandsDisk store disk before opened
+    → HandsFile file source opened given → TakesFile file source_after given taken → TakesDisk store disk_after taken after → UsesBoth store file disk disk_after source source_after before after
+uses_both store file disk disk_after source source_after before opened given taken after sized hands hands_file takes_file takes = record {
+  sized = sized;
+  opened = opened;
+  hands_disk = hands;
+  given = given;
+  hands_file = hands_file;
+  taken = taken;
+  takes_file = takes_file;
+  takes_disk = takes;
+}
+
+-- memory was wanting before the import began
+pub in_vain : (store file : List ℕ) (disk disk_after : DiskState) (source source_after : Stream) (before after : World) → UsesBoth store file disk disk_after source source_after before.host after.host
+    → disk_after.content ≡ disk.content → source_after ≡ source → OnlyHost before after → LacksMemory store file before after
+in_vain store file disk disk_after source source_after before after uses kept same only =
+    let U : Stream → Type 0 = λ s. UsesBoth store file disk disk_after source s before.host after.host in
+    inl (inr (inl (record { disk = disk; disk_after = disk_after; source = source; uses = subst U same uses; kept = kept })), only)
+
+-- memory was wanting for what the import came to
+pub untold : (store file : List ℕ) (before after : World) (ending : ImportEnding) → ImportsInto ending store file before.host after.host → OnlyHost before after → LacksMemory store file before after
+untold store file before after ending imports only = inl (inr (inr (ending, imports)), only)
+
+-- streams that are as they were leave the host alone
+pub only_host : (before after : World) (output errors : Stream) (host : HostState) → after ≡ record before { output = output; errors = errors; host = host } → output ≡ before.output → errors ≡ before.errors
+    → OnlyHost before after
+only_host before after output errors host is o e =
+    let host_is : after.host ≡ host = ap (λ (w : World). w.host) is in
+    is ∙ (λ i. record before { output = o i; errors = e i; host = sym host_is i })
 
 module _ (store file : List ℕ) (before after : World) where
   pub imports_to : (journal : List Batch) (disk opened disk_after : DiskState) (source source_after : Stream) (came : Came) (ending : Ending) → UsesBoth store file disk disk_after source source_after before.host after.host
-      → IfSome disk.content (HasJournal journal) → NeverFalls disk.faults opened.faults → ImportedIn journal opened disk_after source source_after came
+      → OpensTo journal disk opened → ImportedTo journal opened disk_after source source_after came
       → IsTold came before.output after.output before.errors after.errors ending → after ≡ record before { output = after.output; errors = after.errors; host = after.host }
       → ImportsTo came.ending store file before after
-  imports_to journal disk opened disk_after source source_after came ending uses read falls is told rest =
-      let J : List Batch → Type 0 = λ j. IfSome disk.content (HasJournal j) in
-      let line : totals came.games came.batches came.journal ≡ totals (game_count is.batches) (length is.batches) (length is.stored) = λ i. totals (is.games_are i) (is.batches_are i) (is.stored_is i) in
+  unfolding imports_into
+  imports_to journal disk opened disk_after source source_after came ending uses opens (stored, is) told rest =
+      let line : totals came.games came.batches came.journal ≡ totals (game_count is.batches) (length is.batches) (length stored) = λ i. totals (is.games_are i) (is.batches_are i) (is.stored_is i) in
       let W : List ℕ → Type 0 = λ l. Writes (l ∷ []) before.output after.output in
       record {
-        disk = disk;
-        disk_after = disk_after;
-        source = source;
-        source_after = source_after;
-        uses = uses;
-        start = is.start;
-        sound = is.sound;
-        read = subst J (sym is.journal_is) read;
-        stream = is.stream;
-        reads = is.reads;
-        batches = is.batches;
-        refused = came.refused.items;
-        stands = is.stands;
-        stored = is.stored;
-        stored_are = is.stored_are;
-        holds = is.holds;
-        faults = later_faults came.ending disk opened disk_after source source_after falls is.faults;
+        imports = imports_into store file before.host after.host journal disk opened disk_after source source_after came uses opens (stored, is);
         errors = told.errors_are;
         output = subst W line told.output_is;
         rest = rest;
@@ -113,10 +156,10 @@ module _ (store file : List ℕ) (before after : World) where
   imports_by endings.Whole (Stopped faults.TooMuchInput) to outcome = absurd outcome
   imports_by (endings.ReadFault first last) ending to outcome = stopped ending faults.ReadFault outcome (first, last, to)
   imports_by (endings.DiskFault first last) ending to outcome = stopped ending faults.DiskFault outcome (inr (first, last, to))
-  imports_by (endings.Closed first last) ending to outcome = absurd to.stands
+  imports_by (endings.Closed first last) ending to outcome = absurd to.imports.stands
   imports_by (endings.Full games bytes) ending to outcome = stopped ending (faults.Full games bytes) outcome to
   imports_by (endings.TooMuch bytes) ending to outcome = stopped ending faults.TooMuchInput outcome (bytes, to)
-  imports_by endings.OutOfMemory ending to outcome = stopped ending faults.OutOfMemory outcome (ap (λ (w : World). w.input) to.rest)
+  imports_by endings.OutOfMemory ending to outcome = stopped ending faults.OutOfMemory outcome (inr to)
 
 -- ---- a disk stays out while a file is asked for
 

@@ -23,9 +23,11 @@ use Rattle.import_run.specs.Alone.{DiskFaultsAre, ImportsAlone, stored_in}
 use Rattle.import_run.specs.Committing.{Known, Store, store_of}
 use Rattle.import_run.specs.Ending.{ReadFaultsAre, StandsAt, StoresBy}
 use Rattle.import_run.specs.Progress.{AreReceiptsOf}
-use Rattle.explorer.specs.declared.import_store.Came.{Came}
+use Rattle.explorer.specs.declared.importing.Came.{Came}
 use Rattle.explorer.specs.declared.fault.Fault.{Fault}
-use Rattle.explorer.specs.ImportStore.{FaultsBy, HoldsBy, ImportedIn, IsTold, OutcomeBy, StandsBy, StoredBy, fault_by, totals}
+use Rattle.explorer.specs.Faults.{fault_by}
+use Rattle.explorer.specs.Imported.{FaultsBy, HoldsBy, ImportedIn, StandsBy, StoredBy}
+use Rattle.explorer.specs.ImportStore.{IsTold, OutcomeBy, totals}
 use Rattle.explorer.specs.Lines.{Ending, Stopped}
 use Rattle.explorer.specs.Report.{report}
 use Rattle.explorer.proofs.StoreLemmas.{told_has}
@@ -63,7 +65,7 @@ holds_open {D} disk left_since told after keeps none =
 module _ {J : Type 0} (start : Known) (open_is : start.fault ≡ None) where
   stands_by : (end : End J) (stream : List ℕ) (left : Option (List ℕ)) (batches : List Batch) (refused : List Refusal) → StandsAt end start stream left batches refused
       → StandsBy (ending_of end) start stream left batches refused
-  stands_by ends.Whole stream left batches refused s = s
+  stands_by ends.Whole stream left batches refused s = record { at_end = s.0; below = s.1; settled = s.2 }
   stands_by (ends.ReadFault first last) stream left batches refused s = s
   stands_by (ends.TooMuch bytes) stream left batches refused s = s.1
   stands_by (ends.DiskFault first last mark) stream left batches refused s = s.2
@@ -117,16 +119,16 @@ faults_by : {J : Type 0} (end : End J) (disk disk_after : DiskState) (source sou
 faults_by {J} (ends.ReadFault first last) disk disk_after source source_after r d =
     let P : ℕ → Type 0 = λ n. Rises n source_after.read_faults in
     let Q : ℕ → Type 0 = λ n. Rises first n in
-    subst P r.0 (subst Q r.1 r.2)
+    (d, subst P r.0 (subst Q r.1 r.2))
 faults_by {J} (ends.DiskFault first last mark) disk disk_after source source_after r d =
     let P : ℕ → Type 0 = λ n. Rises n disk_after.faults in
     let Q : ℕ → Type 0 = λ n. Rises first n in
     (subst P d.before_is (subst Q d.after_is d.rises), r)
-faults_by {J} ends.Whole disk disk_after source source_after r d = r
-faults_by {J} (ends.TooMuch bytes) disk disk_after source source_after r d = r
-faults_by {J} (ends.Closed first last mark) disk disk_after source source_after r d = r
-faults_by {J} (ends.Full games bytes note) disk disk_after source source_after r d = r
-faults_by {J} ends.OutOfMemory disk disk_after source source_after r d = r
+faults_by {J} ends.Whole disk disk_after source source_after r d = record { calls = d; reads = r }
+faults_by {J} (ends.TooMuch bytes) disk disk_after source source_after r d = record { calls = d; reads = r }
+faults_by {J} (ends.Closed first last mark) disk disk_after source source_after r d = record { calls = d; reads = r }
+faults_by {J} (ends.Full games bytes note) disk disk_after source source_after r d = record { calls = d; reads = r }
+faults_by {J} ends.OutOfMemory disk disk_after source source_after r d = record { calls = d; reads = r }
 
 -- ---- an import
 
@@ -140,18 +142,16 @@ module _ {D J : Type 0} (disk : D → DiskState) (left_since : D → ℕ → Lis
   few_games =
       omega (arith, games_told is.start.journal report.receipts.items is.batches is.receipts, few_by_end is.start started report.end is.start.journal is.batches (stored_in after) is.stores, is.sound.within.0)
 
-  pub imported_in : (came : Came) (out : D) → came.ending ≡ ending_of report.end → came.refused.items ≡ report.refused.items → came.games ≡ games_of report.receipts.items
-      → came.batches ≡ length report.receipts.items → came.journal ≡ length (journal after) → out ≡ after.manifest.disk
-      → ImportedIn (journal before) (disk before.manifest.disk) (disk out) source source_after came
-  imported_in came out ending refused games batches stored out_is =
+  pub imported_in : (came : Came) → came.ending ≡ ending_of report.end → came.refused.items ≡ report.refused.items → came.games ≡ games_of report.receipts.items
+      → came.batches ≡ length report.receipts.items → came.journal ≡ length (journal after)
+      → ImportedIn (journal before) (journal after) (disk before.manifest.disk) (disk after.manifest.disk) source source_after came
+  imported_in came ending refused games batches stored =
       let e : ending_of report.end ≡ came.ending = sym ending in
       let S : List Refusal → Type 0 = λ l. StandsBy (ending_of report.end) is.start is.stream source_after.left is.batches l in
       let T : ImportEnding → Type 0 = λ f. StandsBy f is.start is.stream source_after.left is.batches came.refused.items in
       let M : ImportEnding → Type 0 = λ f. StoredBy f (is.start.journal ++ is.batches) (journal after) in
       let H : ImportEnding → Type 0 = λ f. IfSome (disk after.manifest.disk).content (HoldsBy f (journal after)) in
-      let O : D → Type 0 = λ d. IfSome (disk d).content (HoldsBy came.ending (journal after)) in
       let F : ImportEnding → Type 0 = λ f. FaultsBy f (disk before.manifest.disk) (disk after.manifest.disk) source source_after in
-      let G : D → Type 0 = λ d. FaultsBy came.ending (disk before.manifest.disk) (disk d) source source_after in
       record {
         start = is.start;
         sound = started;
@@ -160,10 +160,10 @@ module _ {D J : Type 0} (disk : D → DiskState) (left_since : D → ℕ → Lis
         reads = is.reads;
         batches = is.batches;
         stands = subst T e (subst S (sym refused) (stands_by is.start started report.end is.stream source_after.left is.batches report.refused.items is.stands));
-        stored = journal after;
         stored_are = subst M e (stored_by_end is.start started report.end (is.start.journal ++ is.batches) (stored_in after) is.stores);
-        holds = subst O (sym out_is) (subst H e (holds_by is.start started disk left_since told after is.keeps report.end (is.start.journal ++ is.batches) is.stores));
-        faults = subst G (sym out_is) (subst F e (faults_by report.end (disk before.manifest.disk) (disk after.manifest.disk) source source_after is.read_faults is.disk_faults));
+        is_sound = is.sound;
+        holds = subst H e (holds_by is.start started disk left_since told after is.keeps report.end (is.start.journal ++ is.batches) is.stores);
+        faults = subst F e (faults_by report.end (disk before.manifest.disk) (disk after.manifest.disk) source source_after is.read_faults is.disk_faults);
         games_are = games ∙ games_told is.start.journal report.receipts.items is.batches is.receipts;
         batches_are = batches ∙ batches_told is.start.journal report.receipts.items is.batches is.receipts;
         stored_is = stored;

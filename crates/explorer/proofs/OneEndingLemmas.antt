@@ -1,33 +1,38 @@
 -- A count over a told input has one ending, where no call fails.
-use Rattle.std.proofs.Common.{◌≡◌, ℕ, ◌-◌, ◌^◌, ◌<◌, ◌≤◌, ◌⊎◌, inl, inr, List, [], ◌∷◌, ◌++◌, Option, None, Some, Result, Ok, Err, length, drop, refl, sym, ap, ap₂, subst, ◌∙◌, append_assoc, length-append, arith, codes}
+use Rattle.std.proofs.Common.{◌≡◌, ℕ, ◌-◌, ◌^◌, ◌<◌, ◌≤◌, ◌⊎◌, inl, inr, List, [], ◌∷◌, ◌++◌, Option, None, Some, Result, Ok, Err, length, drop, refl, sym, ap, ap₂, subst, ◌∙◌, append_assoc, length-append, arith}
 use Rattle.std.specs.Prelude.{IsSome}
 use Rattle.std.specs.Io.KnownBytes.{Appends, Consumes, IsAtEnd, append_known}
-use Rattle.std.specs.List.{AllByRecursion, cons_option}
+use Rattle.std.specs.List.{AllByRecursion, AllZip}
 use Rattle.std.proofs.lemmas.List.{append-nil, take-append-drop}
 use Rattle.std.proofs.lemmas.Grind.{flat_map-append}
 use Rattle.outside.specs.Stream.{Stream, Rises, Writes}
 use Rattle.explorer_model.specs.declared.answer.Found.{Found}
 use Rattle.explorer_model.specs.declared.archive.Batch.{Batch}
+use Rattle.explorer_model.specs.declared.archive.Placed.{Placed}
 use Rattle.explorer_model.specs.declared.fault.Refusal.{Refusal}
+use Rattle.explorer_model.specs.declared.fault.Why.TheVariants as causes
 use Rattle.explorer_model.specs.declared.query.BadParameter.{BadParameter}
 use Rattle.explorer_model.specs.declared.query.Query.{Query}
-use Rattle.explorer_model.specs.Answer.{answer_body}
-use Rattle.explorer_model.specs.Cuts.{Cut, cuts}
-use Rattle.explorer_model.specs.Imports.{AccountedApart, batch_of, candidates, groups, refusals, verdicts}
-use Rattle.explorer_model.specs.Journal.{byte_count, game_count}
+use Rattle.explorer_model.specs.Cuts.{Cut, Preamble, Text, TooLong, cuts}
+use Rattle.explorer_model.specs.Imports.{Accounted, Examination, IsExaminationOf, Unread, groups}
+use Rattle.explorer_model.specs.Journal.{IsSound, IsWithin}
 use Rattle.explorer_model.specs.Query.{QueryReads}
+use Rattle.import_run.specs.SoFar.{AreAllGroups, AreGroupsSoFar, AreInGroups, IsWhole, ended_cuts}
+use Rattle.import_run.proofs.AccountLemmas.{no_text, none_or_some}
+use Rattle.import_run.proofs.GroupLemmas.{all_cuts, groups_closed, texts-cons, texts_in}
+use Rattle.import_run.proofs.SameGroups.{same_groups}
+use Rattle.import_run.proofs.SoFarLemmas.{each-append, in_groups, in_groups_behind}
+use Rattle.import_run.proofs.VerdictLemmas.{OneGame}
 use Rattle.explorer.specs.declared.fault.Fault.TheVariants as faults
+use Rattle.explorer.specs.Answer.{answer_line}
 use Rattle.explorer.specs.Count.{Answers, Counts, CountsBy}
-use Rattle.explorer.specs.Early.{AreAllGroups, AreGroupsSoFar, AreInGroups, AreStored, IsFullAt, IsFullIn, IsWhole, ended_cuts}
+use Rattle.explorer.specs.Imported.{IsFullAt, new_store}
 use Rattle.explorer.specs.Lines.{Ending, Done, Stopped}
 use Rattle.explorer.specs.Report.{report}
-use Rattle.explorer.specs.Laws.{IsTold, WroteAlike}
+use Rattle.explorer.specs.Laws.{IsFullIn, IsTold, WroteAlike}
 use Rattle.explorer.specs.World.{World, IsFaultless}
-use Rattle.explorer.proofs.AccountLemmas.{accounted_more, accounted_one, ends_accounted, none_or_some, unread_examinations}
-use Rattle.explorer.proofs.EarlyLemmas.{each-append, in_groups, in_groups_behind}
-use Rattle.explorer.proofs.GroupLemmas.{all_cuts, groups_closed, texts_in}
-use Rattle.explorer.proofs.ImportLemmas.{candidate_bytes}
-use Rattle.explorer.proofs.LawLemmas.{OneAccount, OneAnswer, bytes-append, bytes_of_one, games-append, games_of_one, no_room_no_store, one_answer, one_full, over_limit, same_groups}
+use Rattle.explorer.proofs.LawLemmas.{OneAnswer, one_answer, one_full}
+use Rattle.explorer.proofs.NoRoomLemmas.{OneAccount, not_ended, not_stored}
 use Rattle.explorer.proofs.PrefixLemmas.{ended_stay}
 
 -- ---- told streams
@@ -59,21 +64,27 @@ more_groups front more whole others hand other first second =
     } in
     (later.whole, (same_groups (front ++ more) others (whole ++ later.whole) other later.hand second all).0)
 
-full_more : (games bytes : ℕ) (so_far more all : List (List Cut)) (refused : List Refusal) → all ≡ so_far ++ more → IsFullIn games bytes so_far refused → IsFullIn games bytes all refused
-full_more games bytes so_far more all refused is full = record {
-  done = full.done;
-  next = full.next;
-  rest = full.rest ++ more;
-  so_far_is = is ∙ ap (λ (l : List (List Cut)). l ++ more) full.so_far_is ∙ append_assoc full.done (full.next ∷ full.rest) more;
-  batches = full.batches;
-  earlier = full.earlier;
-  stored = full.stored;
-  last = full.last;
-  no_room = full.no_room;
-  games_are = full.games_are;
-  bytes_are = full.bytes_are;
-  refused_are = full.refused_are;
-}
+full_more : (games bytes : ℕ) (so_far more all : List (List Cut)) (batches : List Batch) (refused : List Refusal) → all ≡ so_far ++ more → IsFullIn games bytes so_far batches refused → IsFullIn games bytes all batches refused
+full_more games bytes so_far more all batches refused is (left, ends, full) = (
+  left,
+  record {
+    done = ends.done;
+    next = ends.next;
+    rest = ends.rest ++ more;
+    so_far_is = is ∙ ap (λ (l : List (List Cut)). l ++ more) ends.so_far_is ∙ append_assoc ends.done (ends.next ∷ ends.rest) more;
+    earlier = ends.earlier;
+    settled = ends.settled;
+    known = ends.known;
+    journal_is = ends.journal_is;
+    fault_is = ends.fault_is;
+    examinations = ends.examinations;
+    are_examinations = ends.are_examinations;
+    left_are = ends.left_are;
+    some_left = ends.some_left;
+    refused_are = ends.refused_are;
+  },
+  full,
+)
 
 same_all : (ended : List Cut) (all others : List (List Cut)) → AreAllGroups ended all → AreAllGroups ended others → all ≡ others
 same_all ended all others first second =
@@ -81,26 +92,40 @@ same_all ended all others first second =
     first.all_are ∙ ap₂ (λ (w : List (List Cut)) (h : List Cut). w ++ h ∷ []) same.0 same.1 ∙ sym second.all_are
 
 -- a group that finds no room in a front of a stream is the one of the whole stream
-full_in_all : (games bytes : ℕ) (stream read rest : List ℕ) (left : Option (List ℕ)) (refused : List Refusal) (all : List (List Cut)) → stream ≡ read ++ rest → left ≡ Some rest → IsFullAt games bytes left read refused
-    → AreAllGroups (cuts stream) all → IsFullIn games bytes all refused
-full_in_all games bytes stream read rest left refused all stream_is left_is full groups_are = by_so_far full.are_so_far
+full_in_all : (games bytes : ℕ) (stream read rest : List ℕ) (left : Option (List ℕ)) (batches : List Batch) (refused : List Refusal) (all : List (List Cut)) → stream ≡ read ++ rest → left ≡ Some rest → IsFullAt games bytes new_store read left batches refused
+    → AreAllGroups (cuts stream) all → IsFullIn games bytes all batches refused
+full_in_all games bytes stream read rest left batches refused all stream_is left_is (at, full) groups_are = by_so_far at.are_so_far
   where
-    by_so_far : AreGroupsSoFar read left full.so_far → IsFullIn games bytes all refused
+    here : IsFullIn games bytes at.so_far batches refused
+    here = (at.left, at.ends, full)
+
+    by_so_far : AreGroupsSoFar read left at.so_far → IsFullIn games bytes all batches refused
     by_so_far (inr (at_end, so_far)) =
         let none = end_is left rest left_is at_end in
         let same : read ≡ stream = sym (stream_is ∙ ap (λ (l : List ℕ). read ++ l) none ∙ append-nil read) in
-        full_more games bytes full.so_far [] all refused (same_all (cuts stream) all full.so_far groups_are (subst (λ (l : List ℕ). AreAllGroups (cuts l) full.so_far) same so_far) ∙ sym (append-nil full.so_far)) full.full
+        full_more games bytes at.so_far [] all batches refused (same_all (cuts stream) all at.so_far groups_are (subst (λ (l : List ℕ). AreAllGroups (cuts l) at.so_far) same so_far) ∙ sym (append-nil at.so_far)) here
     by_so_far (inl (hand, so_far)) =
         let stay = ended_stay read rest in
         let last = drop (length (cuts stream) - 1) (cuts stream) in
         let split : cuts stream ≡ ended_cuts read ++ (stay.0 ++ last) =
         sym (take-append-drop (length (cuts stream) - 1) (cuts stream)) ∙ ap (λ (l : List Cut). l ++ drop (length (cuts stream) - 1) (cuts stream)) (ap ended_cuts stream_is ∙ stay.1)
         ∙ append_assoc (ended_cuts read) stay.0 (drop (length (cuts stream) - 1) (cuts stream)) in
-        let later = more_groups (ended_cuts read) (stay.0 ++ last) full.so_far groups_are.whole hand groups_are.hand so_far (subst (λ (l : List Cut). AreInGroups l groups_are.whole groups_are.hand) split groups_are.in_groups) in
-        full_more games bytes full.so_far (later.0 ++ groups_are.hand ∷ []) all refused
-        (groups_are.all_are ∙ ap (λ (l : List (List Cut)). l ++ groups_are.hand ∷ []) later.1 ∙ append_assoc full.so_far later.0 (groups_are.hand ∷ [])) full.full
+        let later = more_groups (ended_cuts read) (stay.0 ++ last) at.so_far groups_are.whole hand groups_are.hand so_far (subst (λ (l : List Cut). AreInGroups l groups_are.whole groups_are.hand) split groups_are.in_groups) in
+        full_more games bytes at.so_far (later.0 ++ groups_are.hand ∷ []) all batches refused
+        (groups_are.all_are ∙ ap (λ (l : List (List Cut)). l ++ groups_are.hand ∷ []) later.1 ∙ append_assoc at.so_far later.0 (groups_are.hand ∷ [])) here
 
 -- ---- a stream that is stored whole has no group that finds no room
+
+-- their examinations
+pub unread_examinations : (cuts : List Cut) → texts_in cuts ≡ 0 → (examinations : List Examination) × AllZip IsExaminationOf cuts examinations
+unread_examinations [] none = ([], tt)
+unread_examinations (Text text ∷ cuts) none = absurd (no_text text cuts none)
+unread_examinations (TooLong place long ∷ cuts) none =
+    let rest = unread_examinations cuts (omega (arith, texts-cons (TooLong place long) cuts, none)) in
+    (Unread (record { place = place; why = causes.TooLong long }) ∷ rest.0, (refl, rest.1))
+unread_examinations (Preamble place ∷ cuts) none =
+    let rest = unread_examinations cuts (omega (arith, texts-cons (Preamble place) cuts, none)) in
+    (Unread (record { place = place; why = causes.Preamble }) ∷ rest.0, (refl, rest.1))
 
 abbrev LastOrWithin : List (List Cut) → List Cut → List (List Cut) → List (List Cut) → List Cut → Type 0
 LastOrWithin done next rest whole hand = ((done ≡ whole) × (next ≡ hand)) ⊎ ((more : List (List Cut)) × (whole ≡ done ++ next ∷ more))
@@ -122,57 +147,34 @@ each_front : (done more : List (List Cut)) (next : List Cut) → AllByRecursion 
 each_front [] more next each = (each.0, tt)
 each_front (group ∷ done) more next each = (each.0, each_front done more next each.1)
 
-done_or_full : (stream : List ℕ) (all : List (List Cut)) (games bytes : ℕ) (refused other : List Refusal) (batches : List Batch) → OneAccount → AreStored (groups (cuts stream)) batches other
-    → AreAllGroups (cuts stream) all → IsFullIn games bytes all refused → ⊥
-done_or_full stream all games bytes refused other batches one stored groups_are full =
-    by_place (last_or_within full.done full.rest groups_are.whole full.next groups_are.hand (sym full.so_far_is ∙ groups_are.all_are))
+done_or_full : (stream : List ℕ) (all : List (List Cut)) (games bytes : ℕ) (batches others : List Batch) (refused other : List Refusal) → OneGame → OneAccount → Accounted [] (groups (cuts stream)) others other → IsWithin others
+    → AreAllGroups (cuts stream) all → IsFullIn games bytes all batches refused → ⊥
+done_or_full stream all games bytes batches others refused other one accounts stored within groups_are (left, ends, full) =
+    by_place (last_or_within ends.done ends.rest groups_are.whole ends.next groups_are.hand (sym ends.so_far_is ∙ groups_are.all_are))
   where
-    alone : AccountedApart (full.next ∷ []) (cons_option (batch_of (candidates (verdicts full.no_room.examinations))) []) (refusals (verdicts full.no_room.examinations))
-    alone = accounted_one full.next full.no_room.examinations (cons_option (batch_of (candidates (verdicts full.no_room.examinations))) []) (refusals (verdicts full.no_room.examinations)) full.no_room.are_examinations refl refl
-
-    over : (last : List Batch) → batches ≡ (full.batches ++ cons_option (batch_of (candidates (verdicts full.no_room.examinations))) []) ++ last → ⊥
-    over last is =
-        let texts = candidates (verdicts full.no_room.examinations) in
-        let front = full.batches ++ cons_option (batch_of (candidates (verdicts full.no_room.examinations))) [] in
-        let games_all = ap game_count is ∙ games-append front last in
-        let bytes_all = ap byte_count is ∙ bytes-append front last in
-        let games_front = games-append full.batches (cons_option (batch_of (candidates (verdicts full.no_room.examinations))) []) in
-        let bytes_front = bytes-append full.batches (cons_option (batch_of (candidates (verdicts full.no_room.examinations))) []) in
-        let games_one = games_of_one (candidates (verdicts full.no_room.examinations)) in
-        let bytes_one = bytes_of_one (candidates (verdicts full.no_room.examinations)) in
-        over_limit (game_count full.batches) (byte_count full.batches) (length texts) (candidate_bytes texts) (game_count last) (byte_count last) batches
-        (omega (arith, games_all, games_front, games_one)) (omega (arith, bytes_all, bytes_front, bytes_one)) full.no_room.passes stored.within
-
-    by_place : LastOrWithin full.done full.next full.rest groups_are.whole groups_are.hand → ⊥
+    by_place : LastOrWithin ends.done ends.next ends.rest groups_are.whole groups_are.hand → ⊥
     by_place (inl (same, last)) =
-        let cuts_are : cuts stream ≡ all_cuts full.done ++ full.next = groups_are.in_groups.all ∙ ap₂ (λ (w : List (List Cut)) (h : List Cut). all_cuts w ++ h) (sym same) (sym last) in
-        let few : texts_in full.next ≤ 512 = omega (arith, groups_are.in_groups.few, ap texts_in last) in
-        let ended = ends_accounted full.done full.next full.batches (cons_option (batch_of (candidates (verdicts full.no_room.examinations))) []) full.earlier (refusals (verdicts full.no_room.examinations)) (subst (λ (w : List (List Cut)). AllByRecursion IsWhole w) (sym same) groups_are.in_groups.each) few full.stored.accounted alone in
-        over [] (one.batches (groups (cuts stream)) batches (full.batches ++ cons_option (batch_of (candidates (verdicts full.no_room.examinations))) []) other (full.earlier ++ refusals (verdicts full.no_room.examinations)) stored.accounted
-        (subst (λ (l : List Cut). AccountedApart (groups l) (full.batches ++ cons_option (batch_of (candidates (verdicts full.no_room.examinations))) []) (full.earlier ++ refusals (verdicts full.no_room.examinations))) (sym cuts_are) ended) ∙ sym (append-nil (full.batches ++ cons_option (batch_of (candidates (verdicts full.no_room.examinations))) [])))
+        let A : List Cut → Type 0 = λ l. Accounted [] (groups l) others other in
+        not_ended one accounts all batches refused left ends games bytes full groups_are.whole groups_are.hand [] [] others other
+        (sym (ap₂ (λ (w : List (List Cut)) (h : List Cut). w ++ h ∷ []) same last)) groups_are.in_groups.each (omega (arith, groups_are.in_groups.few)) tt (subst A groups_are.in_groups.all stored) within
     by_place (inr (more, is)) =
-        let closed = full.done ++ full.next ∷ [] in
         let rest = all_cuts more ++ groups_are.hand in
-        let cuts_are : cuts stream ≡ all_cuts (full.done ++ full.next ∷ []) ++ (all_cuts more ++ groups_are.hand) =
-        groups_are.in_groups.all ∙ ap (λ (w : List (List Cut)). all_cuts w ++ groups_are.hand) (is ∙ sym (append_assoc full.done (full.next ∷ []) more))
-        ∙ ap (λ (l : List Cut). l ++ groups_are.hand) (flat_map-append (λ (group : List Cut). group) (full.done ++ full.next ∷ []) more) ∙ append_assoc (all_cuts (full.done ++ full.next ∷ [])) (all_cuts more) groups_are.hand in
-        let each = each_front full.done more full.next (subst (λ (w : List (List Cut)). AllByRecursion IsWhole w) is groups_are.in_groups.each) in
-        by_texts more rest cuts_are each (none_or_some (texts_in rest))
+        let cuts_are : cuts stream ≡ all_cuts (ends.done ++ ends.next ∷ []) ++ (all_cuts more ++ groups_are.hand) =
+        groups_are.in_groups.all ∙ ap (λ (w : List (List Cut)). all_cuts w ++ groups_are.hand) (is ∙ sym (append_assoc ends.done (ends.next ∷ []) more))
+        ∙ ap (λ (l : List Cut). l ++ groups_are.hand) (flat_map-append (λ (group : List Cut). group) (ends.done ++ ends.next ∷ []) more) ∙ append_assoc (all_cuts (ends.done ++ ends.next ∷ [])) (all_cuts more) groups_are.hand in
+        let each = each_front ends.done more ends.next (subst (λ (w : List (List Cut)). AllByRecursion IsWhole w) is groups_are.in_groups.each) in
+        by_texts rest cuts_are each (none_or_some (texts_in rest))
       where
-        by_texts : (more : List (List Cut)) (rest : List Cut) → cuts stream ≡ all_cuts (full.done ++ full.next ∷ []) ++ rest → AllByRecursion IsWhole (full.done ++ full.next ∷ []) → (texts_in rest ≡ 0) ⊎ (0 < texts_in rest) → ⊥
-        by_texts more rest cuts_are each (inl none) =
+        by_texts : (rest : List Cut) → cuts stream ≡ all_cuts (ends.done ++ ends.next ∷ []) ++ rest → AllByRecursion IsWhole (ends.done ++ ends.next ∷ []) → (texts_in rest ≡ 0) ⊎ (0 < texts_in rest) → ⊥
+        by_texts rest cuts_are each (inl none) =
             let examined = unread_examinations rest none in
-            let last_batches : List Batch = cons_option (batch_of (candidates (verdicts examined.0))) [] in
-            let last_refused : List Refusal = refusals (verdicts examined.0) in
-            let last : AccountedApart (rest ∷ []) last_batches last_refused = accounted_one rest examined.0 last_batches last_refused examined.1 refl refl in
-            let front = accounted_more full.done (full.next ∷ []) full.batches (cons_option (batch_of (candidates (verdicts full.no_room.examinations))) []) full.earlier (refusals (verdicts full.no_room.examinations)) full.stored.accounted alone in
-            let ended = ends_accounted (full.done ++ full.next ∷ []) rest (full.batches ++ cons_option (batch_of (candidates (verdicts full.no_room.examinations))) []) last_batches (full.earlier ++ refusals (verdicts full.no_room.examinations)) last_refused each (omega (arith, none)) front last in
-            over last_batches (one.batches (groups (cuts stream)) batches ((full.batches ++ cons_option (batch_of (candidates (verdicts full.no_room.examinations))) []) ++ last_batches) other ((full.earlier ++ refusals (verdicts full.no_room.examinations)) ++ last_refused) stored.accounted
-            (subst (λ (l : List Cut). AccountedApart (groups l) ((full.batches ++ cons_option (batch_of (candidates (verdicts full.no_room.examinations))) []) ++ last_batches) ((full.earlier ++ refusals (verdicts full.no_room.examinations)) ++ last_refused)) (sym cuts_are) ended))
-        by_texts more rest cuts_are each (inr some) =
-            let split : groups (cuts stream) ≡ full.done ++ full.next ∷ groups rest = ap groups cuts_are ∙ groups_closed (full.done ++ full.next ∷ []) rest each some ∙ append_assoc full.done (full.next ∷ []) (groups rest) in
-            no_room_no_store full.done (groups rest) full.next full.batches batches full.earlier other full.last one full.stored.accounted full.no_room
-            (subst (λ (l : List (List Cut)). AccountedApart l batches other) split stored.accounted) stored.within
+            let A : List Cut → Type 0 = λ l. Accounted [] (groups l) others other in
+            not_ended one accounts all batches refused left ends games bytes full (ends.done ++ ends.next ∷ []) rest (rest ∷ []) (examined.0 ∷ []) others other
+            (append_assoc ends.done (ends.next ∷ []) (rest ∷ [])) each (omega (arith, none)) (examined.1, tt) (subst A cuts_are stored) within
+        by_texts rest cuts_are each (inr some) =
+            let split : groups (cuts stream) ≡ ends.done ++ ends.next ∷ groups rest = ap groups cuts_are ∙ groups_closed (ends.done ++ ends.next ∷ []) rest each some ∙ append_assoc ends.done (ends.next ∷ []) (groups rest) in
+            let A : List (List Cut) → Type 0 = λ l. Accounted [] l others other in
+            not_stored one accounts all batches refused left ends games bytes full (groups rest) others other (subst A split stored) within
 
 -- ---- what is written
 
@@ -197,7 +199,7 @@ wrote chunk old new told low same (middle, inr fails, is) = absurd (no_rise old.
 -- a count that ends as an answer, or at a group that finds no room
 abbrev Comes : List ℕ → List (List Cut) → Query → World → World → Ending → Type 0
 Comes stream all query before after ending = ((ending ≡ Done) × Answers query before after)
-    ⊎ ((games : ℕ) × (bytes : ℕ) × (refused : List Refusal) × (ending ≡ Stopped (faults.Full games bytes)) × IsFullIn games bytes all refused
+    ⊎ ((games : ℕ) × (bytes : ℕ) × (batches : List Batch) × (refused : List Refusal) × (ending ≡ Stopped (faults.Full games bytes)) × IsFullIn games bytes all batches refused × IsSound batches
     × (after.output ≡ before.output) × Writes (report refused ∷ []) before.errors after.errors)
 
 comes : (stream : List ℕ) (all : List (List Cut)) (query : Query) (before after : World) (ending : Ending) → IsTold stream before → AreAllGroups (cuts stream) all → IsFaultless before after
@@ -210,12 +212,24 @@ comes stream all query before after (Stopped faults.WriteFault) told groups_are 
     by_rise (inr rises) = absurd (no_rise before.errors.write_faults after.errors.write_faults faultless.errors told.reports rises)
 comes stream all query before after (Stopped faults.ReadFault) told groups_are faultless counts = absurd (no_rise before.input.read_faults after.input.read_faults faultless.reads told.reads counts.1)
 comes stream all query before after (Stopped faults.TooMuchInput) told groups_are faultless counts =
-    let rest = told_rest before.input.left after.input.left stream counts.0.stream told.input counts.0.reads.next in
+    let imports = counts.0.imports in
+    let rest = told_rest before.input.left after.input.left stream imports.stream told.input imports.reads.next in
     let long = ap (λ (l : List ℕ). length l) rest.1 in
-    absurd (omega (arith, told.below, counts.0.stands.at, long, length-append counts.0.stream rest.0))
+    absurd (omega (arith, told.below, imports.stands.at, long, length-append imports.stream rest.0))
 comes stream all query before after (Stopped (faults.Full games bytes)) told groups_are faultless counts =
-    let rest = told_rest before.input.left after.input.left stream counts.0.stream told.input counts.0.reads.next in
-    inr (games, bytes, counts.0.refused, refl, full_in_all games bytes stream counts.0.stream rest.0 after.input.left counts.0.refused all rest.1 rest.2 counts.0.stands groups_are, counts.0.output, counts.0.errors)
+    let imports = counts.0.imports in
+    let rest = told_rest before.input.left after.input.left stream imports.stream told.input imports.reads.next in
+    inr (
+      games,
+      bytes,
+      counts.0.batches,
+      counts.0.refused,
+      refl,
+      full_in_all games bytes stream imports.stream rest.0 after.input.left counts.0.batches counts.0.refused all rest.1 rest.2 imports.stands groups_are,
+      imports.sound,
+      counts.0.output,
+      counts.0.errors,
+    )
 comes stream all query before after (Stopped faults.Usage) told groups_are faultless counts = absurd counts
 comes stream all query before after (Stopped (faults.BadParameter name)) told groups_are faultless counts = absurd counts
 comes stream all query before after (Stopped faults.DiskFault) told groups_are faultless counts = absurd counts
@@ -228,40 +242,41 @@ comes stream all query before after (Stopped (faults.CannotOpen name)) told grou
 comes stream all query before after (Stopped faults.CannotAccept) told groups_are faultless counts = absurd counts
 
 -- an answer is one over the groups of the whole stream
-whole_stored : (stream : List ℕ) (query : Query) (before after : World) → IsTold stream before → (answers : Answers query before after) → AreStored (groups (cuts stream)) answers.batches answers.refused
+whole_stored : (stream : List ℕ) (query : Query) (before after : World) → IsTold stream before → (answers : Answers query before after) → Accounted [] (groups (cuts stream)) answers.batches answers.refused
 whole_stored stream query before after told answers =
-    let rest = told_rest before.input.left after.input.left stream answers.stream told.input answers.reads.next in
-    let same : answers.stream ≡ stream = sym (rest.1 ∙ ap (λ (l : List ℕ). answers.stream ++ l) (end_is after.input.left rest.0 rest.2 answers.at_end) ∙ append-nil answers.stream) in
-    subst (λ (l : List ℕ). AreStored (groups (cuts l)) answers.batches answers.refused) same answers.stored
+    let read = answers.imports.stream in
+    let rest = told_rest before.input.left after.input.left stream answers.imports.stream told.input answers.imports.reads.next in
+    let same : answers.imports.stream ≡ stream = sym (rest.1 ∙ ap (λ (l : List ℕ). answers.imports.stream ++ l) (end_is after.input.left rest.0 rest.2 answers.imports.stands.at_end) ∙ append-nil answers.imports.stream) in
+    subst (λ (l : List ℕ). Accounted [] (groups (cuts l)) answers.batches answers.refused) same answers.imports.stands.settled.accounted
 
 abbrev Alike : World → World → Ending → Ending → Type 0
 Alike after other ending ending' = (ending ≡ ending') × WroteAlike after other
 
-one_of_two : (stream : List ℕ) (all : List (List Cut)) (query : Query) (before after other : World) (ending ending' : Ending) → OneAccount → OneAnswer → IsTold stream before → AreAllGroups (cuts stream) all
+one_of_two : (stream : List ℕ) (all : List (List Cut)) (query : Query) (before after other : World) (ending ending' : Ending) → OneGame → OneAccount → OneAnswer → IsTold stream before → AreAllGroups (cuts stream) all
     → IsFaultless before after → IsFaultless before other → Comes stream all query before after ending → Comes stream all query before other ending' → Alike after other ending ending'
-one_of_two stream all query before after other ending ending' one answer told groups_are fine fine' (inl (is, first)) (inl (is', second)) =
+one_of_two stream all query before after other ending ending' game one answer told groups_are fine fine' (inl (is, first)) (inl (is', second)) =
     let same = one_answer query before after other one answer (told_some before.input.left stream told.input) first second in (
       is ∙ sym is',
       record {
         output =
-            wrote _ before.output after.output told.output told.writes fine.output first.output ∙ ap (λ (f : Found). append_known before.output.written (answer_body f ++ codes "\n")) same.0
+            wrote _ before.output after.output told.output told.writes fine.output first.output ∙ ap (λ (f : Found). append_known before.output.written (answer_line f)) same.0
             ∙ sym (wrote _ before.output other.output told.output told.writes fine'.output second.output);
         errors =
             wrote _ before.errors after.errors told.errors told.reports fine.errors first.errors ∙ ap (λ (l : List Refusal). append_known before.errors.written (report l)) same.1
             ∙ sym (wrote _ before.errors other.errors told.errors told.reports fine'.errors second.errors);
       },
     )
-one_of_two stream all query before after other ending ending' one answer told groups_are fine fine' (inl (is, first)) (inr (games, bytes, refused, is', full, output, errors)) =
-    absurd (done_or_full stream all games bytes refused first.refused first.batches one (whole_stored stream query before after told first) groups_are full)
-one_of_two stream all query before after other ending ending' one answer told groups_are fine fine' (inr (games, bytes, refused, is, full, output, errors)) (inl (is', second)) =
-    absurd (done_or_full stream all games bytes refused second.refused second.batches one (whole_stored stream query before other told second) groups_are full)
-one_of_two stream all query before after other ending ending' one answer told groups_are fine fine' (inr (games, bytes, refused, is, full, output, errors)) (inr (games', bytes', refused', is', full', output', errors')) =
-    let same = one_full games bytes games' bytes' all refused refused' one full full' in (
+one_of_two stream all query before after other ending ending' game one answer told groups_are fine fine' (inl (is, first)) (inr (games, bytes, batches, refused, is', full, sound, output, errors)) =
+    absurd (done_or_full stream all games bytes batches first.batches refused first.refused game one (whole_stored stream query before after told first) first.imports.sound.within groups_are full)
+one_of_two stream all query before after other ending ending' game one answer told groups_are fine fine' (inr (games, bytes, batches, refused, is, full, sound, output, errors)) (inl (is', second)) =
+    absurd (done_or_full stream all games bytes batches second.batches refused second.refused game one (whole_stored stream query before other told second) second.imports.sound.within groups_are full)
+one_of_two stream all query before after other ending ending' game one answer told groups_are fine fine' (inr (games, bytes, batches, refused, is, full, sound, output, errors)) (inr (games', bytes', batches', refused', is', full', sound', output', errors')) =
+    let same = one_full games bytes games' bytes' all batches batches' refused refused' game one full full' sound sound' in (
       is ∙ ap₂ (λ (g : ℕ) (b : ℕ). Stopped (faults.Full g b)) same.0 same.1 ∙ sym is',
       record {
         output = ap (λ (s : Stream). s.written) (output ∙ sym output');
         errors =
-            wrote _ before.errors after.errors told.errors told.reports fine.errors errors ∙ ap (λ (l : List Refusal). append_known before.errors.written (report l)) same.2
+            wrote _ before.errors after.errors told.errors told.reports fine.errors errors ∙ ap (λ (l : List Refusal). append_known before.errors.written (report l)) same.3
             ∙ sym (wrote _ before.errors other.errors told.errors told.reports fine'.errors errors');
       },
     )
@@ -269,9 +284,9 @@ one_of_two stream all query before after other ending ending' one answer told gr
 abbrev pub OneQuery : Type 0
 OneQuery = (text : List ℕ) (r s : Result Query BadParameter) → QueryReads text r → QueryReads text s → r ≡ s
 
-pub one_ending : (text stream : List ℕ) (before after other : World) (ending ending' : Ending) → OneAccount → OneAnswer → OneQuery → IsTold stream before → IsFaultless before after → IsFaultless before other
+pub one_ending : (text stream : List ℕ) (before after other : World) (ending ending' : Ending) → OneGame → OneAccount → OneAnswer → OneQuery → IsTold stream before → IsFaultless before after → IsFaultless before other
     → Counts text before after ending → Counts text before other ending' → (ending ≡ ending') × WroteAlike after other
-one_ending text stream before after other ending ending' one answer query told fine fine' first second = by_query first.0 second.0 (query text first.0 second.0 first.1 second.1) first.2 second.2
+one_ending text stream before after other ending ending' game one answer query told fine fine' first second = by_query first.0 second.0 (query text first.0 second.0 first.1 second.1) first.2 second.2
   where
     by_query : (r s : Result Query BadParameter) → r ≡ s → CountsBy r before after ending → CountsBy s before other ending' → (ending ≡ ending') × WroteAlike after other
     by_query (Err bad) (Ok asked) is counts counts' = cc
@@ -288,6 +303,6 @@ one_ending text stream before after other ending ending' one answer query told f
         let same : asked ≡ also = cc in
         let all = in_groups (cuts stream) in
         let groups_are : AreAllGroups (cuts stream) (all.whole ++ all.hand ∷ []) = record { whole = all.whole; hand = all.hand; in_groups = all.are; all_are = refl } in
-        one_of_two stream (all.whole ++ all.hand ∷ []) also before after other ending ending' one answer told groups_are fine fine'
+        one_of_two stream (all.whole ++ all.hand ∷ []) also before after other ending ending' game one answer told groups_are fine fine'
         (comes stream (all.whole ++ all.hand ∷ []) also before after ending told groups_are fine (subst (λ (q : Query). CountsBy (Ok q) before after ending) same counts))
         (comes stream (all.whole ++ all.hand ∷ []) also before other ending' told groups_are fine' counts')

@@ -3,8 +3,8 @@ use Rattle.std.proofs.Common.{◌≡◌, ℕ, ◌+◌, ◌-◌, ◌<◌, ◌≤�
 use Rattle.std.specs.List.{starts_with}
 use Rattle.std.proofs.lemmas.List.{append-nil}
 use Rattle.explorer_model.specs.Cuts.{Cut, Parted, Preamble, cut_at, cuts, cuts_from, cuts_of, event, is_white_space, mark, onto, parted, preamble}
-use Rattle.explorer.specs.Early.{ended_cuts}
-use Rattle.explorer.proofs.EarlyLemmas.{take_front}
+use Rattle.import_run.specs.SoFar.{ended_cuts}
+use Rattle.import_run.proofs.SoFarLemmas.{take_front}
 use lib.Pointwise.{pointwise, pointwise_long}
 use lib.Seq.{drop-append-le}
 

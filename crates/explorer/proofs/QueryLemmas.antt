@@ -1,51 +1,38 @@
 -- What a query over a store comes to.
-use Rattle.std.proofs.Common.{◌≡◌, inl, inr, ℕ, List, ◌++◌, Ok, Err, Result, codes, refl, sym, ap, ◌∙◌, subst}
-use Rattle.std.specs.Prelude.{IfSome, Vec}
+use Rattle.std.proofs.Common.{◌≡◌, inl, inr, ℕ, List, Ok, Err, Result, refl, sym, ap, ◌∙◌, subst}
+use Rattle.std.specs.Prelude.{Vec}
 use Rattle.std.specs.Global.{Global}
-use Rattle.outside.specs.Stream.{Rises, Stream}
-use Rattle.disk_model.specs.Disk.{DiskState, IsQuiet}
+use Rattle.outside.specs.Stream.{Stream}
+use Rattle.disk_model.specs.Disk.{DiskState}
 use Rattle.explorer_model.specs.declared.archive.Batch.{Batch}
 use Rattle.explorer_model.specs.declared.fault.Stop.{Stop}
 use Rattle.explorer_model.specs.declared.fault.Stop.TheVariants as stops
 use Rattle.explorer_model.specs.declared.query.BadParameter as query_fault
 use Rattle.explorer_model.specs.declared.query.Query.{Query}
 use Rattle.explorer_model.specs.declared.store.LogFault.TheVariants as log
-use Rattle.explorer_model.specs.Answer.{answer_body}
 use Rattle.explorer_model.specs.Query.{QueryReads}
 use Rattle.record_log.specs.declared.fault.OpenFault.{OpenFault}
 use Rattle.record_log.specs.declared.fault.OpenFault.TheVariants as opening
-use Rattle.ingest_desk.specs.Openings.{IsNotOpened}
-use Rattle.manifest.specs.Manifest.{HasJournal}
 use Rattle.explorer_model.specs.Stop as model
 use Rattle.host.specs.Hosts.{HandsDisk, HostState, TakesDisk}
 use Rattle.explorer.specs.declared.fault.Fault.{Fault}
 use Rattle.explorer.specs.Faults.{fault_of_opening, fault_of_query}
 use Rattle.explorer.specs.Lines.{Stopped}
-use Rattle.explorer.specs.QueryStore.{Answers, Breaks, IsRefusedBy, Keeps, LooksAt, LooksIn, QueriesBy, Reads}
+use Rattle.explorer.specs.Opened.{FailsUnread, IsRefusedBy, KeepsBytes, OpensTo}
+use Rattle.explorer.specs.QueryStore.{Answers, LooksAt, LooksIn, QueriesBy}
 use Rattle.explorer.specs.Stores.{IsSized}
 use Rattle.explorer.specs.World.{World, world}
 use Rattle.explorer.proofs.StoreLemmas.{rose, uses}
 
-module _ {D : Type 0} (disk : D → DiskState) (left_since : D → ℕ → List ℕ → Type 0) (old new : D) (quiet : IsQuiet disk left_since old new) (query : Query) where
-  kept : (disk new).content ≡ (disk old).content
-  kept = ap (λ (d : DiskState). d.content) quiet.rest
-
-  -- the store was not opened
-  pub not_opened : (fault : OpenFault) → IsNotOpened disk fault old new → LooksAt query (disk old) (disk new) (Err fault)
-  not_opened (opening.Log fault) is = record { wrong = is; kept = kept }
-  not_opened (opening.DiskFault before after) is =
-      let P : ℕ → Type 0 = λ n. Rises n (disk new).faults in
-      let Q : ℕ → Type 0 = λ n. Rises before n in
-      record { kept = kept; rises = subst P is.before_is (subst Q is.after_is is.rises) }
-  not_opened opening.OutOfMemory is = kept
-
-  -- the store was opened, and a line was made or memory was refused
-  pub opened : (out : D) → out ≡ new → (journal : List Batch) → IfSome (disk old).content (HasJournal journal) → (line : Result (Vec ℕ Global) OpenFault) → LooksIn query journal line
-      → LooksAt query (disk old) (disk out) line
-  opened out is journal read (Ok line) looks = (journal, record { read = read; kept = ap (λ (d : D). (disk d).content) is ∙ kept }, looks)
-  opened out is journal read (Err fault) looks =
-      let P : OpenFault → Type 0 = λ f. LooksAt query (disk old) (disk out) (Err f) in
-      subst P (sym looks) (ap (λ (d : D). (disk d).content) is ∙ kept)
+-- the store was opened, and a line was made or memory was refused
+pub opened : {D : Type 0} (disk : D → DiskState) (query : Query) (old : DiskState) (new out : D) (journal : List Batch) → out ≡ new → OpensTo journal old (disk new) → (line : Result (Vec ℕ Global) OpenFault) → LooksIn query journal line
+    → LooksAt query old (disk out) line
+opened {D} disk query old new out journal is opens (Ok line) looks =
+    let P : D → Type 0 = λ d. OpensTo journal old (disk d) in
+    (journal, subst P (sym is) opens, looks)
+opened {D} disk query old new out journal is opens (Err fault) looks =
+    let P : OpenFault → Type 0 = λ f. LooksAt query old (disk out) (Err f) in
+    subst P (sym looks) (ap (λ (d : D). (disk d).content) is ∙ opens.kept)
 
 module _ (store text : List ℕ) (query : Query) (reads : QueryReads text (Ok query)) (input output errors : Stream) (before middle after : HostState) (handed returned : DiskState)
     (sized : IsSized handed) (hands : HandsDisk store handed before middle) (takes : TakesDisk store returned middle after) where
@@ -54,7 +41,7 @@ module _ (store text : List ℕ) (query : Query) (reads : QueryReads text (Ok qu
       → Answers Wrote store query (world input output errors before) (world input written errors after)
   answered Wrote written line looks wrote = record {
     journal = looks.0;
-    read = uses store (Reads looks.0) handed returned before middle after sized hands looks.1 takes;
+    read = uses store (OpensTo looks.0) handed returned before middle after sized hands looks.1 takes;
     found = looks.2.0;
     is_found = looks.2.1;
     wrote = subst Wrote looks.2.2 wrote;
@@ -70,8 +57,8 @@ module _ (store text : List ℕ) (query : Query) (reads : QueryReads text (Ok qu
   unanswered (opening.Log (log.Damaged gate)) looks =
       inr (Ok query, reads, (uses store (IsRefusedBy (log.Damaged gate)) handed returned before middle after sized hands looks takes, refl))
   unanswered (opening.DiskFault first last) looks =
-      inr (Ok query, reads, (uses store Breaks handed returned before middle after sized hands looks takes, rose store handed returned before middle after hands takes looks.rises, refl))
-  unanswered opening.OutOfMemory looks = inl (refl, inr (uses store Keeps handed returned before middle after sized hands looks takes, refl))
+      inr (Ok query, reads, (uses store FailsUnread handed returned before middle after sized hands looks takes, rose store handed returned before middle after hands takes looks.rises, refl))
+  unanswered opening.OutOfMemory looks = inl (refl, inr (uses store KeepsBytes handed returned before middle after sized hands looks takes, refl))
 
 -- the query is not read
 pub unread : (store text : List ℕ) (before : World) (stop : Stop query_fault.BadParameter) (fault : Fault) → fault ≡ fault_of_query stop → model.Answers {A = Query} {F = query_fault.BadParameter} (Err stop) (QueryReads text)

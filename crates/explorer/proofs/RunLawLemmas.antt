@@ -15,7 +15,9 @@ use Rattle.explorer.specs.Report.{report}
 use Rattle.explorer.specs.Run.{Meets, Runs, StartsWithout}
 use Rattle.command_line.specs.Task.{Task, Count, Create, Import, Query, Serve, task_of}
 use Rattle.explorer.specs.World.{World, IsFaultless}
-use Rattle.explorer.proofs.LawLemmas.{OneAccount, OneAnswer}
+use Rattle.import_run.proofs.VerdictLemmas.{OneGame}
+use Rattle.explorer.proofs.LawLemmas.{OneAnswer}
+use Rattle.explorer.proofs.NoRoomLemmas.{OneAccount}
 use Rattle.explorer.proofs.OneEndingLemmas.{OneQuery, one_ending, wrote}
 
 -- ---- what a count writes to the errors
@@ -119,9 +121,9 @@ no_memory status ending differs is starves = differs (is ∙ ap status_of starve
 abbrev OneRun : World → World → ℕ → ℕ → Type 0
 OneRun after other status status' = (status ≡ status') × ((status ≡ 2 → ⊥) → WroteAlike after other)
 
-pub one_run : (words : List (List ℕ)) (stream : List ℕ) (before after other : World) (status status' : ℕ) → CountsAtMost (task_of words) → OneAccount → OneAnswer → OneQuery → IsTold stream before → IsFaultless before after → IsFaultless before other
+pub one_run : (words : List (List ℕ)) (stream : List ℕ) (before after other : World) (status status' : ℕ) → CountsAtMost (task_of words) → OneGame → OneAccount → OneAnswer → OneQuery → IsTold stream before → IsFaultless before after → IsFaultless before other
     → (status ≡ 9 → ⊥) → (status' ≡ 9 → ⊥) → Runs words before after status → Runs words before other status' → OneRun after other status status'
-one_run words stream before after other status status' counts_only one answer query told fine fine' fed fed' first second = by_meets first.meets second.meets
+one_run words stream before after other status status' counts_only game one answer query told fine fine' fed fed' first second = by_meets first.meets second.meets
   where
     by_counts : (text : List ℕ) → Counts text before first.ended first.ending → Counts text before second.ended second.ending → OneRun after other status status'
     by_counts text counts counts' =
@@ -129,7 +131,7 @@ one_run words stream before after other status status' counts_only one answer qu
         let grows' = grew_by counts'.0 before second.ended second.ending counts'.2 in
         let was = fine_by first.ending before first.ended after grows.1.never_falls.least first.tells fine in
         let was' = fine_by second.ending before second.ended other grows'.1.never_falls.least second.tells fine' in
-        let both = one_ending text stream before first.ended second.ended first.ending second.ending one answer query told was.0 was'.0 counts counts' in
+        let both = one_ending text stream before first.ended second.ended first.ending second.ending game one answer query told was.0 was'.0 counts counts' in
         let tells : Tells first.ending second.ended other = subst (λ (e : Ending). Tells e second.ended other) (sym both.0) second.tells in (
           first.status_is ∙ ap status_of both.0 ∙ sym second.status_is,
           λ differs. told_alike first.ending first.ended after second.ended other (λ usage. differs (first.status_is ∙ ap status_of usage))

@@ -43,13 +43,14 @@ rose name handed returned before middle after hands takes rises =
 -- a store that was made on a disk
 pub made_by : {D : Type 0} (disk : D → DiskState) (left_since : D → ℕ → List ℕ → Type 0)
     → ((it : D) (file : List ℕ) → (disk it).content ≡ Some file → MayLeave disk left_since it file)
-    → (before after : D) (log : Log D) → IsCreated disk left_since batch_format before log → after ≡ log.disk
+    → (before after : D) (log : Log D) → IsCreated disk left_since batch_format before log → (disk log.disk).faults ≡ (disk before).faults → after ≡ log.disk
     → Makes (disk before) (disk after)
-made_by {D} disk left_since told before after log created is =
+made_by {D} disk left_since told before after log created no_fault is =
     subst (λ (d : D). Makes (disk before) (disk d)) (sym is) (record {
       was_empty = created.was_empty;
       bytes = told_has (λ bytes. bytes ≡ empty_file store_format) (disk log.disk).content
           (λ bytes tells. created.file bytes (told log.disk bytes tells));
+      no_fault = no_fault;
     })
 
 pub is_sized : {D : Type 0} (disk : D → DiskState)

@@ -1,47 +1,57 @@
 -- Statement: how a run of the command `count` ends.
-use Rattle.std.specs.Prelude.{◌≡◌, ◌<◌, ℕ, List, [], ◌∷◌, ◌++◌, Result, Ok, Err, length, codes}
-use Rattle.std.specs.Io.KnownBytes.{IsAtEnd}
-use Rattle.outside.specs.Stream.{Reads, Writes}
+use Rattle.std.specs.Prelude.{◌≡◌, ◌≤◌, ℕ, List, [], ◌∷◌, Vec, Result, Ok, Err, length}
+use Rattle.std.specs.Global.{Global}
+use Rattle.outside.specs.Stream.{Reads, Rises, Stream, Writes}
 use Rattle.explorer_model.specs.declared.answer.Found.{Found}
 use Rattle.explorer_model.specs.declared.archive.Batch.{Batch}
 use Rattle.explorer_model.specs.declared.fault.Refusal.{Refusal}
 use Rattle.explorer_model.specs.declared.query.BadParameter as query_fault
 use Rattle.explorer_model.specs.declared.query.Query.{Query}
-use Rattle.explorer_model.specs.Answer.{answer_body}
-use Rattle.explorer_model.specs.Cuts.{cuts}
 use Rattle.explorer_model.specs.Finds.{IsFound}
-use Rattle.explorer_model.specs.Imports.{groups}
-use Rattle.explorer_model.specs.Journal.{input_limit}
+use Rattle.explorer_model.specs.Journal.{IsSound, input_limit}
 use Rattle.explorer_model.specs.Query.{QueryReads}
-use Rattle.explorer.specs.declared.fault.Fault.TheVariants.{BadParameter, ReadFault, WriteFault, Full, TooMuchInput}
-use Rattle.explorer.specs.Early.{AreStored, IsCutOff, IsFullAt, IsTooMuch}
+use Rattle.import_run.specs.Ending.{IsCutOff, IsTooMuch}
+use Rattle.explorer.specs.declared.fault.Fault.{Fault}
+use Rattle.explorer.specs.declared.fault.Fault.TheVariants.{BadParameter, DiskFault, Full, ReadFault, TooMuchInput, WriteFault}
+use Rattle.explorer.specs.Answer.{IsAnswer, answer_line}
+use Rattle.explorer.specs.Imported.{IsAllSettled, IsFullAt, new_store}
 use Rattle.explorer.specs.Lines.{Ending, Done, Stopped}
 use Rattle.explorer.specs.Report.{report}
 use Rattle.explorer.specs.World.{World, AllReadsCame, IsFaultless, ReadFails, WriteFails}
 
+-- Bytes of the input were taken, of which an import into a new store stands so. It stored these
+-- batches, which are a sound journal, and refused these cuts.
+pub record ImportsNew (Stands : List ℕ → List Batch → List Refusal → Type 0)
+    (before after : Stream) (batches : List Batch) (refused : List Refusal) : Type 0 where
+  pub stream : List ℕ
+  pub reads : Reads stream before after
+  pub stands : Stands stream batches refused
+  pub sound : IsSound batches
+
+-- the same, where the input was read to its end
+abbrev pub ImportsAll : Stream → Stream → List Batch → List Refusal → Type 0
+ImportsAll before after =
+    ImportsNew (λ stream. IsAllSettled new_store stream after.left) before after
+
 -- The input was read to its end. The games of its groups are stored, the query is answered over
 -- them, and what is refused is reported; nothing else was written.
 pub record Answers (query : Query) (before after : World) : Type 0 where
-  pub stream : List ℕ
-  pub reads : Reads stream before.input after.input
-  pub at_end : IsAtEnd after.input.left
-  pub below : length stream < input_limit
   pub batches : List Batch
   pub refused : List Refusal
-  pub stored : AreStored (groups (cuts stream)) batches refused
+  pub imports : ImportsAll before.input after.input batches refused
   pub found : Found
   pub is_found : IsFound batches query found
-  pub output : Writes ((answer_body found ++ codes "\n") ∷ []) before.output after.output
+  pub output : Writes (answer_line found ∷ []) before.output after.output
   pub errors : Writes (report refused ∷ []) before.errors after.errors
   pub host : after.host ≡ before.host
 
 -- A part of the input was read, of which an import that stands so has refused these cuts. They are
 -- reported; nothing else was written.
-pub record BreaksOff (Stands : List ℕ → List Refusal → Type 0) (before after : World) : Type 0 where
-  pub stream : List ℕ
-  pub reads : Reads stream before.input after.input
+pub record BreaksOff (Stands : List ℕ → List Batch → List Refusal → Type 0)
+    (before after : World) : Type 0 where
+  pub batches : List Batch
   pub refused : List Refusal
-  pub stands : Stands stream refused
+  pub imports : ImportsNew Stands before.input after.input batches refused
   pub output : after.output ≡ before.output
   pub errors : Writes (report refused ∷ []) before.errors after.errors
   pub host : after.host ≡ before.host
@@ -54,11 +64,12 @@ CountsBy (Ok query) before after Done = Answers query before after × IsFaultles
 CountsBy (Ok query) before after (Stopped WriteFault) =
     Answers query before after × WriteFails before after
 CountsBy (Ok query) before after (Stopped ReadFault) =
-    BreaksOff IsCutOff before after × ReadFails before after
+    BreaksOff (IsCutOff new_store) before after × ReadFails before after
 CountsBy (Ok query) before after (Stopped TooMuchInput) =
-    BreaksOff IsTooMuch before after × AllReadsCame before after
+    BreaksOff (IsTooMuch new_store) before after × AllReadsCame before after
 CountsBy (Ok query) before after (Stopped (Full games bytes)) =
-    BreaksOff (IsFullAt games bytes after.input.left) before after × AllReadsCame before after
+    BreaksOff (λ stream. IsFullAt games bytes new_store stream after.input.left) before after
+    × AllReadsCame before after
 CountsBy (Ok query) before after (Stopped _) = ⊥
 
 -- a run of `count` with this query string
@@ -66,3 +77,37 @@ abbrev pub Counts : List ℕ → World → World → Ending → Type 0
 Counts text before after ending =
     (query : Result Query query_fault.BadParameter)
     × QueryReads text query × CountsBy query before after ending
+
+-- ---- bridge: what the code comes to on the way
+
+-- some of the input was read, up to the bound at most
+pub record ReadsWithin (before after : Stream) : Type 0 where
+  pub stream : List ℕ
+  pub reads : Reads stream before after
+  pub within : length stream ≤ input_limit
+
+-- what an import into a new store came to, and the line that answers the query over it, or why there
+-- is none; with the counts of the disk's faults before and after
+abbrev pub CountedBy : Query → ℕ → ℕ → Stream → Stream → List Batch
+    → List Refusal → Result (Vec ℕ Global) Fault → Type 0
+CountedBy query faults faults_after before after batches refused (Ok line) =
+    ImportsAll before after batches refused × IsAnswer query batches line
+    × (after.read_faults ≡ before.read_faults)
+CountedBy query faults faults_after before after batches refused (Err ReadFault) =
+    ImportsNew (IsCutOff new_store) before after batches refused
+    × Rises before.read_faults after.read_faults
+CountedBy query faults faults_after before after batches refused (Err TooMuchInput) =
+    ImportsNew (IsTooMuch new_store) before after batches refused
+    × (after.read_faults ≡ before.read_faults)
+CountedBy query faults faults_after before after batches refused (Err (Full games bytes)) =
+    ImportsNew (λ stream. IsFullAt games bytes new_store stream after.left) before after batches
+    refused × (after.read_faults ≡ before.read_faults)
+CountedBy query faults faults_after before after batches refused (Err DiskFault) =
+    Rises faults faults_after
+CountedBy query faults faults_after before after batches refused (Err _) = ⊥
+
+-- it stored some batches
+abbrev pub CountedTo : Query → ℕ → ℕ → Stream → Stream → List Refusal
+    → Result (Vec ℕ Global) Fault → Type 0
+CountedTo query faults faults_after before after refused line =
+    (batches : List Batch) × CountedBy query faults faults_after before after batches refused line

@@ -16,6 +16,7 @@ use Rattle.explorer.specs.World.{World}
 pub record Makes (handed returned : DiskState) : Type 0 where
   pub was_empty : handed.size ≡ 0
   pub bytes : IfSome returned.content (λ bytes. bytes ≡ empty_file store_format)
+  pub no_fault : returned.faults ≡ handed.faults
 
 -- the disk was not empty, and is as it was
 pub record IsNotEmpty (size : ℕ) (handed returned : DiskState) : Type 0 where

@@ -4,25 +4,28 @@ use Rattle.explorer_model.specs.declared.fault.Stop.{Stop}
 use Rattle.explorer_model.specs.declared.fault.Stop.TheVariants as stops
 use Rattle.explorer_model.specs.declared.query.BadParameter as query_fault
 use Rattle.explorer_model.specs.declared.store.LogFault.TheVariants as log
+use Rattle.ingest_desk.specs.declared.report.ImportEnding.{ImportEnding}
+use Rattle.ingest_desk.specs.declared.report.ImportEnding.TheVariants as endings
 use Rattle.record_log.specs.declared.fault.CreateFault.{CreateFault}
 use Rattle.record_log.specs.declared.fault.CreateFault.TheVariants as creation
 use Rattle.record_log.specs.declared.fault.OpenFault.{OpenFault}
 use Rattle.record_log.specs.declared.fault.OpenFault.TheVariants as opening
 use Rattle.explorer.specs.declared.fault.Fault.{Fault}
 use Rattle.explorer.specs.declared.fault.Fault.TheVariants.{BadParameter, Damaged, DiskFault, Full, NotAStore, NotEmpty, OtherFormat, OutOfMemory, ReadFault, TooMuchInput}
-use Rattle.explorer.specs.declared.import.End.{End}
-use Rattle.explorer.specs.declared.import.End.TheVariants as ends
 
 abbrev pub fault_of_query : Stop query_fault.BadParameter → Fault
 fault_of_query (stops.Fault bad) = BadParameter bad.name
 fault_of_query stops.OutOfMemory = OutOfMemory
 
--- an import that ends early
-abbrev pub fault_of_end : End → Option Fault
-fault_of_end ends.Whole = None
-fault_of_end ends.ReadFault = Some ReadFault
-fault_of_end ends.TooMuchInput = Some TooMuchInput
-fault_of_end (ends.Full games bytes) = Some (Full games bytes)
+-- an import that ends early; none ends `Closed` whose store was open before it
+abbrev pub fault_by : ImportEnding → Option Fault
+fault_by endings.Whole = None
+fault_by (endings.ReadFault before after) = Some ReadFault
+fault_by (endings.DiskFault before after) = Some DiskFault
+fault_by (endings.Closed before after) = Some DiskFault
+fault_by (endings.Full games bytes) = Some (Full games bytes)
+fault_by (endings.TooMuch bytes) = Some TooMuchInput
+fault_by endings.OutOfMemory = Some OutOfMemory
 
 -- a store that is not made
 abbrev pub fault_of_creation : CreateFault → Fault

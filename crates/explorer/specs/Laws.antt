@@ -1,7 +1,16 @@
 -- Words of laws: runs that can be told apart by nothing.
 use Rattle.std.specs.Prelude.{◌≡◌, ⊤, ◌<◌, ◌-◌, ◌^◌, ℕ, List, Option, None, Some, IsSome, length}
 use Rattle.explorer_model.specs.Journal.{input_limit}
+use Rattle.explorer_model.specs.declared.archive.Batch.{Batch}
+use Rattle.explorer_model.specs.declared.fault.Refusal.{Refusal}
+use Rattle.explorer_model.specs.declared.fault.Why.{Why}
+use Rattle.explorer_model.specs.declared.fault.Why.TheVariants.{Repeated}
+use Rattle.explorer_model.specs.Cuts.{Cut}
+use Rattle.explorer_model.specs.Imports.{Candidate}
+use Rattle.ingest_desk.specs.Reporting.{FindsNoRoom}
+use Rattle.import_run.specs.Ending.{EndsIn}
 use Rattle.command_line.specs.Task.{Task, Count}
+use Rattle.explorer.specs.Imported.{new_store}
 use Rattle.explorer.specs.World.{World}
 
 -- all bytes are told, of an input below the bound, and no count stands at its greatest number
@@ -24,3 +33,17 @@ abbrev pub CountsAtMost : Option Task → Type 0
 CountsAtMost None = ⊤
 CountsAtMost (Some (Count query workers)) = ⊤
 CountsAtMost (Some _) = ⊥
+
+-- an import into a new store finds no room for one of these groups, by so many games and bytes that
+-- are stored
+abbrev pub IsFullIn : ℕ → ℕ → List (List Cut) → List Batch → List Refusal → Type 0
+IsFullIn games bytes so_far batches refused = (left : List Candidate)
+    × EndsIn new_store so_far batches refused left × FindsNoRoom batches games bytes left
+
+abbrev pub IsOther : Why → Type 0
+IsOther (Repeated number) = ⊥
+IsOther _ = ⊤
+
+-- the cut is not refused as a repeat of a stored game
+abbrev pub IsNoRepeat : Refusal → Type 0
+IsNoRepeat refusal = IsOther refusal.why

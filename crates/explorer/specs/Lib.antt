@@ -1,13 +1,12 @@
 pub mod World
 pub mod Lines
 pub mod Report
-pub mod Early
+pub mod Answer
+pub mod Imported
 pub mod Count
 pub mod Run
 pub mod Laws
 pub mod Faults
-pub mod Grouping
-pub mod Importing
 pub mod Stores
 pub mod Create
 pub mod Opened

@@ -1,7 +1,7 @@
--- Statement: what becomes of the disk of a store that is not opened.
+-- Statement: what becomes of the disk of a store that is to be opened.
 use Rattle.std.specs.Prelude.{◌≡◌, List, ℕ, IfSome}
 use Rattle.disk_model.specs.Disk.{DiskState}
-use Rattle.outside.specs.Stream.{NeverFalls, Rises}
+use Rattle.outside.specs.Stream.{Rises}
 use Rattle.explorer_model.specs.declared.archive.Batch.{Batch}
 use Rattle.explorer_model.specs.declared.store.LogFault.{LogFault}
 use Rattle.manifest.specs.Manifest.{HasJournal}
@@ -25,11 +25,11 @@ pub record FailsUnread (handed returned : DiskState) : Type 0 where
   pub kept : returned.content ≡ handed.content
   pub rises : Rises handed.faults returned.faults
 
--- the disk has this journal, where it tells its bytes, and was opened so
+-- the disk has this journal, where it tells its bytes, and was opened without a fault
 pub record OpensTo (journal : List Batch) (handed opened : DiskState) : Type 0 where
   pub read : IfSome handed.content (HasJournal journal)
   pub kept : opened.content ≡ handed.content
-  pub falls : NeverFalls handed.faults opened.faults
+  pub no_fault : opened.faults ≡ handed.faults
 
 -- what an opening that failed says of the disk
 abbrev pub NotOpened : OpenFault → DiskState → DiskState → Type 0

@@ -1,25 +1,35 @@
-//! The command `count`: reads a stream, tallies its games and answers a query.
-ghost use Rattle.std.specs.Prelude.{◌≡◌, ◌⊎◌, ◌≤◌, IfOk};
+//! The command `count`: stores the games of a stream in a new store, and answers a query over them.
+ghost use Rattle.std.specs.Prelude.{◌≡◌, ◌≢◌, ◌⊎◌, ◌≤◌, [], None, IfOk};
 ghost use Rattle.host.specs.Hosts.{HostState};
-ghost use Rattle.explorer.specs.Count.{Counts};
+ghost use Rattle.explorer_model.specs.Chess.{IsValid};
+ghost use Rattle.ingest_desk.specs.Stored.{journal};
+ghost use Rattle.explorer.specs.Count.{CountedTo, Counts, ReadsWithin};
 ghost use Rattle.explorer.specs.Lines.{ending_of};
 ghost use Rattle.explorer.specs.Run.{Starves};
 ghost use Rattle.explorer.specs.World.{world};
+ghost use Rattle.explorer.specs.declared.fault.Fault.{Fault as AFault};
 
 use crate::answer::line_for;
 use crate::fault::Fault;
-use crate::import::import;
+use crate::importing::import_into;
+use crate::opening::new_store;
 use crate::report::{report, write_lines};
+use disk_model::{Disk, Unkept};
+use explorer_model::fault::Refusal;
+use explorer_model::query::Query;
+use ingest_desk::{Ingest, Unnamed};
 use outside::{Sink, Source};
+use published_index::Index;
 use query_params::query;
-use std::alloc::Global;
+use std::alloc::AllocError;
+use std::marker::Brand;
+use std::sync::Wait;
 use std::thread::Threads;
 
 /// Reads the query and then the input, reports what is refused of the input, and prints the answer
-/// over its games.
-pub fn count<R: Threads + Sync, I: Source, O: Sink, E: Sink>(
+/// over its games. Ids are compared over the whole input.
+pub fn count<R: AllocGlobal + Wait + Threads + Sync, I: Source, O: Sink, E: Sink>(
     rt: &R,
-    alloc: Global,
     query_text: &[u8],
     workers: usize,
     input: &mut I,
@@ -34,17 +44,134 @@ pub fn count<R: Threads + Sync, I: Source, O: Sink, E: Sink>(
         Starves before after (ending_of result)
         ⊎ Counts query_text.now before after (ending_of result) }
 {
-    let query = query(alloc, query_text)?;
-    let imported = import(rt, alloc, workers, input)?;
-    let lines = report(alloc, imported.refused.as_slice())?;
-    if let Some(fault) = imported.end.fault() {
-        let _ = write_lines(errors, lines.as_slice());
-        return Err(fault);
-    }
-    let answer = line_for(alloc, imported.tallies.as_slice(), &query)?;
+    let query = query(rt.alloc(), query_text)?;
+    let counted = count_input(rt, &query, workers, input)?;
+    let Counted { refused, line } = counted;
+    let lines = report(rt.alloc(), refused.as_slice())?;
+    let answer = match line {
+        Ok(line) => line,
+        Err(fault) => {
+            let _ = write_lines(errors, lines.as_slice());
+            return Err(fault);
+        }
+    };
     let reported = write_lines(errors, lines.as_slice());
     let answered = output.write(answer.as_slice());
     reported?;
     answered?;
     Ok(())
+}
+
+/// What is refused of the input, and the line that answers the query over its games, or why the
+/// input was not read to its end.
+#[derive(Debug, Drop)]
+struct Counted {
+    refused: Vec<Refusal>,
+    line: Result<Vec<u8>, Fault>,
+}
+
+/// Stores the games of the input in a new store, which nothing is kept of, and answers the query
+/// over them.
+fn count_input<R: AllocGlobal + Wait + Threads + Sync, I: Source>(
+    rt: &R,
+    query: &Query,
+    workers: usize,
+    input: &mut I,
+) -> Result<Counted, AllocError>
+    requires some_workers { 1 ≤ workers }
+    requires few_workers { workers ≤ 16 }
+    requires valid { IsValid query.now.at }
+    requires top { query.now.top ≤ 4 }
+    requires recent { query.now.recent ≤ 4 }
+    ensures counted { IfOk result (λ counted. CountedTo query.now 0 0 (I.source input.old)
+        (I.source input.new) counted.refused.items counted.line) }
+    ensures within { ReadsWithin (I.source input.old) (I.source input.new) }
+{
+    let unnamed = new_store(rt)?;
+    count_unnamed::<Brand, R, I>(rt, unnamed, query, workers, input)
+}
+
+/// The same, where the store is made.
+fn count_unnamed<J: Index, R: AllocGlobal + Wait + Threads + Sync, I: Source>(
+    rt: &R,
+    unnamed: Unnamed<Unkept>,
+    query: &Query,
+    workers: usize,
+    input: &mut I,
+) -> Result<Counted, AllocError>
+    requires name { unnamed.index.name ≡ J.name }
+    requires sound { unnamed.manifest.fault ≡ None }
+    requires empty { unnamed.index.list ≡ [] }
+    requires some_workers { 1 ≤ workers }
+    requires few_workers { workers ≤ 16 }
+    requires valid { IsValid query.now.at }
+    requires top { query.now.top ≤ 4 }
+    requires recent { query.now.recent ≤ 4 }
+    ensures counted { IfOk result (λ counted. CountedTo query.now 0 0 (I.source input.old)
+        (I.source input.new) counted.refused.items counted.line) }
+    ensures within { ReadsWithin (I.source input.old) (I.source input.new) }
+{
+    let (mut ingest, _passes) = match unnamed.named::<J>(rt.alloc()) {
+        Ok(named) => named,
+        Err(unnamed) => {
+            let _disk = unnamed.into_disk(rt);
+            return Err(AllocError);
+        }
+    };
+    let counted = count_in(rt, &mut ingest, query, workers, input);
+    let _disk = ingest.into_disk(rt);
+    counted
+}
+
+/// The same, where the store without a batch is open.
+#[tactic(auto, using(crate::proofs::CountLemmas::within, crate::proofs::CountLemmas::counted_all))]
+fn count_in<J: Index, R: AllocGlobal + Wait + Threads + Sync, I: Source, D: Disk>(
+    rt: &R,
+    ingest: &mut Ingest<D, J>,
+    query: &Query,
+    workers: usize,
+    input: &mut I,
+) -> Result<Counted, AllocError>
+    requires sound { ingest.old.manifest.fault ≡ None }
+    requires empty { journal ingest.old ≡ [] }
+    requires some_workers { 1 ≤ workers }
+    requires few_workers { workers ≤ 16 }
+    requires valid { IsValid query.now.at }
+    requires top { query.now.top ≤ 4 }
+    requires recent { query.now.recent ≤ 4 }
+    ensures counted { IfOk result (λ counted. CountedTo query.now
+        (D.disk ingest.old.manifest.disk).faults (D.disk ingest.new.manifest.disk).faults
+        (I.source input.old) (I.source input.new) counted.refused.items counted.line) }
+    ensures within { ReadsWithin (I.source input.old) (I.source input.new) }
+{
+    let came = import_into(rt, ingest, input, workers);
+    match came.fault() {
+        Some(fault) => {
+            let fault = unless_memory(fault)?;
+            Ok(Counted {
+                refused: came.refused,
+                line: Err(fault),
+            })
+        }
+        None => {
+            // A batch that is stored may be held until there is memory to publish it.
+            ingest.catch_up(rt)?;
+            let line = line_for(rt.alloc(), ingest.publisher(), query)?;
+            Ok(Counted {
+                refused: came.refused,
+                line: Ok(line),
+            })
+        }
+    }
+}
+
+/// The fault, unless it is that memory was wanting.
+fn unless_memory(fault: Fault) -> Result<Fault, AllocError>
+    ensures same { IfOk result (λ other. other ≡ fault) }
+    ensures other { IfOk result (λ other. other ≢ AFault.OutOfMemory) }
+{
+    match fault {
+        Fault::OutOfMemory => Err(AllocError),
+        _ => Ok(fault),
+    }
 }

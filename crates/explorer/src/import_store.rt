@@ -1,28 +1,25 @@
 //! The command `import`: stores the games of a file.
-ghost use Rattle.std.specs.Prelude.{◌≡◌, ◌⊎◌, ◌<◌, ◌≤◌, ◌^◌, None, IfErr, IfOk, MatchOption, string_bytes};
+ghost use Rattle.std.specs.Prelude.{◌≡◌, ◌≤◌, None, MatchOption, string_bytes};
 ghost use Rattle.outside.specs.Stream.{Stream};
 ghost use Rattle.published_index.specs.Cover.{journal_of};
-ghost use Rattle.ingest_desk.specs.Reporting.{games_of};
-ghost use Rattle.explorer.specs.ImportStore.{ImportedIn, ImportsBy, IsTold, fault_by, totals};
-ghost use Rattle.explorer.specs.Lines.{ending_of as ending_of_run};
-ghost use Rattle.explorer.specs.Opened.{NotOpened, OpensTo};
-ghost use Rattle.explorer.specs.Stores.{IsSized};
+ghost use Rattle.explorer.specs.Imported.{ImportedTo};
+ghost use Rattle.explorer.specs.ImportStore.{ImportsBy, IsToldOf, totals};
+ghost use Rattle.explorer.specs.Lines.{ending_of};
 ghost use Rattle.explorer.specs.World.{world};
 
 use crate::fault::Fault;
-use crate::opening::fault_of_opening;
+use crate::importing::{Came, import_into};
+use crate::opening::{fault_of_opening, open_store};
 use crate::report::{report, write_lines};
 use arrayvec::ArrayString;
 use disk_model::Disk;
-use explorer_model::fault::Refusal;
 use host::Host;
 use host::laws::what_is_handed_out_is_out;
-use import_run::{ending_of, import_alone};
-use ingest_desk::{ImportEnding, Receipt, Unnamed, open};
+use ingest_desk::Unnamed;
 use itoa::Buffer;
-use outside::{FreeGate, Sink, Source};
+use outside::{Sink, Source};
 use published_index::Index;
-use record_log::{Back, OpenFault};
+use record_log::Back;
 use std::alloc::Global;
 use std::marker::Brand;
 use std::sync::Wait;
@@ -44,7 +41,7 @@ pub fn import_store<R: AllocGlobal + Wait + Threads + Sync, O: Sink, E: Sink, H:
     ensures { (input : Stream) →
         let before = world input (O.sink output.old) (E.sink errors.old) (H.host host.old) in
         let after = world input (O.sink output.new) (E.sink errors.new) (H.host host.new) in
-        ImportsBy (string_bytes store) (string_bytes file) before after (ending_of_run result) }
+        ImportsBy (string_bytes store) (string_bytes file) before after (ending_of result) }
 {
     // law: what was handed out is to be given back
     what_is_handed_out_is_out();
@@ -72,37 +69,6 @@ pub fn import_store<R: AllocGlobal + Wait + Threads + Sync, O: Sink, E: Sink, H:
     }
 }
 
-/// Opens the store on a disk.
-fn open_store<R: AllocGlobal + Wait + Threads + Sync, D: Disk>(
-    rt: &R,
-    disk: D,
-    workers: usize,
-) -> Result<Unnamed<D>, Back<D, OpenFault>>
-    requires some_workers { 1 ≤ workers }
-    requires few_workers { workers ≤ 16 }
-    ensures sized { IsSized (D.disk disk) }
-    ensures sound { IfOk result (λ unnamed. unnamed.manifest.fault ≡ None) }
-    ensures opened { IfOk result (λ unnamed. OpensTo (journal_of unnamed.index.list)
-        (D.disk disk) (D.disk unnamed.manifest.disk)) }
-    ensures refused { IfErr result (λ back.
-        NotOpened back.fault (D.disk disk) (D.disk back.disk)) }
-{
-    match open(rt, rt.alloc(), disk, workers, 1) {
-        Ok(unnamed) => Ok(unnamed),
-        Err(back) => Err(back),
-    }
-}
-
-/// What an import came to, and how many batches are stored afterwards.
-#[derive(Debug, Drop)]
-struct Came {
-    ending: ImportEnding,
-    refused: Vec<Refusal>,
-    games: u64,
-    batches: u64,
-    journal: u32,
-}
-
 /// A disk that is given back, and what came of the import into its store; nothing where memory was
 /// wanting before it began.
 struct Imported<D> {
@@ -121,8 +87,9 @@ fn import_in<J: Index, R: AllocGlobal + Wait + Threads + Sync, S: Source, D: Dis
     requires some_workers { 1 ≤ workers }
     requires few_workers { workers ≤ 16 }
     requires sound { unnamed.manifest.fault ≡ None }
-    ensures { MatchOption result.came (result.disk ≡ unnamed.manifest.disk)
-        (ImportedIn (journal_of unnamed.index.list) (D.disk unnamed.manifest.disk)
+    ensures { MatchOption result.came
+        ((result.disk ≡ unnamed.manifest.disk) × (S.source source.new ≡ S.source source.old))
+        (ImportedTo (journal_of unnamed.index.list) (D.disk unnamed.manifest.disk)
         (D.disk result.disk) (S.source source.old) (S.source source.new)) }
 {
     let (mut ingest, _passes) = match unnamed.named::<J>(rt.alloc()) {
@@ -134,30 +101,11 @@ fn import_in<J: Index, R: AllocGlobal + Wait + Threads + Sync, S: Source, D: Dis
             };
         }
     };
-    let report = import_alone(rt, rt.alloc(), source, &mut ingest, workers, &FreeGate);
-    let journal = ingest.batches();
+    let came = import_into(rt, &mut ingest, source, workers);
     Imported {
         disk: ingest.into_disk(rt),
-        came: Some(Came {
-            ending: ending_of(&report.end),
-            games: count_games(report.receipts.as_slice()),
-            batches: report.receipts.len() as u64,
-            refused: report.refused,
-            journal,
-        }),
+        came: Some(came),
     }
-}
-
-/// How many games the receipts have together.
-fn count_games<J: Index>(receipts: &[Receipt<J>]) -> u64
-    requires { games_of receipts.now < 2 ^ 32 }
-    ensures { result ≡ games_of receipts.now }
-{
-    let mut games: u64 = 0;
-    for receipt in receipts {
-        games += u64::from(receipt.games());
-    }
-    games
 }
 
 /// Reports what is refused, and prints how much is stored. What can still be written behind a fault
@@ -168,9 +116,8 @@ fn tell<O: Sink, E: Sink>(
     output: &mut O,
     errors: &mut E,
 ) -> Result<(), Fault>
-    ensures { (result ≡ Err Fault.OutOfMemory)
-        ⊎ IsTold came.now (O.sink output.old) (O.sink output.new) (E.sink errors.old)
-        (E.sink errors.new) (ending_of_run result) }
+    ensures { IsToldOf came.now result (O.sink output.old) (O.sink output.new)
+        (E.sink errors.old) (E.sink errors.new) }
 {
     let Ok(lines) = report(alloc, came.refused.as_slice()) else {
         return Err(Fault::OutOfMemory);
@@ -178,7 +125,7 @@ fn tell<O: Sink, E: Sink>(
     let reported = write_lines(errors, lines.as_slice());
     let totals = totals_line(came.games, came.batches, came.journal);
     let printed = output.write(totals.as_str().as_bytes());
-    if let Some(fault) = fault_of_ending(came.ending) {
+    if let Some(fault) = came.fault() {
         return Err(fault);
     }
     let Ok(()) = reported else {
@@ -188,20 +135,6 @@ fn tell<O: Sink, E: Sink>(
         return Err(Fault::WriteFault);
     };
     Ok(())
-}
-
-/// The fault of an import that ended early. No import ends `Closed` whose store was opened for it.
-fn fault_of_ending(ending: ImportEnding) -> Option<Fault>
-    ensures { result ≡ fault_by ending }
-{
-    match ending {
-        ImportEnding::Whole => None,
-        ImportEnding::ReadFault { .. } => Some(Fault::ReadFault),
-        ImportEnding::DiskFault { .. } | ImportEnding::Closed { .. } => Some(Fault::DiskFault),
-        ImportEnding::Full { games, bytes } => Some(Fault::Full { games, bytes }),
-        ImportEnding::TooMuch { .. } => Some(Fault::TooMuchInput),
-        ImportEnding::OutOfMemory => Some(Fault::OutOfMemory),
-    }
 }
 
 /// The three lines of what is stored.

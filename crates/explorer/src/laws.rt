@@ -1,17 +1,25 @@
 //! Laws of what a run promises. Each is the contract of a function that only cites the laws below
 //! it.
 ghost use Rattle.std.specs.Prelude.{◌≡◌, ◌≢◌, ℕ, List, IsSome};
+ghost use Rattle.std.specs.List.{AllByRecursion};
 ghost use Rattle.explorer_model.specs.Cuts.{Cut};
+ghost use Rattle.explorer_model.specs.Imports.{Accounted, AccountedApart};
+ghost use Rattle.explorer_model.specs.Journal.{IsSound};
+ghost use Rattle.explorer_model.specs.declared.archive.Batch.{Batch};
+ghost use Rattle.explorer_model.specs.declared.archive.Game.{Game};
 ghost use Rattle.explorer_model.specs.declared.fault.Refusal.{Refusal};
 ghost use Rattle.explorer_model.specs.declared.query.Query.{Query};
+ghost use Rattle.import_run.specs.Ending.{IsCutOff, IsTooMuch};
+ghost use Rattle.import_run.specs.SoFar.{AreInGroups};
 ghost use Rattle.explorer.specs.Count.{Answers};
-ghost use Rattle.explorer.specs.Early.{AreInGroups, IsCutOff, IsFullIn, IsTooMuch};
+ghost use Rattle.explorer.specs.Imported.{new_store};
 ghost use Rattle.command_line.specs.Task.{task_of};
-ghost use Rattle.explorer.specs.Laws.{CountsAtMost, IsTold, WroteAlike};
+ghost use Rattle.explorer.specs.Laws.{CountsAtMost, IsFullIn, IsNoRepeat, IsTold, WroteAlike};
 ghost use Rattle.explorer.specs.Run.{Runs};
 ghost use Rattle.explorer.specs.World.{World, IsFaultless};
 
-use batch_tally::laws::accounting_apart_is_determined;
+use batch_tally::laws::accounting_is_determined;
+use game_replay::laws::game_is_determined;
 use lookup::laws::answers_are_determined;
 use query_params::laws::query_is_determined;
 
@@ -22,20 +30,32 @@ pub fn groups_are_determined()
         → (whole ≡ others) × (hand ≡ other) }
 {}
 
-/// What an import has refused that ends early is determined by the bytes that were read, and by
-/// the groups of them where one finds no room.
+/// What an import into a new store has stored and refused that ends early is determined by the
+/// bytes that were read, and by the groups of them where one finds no room.
 pub fn early_ends_are_determined()
-    ensures cut_off { (stream : List ℕ) (refused other : List Refusal)
-        → IsCutOff stream refused → IsCutOff stream other → refused ≡ other }
-    ensures too_much { (stream : List ℕ) (refused other : List Refusal)
-        → IsTooMuch stream refused → IsTooMuch stream other → refused ≡ other }
-    ensures full { (games bytes games' bytes' : ℕ) (so_far : List (List Cut))
+    ensures cut_off { (stream : List ℕ) (batches others : List Batch) (refused other : List Refusal)
+        → IsCutOff new_store stream batches refused → IsCutOff new_store stream others other
+        → (batches ≡ others) × (refused ≡ other) }
+    ensures too_much { (stream : List ℕ) (batches others : List Batch)
         (refused other : List Refusal)
-        → IsFullIn games bytes so_far refused → IsFullIn games' bytes' so_far other
-        → (games ≡ games') × (bytes ≡ bytes') × (refused ≡ other) }
+        → IsTooMuch new_store stream batches refused → IsTooMuch new_store stream others other
+        → (batches ≡ others) × (refused ≡ other) }
+    ensures full { (games bytes games' bytes' : ℕ) (so_far : List (List Cut))
+        (batches others : List Batch) (refused other : List Refusal)
+        → IsFullIn games bytes so_far batches refused → IsFullIn games' bytes' so_far others other
+        → IsSound batches → IsSound others
+        → (games ≡ games') × (bytes ≡ bytes') × (batches ≡ others) × (refused ≡ other) }
 {
-    accounting_apart_is_determined();
+    game_is_determined();
+    accounting_is_determined();
 }
+
+/// Where no cut is refused as Repeated, groups behind stored games are accounted as each by itself.
+pub fn groups_without_repeats_stand_apart()
+    ensures { (stored : List Game) (groups : List (List Cut)) (batches : List Batch)
+        (refused : List Refusal) → Accounted stored groups batches refused
+        → AllByRecursion IsNoRepeat refused → AccountedApart groups batches refused }
+{}
 
 /// A told input has one answer to a query, and one report.
 pub fn a_told_input_has_one_answer()
@@ -43,7 +63,7 @@ pub fn a_told_input_has_one_answer()
         → (first : Answers query before after) → (second : Answers query before other)
         → (first.found ≡ second.found) × (first.refused ≡ second.refused) }
 {
-    accounting_apart_is_determined();
+    accounting_is_determined();
     answers_are_determined();
 }
 
@@ -59,7 +79,8 @@ pub fn a_run_is_determined()
         → Runs words before after status → Runs words before other status'
         → (status ≡ status') × (status ≢ 2 → WroteAlike after other) }
 {
-    accounting_apart_is_determined();
+    game_is_determined();
+    accounting_is_determined();
     answers_are_determined();
     query_is_determined();
 }

@@ -8,8 +8,8 @@ mod answer;
 mod count;
 mod create;
 mod fault;
-mod import;
 mod import_store;
+mod importing;
 mod laws;
 mod opening;
 mod order;
@@ -22,7 +22,6 @@ mod serving;
 mod status;
 #[cfg(test)]
 mod tests;
-mod text_group;
 mod workers;
 
 use fault::Fault;

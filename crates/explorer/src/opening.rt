@@ -1,11 +1,42 @@
-//! Why a store is not opened.
-ghost use Rattle.std.specs.Prelude.{◌≡◌};
+//! Stores that are opened, and a new one.
+ghost use Rattle.std.specs.Prelude.{◌≡◌, ◌≤◌, [], None, IfErr, IfOk};
+ghost use Rattle.published_index.specs.Cover.{journal_of};
 ghost use Rattle.explorer.specs.Faults.{fault_of_opening};
+ghost use Rattle.explorer.specs.Opened.{NotOpened, OpensTo};
+ghost use Rattle.explorer.specs.Stores.{IsSized};
 
 use crate::fault::Fault;
+use disk_model::{Disk, Unkept};
 use explorer_model::store::LogFault;
-use record_log::OpenFault;
+use ingest_desk::{Unnamed, fresh, open};
+use manifest::create;
+use record_log::{Back, OpenFault};
+use std::alloc::AllocError;
+use std::sync::Wait;
+use std::thread::Threads;
 
+/// Opens the store on a disk, for one reader.
+pub fn open_store<R: AllocGlobal + Wait + Threads + Sync, D: Disk>(
+    rt: &R,
+    disk: D,
+    workers: usize,
+) -> Result<Unnamed<D>, Back<D, OpenFault>>
+    requires some_workers { 1 ≤ workers }
+    requires few_workers { workers ≤ 16 }
+    ensures sized { IsSized (D.disk disk) }
+    ensures sound { IfOk result (λ unnamed. unnamed.manifest.fault ≡ None) }
+    ensures opened { IfOk result (λ unnamed. OpensTo (journal_of unnamed.index.list)
+        (D.disk disk) (D.disk unnamed.manifest.disk)) }
+    ensures refused { IfErr result (λ back.
+        NotOpened back.fault (D.disk disk) (D.disk back.disk)) }
+{
+    match open(rt, rt.alloc(), disk, workers, 1) {
+        Ok(unnamed) => Ok(unnamed),
+        Err(back) => Err(back),
+    }
+}
+
+/// Why a store is not opened, as a run tells it.
 pub fn fault_of_opening(fault: OpenFault) -> Fault
     ensures { result ≡ fault_of_opening fault }
 {
@@ -15,5 +46,20 @@ pub fn fault_of_opening(fault: OpenFault) -> Fault
         OpenFault::Log(LogFault::Damaged { at }) => Fault::Damaged { gate: at },
         OpenFault::DiskFault { .. } => Fault::DiskFault,
         OpenFault::OutOfMemory => Fault::OutOfMemory,
+    }
+}
+
+/// A store without a batch, on a disk that keeps nothing but its size.
+pub fn new_store<R: AllocGlobal + Wait>(rt: &R) -> Result<Unnamed<Unkept>, AllocError>
+    ensures sound { IfOk result (λ unnamed. unnamed.manifest.fault ≡ None) }
+    ensures empty { IfOk result (λ unnamed. unnamed.index.list ≡ []) }
+{
+    // The disk is empty, and no call of it fails.
+    let Ok(manifest) = create(Unkept::new()) else {
+        unreachable!();
+    };
+    match fresh(rt, rt.alloc(), manifest, 1) {
+        Ok(unnamed) => Ok(unnamed),
+        Err(back) => Err(back.fault),
     }
 }

@@ -93,7 +93,6 @@ fn run_command<R: AllocGlobal + Wait + Threads + Sync, I: Source, O: Sink, E: Si
     match command {
         Command::Count { query, workers } => count(
             rt,
-            rt.alloc(),
             query.as_bytes(),
             usize::from(workers),
             input,

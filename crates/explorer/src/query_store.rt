@@ -1,31 +1,27 @@
 //! The command `query`: answers a query over a store.
-ghost use Rattle.std.specs.Prelude.{◌≡◌, ◌<◌, ◌≤◌, IfOk, string_bytes};
+ghost use Rattle.std.specs.Prelude.{◌≡◌, ◌≤◌, string_bytes};
 ghost use Rattle.explorer_model.specs.Chess.{IsValid};
 ghost use Rattle.outside.specs.Stream.{Stream};
 ghost use Rattle.published_index.specs.Cover.{journal_of};
 ghost use Rattle.explorer.specs.Lines.{ending_of};
-ghost use Rattle.explorer.specs.QueryStore.{IsAnswer, LooksAt, LooksIn, QueriesBy};
+ghost use Rattle.explorer.specs.QueryStore.{LooksAt, LooksIn, QueriesBy};
 ghost use Rattle.explorer.specs.Stores.{IsSized};
 ghost use Rattle.explorer.specs.World.{world};
 
+use crate::answer::line_for;
 use crate::fault::Fault;
-use crate::opening::fault_of_opening;
-use answer_json::answer::body;
-use answer_json::laws::what_is_found_is_plain;
+use crate::opening::{fault_of_opening, open_store};
 use disk_model::Disk;
 use explorer_model::query::Query;
 use host::Host;
 use host::laws::what_is_handed_out_is_out;
-use ingest_desk::{Unnamed, open};
-use lookup::look;
+use ingest_desk::Unnamed;
 use outside::Sink;
-use published_index::{Index, Publisher, Snapshot};
+use published_index::{Index, Publisher};
 use record_log::{Back, OpenFault};
-use segment_blocks::Steps;
-use std::alloc::{AllocError, Global};
+use std::alloc::Global;
 use std::marker::Brand;
 use std::sync::Wait;
-use std::sync::ledger::{Blank, Ledger};
 use std::thread::Threads;
 
 /// Reads the query and then the store, and prints the answer over its games.
@@ -85,7 +81,7 @@ fn look_at<R: AllocGlobal + Wait + Threads + Sync, D: Disk>(
     ensures sized { IsSized (D.disk disk) }
     ensures looks { LooksAt query.now (D.disk disk) (D.disk result.disk) result.line }
 {
-    match open(rt, rt.alloc(), disk, workers, 1) {
+    match open_store(rt, disk, workers) {
         Ok(unnamed) => look_in::<Brand, R, D>(rt, unnamed, query),
         Err(back) => {
             let Back { disk, fault } = back;
@@ -140,43 +136,4 @@ fn line_in<J: Index>(
         Ok(line) => Ok(line),
         Err(_) => Err(OpenFault::OutOfMemory),
     }
-}
-
-/// The line that answers the query over what is published.
-fn line_for<J: Index>(
-    alloc: Global,
-    publisher: &Publisher<J>,
-    query: &Query,
-) -> Result<Vec<u8>, AllocError>
-    requires valid { IsValid query.now.at }
-    requires top { query.now.top ≤ 4 }
-    requires recent { query.now.recent ≤ 4 }
-    ensures { IfOk result (IsAnswer query.now (journal_of publisher.now.list)) }
-{
-    let snapshot = publisher.snapshot(alloc)?;
-    line_uncounted::<Brand>(alloc, &snapshot, query, Blank::new(1))
-}
-
-/// The same, where no steps are counted.
-fn line_uncounted<L: Ledger>(
-    alloc: Global,
-    snapshot: &Snapshot,
-    query: &Query,
-    blank: Blank,
-) -> Result<Vec<u8>, AllocError>
-    requires valid { IsValid query.now.at }
-    requires top { query.now.top ≤ 4 }
-    requires recent { query.now.recent ≤ 4 }
-    requires name { blank.name ≡ L.name }
-    requires parts { blank.parts ≡ L.parts }
-    requires some { 0 < L.parts }
-    ensures { IfOk result (IsAnswer query.now (journal_of snapshot.now)) }
-{
-    // law: what is found is written as plain JSON
-    what_is_found_is_plain();
-    let mut steps = Steps::<L>::new(blank);
-    let found = look(alloc, snapshot, query, &mut steps)?;
-    let mut line = body(alloc, &found)?;
-    line.push(b'\n')?;
-    Ok(line)
 }

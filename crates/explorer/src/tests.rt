@@ -92,6 +92,33 @@ fn one_move(
     )
 }
 
+/// The answer over five games that White won and that began with `1. e4`.
+fn five_games(alloc: Global, top: &str, recent: &str) -> Result<String, AllocError> {
+    format!(in alloc;
+        "{{\"black\":0,\"draws\":0,\"moves\":[{{\"averageRating\":1500,\"black\":0,\"draws\":0,\
+         \"game\":null,\"opening\":null,\"san\":\"e4\",\"uci\":\"e2e4\",\"white\":5}}],\
+         \"opening\":null,\"recentGames\":[{recent}],\"topGames\":[{top}],\"white\":5}}\n"
+    )
+}
+
+/// A game with `1. e4` that White won and one with `1. d4` that Black won, and the answer over both.
+fn two_moves(alloc: Global) -> Result<(String, String), AllocError> {
+    let first = named(alloc, "aaaaaaa1", "1-0", "1. e4 1-0")?;
+    let second = named(alloc, "aaaaaaa2", "0-1", "1. d4 0-1")?;
+    let text = format!(in alloc; "{first}{second}")?;
+    let won = listed(alloc, "aaaaaaa1", "e2e4", "white")?;
+    let lost = listed(alloc, "aaaaaaa2", "d2d4", "black")?;
+    let answer = format!(in alloc;
+        "{{\"black\":1,\"draws\":0,\"moves\":[\
+         {{\"averageRating\":1500,\"black\":1,\"draws\":0,\"game\":{lost},\"opening\":null,\
+         \"san\":\"d4\",\"uci\":\"d2d4\",\"white\":0}},\
+         {{\"averageRating\":1500,\"black\":0,\"draws\":0,\"game\":{won},\"opening\":null,\
+         \"san\":\"e4\",\"uci\":\"e2e4\",\"white\":1}}],\"opening\":null,\
+         \"recentGames\":[{lost},{won}],\"topGames\":[{won},{lost}],\"white\":1}}\n"
+    )?;
+    Ok((text, answer))
+}
+
 /// A call that no run comes to.
 const NEVER: u64 = u64::MAX;
 
@@ -157,4 +184,33 @@ fn run_on<R: AllocGlobal + Wait + Threads + Sync>(
         output,
         errors,
     })
+}
+
+/// Runs on a host without an input, and says whether it ends with this status, and prints and
+/// reports this.
+fn ends<R: AllocGlobal + Wait + Threads + Sync>(
+    rt: &R,
+    host: &mut MemHost,
+    words: &[&str],
+    ending: (u8, &str, &str),
+) -> Result<bool, AllocError> {
+    let alloc = rt.alloc();
+    let (status, printed, reported) = ending;
+    let all = with_name(alloc, words)?;
+    let mut input = MemSource::new(Vec::new(alloc), 1, Vec::new(alloc));
+    let mut output = MemSink::new(alloc, 4096, Vec::new(alloc))?;
+    let mut errors = MemSink::new(alloc, 4096, Vec::new(alloc))?;
+    let ended = run(
+        rt,
+        all.as_slice(),
+        &mut input,
+        &mut output,
+        &mut errors,
+        host,
+    );
+    Ok(
+        ended.number == status
+            && output.bytes() == printed.as_bytes()
+            && errors.bytes() == reported.as_bytes(),
+    )
 }

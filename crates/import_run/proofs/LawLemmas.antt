@@ -79,7 +79,7 @@ abbrev pub SameRefused : Type 0
 SameRefused = (stored : List Game) (groups : List (List Cut)) (batches others : List Batch) (refused other : List Refusal) → Accounted stored groups batches refused → Accounted stored groups others other → refused ≡ other
 
 -- whole groups of the same bytes are settled alike
-same_settled : SameBatches → SameRefused → (start other : Known) (stream : List ℕ) (whole whole' : List (List Cut)) (hand hand' : List Cut) (batches batches' : List Batch) (refused refused' : List Refusal) → other.games ≡ start.games
+pub same_settled : SameBatches → SameRefused → (start other : Known) (stream : List ℕ) (whole whole' : List (List Cut)) (hand hand' : List Cut) (batches batches' : List Batch) (refused refused' : List Refusal) → other.games ≡ start.games
     → AreInGroups (ended_cuts stream) whole hand → AreInGroups (ended_cuts stream) whole' hand' → AreSettled start whole batches refused → AreSettled other whole' batches' refused'
     → (batches ≡ batches') × (refused ≡ refused')
 same_settled same_batches same_refused start other stream whole whole' hand hand' batches batches' refused refused' games are are' settled settled' =
@@ -89,7 +89,7 @@ same_settled same_batches same_refused start other stream whole whole' hand hand
     let b = subst W same (subst G games settled'.accounted) in
     (same_batches start.games whole batches batches' refused refused' settled.accounted b, same_refused start.games whole batches batches' refused refused' settled.accounted b)
 
-same_front : (front other : List ℕ) (last last' : ℕ) → front ++ last ∷ [] ≡ other ++ last' ∷ [] → front ≡ other
+pub same_front : (front other : List ℕ) (last last' : ℕ) → front ++ last ∷ [] ≡ other ++ last' ∷ [] → front ≡ other
 same_front [] [] last last' e = refl
 same_front [] (b ∷ other) last last' e = absurd (omega (arith, ap length e, length-append other (last' ∷ [])))
 same_front (b ∷ front) [] last last' e = absurd (omega (arith, ap length e, length-append front (last ∷ [])))

@@ -1,5 +1,5 @@
-mod AccountLemmas
-mod AloneLemmas
+pub mod AccountLemmas
+pub mod AloneLemmas
 mod AnswerLemmas
 mod BesideLemmas
 mod BodyLemmas
@@ -13,25 +13,25 @@ mod DeterminedLemmas
 mod DrainLemmas
 mod EarlyLemmas
 mod EndedLemmas
-mod GroupLemmas
+pub mod GroupLemmas
 mod HandLemmas
 mod HoldLemmas
-mod LawLemmas
+pub mod LawLemmas
 mod MergeLemmas
 mod NewGameLemmas
-mod NextLemmas
+pub mod NextLemmas
 mod PairLemmas
 mod PlaceLemmas
 mod ReachLemmas
 mod ReadLemmas
 mod RepeatLemmas
 mod ReportLemmas
-mod SameGroups
+pub mod SameGroups
 mod ShortLemmas
 mod SinceLemmas
-mod SoFarLemmas
+pub mod SoFarLemmas
 mod StopLemmas
 mod StreamCutLemmas
 mod TakingLemmas
-mod TurnLemmas
-mod VerdictLemmas
+pub mod TurnLemmas
+pub mod VerdictLemmas

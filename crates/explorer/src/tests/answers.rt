@@ -1,5 +1,8 @@
 //! Answers to queries over a few games.
-use super::{FAULTLESS, NO_GAME, ONE_WHITE, Tags, game, listed, named, one_move, run_on, tagged};
+use super::{
+    FAULTLESS, NO_GAME, ONE_WHITE, Tags, five_games, game, listed, named, one_move, run_on, tagged,
+    two_moves,
+};
 use std::alloc::{AllocError, Global};
 use std::sync::Wait;
 use std::test::Fail;
@@ -187,30 +190,9 @@ fn filters_by_speed_and_group(rt: HostRuntime) -> Result<(), Fail> {
 #[test]
 fn orders_moves_of_equal_totals_by_their_text(rt: HostRuntime) -> Result<(), Fail> {
     let alloc = rt.alloc();
-    let first = named(alloc, "aaaaaaa1", "1-0", "1. e4 1-0")?;
-    let second = named(alloc, "aaaaaaa2", "0-1", "1. d4 0-1")?;
-    let text = format!(in alloc; "{first}{second}")?;
-    let won = listed(alloc, "aaaaaaa1", "e2e4", "white")?;
-    let lost = listed(alloc, "aaaaaaa2", "d2d4", "black")?;
-    let answer = format!(in alloc;
-        "{{\"black\":1,\"draws\":0,\"moves\":[\
-         {{\"averageRating\":1500,\"black\":1,\"draws\":0,\"game\":{lost},\"opening\":null,\
-         \"san\":\"d4\",\"uci\":\"d2d4\",\"white\":0}},\
-         {{\"averageRating\":1500,\"black\":0,\"draws\":0,\"game\":{won},\"opening\":null,\
-         \"san\":\"e4\",\"uci\":\"e2e4\",\"white\":1}}],\"opening\":null,\
-         \"recentGames\":[{lost},{won}],\"topGames\":[{won},{lost}],\"white\":1}}\n"
-    )?;
+    let (text, answer) = two_moves(alloc)?;
     assert!(rt; answers(&rt, text.as_str(), "", answer.as_str())?);
     Ok(())
-}
-
-/// The answer over five games that White won and that began with `1. e4`.
-fn five_games(alloc: Global, top: &str, recent: &str) -> Result<String, AllocError> {
-    format!(in alloc;
-        "{{\"black\":0,\"draws\":0,\"moves\":[{{\"averageRating\":1500,\"black\":0,\"draws\":0,\
-         \"game\":null,\"opening\":null,\"san\":\"e4\",\"uci\":\"e2e4\",\"white\":5}}],\
-         \"opening\":null,\"recentGames\":[{recent}],\"topGames\":[{top}],\"white\":5}}\n"
-    )
 }
 
 #[test]

@@ -1,45 +1,13 @@
 //! Commands over stores, on a host in memory.
-use super::{NO_GAME, with_name};
-use crate::program::run;
+use super::{FAULTLESS, NO_GAME, ends, game, one_move, run_on, two_moves};
 use disk_model::{Disk, MemDisk};
 use host::laws::what_is_handed_out_is_out;
-use host::{Host, MemHost};
-use outside::{Failed, MemSink, MemSource};
-use std::alloc::AllocError;
-use std::sync::Wait;
+use host::{Host, MemFile, MemHost};
+use outside::Failed;
 use std::test::Fail;
-use std::thread::Threads;
 
 /// A store of format 1 without a batch.
 const EMPTY_STORE: [u8; 13] = *b"OPENEXP1\x01\x00\x00\x00\x00";
-
-/// Runs on a host without an input, and says whether it ends with this status, and prints this.
-fn ends<R: AllocGlobal + Wait + Threads + Sync>(
-    rt: &R,
-    host: &mut MemHost,
-    words: &[&str],
-    ending: (u8, &str, &str),
-) -> Result<bool, AllocError> {
-    let alloc = rt.alloc();
-    let (status, printed, reported) = ending;
-    let all = with_name(alloc, words)?;
-    let mut input = MemSource::new(Vec::new(alloc), 1, Vec::new(alloc));
-    let mut output = MemSink::new(alloc, 4096, Vec::new(alloc))?;
-    let mut errors = MemSink::new(alloc, 4096, Vec::new(alloc))?;
-    let ended = run(
-        rt,
-        all.as_slice(),
-        &mut input,
-        &mut output,
-        &mut errors,
-        host,
-    );
-    Ok(
-        ended.number == status
-            && output.bytes() == printed.as_bytes()
-            && errors.bytes() == reported.as_bytes(),
-    )
-}
 
 /// Whether these bytes stand on a disk of the host.
 fn stands<H: Host>(host: &mut H, name: &str, bytes: &[u8; 13]) -> Result<bool, Failed> {
@@ -81,7 +49,7 @@ fn makes_a_store_once(rt: HostRuntime) -> Result<(), Fail> {
 }
 
 #[test]
-fn answers_over_a_store(rt: HostRuntime) -> Result<(), Fail> {
+fn opens_what_is_named(rt: HostRuntime) -> Result<(), Fail> {
     let alloc = rt.alloc();
     let mut host = MemHost::new(alloc);
     host.add_disk("a", MemDisk::new(alloc, 100, Vec::new(alloc))?)?;
@@ -91,7 +59,12 @@ fn answers_over_a_store(rt: HostRuntime) -> Result<(), Fail> {
     let mut other = MemDisk::new(alloc, 100, Vec::new(alloc))?;
     other.write_at(0, b"OPENEXP1\x09\x00\x00\x00\x00")?;
     host.add_disk("other", other)?;
-    let table: [(&[&str], _); 6] = [
+    let file = MemFile {
+        bytes: Vec::new(alloc),
+        failing: Vec::new(alloc),
+    };
+    host.add_file("f", file)?;
+    let table: [(&[&str], _); 10] = [
         (&["create", "a"], (0, "created\n", "")),
         (&["query", "a"], (0, NO_GAME, "")),
         (
@@ -101,10 +74,59 @@ fn answers_over_a_store(rt: HostRuntime) -> Result<(), Fail> {
         (&["query", "short"], (7, "", "not a store\n")),
         (&["query", "other"], (7, "", "format 9\n")),
         (&["query", "lost"], (10, "", "cannot open lost\n")),
+        (&["serve", "short", "l"], (7, "", "not a store\n")),
+        (&["serve", "lost", "l"], (10, "", "cannot open lost\n")),
+        (&["serve", "a", "l", "f", "g"], (10, "", "cannot open g\n")),
+        (&["serve", "a", "l", "f"], (10, "", "cannot open l\n")),
     ];
     for (words, ending) in table {
         assert!(rt; ends(&rt, &mut host, words, ending)?, "{:?}", words);
     }
     assert!(rt; stands(&mut host, "a", &EMPTY_STORE)?);
+    Ok(())
+}
+
+#[test]
+fn a_store_answers_as_a_count_does(rt: HostRuntime) -> Result<(), Fail> {
+    let alloc = rt.alloc();
+    let commented = "1. e4 { [%eval 0.17] [%clk 0:00:30] } 1... c5?! { [%clk 0:00:29] } 1-0";
+    let returning = "1. Nf3 Nf6 2. Ng1 Ng8 3. e4 1-0";
+    let (two, over_two) = two_moves(alloc)?;
+    let table = [
+        (
+            game(alloc, "1-0", commented)?,
+            "stored 1\nbatches 1\njournal 1\n",
+            one_move(alloc, "", "1500", "e4", "e2e4")?,
+        ),
+        (
+            game(alloc, "1-0", returning)?,
+            "stored 1\nbatches 1\njournal 1\n",
+            one_move(alloc, "", "1500", "Nf3", "g1f3")?,
+        ),
+        (two, "stored 2\nbatches 1\njournal 1\n", over_two),
+    ];
+    for (text, stored, answer) in &table {
+        let mut host = MemHost::new(alloc);
+        host.add_disk("s", MemDisk::new(alloc, 1 << 20, Vec::new(alloc))?)?;
+        let file = MemFile {
+            bytes: text.as_bytes().to_vec(alloc)?,
+            failing: Vec::new(alloc),
+        };
+        host.add_file("f", file)?;
+        let commands: [(&[&str], _); 3] = [
+            (&["create", "s"], (0, "created\n", "")),
+            (&["import", "s", "f"], (0, *stored, "")),
+            (&["query", "s"], (0, answer.as_str(), "")),
+        ];
+        for (words, ending) in commands {
+            assert!(rt;
+                ends(&rt, &mut host, words, ending)?,
+                "{:?} {answer}",
+                words
+            );
+        }
+        let seen = run_on(&rt, &["count"], text.as_str(), 4096, FAULTLESS)?;
+        assert!(rt; seen.is(0, answer.as_str(), ""), "{answer}");
+    }
     Ok(())
 }

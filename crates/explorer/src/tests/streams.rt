@@ -187,19 +187,20 @@ fn games(alloc: Global, count: u32) -> Result<String, AllocError> {
     Ok(text)
 }
 
-/// A group has 512 texts, and ids are compared within a group alone.
+/// A group has 512 texts, and ids are compared over the whole input: within a group with the
+/// candidates before, and with the games of the groups before.
 #[test]
 fn counts_the_games_of_two_groups(rt: HostRuntime) -> Result<(), Fail> {
     let alloc = rt.alloc();
     let mut text = games(alloc, 512)?;
     let answer = won(alloc, 512)?;
     assert!(rt; counts(&rt, text.as_str(), 4096, answer.as_str(), "")?);
-    for id in ["00000512", "00000000", "00000512"] {
+    for id in ["00000512", "00000007", "00000512"] {
         let game = named(alloc, id, "1-0", "1-0")?;
         text.push_str(game.as_str())?;
     }
-    let answer = won(alloc, 514)?;
-    let report = "99716 Twice 99328\n";
+    let answer = won(alloc, 513)?;
+    let report = "99522 Repeated 7\n99716 Twice 99328\n";
     assert!(rt; counts(&rt, text.as_str(), 4096, answer.as_str(), report)?);
     Ok(())
 }

@@ -4,7 +4,7 @@ use Rattle.explorer.specs.ImportStore.{ImportsBy}
 use Rattle.explorer.specs.Lines.{Ending, Stopped, ending_of}
 use Rattle.explorer.specs.Opened.{NotOpened}
 use Rattle.explorer.specs.World.{World, world}
-use Rattle.explorer.proofs.ImportEndLemmas.{imports_by, imports_to, not_opened}
+use Rattle.explorer.proofs.ImportEndLemmas.{imports_by, imports_into, imports_to, in_vain, not_opened, only_host, untold, uses_both}
 use Rattle.explorer.proofs.StoreLemmas.{uses}
 use Rattle.explorer.proofs.import_store.import_store.Goals as goal
 
@@ -40,6 +40,8 @@ returns-in_default-file g c = λ input.
 
 pub returns-in-Some : goal.returns-in-Some
 returns-in-Some g c = λ input.
+    let store = string_bytes c.args.store in
+    let file = string_bytes c.args.file in
     let hands = rw c.as_str.ensures.value at c.in-Ok.ensures.hands in
     let hands_file = rw c.as_str-2.ensures.value at c.in-Ok-file.ensures.hands in
     let takes_file = rw c.as_str-3.ensures.value at c.close_file.ensures in
@@ -48,9 +50,24 @@ returns-in-Some g c = λ input.
     let after : World = world input (g.O.Sink.sink c.tell.new.output) (g.E.Sink.sink c.tell.new.errors) (g.H.Host.host c.close-2.new.self) in
     let opened = c.in-Ok-open_store.ensures.opened in
     let came = rw c.in-Some.is at c.import_in-disk.ensures in
-    ⊎_elim (λ oom. subst (λ (e : Ending). ImportsBy (string_bytes c.args.store) (string_bytes c.args.file) before after e) (sym (ap ending_of oom)) refl)
-    (λ told. imports_by (string_bytes c.args.store) (string_bytes c.args.file) before after c.in-Some.came.ending (ending_of c.tell.result)
-    (imports_to (string_bytes c.args.store) (string_bytes c.args.file) before after _ _ _ _ _ _ c.in-Some.came (ending_of c.tell.result)
-    (record { sized = c.open_store.ensures.sized; opened = _; hands_disk = hands; given = _; hands_file = hands_file; taken = _; takes_file = takes_file; takes_disk = takes })
-    opened.read opened.falls came told refl) told.outcome)
+    let uses = uses_both store file _ _ _ _ _ _ _ _ _ c.open_store.ensures.sized hands hands_file takes_file takes in
+    ⊎_elim (λ lacks. subst (λ (e : Ending). ImportsBy store file before after e) (sym (ap ending_of lacks.0))
+    (untold store file before after c.in-Some.came.ending (imports_into store file before.host after.host _ _ _ _ _ _ c.in-Some.came uses opened came)
+    (only_host before after _ _ _ refl lacks.1 lacks.2)))
+    (λ told. imports_by store file before after c.in-Some.came.ending (ending_of c.tell.result)
+    (imports_to store file before after _ _ _ _ _ _ c.in-Some.came (ending_of c.tell.result) uses opened came told refl) told.outcome)
     c.tell.ensures
+
+pub returns : goal.returns
+returns g c = λ input.
+    let store = string_bytes c.args.store in
+    let file = string_bytes c.args.file in
+    let hands = rw c.as_str.ensures.value at c.in-Ok.ensures.hands in
+    let hands_file = rw c.as_str-2.ensures.value at c.in-Ok-file.ensures.hands in
+    let takes_file = rw c.as_str-3.ensures.value at c.close_file.ensures in
+    let takes = rw c.as_str-4.ensures.value at c.close-2.ensures in
+    let before : World = world input (g.O.Sink.sink c.args.output.now) (g.E.Sink.sink c.args.errors.now) (g.H.Host.host c.args.host.now) in
+    let after : World = world input (g.O.Sink.sink c.args.output.now) (g.E.Sink.sink c.args.errors.now) (g.H.Host.host c.close-2.new.self) in
+    let came = rw c.in-None.is at c.import_in-disk.ensures in
+    let uses = uses_both store file _ _ _ _ _ _ _ _ _ c.open_store.ensures.sized hands hands_file takes_file takes in
+    in_vain store file _ _ _ _ before after uses (rw came.0 c.in-Ok-open_store.ensures.opened.kept) came.1 refl

@@ -3,4 +3,4 @@ use Rattle.explorer.proofs.laws.a_run_is_determined.Goals as goal
 
 pub returns : goal.returns
 returns c = λ words stream before after other status status' only told fine fine' fed fed' first second.
-    one_run words stream before after other status status' only (record { batches = c.accounting_apart_is_determined.ensures.batches; refused = c.accounting_apart_is_determined.ensures.refused }) c.answers_are_determined.ensures c.query_is_determined.ensures told fine fine' fed fed' first second
+    one_run words stream before after other status status' only c.game_is_determined.ensures (record { batches = c.accounting_is_determined.ensures.batches; refused = c.accounting_is_determined.ensures.refused }) c.answers_are_determined.ensures c.query_is_determined.ensures told fine fine' fed fed' first second

@@ -1,0 +1,102 @@
+-- Statement: what an import into an open store comes to.
+use Rattle.std.specs.Prelude.{◌≡◌, ◌<◌, ◌++◌, ℕ, List, [], length, IfSome, Option, None}
+use Rattle.std.specs.Io.KnownBytes.{IsAtEnd}
+use Rattle.disk_model.specs.Disk.{DiskState}
+use Rattle.outside.specs.Stream.{Stream, Reads, Rises}
+use Rattle.explorer_model.specs.declared.archive.Batch.{Batch}
+use Rattle.explorer_model.specs.declared.fault.Refusal.{Refusal}
+use Rattle.explorer_model.specs.Cuts.{cuts}
+use Rattle.explorer_model.specs.Imports.{groups}
+use Rattle.explorer_model.specs.Journal.{IsSound, game_count, input_limit}
+use Rattle.manifest.specs.Manifest.{HasJournal, IsWithOrWithoutBatch}
+use Rattle.ingest_desk.specs.Reporting.{FindsNoRoom}
+use Rattle.ingest_desk.specs.declared.report.ImportEnding.{ImportEnding}
+use Rattle.ingest_desk.specs.declared.report.ImportEnding.TheVariants as endings
+use Rattle.import_run.specs.Committing.{Known}
+use Rattle.import_run.specs.Ending.{AreSettled, EndsAt, HasMaybeOneMore, HasRoomFor, IsCutOff, IsTooMuch, Lacks}
+use Rattle.explorer.specs.declared.importing.Came.{Came}
+
+-- a store without a batch, that is open
+abbrev pub new_store : Known
+new_store = record { journal = []; fault = None; games = []; are_games = tt }
+
+-- a group of the stream finds no room, by so many games and bytes that are stored
+abbrev pub IsFullAt : ℕ → ℕ → Known → List ℕ → Option (List ℕ) → List Batch → List Refusal
+    → Type 0
+IsFullAt games bytes start stream left_over batches refused =
+    (ends : EndsAt start stream left_over batches refused)
+    × FindsNoRoom (start.journal ++ batches) games bytes ends.left
+
+-- the stream was read to its end, below the bound, and all its groups are settled
+pub record IsAllSettled (start : Known) (stream : List ℕ) (left_over : Option (List ℕ))
+    (batches : List Batch) (refused : List Refusal) : Type 0 where
+  pub at_end : IsAtEnd left_over
+  pub below : length stream < input_limit
+  pub settled : AreSettled start (groups (cuts stream)) batches refused
+
+-- how an import stands with the bytes that it took, by its ending; the store was open before
+abbrev pub StandsBy : ImportEnding → Known → List ℕ → Option (List ℕ) → List Batch
+    → List Refusal → Type 0
+StandsBy endings.Whole start stream left_over batches refused =
+    IsAllSettled start stream left_over batches refused
+StandsBy (endings.ReadFault before after) start stream left_over batches refused =
+    IsCutOff start stream batches refused
+StandsBy (endings.TooMuch bytes) start stream left_over batches refused =
+    IsTooMuch start stream batches refused
+StandsBy (endings.DiskFault before after) start stream left_over batches refused =
+    (ends : EndsAt start stream left_over batches refused)
+    × HasRoomFor (start.journal ++ batches) ends.left
+StandsBy (endings.Closed before after) start stream left_over batches refused = ⊥
+StandsBy (endings.Full games bytes) start stream left_over batches refused =
+    IsFullAt games bytes start stream left_over batches refused
+StandsBy endings.OutOfMemory start stream left_over batches refused =
+    Lacks start stream left_over batches refused
+
+-- the stored journal: the batches stand behind the one before; where memory was wanting, there may
+-- be one more
+abbrev pub StoredBy : ImportEnding → List Batch → List Batch → Type 0
+StoredBy endings.OutOfMemory journal stored = HasMaybeOneMore journal stored
+StoredBy _ journal stored = stored ≡ journal
+
+-- the bytes of the store: they have the journal; after a disk fault perhaps with a batch more
+abbrev pub HoldsBy : ImportEnding → List Batch → List ℕ → Type 0
+HoldsBy (endings.DiskFault before after) stored image =
+    (batch : Batch) × IsWithOrWithoutBatch stored batch image
+HoldsBy _ stored image = HasJournal stored image
+
+-- no call of the disk failed, and no read
+pub record NoFault (disk disk_after : DiskState) (source source_after : Stream) : Type 0 where
+  pub calls : disk_after.faults ≡ disk.faults
+  pub reads : source_after.read_faults ≡ source.read_faults
+
+-- a read or a call of the disk failed exactly where the ending says so
+abbrev pub FaultsBy : ImportEnding → DiskState → DiskState → Stream → Stream → Type 0
+FaultsBy (endings.ReadFault before after) disk disk_after source source_after =
+    (disk_after.faults ≡ disk.faults) × Rises source.read_faults source_after.read_faults
+FaultsBy (endings.DiskFault before after) disk disk_after source source_after =
+    Rises disk.faults disk_after.faults × (source_after.read_faults ≡ source.read_faults)
+FaultsBy _ disk disk_after source source_after =
+    NoFault disk disk_after source source_after
+
+-- an import into an open store of this journal came to this, and left that one
+pub record ImportedIn (journal stored : List Batch) (disk disk_after : DiskState)
+    (source source_after : Stream) (came : Came) : Type 0 where
+  pub start : Known
+  pub sound : start.fault ≡ None
+  pub journal_is : start.journal ≡ journal
+  pub stream : List ℕ
+  pub reads : Reads stream source source_after
+  pub batches : List Batch
+  pub stands : StandsBy came.ending start stream source_after.left batches came.refused.items
+  pub stored_are : StoredBy came.ending (start.journal ++ batches) stored
+  pub is_sound : IsSound stored
+  pub holds : IfSome disk_after.content (HoldsBy came.ending stored)
+  pub faults : FaultsBy came.ending disk disk_after source source_after
+  pub games_are : came.games ≡ game_count batches
+  pub batches_are : came.batches ≡ length batches
+  pub stored_is : came.journal ≡ length stored
+
+-- it left some journal
+abbrev pub ImportedTo : List Batch → DiskState → DiskState → Stream → Stream → Came → Type 0
+ImportedTo journal disk disk_after source source_after came =
+    (stored : List Batch) × ImportedIn journal stored disk disk_after source source_after came

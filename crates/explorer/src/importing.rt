@@ -1,0 +1,79 @@
+//! An import into a store that is open.
+ghost use Rattle.std.specs.Prelude.{◌≡◌, ◌<◌, ◌≤◌, ◌^◌, None};
+ghost use Rattle.ingest_desk.specs.Reporting.{games_of};
+ghost use Rattle.ingest_desk.specs.Stored.{journal};
+ghost use Rattle.explorer.specs.Faults.{fault_by};
+ghost use Rattle.explorer.specs.Imported.{ImportedIn};
+
+use crate::fault::Fault;
+use disk_model::Disk;
+use explorer_model::fault::Refusal;
+use import_run::{ending_of, import_alone};
+use ingest_desk::{ImportEnding, Ingest, Receipt};
+use outside::{FreeGate, Source};
+use published_index::Index;
+use std::sync::Wait;
+use std::thread::Threads;
+
+/// What an import came to, and how many batches are stored afterwards.
+#[derive(Debug, Drop)]
+pub struct Came {
+    pub ending: ImportEnding,
+    pub refused: Vec<Refusal>,
+    pub games: u64,
+    pub batches: u64,
+    pub journal: u32,
+}
+
+impl Came {
+    /// The fault of a run whose import ended early.
+    pub fn fault(&self) -> Option<Fault>
+        ensures { result ≡ fault_by self.now.ending }
+    {
+        match self.ending {
+            ImportEnding::Whole => None,
+            ImportEnding::ReadFault { .. } => Some(Fault::ReadFault),
+            // No import ends `Closed` whose store was open before it.
+            ImportEnding::DiskFault { .. } | ImportEnding::Closed { .. } => Some(Fault::DiskFault),
+            ImportEnding::Full { games, bytes } => Some(Fault::Full { games, bytes }),
+            ImportEnding::TooMuch { .. } => Some(Fault::TooMuchInput),
+            ImportEnding::OutOfMemory => Some(Fault::OutOfMemory),
+        }
+    }
+}
+
+/// Imports the source into a store that is open. Merging is done meanwhile by as many workers.
+pub fn import_into<J: Index, R: AllocGlobal + Wait + Threads + Sync, S: Source, D: Disk>(
+    rt: &R,
+    ingest: &mut Ingest<D, J>,
+    source: &mut S,
+    workers: usize,
+) -> Came
+    requires some_workers { 1 ≤ workers }
+    requires few_workers { workers ≤ 16 }
+    requires sound { ingest.old.manifest.fault ≡ None }
+    ensures { ImportedIn (journal ingest.old) (journal ingest.new)
+        (D.disk ingest.old.manifest.disk) (D.disk ingest.new.manifest.disk)
+        (S.source source.old) (S.source source.new) result }
+{
+    let report = import_alone(rt, rt.alloc(), source, ingest, workers, &FreeGate);
+    Came {
+        ending: ending_of(&report.end),
+        games: count_games(report.receipts.as_slice()),
+        batches: report.receipts.len() as u64,
+        refused: report.refused,
+        journal: ingest.batches(),
+    }
+}
+
+/// How many games the receipts have together.
+fn count_games<J: Index>(receipts: &[Receipt<J>]) -> u64
+    requires { games_of receipts.now < 2 ^ 32 }
+    ensures { result ≡ games_of receipts.now }
+{
+    let mut games: u64 = 0;
+    for receipt in receipts {
+        games += u64::from(receipt.games());
+    }
+    games
+}
