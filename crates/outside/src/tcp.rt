@@ -129,6 +129,8 @@ impl Door for TcpDoor {
         }
         match self.listener.accept() {
             Ok((stream, _)) => {
+                // Else the second chunk of a reply waits for the peer's delayed acknowledgement.
+                let _ = stream.set_nodelay(true);
                 self.left -= 1;
                 self.out += 1;
                 Ok(Some(TcpLink::new(stream)))
