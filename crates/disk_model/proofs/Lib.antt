@@ -1,2 +1,3 @@
 mod MemoryCalls
 pub mod Moments
+pub mod DeterminedLemmas

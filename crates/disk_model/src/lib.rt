@@ -4,6 +4,7 @@
 mod call;
 mod disk;
 mod file;
+pub mod laws;
 mod memory;
 mod plan;
 mod unkept;

@@ -3,4 +3,5 @@ mod Creation
 pub mod Gates
 mod Records
 mod Told
+mod DeterminedLemmas
 mod SyncedWrites

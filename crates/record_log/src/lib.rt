@@ -6,6 +6,7 @@ mod append;
 mod creating;
 mod fault;
 mod format;
+pub mod laws;
 mod log;
 mod opening;
 mod reading;
