@@ -1,6 +1,6 @@
 -- What is kept of a host in memory, over one call.
-use Rattle.std.proofs.Common.{◌≡◌, ◌≤◌, ◌<◌, ◌+◌, ◌-◌, ℕ, Bool, true, false, List, [], ◌∷◌, ◌++◌, length, length-append, get_or, set, map, reverse, replicate, Option, None, Some, IsSome, string_bytes, refl, sym, ap, ◌∙◌, subst, arith, ◌⊎◌, inl, inr}
-use Rattle.std.specs.Prelude.{IfSome, if◌then◌else◌}
+use Rattle.std.proofs.Common.{◌≡◌, ◌≤◌, ◌<◌, ◌+◌, ◌-◌, ℕ, true, false, List, [], ◌∷◌, ◌++◌, length, length-append, get_or, set, map, reverse, replicate, Option, None, Some, IsSome, refl, sym, ap, ◌∙◌, subst, arith, ◌⊎◌, inl, inr}
+use Rattle.std.specs.Prelude.{IfSome}
 use Rattle.std.specs.Str.{bytes_eq}
 use Rattle.std.proofs.lemmas.Bool.{cases_Bool}
 use Rattle.std.proofs.lemmas.Grind.{common_steps}
@@ -11,11 +11,11 @@ use Rattle.disk_model.specs.Memory.{MemoryDisk}
 use Rattle.host.specs.declared.memory.Named.{Named}
 use Rattle.host.specs.declared.memory.MemCall.{MemCall}
 use Rattle.host.specs.declared.memory.MemCall.TheVariants as mem
-use Rattle.host.specs.Hosts.{HostCall, Thing, ADisk, AFile, ADoor, DiskOut, DiskRefused, DiskBack, FileOut, FileRefused, FileBack, DoorsOut, DoorsRefused, DoorBack, MayNote, out, one_if}
+use Rattle.host.specs.Hosts.{HostCall, Thing, ADisk, AFile, ADoor, DiskOut, DiskBack, FileOut, FileBack, DoorsOut, DoorBack, IsOut, MayNote, out, one_if}
 use Rattle.host.specs.declared.memory.MemAddress.{MemAddress}
-use Rattle.host.specs.Memory.{AreKnown, IsKept, IsRefusalOf, MemoryHost, NotesOrNot, Stock, Names, call_of, calls_of, host_of, is_named, names_in, names_of, place_in, things_out, without}
+use Rattle.host.specs.Memory.{IsKept, IsRefusalOf, MemoryHost, NotesOrNot, Stock, call_of, calls_of, host_of, names_in, place_in, things_out, without}
 use Rattle.host.proofs.Places.{names-set, place-set}
-use Rattle.host.proofs.Things.{bytes_same, length-without, same_bytes, times, times-out}
+use Rattle.host.proofs.Things.{bytes_same, length-without, times-out}
 
 -- ---- calls, the newest first
 
@@ -83,6 +83,17 @@ pub some_out : (stock : Stock) (calls : List HostCall) (number size room : ℕ) 
     → number ≡ length (without thing (things_out calls)) + 1
 some_out stock calls number size room thing kept some =
     kept.out_is ∙ length-without thing (things_out calls) (rw (times-out thing calls) some)
+
+-- what the state of a host has out, its calls have out
+pub out_before : (thing : Thing) (inside value : MemoryHost) → inside ≡ value → IsOut thing (host_of value)
+    → 0 < out thing (calls_of inside.stock inside.calls)
+out_before thing inside value same is_out = subst (λ (m : MemoryHost). IsOut thing (host_of m)) (sym same) is_out
+
+pub some_out_before : (thing : Thing) (inside value : MemoryHost) → inside ≡ value → IsOut thing (host_of value) → (number size room : ℕ)
+    → IsKept inside.stock (calls_of inside.stock inside.calls) number size room
+    → number ≡ length (without thing (things_out (calls_of inside.stock inside.calls))) + 1
+some_out_before thing inside value same is_out number size room kept =
+    some_out inside.stock (calls_of inside.stock inside.calls) number size room thing kept (out_before thing inside value same is_out)
 
 pub kept_disk_back : (stock : Stock) (calls : List HostCall) (number size room size' room' : ℕ) (name : List ℕ)
     → IsKept stock calls number size room → 0 < out (ADisk name) calls → size' + (number - 1) ≤ room'

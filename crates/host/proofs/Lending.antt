@@ -1,6 +1,5 @@
 -- What a host in memory hands out and takes back.
-use Rattle.std.proofs.Common.{◌≡◌, ◌≤◌, ◌<◌, ◌+◌, ◌-◌, ℕ, List, [], ◌∷◌, ◌++◌, length, map, get_or, set, Option, None, Some, string_bytes, refl, sym, ap, ◌∙◌, subst, arith}
-use Rattle.std.specs.Prelude.{if◌then◌else◌}
+use Rattle.std.proofs.Common.{◌≡◌, ◌≤◌, ◌<◌, ◌+◌, ◌-◌, ℕ, List, [], ◌∷◌, ◌++◌, get_or, set, Option, None, Some, refl, sym, ap, ◌∙◌, subst}
 use Rattle.outside.specs.Doors.{Connections}
 use Rattle.outside.specs.Memory.{MemorySource, MemoryDoor}
 use Rattle.outside.specs.Stream.{Stream, source_alone}
@@ -10,8 +9,8 @@ use Rattle.host.specs.declared.memory.MemFile.{MemFile}
 use Rattle.host.specs.declared.memory.MemAddress.{MemAddress}
 use Rattle.host.specs.declared.memory.MemCall.{MemCall}
 use Rattle.host.specs.declared.memory.MemCall.TheVariants as mem
-use Rattle.host.specs.Hosts.{AreFresh, Counts, HandsDisk, HandsDoors, HandsFile, HostCall, ADisk, AFile, ADoor, DiskOut, DiskBack, FileOut, FileBack, DoorsOut, DoorBack, TakesDisk, TakesDoor, TakesFile, out, put, untold_links}
-use Rattle.host.specs.Memory.{IsKept, MemoryHost, Stock, bytes_of, call_of, calls_of, each_links, host_of, names_in, place_in, stock, under}
+use Rattle.host.specs.Hosts.{AreFresh, Counts, HandsDisk, HandsDoors, HandsFile, HostCall, ADisk, AFile, ADoor, DiskOut, DiskBack, FileOut, FileBack, DoorsOut, TakesDisk, TakesDoor, TakesFile, out, put}
+use Rattle.host.specs.Memory.{IsKept, Stock, bytes_of, call_of, calls_of, each_links, host_of, names_in, place_in, under}
 use Rattle.host.specs.Real.{FaultCounts}
 use Rattle.host.proofs.Keeping.{calls_of-addresses, calls_of-disks, calls_of-push, kept_addresses, kept_disks, kept_disk_back, kept_disk_out, kept_door_back, kept_doors_out, kept_file_back, kept_file_out}
 use Rattle.host.proofs.Places.{ext, is_first, name-at, under-at, under-set}

@@ -1,9 +1,8 @@
 -- What stands at a place, and under a name.
-use Rattle.std.proofs.Common.{◌≡◌, ◌<◌, ◌+◌, ℕ, suc, zero, Bool, true, false, List, [], ◌∷◌, length, get_or, set, map, position, Option, None, Some, string_bytes, refl, sym, ap, ◌∙◌, subst, arith, ◌⊎◌, inl, inr}
+use Rattle.std.proofs.Common.{◌≡◌, ◌<◌, ℕ, suc, zero, Bool, true, false, List, [], ◌∷◌, length, get_or, set, Some, string_bytes, refl, sym, ap, ◌∙◌, subst, arith, ◌⊎◌, inl, inr}
 use Rattle.std.specs.Prelude.{if◌then◌else◌}
 use Rattle.std.specs.Str.{bytes_eq}
 use Rattle.std.proofs.lemmas.Bool.{cases_Bool}
-use Rattle.std.proofs.lemmas.Grind.{common_steps}
 use Rattle.std.proofs.lemmas.List.Quantifiers.{position-Some}
 use Rattle.std.proofs.Math.Seq.{map-set_same}
 use Rattle.std.proofs.lemmas.List.{length-set}
@@ -11,7 +10,7 @@ use Rattle.std.proofs.lemmas.List.Folds.{position_or_len-set}
 use Rattle.host.specs.declared.memory.Named.{Named}
 use Rattle.host.specs.Hosts.{put}
 use Rattle.host.specs.Memory.{is_named, place_in, under, names_of}
-use Rattle.host.proofs.Things.{bytes_same, same_bytes}
+use Rattle.host.proofs.Things.{bytes_same}
 
 bytes_sym : (name other : List ℕ) → bytes_eq name other ≡ bytes_eq other name
 bytes_sym name other = by (cases_Bool (bytes_eq name other)) (cases_Bool (bytes_eq other name))

@@ -2,7 +2,7 @@
 use Rattle.std.specs.Prelude.{◌≡◌, ◌⊎◌, ◌≤◌, ◌<◌, ◌+◌, ◌∷◌, ℕ, Bool, true, false, List, [], ◌++◌, length, position, Option, None, Some, IsSome, map, reverse, replicate, string_bytes, slice_get, get_or, if◌then◌else◌}
 use Rattle.std.specs.Option.{option_and_then}
 use Rattle.std.specs.Str.{bytes_eq}
-use Rattle.outside.specs.Memory.{MemoryLink, stream_of}
+use Rattle.outside.specs.Memory.{stream_of}
 use Rattle.outside.specs.Stream.{Stream}
 use Rattle.disk_model.specs.Memory.{MemoryDisk, state_of}
 use Rattle.host.specs.declared.memory.Named.{Named}

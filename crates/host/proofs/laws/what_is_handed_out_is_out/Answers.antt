@@ -1,5 +1,5 @@
-use Rattle.std.proofs.Common.{◌≡◌, ◌<◌, refl, ap, arith, rules}
-use Rattle.host.specs.Hosts.{HostState, ADisk, ADoor, AFile, DiskOut, DoorsOut, FileOut, one_if}
+use Rattle.std.proofs.Common.{refl, ap, arith}
+use Rattle.host.specs.Hosts.{HostState, ADisk, ADoor, AFile, DiskOut, DoorsOut, FileOut}
 use Rattle.host.proofs.Things.{out_is, same_bytes}
 use Rattle.host.proofs.laws.what_is_handed_out_is_out.Goals as goal
 

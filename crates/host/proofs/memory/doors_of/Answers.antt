@@ -1,9 +1,8 @@
-use Rattle.std.proofs.Common.{◌≡◌, ◌+◌, ◌<◌, ◌++◌, ◌∷◌, [], ℕ, List, Option, Some, None, drop, length, zero, suc, map, slice_get, rules, arith, refl, sym, subst, ap, ◌∙◌, ◌⊎◌, inl, inr, add-one}
+use Rattle.std.proofs.Common.{◌≡◌, ◌+◌, ◌<◌, ◌++◌, ◌∷◌, [], ℕ, List, Option, Some, drop, length, zero, suc, map, slice_get, rules, arith, refl, sym, ap, ◌∙◌, ◌⊎◌, inl, inr, add-one}
 use Rattle.std.proofs.lemmas.Bool.{cases_eq}
 use Rattle.std.proofs.lemmas.List.{map-append}
 use Rattle.std.proofs.lemmas.Grind.{common_steps}
 use Rattle.std.specs.Vec.Iter.{into_iter_items}
-use Rattle.outside.specs.Doors.{Connections}
 use Rattle.outside.specs.Memory.{MemoryDoor, stream_of}
 use Rattle.outside.specs.Stream.{Stream}
 use Rattle.host.specs.Hosts.{AreFresh, fresh}

@@ -1,4 +1,4 @@
-use Rattle.std.proofs.Common.{◌≡◌, rules, refl, sym, ap}
+use Rattle.std.proofs.Common.{rules}
 use Rattle.host.proofs.memory.MemHost.add_disk.Goals as goal
 
 pub returns-clause-added : goal.returns-clause-added

@@ -1,4 +1,4 @@
-use Rattle.std.proofs.Common.{◌≡◌, ◌≤◌, ◌+◌, ◌++◌, ◌∷◌, [], Some, get_or, rules, refl, sym, ap, arith, ◌∙◌, subst, vec_len, vec_capacity}
+use Rattle.std.proofs.Common.{◌≡◌, ◌≤◌, ◌+◌, ◌++◌, ◌∷◌, [], Some, rules, refl, ap, vec_len, vec_capacity}
 use Rattle.host.specs.Memory.{calls_of, place_in, stock}
 use Rattle.host.specs.declared.memory.MemCall.TheVariants.{DiskOut}
 use Rattle.host.proofs.Keeping.{calls_of-disks, kept_disks, kept_room}

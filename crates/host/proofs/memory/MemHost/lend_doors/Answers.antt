@@ -1,4 +1,4 @@
-use Rattle.std.proofs.Common.{◌≡◌, ◌≤◌, ◌<◌, ◌+◌, ◌-◌, ◌++◌, ◌∷◌, [], Some, ℕ, get_or, rules, arith, refl, sym, ap, subst, vec_len, vec_capacity}
+use Rattle.std.proofs.Common.{◌≡◌, ◌≤◌, ◌+◌, ◌++◌, ◌∷◌, [], Some, rules, arith, refl, ap, vec_len, vec_capacity}
 use Rattle.host.specs.Memory.{calls_of, place_in, stock}
 use Rattle.host.specs.declared.memory.MemCall.TheVariants.{DoorsOut}
 use Rattle.host.proofs.Keeping.{calls_of-addresses, kept_addresses, kept_room}

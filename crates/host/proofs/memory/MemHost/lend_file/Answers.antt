@@ -1,5 +1,4 @@
-use Rattle.std.proofs.Common.{◌≡◌, ◌≤◌, ◌+◌, ◌++◌, ◌∷◌, [], Some, get_or, rules, refl, vec_len, vec_capacity}
-use Rattle.outside.specs.Stream.{source_alone}
+use Rattle.std.proofs.Common.{◌≡◌, ◌≤◌, ◌+◌, ◌++◌, ◌∷◌, [], Some, get_or, rules, vec_len, vec_capacity}
 use Rattle.host.specs.Memory.{place_in, stock}
 use Rattle.host.specs.declared.memory.MemCall.TheVariants.{FileOut}
 use Rattle.host.proofs.Lending.{hands_file, kept_file_lent}

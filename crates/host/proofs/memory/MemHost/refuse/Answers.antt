@@ -1,5 +1,5 @@
-use Rattle.std.proofs.Common.{◌≡◌, ◌≤◌, ◌+◌, rules, arith, refl, vec_len, vec_capacity}
-use Rattle.host.specs.Memory.{calls_of, stock}
+use Rattle.std.proofs.Common.{vec_len, vec_capacity}
+use Rattle.host.specs.Memory.{stock}
 use Rattle.host.proofs.Keeping.{kept_refused}
 use Rattle.host.proofs.memory.MemHost.refuse.Goals as goal
 

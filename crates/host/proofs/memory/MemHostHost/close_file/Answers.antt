@@ -1,36 +1,23 @@
-use Rattle.std.proofs.Common.{◌≡◌, ◌≤◌, ◌<◌, ◌+◌, ◌-◌, ◌++◌, ◌∷◌, [], Some, ℕ, get_or, rules, arith, refl, sym, subst, vec_len, vec_capacity}
-use Rattle.host.specs.Hosts.{AFile, Counts, IsOut, out}
-use Rattle.host.specs.Memory.{MemoryHost, calls_of, host_of, place_in, stock}
+use Rattle.std.proofs.Common.{◌≡◌, ◌≤◌, ◌+◌, ◌-◌, ◌++◌, ◌∷◌, [], Some, rules, arith, refl, vec_len, vec_capacity}
+use Rattle.host.specs.Hosts.{AFile, Counts}
+use Rattle.host.specs.Memory.{place_in, stock}
 use Rattle.host.specs.declared.memory.MemCall.TheVariants.{FileBack}
-use Rattle.host.proofs.Keeping.{some_out}
+use Rattle.host.proofs.Keeping.{out_before, some_out_before}
 use Rattle.host.proofs.Lending.{kept_file_returned, takes_file}
 use Rattle.host.proofs.memory.MemHostHost.close_file.Goals as goal
 
 pub push_reserved-requires : goal.push_reserved-requires
-push_reserved-requires c =
-    let h = c.self.inside in
-    let s = stock h.disks.items h.files.items h.addresses.items in
-    let some : 0 < out (AFile c.args.name.now) (calls_of s h.calls.items) =
-    subst (λ (m : MemoryHost). IsOut (AFile c.args.name.now) (host_of m)) (sym c.self.view_is) c.requires in
-    let more = some_out s (calls_of s h.calls.items) h.out (vec_len h.calls) (vec_capacity h.calls) (AFile c.args.name.now) c.self.invariant some in
-    omega (arith, more, c.self.invariant.room)
+push_reserved-requires c = omega (arith, some_out_before (AFile c.args.name.now) _ _ c.self.view_is c.requires _ _ _ c.self.invariant, c.self.invariant.room)
 
 pub overflow_sub-self : goal.overflow_sub-self
-overflow_sub-self c =
-    let h = c.self.inside in
-    let s = stock h.disks.items h.files.items h.addresses.items in
-    let some : 0 < out (AFile c.args.name.now) (calls_of s h.calls.items) =
-    subst (λ (m : MemoryHost). IsOut (AFile c.args.name.now) (host_of m)) (sym c.self.view_is) c.requires in
-    let more = some_out s (calls_of s h.calls.items) h.out (vec_len h.calls) (vec_capacity h.calls) (AFile c.args.name.now) c.self.invariant some in
-    omega (arith, more)
+overflow_sub-self c = omega (arith, some_out_before (AFile c.args.name.now) _ _ c.self.view_is c.requires _ _ _ c.self.invariant)
 
 pub invariant_of-self : goal.invariant_of-self
 invariant_of-self c =
     let h = c.self.inside in
     let s = stock h.disks.items h.files.items h.addresses.items in
-    let some : 0 < out (AFile c.args.name.now) (calls_of s h.calls.items) =
-    subst (λ (m : MemoryHost). IsOut (AFile c.args.name.now) (host_of m)) (sym c.self.view_is) c.requires in
-    let more = some_out s (calls_of s h.calls.items) h.out (vec_len h.calls) (vec_capacity h.calls) (AFile c.args.name.now) c.self.invariant some in
+    let some = out_before (AFile c.args.name.now) _ _ c.self.view_is c.requires in
+    let more = some_out_before (AFile c.args.name.now) _ _ c.self.view_is c.requires _ _ _ c.self.invariant in
     let items : c.push_reserved.new.self.items ≡ h.calls.items ++ FileBack c.in-Some.place c.args.file ∷ [] = search rules in
     let fits : vec_len c.push_reserved.new.self + (h.out - 1) ≤ vec_capacity c.push_reserved.new.self =
     omega (arith, more, c.self.invariant.room, c.push_reserved.ensures.len, c.push_reserved.ensures.capacity) in

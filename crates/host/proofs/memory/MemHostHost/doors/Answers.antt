@@ -1,4 +1,4 @@
-use Rattle.std.proofs.Common.{◌≡◌, rules, refl, sym, subst}
+use Rattle.std.proofs.Common.{◌≡◌, subst}
 use Rattle.host.specs.Hosts.{DoorsRefused, RefusesDoors}
 use Rattle.host.specs.Memory.{MemoryHost, host_of}
 use Rattle.host.proofs.Keeping.{is_refused}
