@@ -5,6 +5,7 @@ pub mod Splitting
 pub mod Ranks
 pub mod Positions
 pub mod Determined
+pub mod FaultLemmas
 pub mod Respelling
 pub mod Rereading
 pub mod Examples

@@ -1,2 +1,3 @@
 pub mod Splits
 pub mod Ranks
+pub mod Faults

@@ -1,5 +1,5 @@
 //! What holds of the written forms and of their reading.
-ghost use Rattle.std.specs.Prelude.{◌≡◌, ℕ, List, Result, Ok};
+ghost use Rattle.std.specs.Prelude.{◌≡◌, ◌↔◌, ℕ, List, Result, Ok, Err};
 ghost use Rattle.explorer_model.specs.declared.chess.Position.{Position as APosition};
 ghost use Rattle.explorer_model.specs.declared.chess.Move.{Move as AMove};
 ghost use Rattle.explorer_model.specs.declared.notation.FenFault.{FenFault as AFenFault};
@@ -7,6 +7,7 @@ ghost use Rattle.explorer_model.specs.declared.notation.UciFault.{UciFault as AU
 ghost use Rattle.explorer_model.specs.Chess.{IsValid, Legal};
 ghost use Rattle.explorer_model.specs.Fen.{FenReads, fen_text};
 ghost use Rattle.explorer_model.specs.Uci.{UciReads, uci_text};
+ghost use Rattle.fen_uci.specs.Faults.{KeepsUpTo, IsLeastWithout};
 
 /// What is written of a valid position is read as that position.
 pub fn written_fen_is_read()
@@ -28,4 +29,12 @@ pub fn written_uci_is_read()
 pub fn uci_is_determined()
     ensures { (p : APosition) (text : List ℕ) (r s : Result AMove AUciFault)
         → UciReads p text r → UciReads p text s → r ≡ s }
+{}
+
+/// The first faulty field is the least at which no position is left: some position keeps the rules
+/// of the fields before it, and none keeps those of this field too. What is read keeps them all.
+pub fn first_fault_leaves_no_position()
+    ensures read { (text : List ℕ) (p : APosition) → FenReads text (Ok p) ↔ KeepsUpTo 6 text p }
+    ensures refused { (text : List ℕ) (fault : AFenFault)
+        → FenReads text (Err fault) ↔ IsLeastWithout fault.field text }
 {}
