@@ -7,3 +7,5 @@ pub mod Steps
 pub mod Strings
 pub mod Symbols
 pub mod Export
+pub mod Examples
+mod ByteTables

@@ -1,16 +1,16 @@
 -- Reading a text item by item is what the items mean.
-use Rattle.std.proofs.Common.{◌≡◌, ℕ, ◌+◌, ◌<◌, ◌≤◌, Bool, true, false, List, [], ◌∷◌, ◌++◌, length, drop, Option, Some, None, Result, Ok, Err, ok_or, cond, refl, sym, ap, ◌∙◌, append_assoc, arith}
-use Rattle.std.proofs.lemmas.List.{at_drop_all}
+use Rattle.std.proofs.Common.{◌≡◌, ℕ, ◌+◌, ◌<◌, ◌≤◌, Bool, true, false, List, [], ◌∷◌, ◌++◌, length, drop, Option, Some, None, Result, Ok, Err, ok_or, cond, refl, sym, ap, ◌∙◌, subst, get_or, append_assoc, arith}
+use Rattle.std.proofs.lemmas.List.{at_drop_all, length-drop, length-take}
 use Rattle.explorer_model.specs.declared.archive.Parts.{Parts}
 use Rattle.explorer_model.specs.declared.archive.Tag.{Tag}
 use Rattle.explorer_model.specs.declared.archive.Token.{Token}
 use Rattle.explorer_model.specs.declared.fault.LexFault.{LexFault}
-use Rattle.explorer_model.specs.Items.{Kind, Blank, Pair, Terminates, Word, Dropped, Opens, Closes, Wrong, Item, items, items_from}
-use Rattle.explorer_model.specs.Parts.{Section, Heading, after, is_in_variation, with_kind, with_item, meaning, parts}
+use Rattle.explorer_model.specs.Items.{Kind, Blank, Pair, Terminates, Word, Dropped, Opens, Closes, Wrong, Item, items, items_from, is_white}
+use Rattle.explorer_model.specs.Parts.{Section, Heading, Moves, Variation, Ended, after, is_in_variation, with_kind, with_item, meaning, parts}
 use Rattle.explorer_model.specs.Stop.{◌>>=◌}
 use Rattle.pgn_lex.specs.Items.{begins_line, item_at}
 use Rattle.pgn_lex.specs.Reading.{depth_of, Front, token_of, added_kind, added, onto, with_front, finished, IsReadUpTo}
-use Rattle.pgn_lex.proofs.Steps.{items_from-step}
+use Rattle.pgn_lex.proofs.Steps.{items_from-step, white_item, white_item-at}
 
 with_kind-behind : (kind : Kind) (item : Item) (front : Front) (found : Parts) → onto front (with_kind kind item found) ≡ onto (added_kind kind item front) found
 with_kind-behind (Pair tag) item front found =
@@ -82,3 +82,29 @@ module _ (text : List ℕ) (at : ℕ) (section : Section) (front : Front) (so_fa
   pub ends : length text ≤ at → finished section front ≡ parts text
   unfolding meaning items_from
   ends end = sym (ap (λ (rest : List Item). with_front front (meaning section rest)) (at_drop_all (items_from 0 (begins_line at text) at) text at end)) ∙ so_far.goes_on
+
+blank_stays : (section : Section) (place : ℕ) → Some section ≡ after section Blank place
+blank_stays Heading place = refl
+blank_stays Moves place = refl
+blank_stays (Variation inner outer) place = refl
+blank_stays (Ended ending) place = refl
+
+blank_adds : (section : Section) (item : Item) (front : Front) → item.kind ≡ Blank → added section item front ≡ front
+blank_adds section item front e = ap (λ (kind : Kind). cond (is_in_variation section) front (added_kind kind item front)) e ∙ same (is_in_variation section)
+  where
+    same : (b : Bool) → cond b front front ≡ front
+    same true = refl
+    same false = refl
+
+-- a white byte says nothing
+pub white_passed : (text : List ℕ) (at : ℕ) (section : Section) (front : Front) → IsReadUpTo text at section front → at < length text
+    → is_white (get_or text at 0) ≡ true → IsReadUpTo text (at + 1) section front
+white_passed text at section front so_far lt white =
+    let item : Item = white_item text at in
+    let one : length item.text ≡ 1 = omega (arith, lt, length-drop at text, length-take 1 (drop at text)) in
+    let most : at + length item.text ≤ length text = omega (arith, lt, one) in
+    let next : IsReadUpTo text (at + length item.text) section (added section item front) =
+    goes_on text at section front so_far item section lt (white_item-at text at lt white) (blank_stays section at) (omega arith) (omega (arith, one)) most in
+    let P : Front → Type 0 = λ f. IsReadUpTo text (at + length item.text) section f in
+    let Q : ℕ → Type 0 = λ n. IsReadUpTo text (at + n) section front in
+    subst Q one (subst P (blank_adds section item front refl) next)

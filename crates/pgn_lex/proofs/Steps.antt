@@ -1,7 +1,7 @@
 -- The items of a text, one after another.
-use Rattle.std.proofs.Common.{◌≡◌, ℕ, zero, suc, ◌+◌, ◌<◌, ◌≤◌, Bool, List, [], ◌∷◌, length, get_or, take, drop, ◌-◌, ◌==◌, refl, sym, ap, ◌∙◌, add-zero, add-one, arith}
+use Rattle.std.proofs.Common.{◌≡◌, ℕ, zero, suc, ◌+◌, ◌<◌, ◌≤◌, Bool, true, List, [], ◌∷◌, length, get_or, take, drop, ◌-◌, ◌==◌, refl, sym, ap, ◌∙◌, add-zero, add-one, arith}
 use Rattle.std.proofs.lemmas.List.{get_or-drop, drop-drop, length-drop, length-take, take_rest}
-use Rattle.explorer_model.specs.Items.{Item, Shape, shape_of, items_from}
+use Rattle.explorer_model.specs.Items.{Item, Shape, Blank, Lead, White, lead_of, is_white, one_byte, shape_by, shape_of, items_from}
 use Rattle.pgn_lex.specs.Items.{begins_line, shape_at, item_at}
 use Rattle.pgn_lex.proofs.Shapes.{shape_within, shape_at-within}
 
@@ -69,3 +69,23 @@ module _ (text : List ℕ) (at : ℕ) (shape : Shape) (fresh : Bool) (is : shape
   unfolding item_at
   found_item =
       ap (λ (bytes : List ℕ). item shape at (take (shape.more + 1) bytes)) (take_rest text at) ∙ ap (λ (s : Shape). item s at (take (s.more + 1) (drop at text))) is_shape
+
+-- the item that a white byte is
+abbrev pub white_item : List ℕ → ℕ → Item
+white_item text at = record { kind = Blank; place = at; text = take 1 (drop at text) }
+
+white_lead : (fresh : Bool) (b : ℕ) → is_white b ≡ true → lead_of fresh b ≡ White
+unfolding lead_of
+white_lead fresh b e = rw e refl
+
+white_shape : (fresh : Bool) (bytes : List ℕ) → 0 < length bytes → is_white (get_or bytes 0 0) ≡ true → shape_at fresh bytes ≡ one_byte Blank
+white_shape fresh [] some e = absurd (omega (arith, some))
+white_shape fresh (b ∷ bytes) some e = ap (λ (lead : Lead). shape_by lead b bytes) (white_lead fresh b e)
+
+pub white_item-at : (text : List ℕ) (at : ℕ) → at < length text → is_white (get_or text at 0) ≡ true → white_item text at ≡ item_at at text
+unfolding item_at
+white_item-at text at lt white =
+    let some : 0 < length (drop at text) = omega (arith, lt, length-drop at text) in
+    let here : get_or (drop at text) 0 0 ≡ get_or text at 0 = get_or-drop at text 0 0 ∙ ap (λ (n : ℕ). get_or text n 0) (add-zero at) in
+    let first : is_white (get_or (drop at text) 0 0) ≡ true = ap is_white here ∙ white in
+    sym (ap (λ (s : Shape). item s at (take (s.more + 1) (drop at text))) (white_shape (begins_line at text) (drop at text) some first))

@@ -1,5 +1,6 @@
 -- An item as the code finds it, and as the definition does.
-use Rattle.std.specs.Prelude.{length, ◌≡◌, ℕ, ◌+◌, Bool, List, [], ◌∷◌, take, drop, slice_index, ◌==◌}
+use Rattle.std.specs.Prelude.{length, ◌≡◌, ℕ, ◌+◌, Bool, true, List, [], ◌∷◌, take, drop, slice_index, ◌==◌}
+use Rattle.std.specs.Char.{is_ascii_digit}
 use Rattle.explorer_model.specs.Items.{Shape, Item, Wrong, one_byte, shape_of, symbol_of}
 use Rattle.explorer_model.specs.Items as items
 use Rattle.pgn_lex.specs.declared.items.Kind.{Kind}
@@ -29,6 +30,11 @@ shape_at fresh (b ∷ bytes) = shape_of fresh b bytes
 abbrev pub symbol_at : List ℕ → Shape
 symbol_at [] = one_byte Wrong
 symbol_at (b ∷ bytes) = symbol_of b bytes
+
+-- the first byte is a digit, if there is one
+abbrev pub begins_with_digit : List ℕ → Bool
+begins_with_digit [] = true
+begins_with_digit (b ∷ bytes) = is_ascii_digit b
 
 abbrev pub item_as : built.Item → Item
 item_as item = record { kind = kind_as item.kind; place = item.place; text = item.text.now }

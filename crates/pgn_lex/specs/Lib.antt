@@ -1,4 +1,5 @@
 pub mod Bytes
+pub mod ByteTable
 pub mod Export
 pub mod Items
 pub mod Laws

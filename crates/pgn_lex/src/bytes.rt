@@ -1,8 +1,9 @@
 ghost use Rattle.std.specs.Prelude.{◌≡◌, ◌==◌, ◌<◌, ◌≤◌, length, position, IfSome};
 ghost use Rattle.std.specs.List.{prefix_len};
-ghost use Rattle.explorer_model.specs.Items.{is_white, is_symbol_sign, lead_of, lead_of_comment, lead_of_bracket, lead_of_sign};
+ghost use Rattle.explorer_model.specs.Items.{is_white, is_of_name, continues_symbol, lead_of, lead_of_comment, lead_of_bracket, lead_of_sign};
 ghost use Rattle.pgn_lex.specs.Bytes.{is_of, lead_as};
 
+use crate::byte_table::{NAMES, SYMBOLS};
 use memchr::memchr;
 
 /// A set of bytes of which the grammar takes runs.
@@ -23,23 +24,31 @@ impl Class {
     {
         match self {
             Class::White => is_white(byte),
-            Class::Name => byte.is_ascii_alphanumeric() || byte == b'_',
-            Class::Symbol => byte.is_ascii_alphanumeric() || is_symbol_sign(byte),
+            Class::Name => is_of_name(byte),
+            Class::Symbol => continues_symbol(byte),
             Class::Digit => byte.is_ascii_digit(),
         }
     }
 }
 
-fn is_white(byte: u8) -> bool
+pub fn is_white(byte: u8) -> bool
     ensures { result ≡ is_white byte }
 {
     (9..=13).contains(&byte) || byte == b' '
 }
 
-fn is_symbol_sign(byte: u8) -> bool
-    ensures { result ≡ is_symbol_sign byte }
+fn is_of_name(byte: u8) -> bool
+    ensures { result ≡ is_of_name byte }
 {
-    matches!(byte, b'+' | b'#' | b'=' | b'-' | b'/' | b':' | b'_')
+    let table = &NAMES;
+    table.has(byte)
+}
+
+fn continues_symbol(byte: u8) -> bool
+    ensures { result ≡ continues_symbol byte }
+{
+    let table = &SYMBOLS;
+    table.has(byte)
 }
 
 /// How many bytes at the front are of the class.

@@ -2,7 +2,7 @@ ghost use Rattle.std.specs.Prelude.{◌≡◌, ◌+◌, ◌<◌, ◌≤◌, ◌^
 ghost use Rattle.std.specs.Char.{is_ascii_digit};
 ghost use Rattle.std.specs.List.{list_all};
 ghost use Rattle.explorer_model.specs.Items.{ending_of, kind_of_symbol, one_byte, comment_of, remark_of, pair_item_of, nag_of};
-ghost use Rattle.pgn_lex.specs.Items.{kind_as, shape_as, shape_at, symbol_at, begins_line, item_as, item_at, IsCut};
+ghost use Rattle.pgn_lex.specs.Items.{kind_as, shape_as, shape_at, symbol_at, begins_line, item_as, item_at, IsCut, begins_with_digit};
 
 use crate::bytes::{Class, Lead, find, lead_of, run_len};
 use crate::pair::{Pair, pair_of};
@@ -161,12 +161,25 @@ fn symbol(bytes: &[u8]) -> Shape<'_>
 fn kind_of_symbol(symbol: &[u8]) -> Kind<'_>
     ensures { kind_as result ≡ kind_of_symbol symbol.now }
 {
+    if !begins_with_digit(symbol) {
+        return Kind::Word;
+    }
     if is_number(symbol) {
         return Kind::Dropped;
     }
     match ending_of(symbol) {
         Some(ending) => Kind::Terminates(ending),
         None => Kind::Word,
+    }
+}
+
+/// Is the first byte a digit, as in each move number and each ending?
+fn begins_with_digit(symbol: &[u8]) -> bool
+    ensures { result ≡ begins_with_digit symbol.now }
+{
+    match symbol {
+        [first, ..] => first.is_ascii_digit(),
+        [] => true,
     }
 }
 

@@ -1,6 +1,7 @@
 //! What a game's text consists of (PGN 5 to 10).
 #![tactic(auto)]
 
+mod byte_table;
 mod bytes;
 mod items;
 pub mod laws;

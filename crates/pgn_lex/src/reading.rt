@@ -1,12 +1,13 @@
 ghost use Rattle.std.specs.Prelude.{◌≡◌, ◌+◌, ◌<◌, ◌≤◌, ◌^◌, ℕ, List, length, map, option_map, IfSome, IfOk, OnOk};
 ghost use Rattle.std.specs.List.{All};
-ghost use Rattle.explorer_model.specs.Parts.{after, after_in_heading, after_in_moves, after_in_variation, at_end, parts};
+ghost use Rattle.explorer_model.specs.Parts.{Section as ASection, after, after_in_heading, after_in_moves, after_in_variation, at_end, parts};
 ghost use Rattle.explorer_model.specs.Stop.{Gives, GivesBy};
 ghost use Rattle.pgn_lex.specs.Items.{kind_as, item_as, item_at, IsCut};
 ghost use Rattle.pgn_lex.specs.Spanned.{spanned_as};
-ghost use Rattle.pgn_lex.specs.Reading.{section_as, depth_of, front_of, added, finished};
+ghost use Rattle.pgn_lex.specs.Reading.{Front, IsReadUpTo, section_as, depth_of, front_of, added, finished};
 ghost use Rattle.pgn_lex.specs.Span.{token_in, IsWithin};
 
+use crate::bytes::is_white;
 use crate::items::{Item, Kind, item_at};
 use crate::pair::tag;
 use crate::span::Span;
@@ -67,9 +68,22 @@ pub fn spanned_parts(alloc: Global, text: &[u8]) -> Result<SpannedParts, Stop<Le
         };
         found.add(alloc, section, item)?;
         section = next;
-        at += item.text.len();
+        at = past_white(text, at + item.text.len());
     }
     finish(section, found)
+}
+
+/// The place behind a white byte that stands there, else the place itself: most items have one behind them.
+fn past_white(text: &[u8], at: usize) -> usize
+    requires { length text.now ≤ 65536 }
+    ensures on { at ≤ result }
+    ensures read { (section : ASection) (front : Front) → IsReadUpTo text.now at section front
+        → IsReadUpTo text.now result section front }
+{
+    if at < text.len() && is_white(text[at]) {
+        return at + 1;
+    }
+    at
 }
 
 /// The tokens that spans of a text are, as copies.

@@ -22,8 +22,9 @@ returns-in_default-clause-parts c =
 pub loop-at-preserved : goal.loop-at-preserved
 loop-at-preserved c = (
   rw (c.in_ok-add.ensures.front c.args.text.now c.item_at-item.ensures.stands)
+      (c.past_white-at.ensures.read _ _
       (goes_on c.args.text.now c.loop-at.at (section_as c.loop-at.section) (front_of c.args.text.now c.loop-at.found) c.loop-at.invariant.0 (item_as c.item_at-item.result) (section_as c.in-Some.next) c.loop-at-test.true c.item_at-item.ensures.item
-      c.in-Some.ensures.next c.in-Some.ensures.depth c.item_at-item.ensures.some c.item_at-item.ensures.within),
+      c.in-Some.ensures.next c.in-Some.ensures.depth c.item_at-item.ensures.some c.item_at-item.ensures.within)),
   c.in_ok-add.ensures.within (length c.args.text.now) (omega (arith, c.item_at-item.ensures.place, c.item_at-item.ensures.within)) c.loop-at.invariant.1,
 )
 
