@@ -15,7 +15,6 @@ pub mod AttackSets
 pub mod WrittenSets
 pub mod OneKing
 pub mod PieceBitboards
-pub mod PlainlySafe
 pub mod Caps
 pub mod DestinationLemmas
 pub mod EnPassantCaptures
@@ -26,3 +25,4 @@ pub mod Rays
 pub mod PinLemmas
 pub mod EvasionLemmas
 pub mod CheckLemmas
+pub mod CheckMaskLemmas

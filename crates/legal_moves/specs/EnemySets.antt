@@ -85,12 +85,6 @@ pub record IsFilled (before : EnemySets) (s : ℕ) (after : EnemySets) : Type 0 
   pub straights : IsWithout before.straights s after.straights
   pub king : IsWithout before.king s after.king
 
--- the square lies between this one and an enemy on one of whose lines this one stands
-abbrev pub IsOnKingRay : EnemySets → ℕ → ℕ → Type 0
-IsOnKingRay enemy_sets king s =
-    HasSuch enemy_sets.straights (λ a. RookLine a king × IsBetween a s king)
-    ⊎ HasSuch enemy_sets.diagonals (λ a. BishopLine a king × IsBetween a s king)
-
 -- what is seen of a valid position: its pieces, and the king of the side to move
 pub record IsInfoOf (p : Position) (info : CheckInfo) : Type 0 where
   pub valid : IsValid p
@@ -100,14 +94,3 @@ pub record IsInfoOf (p : Position) (info : CheckInfo) : Type 0 where
   pub enemies : IsBitboardOf (IsOfColor (opponent p.turn)) p.squares info.enemies
   pub on_board : info.king < 64
   pub king : IsPiece p.turn King (piece_at p.squares info.king)
-  pub in_check : IsTrue info.in_check ↔ InCheck p.squares p.turn
-  pub king_rays : (s : ℕ) → s < 64
-      → Holds info.king_rays s ↔ IsOnKingRay info.enemy_sets info.king s
-
--- the move takes nothing out of the way to a king that stays and is not in check
-abbrev pub IsPlainlySafe : Position → CheckInfo → Move → Type 0
-IsPlainlySafe p info m =
-    (¬ InCheck p.squares p.turn)
-    × (m.from.index ≢ info.king)
-    × (¬ Holds info.king_rays m.from.index)
-    × (takes_en_passant p m ≡ false)

@@ -113,7 +113,7 @@ impl Board {
     pub fn checked(&self) -> bool
         ensures { IsTrue result ↔ InCheck self.now.squares self.now.turn }
     {
-        CheckInfo::of(&self.position, &self.sets).in_check
+        CheckInfo::of(&self.position, &self.sets).in_check(&self.position)
     }
 
     /// Every legal move, in no stated order. There are never more than 415: fifteen pieces have at
@@ -191,14 +191,14 @@ impl Board {
     pub fn pinned(&self) -> Bitboard
         ensures { (s : ℕ) → s < 64 → Holds result s ↔ IsPinned self.now s }
     {
-        pinned(&self.position, &self.sets)
+        pinned(&self.position, &CheckInfo::of(&self.position, &self.sets))
     }
 
     /// Where a piece other than the king meets each check: all squares without one, none with two.
     pub fn evasions(&self) -> Bitboard
         ensures { (s : ℕ) → s < 64 → Holds result s ↔ IsEvasion self.now s }
     {
-        evasions(&self.position, &self.sets)
+        evasions(&self.position, &CheckInfo::of(&self.position, &self.sets))
     }
 
     /// The board whose en passant square stays only where a pawn can legally be taken there. Two

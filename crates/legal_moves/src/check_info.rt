@@ -1,18 +1,18 @@
-//! Which moves are legal, told by bitboards.
+//! Which moves are legal, told by the bitboards that they leave.
 ghost use Rattle.std.specs.Prelude.{◌≡◌, ◌<◌, ◌↔◌, IsTrue};
 ghost use Rattle.explorer_model.specs.Board.{opponent, piece_at, IsPiece, IsOpen, IsAttacked, InCheck};
 ghost use Rattle.explorer_model.specs.declared.chess.Role.TheVariants.{King};
 ghost use Rattle.explorer_model.specs.Chess.{CastlesTo, Castles, PseudoLegal, IsCastlingPathSafe, Legal, squares_after};
-ghost use Rattle.legal_moves.specs.EnemySets.{Describes, IsInfoOf, IsPlainlySafe};
+ghost use Rattle.legal_moves.specs.EnemySets.{Describes, IsInfoOf};
 ghost use Rattle.legal_moves.specs.PieceSets.{IsKept};
 
 use crate::enemy_sets::{EnemySets, is_clear};
 use crate::piece_sets::PieceSets;
 use explorer_model::chess::{Move, Position, Role, Side, is_piece};
 use explorer_model::square::halfway;
-use step_tables::{Bitboard, contains, lowest};
+use step_tables::{Bitboard, lowest};
 
-/// What is asked once of a position, for the legality of all its moves.
+/// Where the pieces of a position stand, as its side to move sees them.
 #[derive(Clone, Copy)]
 pub struct CheckInfo {
     /// All pieces, and those of the side that is not to move.
@@ -24,10 +24,6 @@ pub struct CheckInfo {
     pub enemies: Bitboard,
     /// The square of the king of the side to move.
     pub king: u8,
-    /// Is that king attacked?
-    pub in_check: bool,
-    /// The squares between that king and the enemies on whose lines it stands.
-    pub king_rays: Bitboard,
 }
 
 impl CheckInfo {
@@ -46,9 +42,15 @@ impl CheckInfo {
             own_pawns: own & sets.pawns,
             enemies: sets.of_color(enemy),
             king,
-            in_check: enemy_sets.is_attacked(enemy, king),
-            king_rays: enemy_sets.king_rays(king),
         }
+    }
+
+    /// Is the king of the side to move attacked?
+    pub fn in_check(&self, position: &Position) -> bool
+        requires { IsInfoOf position.now self.now }
+        ensures { IsTrue result ↔ InCheck position.now.squares position.now.turn }
+    {
+        self.is_attacked(position, self.king)
     }
 
     /// Does the side that is not to move attack the square?
@@ -142,32 +144,12 @@ impl CheckInfo {
         }
     }
 
-    /// Does the move take nothing out of the way to a king that stays and is not in check?
-    fn is_plainly_safe(&self, position: &Position, m: Move) -> bool
-        requires { IsInfoOf position.now self.now }
-        ensures { IsTrue result ↔ IsPlainlySafe position.now self.now m }
-    {
-        if self.in_check {
-            return false;
-        }
-        if m.from.index == self.king {
-            return false;
-        }
-        if contains(self.king_rays, m.from.index) {
-            return false;
-        }
-        !position.takes_en_passant(m)
-    }
-
     /// Does a pseudo-legal move leave the own king safe?
     fn is_safe(&self, position: &Position, m: Move) -> bool
         requires informed { IsInfoOf position.now self.now }
         requires pseudo_legal { PseudoLegal position.now m }
         ensures { IsTrue result ↔ ¬ InCheck (squares_after position.now m) position.now.turn }
     {
-        if self.is_plainly_safe(position, m) {
-            return true;
-        }
         let king = self.king_after(position, m);
         !self
             .enemy_sets_after(position, m)

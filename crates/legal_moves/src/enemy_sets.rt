@@ -3,7 +3,7 @@ ghost use Rattle.std.specs.Prelude.{◌≡◌, ◌<◌, ◌↔◌, ◌⊎◌, �
 ghost use Rattle.step_tables.specs.Bitboard.{Holds};
 ghost use Rattle.explorer_model.specs.Board.{IsBetween, PawnDiagonal, KnightStep, KingStep, RookLine, BishopLine};
 ghost use Rattle.explorer_model.specs.declared.chess.Piece.{Piece};
-ghost use Rattle.legal_moves.specs.EnemySets.{Describes, IsClear, HasSuch, IsOnKingRay, LeapsTo, SlidesTo, IsEmptied, IsFilled};
+ghost use Rattle.legal_moves.specs.EnemySets.{Describes, IsClear, HasSuch, LeapsTo, SlidesTo, IsEmptied, IsFilled};
 ghost use Rattle.legal_moves.specs.PieceSets.{sets_in};
 
 use crate::piece_sets::PieceSets;
@@ -69,15 +69,6 @@ impl EnemySets {
         ensures { IsTrue result ↔ (LeapsTo self.now enemy square ⊎ SlidesTo self.now square) }
     {
         self.leaps_to(enemy, square) || self.slides_to(square)
-    }
-
-    /// The squares between a square and the enemies on whose lines it stands.
-    pub fn king_rays(&self, square: u8) -> Bitboard
-        requires { square < 64 }
-        ensures { (s : ℕ) → s < 64 → Holds result s ↔ IsOnKingRay self.now square s }
-    {
-        squares_between(self.straights & rook_targets(square), square)
-            | squares_between(self.diagonals & bishop_targets(square), square)
     }
 
     /// The bitboards where nothing stands on the square.
@@ -178,19 +169,4 @@ fn diagonal_attacks(occupied: Bitboard, diagonals: Bitboard, square: u8) -> bool
         ↔ HasSuch diagonals (λ a. BishopLine a square × IsClear occupied a square) }
 {
     is_one_clear(occupied, diagonals & bishop_targets(square), square)
-}
-
-/// The squares between a square and those of a set, on their lines.
-fn squares_between(sliders: Bitboard, square: u8) -> Bitboard
-    requires { square < 64 }
-    ensures { (s : ℕ) → s < 64 → Holds result s ↔ HasSuch sliders (λ a. IsBetween a s square) }
-{
-    let mut passed = 0;
-    let mut rest = sliders;
-    while rest != 0 {
-        let slider = lowest(rest);
-        passed |= between(slider, square);
-        rest = without(rest, slider);
-    }
-    passed
 }

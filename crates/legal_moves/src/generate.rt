@@ -5,10 +5,10 @@ ghost use Rattle.explorer_model.specs.declared.chess.Move.{Move};
 ghost use Rattle.explorer_model.specs.Board.{piece_at, IsOfColor};
 ghost use Rattle.explorer_model.specs.Chess.{PseudoLegal, Legal};
 ghost use Rattle.legal_moves.specs.Listing.{place_of, ListsBelow, IsDestination, IsPromoting};
-ghost use Rattle.legal_moves.specs.EnemySets.{IsInfoOf};
+ghost use Rattle.legal_moves.specs.CheckMasks.{AreMasksOf};
 ghost use Rattle.legal_moves.specs.PieceSets.{IsKept};
 
-use crate::check_info::CheckInfo;
+use crate::check_masks::CheckMasks;
 use crate::destinations::destinations;
 use crate::piece_sets::PieceSets;
 use arrayvec::ArrayVec;
@@ -32,12 +32,12 @@ pub fn legal(position: &Position, sets: &PieceSets) -> ArrayVec<Move, 416>
     ensures sound { All (λ m. Legal position.now m) result.items }
     ensures few { length result.items ≤ 415 }
 {
-    let info = CheckInfo::of(position, sets);
+    let masks = CheckMasks::of(position, sets);
     let mut moves = ArrayVec::new();
-    let mut rest = info.own;
+    let mut rest = masks.info.own;
     while rest != 0 {
         let index = lowest(rest);
-        list_from(position, &info, Square { index }, &mut moves);
+        list_from(position, &masks, Square { index }, &mut moves);
         rest = without(rest, index);
     }
     moves
@@ -48,12 +48,12 @@ pub fn has_move(position: &Position, sets: &PieceSets) -> bool
     requires { IsKept position.now sets.now }
     ensures { IsTrue result ↔ ((m : Move) × Legal position.now m) }
 {
-    let info = CheckInfo::of(position, sets);
+    let masks = CheckMasks::of(position, sets);
     let mut moves = ArrayVec::new();
-    let mut rest = info.own;
+    let mut rest = masks.info.own;
     while rest != 0 {
         let index = lowest(rest);
-        list_from(position, &info, Square { index }, &mut moves);
+        list_from(position, &masks, Square { index }, &mut moves);
         if !moves.is_empty() {
             return true;
         }
@@ -63,17 +63,17 @@ pub fn has_move(position: &Position, sets: &PieceSets) -> bool
 }
 
 /// Lists the legal moves from one square.
-fn list_from(position: &Position, info: &CheckInfo, from: Square, moves: &mut ArrayVec<Move, 416>)
-    requires informed { IsInfoOf position.now info.now }
+fn list_from(position: &Position, masks: &CheckMasks, from: Square, moves: &mut ArrayVec<Move, 416>)
+    requires masked { AreMasksOf position.now masks.now }
     requires own { IsOfColor position.now.turn (piece_at position.now.squares from.index) }
     requires before { ListsBelow position.now (512 * from.index) moves.old.items }
     ensures { ListsBelow position.now (512 * from.index + 512) moves.new.items }
 {
-    let all = destinations(position, info, from);
+    let all = destinations(position, &masks.info, from);
     let mut rest = all;
     while rest != 0 {
         let index = lowest(rest);
-        list_between(position, info, from, Square { index }, moves);
+        list_between(position, masks, from, Square { index }, moves);
         rest = without(rest, index);
     }
 }
@@ -81,26 +81,26 @@ fn list_from(position: &Position, info: &CheckInfo, from: Square, moves: &mut Ar
 /// Lists the legal moves from one square to another.
 fn list_between(
     position: &Position,
-    info: &CheckInfo,
+    masks: &CheckMasks,
     from: Square,
     to: Square,
     moves: &mut ArrayVec<Move, 416>,
 )
-    requires informed { IsInfoOf position.now info.now }
+    requires masked { AreMasksOf position.now masks.now }
     requires destination { (m : Move) → m.from.index ≡ from.index → m.to.index ≡ to.index
         → IsDestination position.now m }
     requires before { ListsBelow position.now (512 * from.index + 8 * to.index) moves.old.items }
     ensures { ListsBelow position.now (512 * from.index + 8 * to.index + 8) moves.new.items }
 {
     if is_promoting(position, from, to) {
-        return list_promotions(position, info, from, to, moves);
+        return list_promotions(position, masks, from, to, moves);
     }
     let m = Move {
         from,
         to,
         promotion: None,
     };
-    list_move(position, info, m, moves);
+    list_move(position, masks, m, moves);
 }
 
 /// Is it a pawn that goes from one square to another, and on to its last rank?
@@ -114,12 +114,12 @@ fn is_promoting(position: &Position, from: Square, to: Square) -> bool
 /// Lists the legal promotions from one square to another.
 fn list_promotions(
     position: &Position,
-    info: &CheckInfo,
+    masks: &CheckMasks,
     from: Square,
     to: Square,
     moves: &mut ArrayVec<Move, 416>,
 )
-    requires informed { IsInfoOf position.now info.now }
+    requires masked { AreMasksOf position.now masks.now }
     requires destination { (m : Move) → m.from.index ≡ from.index → m.to.index ≡ to.index
         → IsDestination position.now m }
     requires promoting { IsPromoting position.now from.index to.index }
@@ -133,18 +133,18 @@ fn list_promotions(
             to,
             promotion,
         };
-        list_move(position, info, m, moves);
+        list_move(position, masks, m, moves);
     }
 }
 
 /// Lists the pseudo-legal move, if it is legal.
-fn list_move(position: &Position, info: &CheckInfo, m: Move, moves: &mut ArrayVec<Move, 416>)
-    requires informed { IsInfoOf position.now info.now }
+fn list_move(position: &Position, masks: &CheckMasks, m: Move, moves: &mut ArrayVec<Move, 416>)
+    requires masked { AreMasksOf position.now masks.now }
     requires pseudo_legal { PseudoLegal position.now m }
     requires before { ListsBelow position.now (place_of m) moves.old.items }
     ensures { ListsBelow position.now (place_of m + 1) moves.new.items }
 {
-    if info.is_legal(position, m) {
+    if masks.is_legal(position, m) {
         moves.push(m);
     }
 }

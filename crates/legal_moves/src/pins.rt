@@ -2,13 +2,11 @@
 ghost use Rattle.std.specs.Prelude.{◌≡◌, ℕ, ◌<◌, ◌↔◌};
 ghost use Rattle.step_tables.specs.Bitboard.{Holds};
 ghost use Rattle.explorer_model.specs.Board.{PawnDiagonal};
-ghost use Rattle.legal_moves.specs.EnemySets.{HasSuch};
-ghost use Rattle.legal_moves.specs.PieceSets.{IsKept};
+ghost use Rattle.legal_moves.specs.EnemySets.{HasSuch, IsInfoOf};
 ghost use Rattle.legal_moves.specs.Pins.{IsAlone, IsAttacker, IsPinned, IsEvasion};
 
 use crate::check_info::CheckInfo;
 use crate::enemy_sets::EnemySets;
-use crate::piece_sets::PieceSets;
 use explorer_model::chess::{Color, Position};
 use step_tables::{
     Bitboard, between, bishop_targets, black_pawn_targets, king_targets, knight_targets, lowest,
@@ -17,11 +15,12 @@ use step_tables::{
 
 /// The own pieces that stand alone between their king and an enemy bishop, rook or queen whose line
 /// it is.
-pub fn pinned(position: &Position, sets: &PieceSets) -> Bitboard
-    requires { IsKept position.now sets.now }
+pub fn pinned(position: &Position, info: &CheckInfo) -> Bitboard
+    requires { IsInfoOf position.now info.now }
     ensures { (s : ℕ) → s < 64 → Holds result s ↔ IsPinned position.now s }
 {
-    let info = CheckInfo::of(position, sets);
+    // Read, so that the proof has it as one of the two colours.
+    let _turn = position.turn;
     let king = info.king;
     let occupied = info.enemy_sets.occupied;
     let straight = alone_between(
@@ -38,11 +37,10 @@ pub fn pinned(position: &Position, sets: &PieceSets) -> Bitboard
 }
 
 /// Where a piece other than the king meets each check.
-pub fn evasions(position: &Position, sets: &PieceSets) -> Bitboard
-    requires { IsKept position.now sets.now }
+pub fn evasions(position: &Position, info: &CheckInfo) -> Bitboard
+    requires { IsInfoOf position.now info.now }
     ensures { (s : ℕ) → s < 64 → Holds result s ↔ IsEvasion position.now s }
 {
-    let info = CheckInfo::of(position, sets);
     let king = info.king;
     let checkers = attackers(&info.enemy_sets, position.turn.opponent(), king);
     if checkers == 0 {

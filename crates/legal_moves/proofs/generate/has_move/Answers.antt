@@ -13,8 +13,8 @@ none_there n e = grind (arith, nat_tests)
 
 pub loop-rest-init : goal.loop-rest-init
 loop-rest-init c =
-    let P : List Move → Type 0 = λ moves. IsSwept c.args.position.now c.of-info.result.own moves × (length moves ≡ 0) in
-    subst P (sym c.new-moves.ensures) (swept-none c.args.position.now c.of-info.result.own c.of-info.ensures.own, refl)
+    let P : List Move → Type 0 = λ moves. IsSwept c.args.position.now c.of-masks.result.info.own moves × (length moves ≡ 0) in
+    subst P (sym c.new-moves.ensures) (swept-none c.args.position.now c.of-masks.result.info.own c.of-masks.ensures.informed.own, refl)
 
 pub list_from-requires-clause-own : goal.list_from-requires-clause-own
 list_from-requires-clause-own c = c.loop-rest.invariant.0.own c.lowest-index.result c.lowest-index.ensures.on_board c.lowest-index.ensures.within

@@ -8,7 +8,7 @@ use Rattle.legal_moves.proofs.generate.list_move.Goals as goal
 pub push-requires : goal.push-requires
 push-requires c =
     let legal : Legal c.args.position.now c.args.m = some-true c.is_legal.result _ c.is_legal.ensures c.if-is_legal.true in
-    (lit< tt, lists-room c.args.position.now c.args.m c.args.moves.now.items c.requires.informed.valid c.requires.before legal)
+    (lit< tt, lists-room c.args.position.now c.args.m c.args.moves.now.items c.requires.masked.informed.valid c.requires.before legal)
 
 pub returns-then-is_legal : goal.returns-then-is_legal
 returns-then-is_legal c =

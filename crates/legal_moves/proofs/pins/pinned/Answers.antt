@@ -10,8 +10,8 @@ use Rattle.legal_moves.proofs.pins.pinned.Goals as goal
 pub returns : goal.returns
 returns c = λ s on.
     let p = c.args.position.now in
-    let info = c.of-info.result in
-    let informed = c.of-info.ensures in
+    let info = c.args.info.now in
+    let informed = c.requires in
     let straight = line-by info.enemy_sets.straights c.rook_targets.result (λ a. RookLine info.king a) (λ a. RookLine a info.king)
     (λ a. IsAlone info.enemy_sets.occupied a s info.king) c.rook_targets.ensures (λ a. rook_back info.king a) in
     let diagonal = line-by info.enemy_sets.diagonals c.bishop_targets.result (λ a. BishopLine info.king a) (λ a. BishopLine a info.king)

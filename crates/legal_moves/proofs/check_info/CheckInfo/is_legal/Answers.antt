@@ -1,6 +1,6 @@
 use Rattle.std.proofs.Common.{refl}
 use Rattle.legal_moves.proofs.Lists.{some-true, none-false}
-use Rattle.legal_moves.proofs.PlainlySafe.{castles_king}
+use Rattle.legal_moves.proofs.CheckMaskLemmas.{castles_king}
 use Rattle.legal_moves.proofs.check_info.CheckInfo.is_legal.Goals as goal
 
 pub returns-then-m-self : goal.returns-then-m-self

@@ -1,4 +1,4 @@
-use Rattle.std.proofs.Common.{◌↔◌, ◌⊎◌, IsTrue, refl, subst}
+use Rattle.std.proofs.Common.{◌↔◌, ◌⊎◌, IsTrue, subst}
 use Rattle.explorer_model.specs.declared.chess.Color.{Color}
 use Rattle.explorer_model.specs.Board.{opponent}
 use Rattle.explorer_model.specs.Chess.{squares_after}
@@ -6,14 +6,7 @@ use Rattle.legal_moves.specs.EnemySets.{LeapsTo, SlidesTo}
 use Rattle.legal_moves.proofs.AttackSets.{attacked-says}
 use Rattle.legal_moves.proofs.BitboardFacts.{both-ways, not-says}
 use Rattle.legal_moves.proofs.OneKing.{check_after}
-use Rattle.legal_moves.proofs.PlainlySafe.{plainly_safe-safe}
 use Rattle.legal_moves.proofs.check_info.CheckInfo.is_safe.Goals as goal
-
-pub returns-then-is_plainly_safe : goal.returns-then-is_plainly_safe
-returns-then-is_plainly_safe c = (
-  λ _. plainly_safe-safe c.args.position.now c.args.self.now c.args.m c.requires.informed c.requires.pseudo_legal (c.is_plainly_safe.ensures.0 c.if-is_plainly_safe.true),
-  λ _. refl,
-)
 
 pub returns : goal.returns
 returns c =

@@ -1,13 +1,11 @@
-use Rattle.std.proofs.Common.{ℕ, ◌↔◌, ◌⊎◌, IsTrue, subst}
+use Rattle.std.proofs.Common.{ℕ, subst}
 use Rattle.step_tables.specs.Bitboard.{Holds}
 use Rattle.step_tables.proofs.BitboardLemmas.{Holds-zero}
 use Rattle.explorer_model.specs.declared.chess.Color.{Color}
 use Rattle.explorer_model.specs.Board.{opponent, IsOfColor}
-use Rattle.legal_moves.specs.EnemySets.{IsBitboardOf, Describes, LeapsTo, SlidesTo}
-use Rattle.legal_moves.proofs.AttackSets.{attacked-says}
-use Rattle.legal_moves.proofs.BitboardFacts.{both-ways}
+use Rattle.legal_moves.specs.EnemySets.{IsBitboardOf, Describes}
 use Rattle.legal_moves.proofs.PieceBitboards.{sets-place, king_among, pawns_among}
-use Rattle.legal_moves.proofs.OneKing.{king_somewhere, has_pieces, check_at}
+use Rattle.legal_moves.proofs.OneKing.{king_somewhere}
 use Rattle.legal_moves.proofs.check_info.CheckInfo.of.Goals as goal
 
 pub lowest-king-requires : goal.lowest-king-requires
@@ -29,8 +27,6 @@ returns c =
     let enemy_sets : Describes squares (opponent turn) c.of-enemy_sets.result = subst Described c.opponent-enemy.ensures (c.of-enemy_sets.ensures squares c.requires.told) in
     let king = (king_among squares c.args.sets.now turn c.of_color-own.result places own c.lowest-king.result c.lowest-king.ensures.on_board).0
     c.lowest-king.ensures.within in
-    let Attacked : Color → Type 0 = λ enemy.
-    IsTrue c.is_attacked.result ↔ (LeapsTo c.of-enemy_sets.result enemy c.lowest-king.result ⊎ SlidesTo c.of-enemy_sets.result c.lowest-king.result) in
     record {
       valid = c.requires.valid;
       enemy_sets = enemy_sets;
@@ -39,11 +35,4 @@ returns c =
       enemies = subst Theirs c.opponent-enemy.ensures (c.of_color.ensures squares c.requires.told);
       on_board = c.lowest-king.ensures.on_board;
       king = king;
-      in_check =
-          both-ways
-          (both-ways (subst Attacked c.opponent-enemy.ensures c.is_attacked.ensures)
-          (attacked-says squares (opponent turn) c.of-enemy_sets.result c.lowest-king.result enemy_sets))
-          (check_at squares turn c.lowest-king.result c.requires.valid.board (has_pieces c.args.position.now turn c.requires.valid).0
-          c.lowest-king.ensures.on_board king);
-      king_rays = c.king_rays.ensures;
     }
