@@ -10,3 +10,4 @@ pub mod Made
 pub mod Whole
 pub mod Determined
 mod Accounting
+pub mod MarkLemmas

@@ -26,7 +26,7 @@ place-of : (steps : List Step) (place : ℕ) (step : Step) → place < length st
 place-of steps place step below is =
     drop-cons steps place step below ∙ ap (λ s. s ∷ drop (suc place) steps) is ∙ ap (λ n. step ∷ drop n steps) (next-place place)
 
-before-of : (steps : List Step) (place : ℕ) (step : Step) → place < length steps → get_or steps place step ≡ step
+pub before-of : (steps : List Step) (place : ℕ) (step : Step) → place < length steps → get_or steps place step ≡ step
     → take (place + 1) steps ≡ take place steps ++ step ∷ []
 before-of steps place step below is =
     ap (λ n. take n steps) (sym (next-place place)) ∙ take-suc steps place step below ∙ ap (λ s. take place steps ++ s ∷ []) is

@@ -1,10 +1,11 @@
 //! What a game counts for in each position that it visits.
-ghost use Rattle.std.specs.Prelude.{◌≡◌, [], map, IfOk};
+ghost use Rattle.std.specs.Prelude.{◌≡◌, ◌<◌, [], map, IfOk};
 ghost use Rattle.std.specs.List.{list_any};
 ghost use Rattle.explorer_model.specs.Visits.{AreLegal};
 ghost use Rattle.tally_rows.specs.Games.{has_key, first_steps, single_at};
 ghost use Rattle.tally_rows.specs.Tallied.{mover_rating};
 ghost use Rattle.batch_tally.specs.Singles.{IsCountOf};
+ghost use Rattle.batch_tally.specs.Marks.{mark_of, AreMarked};
 ghost use Rattle.batch_tally.specs.Steps.{step_as};
 
 use crate::step::Step;
@@ -28,13 +29,35 @@ fn first_visits(alloc: Global, classes: &Classes, steps: &[Step]) -> Result<Vec<
         ≡ map (single_at classes.now 0) (first_steps [] (map step_as steps.now))) }
 {
     let mut singles = Vec::with_capacity(alloc, steps.len())?;
+    let mut marks = [false; 256];
     for place in 0..steps.len() {
         let step = &steps[place];
-        if !has_key(&steps[..place], step) {
+        let known = is_visited(&steps[..place], step, &marks);
+        marks[mark_of(step)] = true;
+        if !known {
             singles.push(single_of(classes, step))?;
         }
     }
     Ok(singles)
+}
+
+/// Has one of the steps, which are marked, the key of the one that is sought? Most are told apart by their marks.
+fn is_visited(steps: &[Step], sought: &Step, marks: &[bool; 256]) -> bool
+    requires { AreMarked marks.now steps.now }
+    ensures { result ≡ list_any (has_key sought.now.key) (map step_as steps.now) }
+{
+    if !marks[mark_of(sought)] {
+        return false;
+    }
+    has_key(steps, sought)
+}
+
+/// The mark of a step. The multiplier, 2 to the 64 by the golden ratio, spreads tags.
+fn mark_of(step: &Step) -> usize
+    ensures value { result ≡ mark_of step.now.tag }
+    ensures small { result < 256 }
+{
+    (step.tag.wrapping_mul(0x9E37_79B9_7F4A_7C15) / 0x0100_0000_0000_0000) as usize
 }
 
 /// One of the steps has the key of the one that is sought.
