@@ -1,6 +1,7 @@
 -- A stream of samples is cut into them: a text begins at an Event tag alone.
 use Rattle.std.proofs.Common.{◌≡◌, ℕ, ◌+◌, ◌/◌, ◌%◌, ◌^◌, ◌<◌, ◌≤◌, ◌==◌, Bool, true, false, cond, ◌&&◌, not, List, [], ◌∷◌, ◌++◌, length, codes, decimal, nat_eq, refl, sym, ap, ◌∙◌, subst, arith}
 use Rattle.std.specs.List.{list_all, starts_with}
+use Rattle.std.proofs.lemmas.Bool.{and_from, and_parts}
 use Rattle.std.proofs.lemmas.Bool.Decides.{nat_tests}
 use Rattle.std.proofs.lemmas.List.{append_assoc, append-nil}
 use Rattle.std.proofs.lemmas.List.Folds.{list_all-append}
@@ -13,6 +14,7 @@ use Rattle.rand_pcg.specs.Lcg.{Lcg}
 use Rattle.sample_games.specs.Samples.{Header, IsSample, WritesMoves, date_text, drawn, header_drawn, header_text, id_text, later, number_text, player_text, tag_line}
 use Rattle.sample_games.specs.Streams.{AreSamples, joined}
 use Rattle.sample_games.proofs.HasGame.{IsDrawn, drawn-legal}
+use Rattle.sample_games.proofs.HeaderLines.{behind_event, black, black_elo, control, date, event_tag, grouped, result, site, white, white_elo}
 use Rattle.sample_games.proofs.Pairs.{is_plain}
 use Rattle.sample_games.proofs.Symbols.{IsSymbol}
 use Rattle.sample_games.proofs.Tags.{IsResult, IsSound, decimal-plain, player-plain, site-plain, sound}
@@ -28,28 +30,17 @@ is_inside b = not (b == 10)
 abbrev is_quiet : ℕ → Bool
 is_quiet b = not (b == 10) && not (nat_eq 91 b)
 
-first-true : (a b : Bool) → (a && b) ≡ true → a ≡ true
-first-true true b h = refl
-first-true false b h = h
-
-second-true : (a b : Bool) → (a && b) ≡ true → b ≡ true
-second-true true b h = h
-second-true false b h = absurd (grind (arith, h))
-
-both-true : (a b : Bool) → a ≡ true → b ≡ true → (a && b) ≡ true
-both-true a b h k = ap (λ (c : Bool). c && b) h ∙ k
-
 is-not : (a : Bool) → not a ≡ true → a ≡ false
 is-not true h = absurd (grind (arith, h))
 is-not false h = refl
 
 all-append : (p : ℕ → Bool) (xs ys : List ℕ) → list_all p xs ≡ true → list_all p ys ≡ true → list_all p (xs ++ ys) ≡ true
-all-append p xs ys front back = list_all-append p xs ys ∙ both-true (list_all p xs) (list_all p ys) front back
+all-append p xs ys front back = list_all-append p xs ys ∙ and_from (list_all p xs) (list_all p ys) front back
 
 all-weaker : (p q : ℕ → Bool) → ((b : ℕ) → p b ≡ true → q b ≡ true) → (xs : List ℕ) → list_all p xs ≡ true → list_all q xs ≡ true
 all-weaker p q step [] h = refl
 all-weaker p q step (b ∷ xs) h =
-    both-true (q b) (list_all q xs) (step b (first-true (p b) (list_all p xs) h)) (all-weaker p q step xs (second-true (p b) (list_all p xs) h))
+    and_from (q b) (list_all q xs) (step b (and_parts (p b) (list_all p xs) h).0) (all-weaker p q step xs (and_parts (p b) (list_all p xs) h).1)
 
 -- the bytes before those that are parted, none of which begins a text
 abbrev glue : List ℕ → Parted → Parted
@@ -63,20 +54,20 @@ ends-line : (bytes rest : List ℕ) → list_all is_inside bytes ≡ true → pa
 unfolding parted onto
 ends-line [] rest h = refl
 ends-line (b ∷ bytes) rest h =
-    let inside : (b == 10) ≡ false = is-not (b == 10) (first-true (is_inside b) (list_all is_inside bytes) h) in
+    let inside : (b == 10) ≡ false = is-not (b == 10) (and_parts (is_inside b) (list_all is_inside bytes) h).0 in
     ap (λ (fresh : Bool). onto false b (parted fresh (bytes ++ 10 ∷ rest))) inside
-    ∙ ap (onto false b) (ends-line bytes rest (second-true (is_inside b) (list_all is_inside bytes) h))
+    ∙ ap (onto false b) (ends-line bytes rest (and_parts (is_inside b) (list_all is_inside bytes) h).1)
 
 -- a line that does not begin as a text does
 is-line : (b : ℕ) (bytes : List ℕ) → list_all is_inside (b ∷ bytes) ≡ true → ((rest : List ℕ) → starts_with nat_eq (b ∷ bytes ++ rest) event ≡ false) → AreLines (b ∷ bytes ++ 10 ∷ [])
 unfolding parted onto
 is-line b bytes h starts rest =
-    let inside : (b == 10) ≡ false = is-not (b == 10) (first-true (is_inside b) (list_all is_inside bytes) h) in
+    let inside : (b == 10) ≡ false = is-not (b == 10) (and_parts (is_inside b) (list_all is_inside bytes) h).0 in
     let more : (bytes ++ 10 ∷ []) ++ rest ≡ bytes ++ 10 ∷ rest = append_assoc bytes (10 ∷ []) rest in
     ap (λ (l : List ℕ). parted true (b ∷ l)) more
     ∙ (ap (λ (begins : Bool). onto begins b (parted (b == 10) (bytes ++ 10 ∷ rest))) (starts (10 ∷ rest))
     ∙ (ap (λ (fresh : Bool). onto false b (parted fresh (bytes ++ 10 ∷ rest))) inside
-    ∙ ap (onto false b) (ends-line bytes rest (second-true (is_inside b) (list_all is_inside bytes) h))))
+    ∙ ap (onto false b) (ends-line bytes rest (and_parts (is_inside b) (list_all is_inside bytes) h).1)))
 
 blank-line : AreLines (10 ∷ [])
 unfolding parted onto
@@ -110,9 +101,6 @@ tag-line name value named valued starts =
     (is-line 91 (name ++ 32 ∷ 34 ∷ (value ++ 34 ∷ 93 ∷ [])) inside
     (λ rest. ap (λ (bytes : List ℕ). starts_with nat_eq (91 ∷ bytes) event) (append_assoc name (32 ∷ 34 ∷ (value ++ 34 ∷ 93 ∷ [])) rest) ∙ starts (32 ∷ 34 ∷ (value ++ 34 ∷ 93 ∷ []) ++ rest)))
 
-abbrev event_tag : List ℕ
-event_tag = tag_line (codes "Event") (codes "Rated sample game")
-
 -- a text begins at an Event tag
 event-line : (rest : List ℕ) → parted true (event_tag ++ rest) ≡ record { before = []; texts = (event_tag ++ (parted true rest).before) ∷ (parted true rest).texts }
 unfolding parted onto
@@ -127,11 +115,11 @@ begins-quiet : (b : ℕ) → begins_symbol b ≡ true → is_quiet b ≡ true
 begins-quiet b h = grind (arith, nat_tests, h)
 
 quiet-inside : (b : ℕ) → is_quiet b ≡ true → is_inside b ≡ true
-quiet-inside b h = first-true (is_inside b) (not (nat_eq 91 b)) h
+quiet-inside b h = (and_parts (is_inside b) (not (nat_eq 91 b)) h).0
 
 symbols-quiet : (b : ℕ) (more : List ℕ) → IsSymbol b more → list_all is_quiet (b ∷ more) ≡ true
 symbols-quiet b more symbol =
-    both-true (is_quiet b) (list_all is_quiet more) (begins-quiet b symbol.begins) (all-weaker continues_symbol is_quiet symbol-quiet more symbol.goes_on)
+    and_from (is_quiet b) (list_all is_quiet more) (begins-quiet b symbol.begins) (all-weaker continues_symbol is_quiet symbol-quiet more symbol.goes_on)
 
 number-quiet : (white : Bool) (n : ℕ) → n < 2 ^ 64 → list_all is_quiet (cond white (decimal n ++ codes ". ") []) ≡ true
 number-quiet false n lt = refl
@@ -153,67 +141,36 @@ moves-quiet p ply (m ∷ moves) text writes few =
 quiet-line : (bytes : List ℕ) → list_all is_quiet bytes ≡ true → AreLines (bytes ++ 10 ∷ [])
 quiet-line [] h = blank-line
 quiet-line (b ∷ bytes) h =
-    let none : nat_eq 91 b ≡ false = is-not (nat_eq 91 b) (second-true (is_inside b) (not (nat_eq 91 b)) (first-true (is_quiet b) (list_all is_quiet bytes) h)) in
+    let none : nat_eq 91 b ≡ false = is-not (nat_eq 91 b) (and_parts (is_inside b) (not (nat_eq 91 b)) (and_parts (is_quiet b) (list_all is_quiet bytes) h).0).1 in
     is-line b bytes (all-weaker is_quiet is_inside quiet-inside (b ∷ bytes) h) (λ rest. rw none refl)
 
 -- ---- samples
 
-module _ (index : ℕ) (header : Header) (s : IsSound header) where
-  abbrev site : List ℕ
-  site = tag_line (codes "Site") (codes "https://lichess.org/" ++ id_text index)
-
-  abbrev white : List ℕ
-  white = tag_line (codes "White") (player_text 119 index)
-
-  abbrev black : List ℕ
-  black = tag_line (codes "Black") (player_text 98 index)
-
-  abbrev result : List ℕ
-  result = tag_line (codes "Result") header.result
-
-  abbrev date : List ℕ
-  date = tag_line (codes "UTCDate") (date_text header.month)
-
-  abbrev white_elo : List ℕ
-  white_elo = tag_line (codes "WhiteElo") (decimal header.white_rating)
-
-  abbrev black_elo : List ℕ
-  black_elo = tag_line (codes "BlackElo") (decimal header.black_rating)
-
-  abbrev control : List ℕ
-  control = tag_line (codes "TimeControl") header.time_control
-
-  -- the tags behind the first
-  abbrev behind_event : List ℕ
-  behind_event = site ++ white ++ black ++ result ++ date ++ white_elo ++ black_elo ++ control
-
-  tags-lines : AreLines behind_event
-  tags-lines =
-      lines-append (site ++ white ++ black ++ result ++ date ++ white_elo ++ black_elo) control
-      (lines-append (site ++ white ++ black ++ result ++ date ++ white_elo) black_elo
-      (lines-append (site ++ white ++ black ++ result ++ date) white_elo
-      (lines-append (site ++ white ++ black ++ result) date
-      (lines-append (site ++ white ++ black) result
-      (lines-append (site ++ white) black
-      (lines-append site white
-      (tag-line (codes "Site") (codes "https://lichess.org/" ++ id_text index) refl (site-plain index) (λ rest. refl))
-      (tag-line (codes "White") (player_text 119 index) refl (player-plain 119 index refl) (λ rest. refl)))
-      (tag-line (codes "Black") (player_text 98 index) refl (player-plain 98 index refl) (λ rest. refl)))
-      (tag-line (codes "Result") header.result refl s.result.plain (λ rest. refl)))
-      (tag-line (codes "UTCDate") (date_text header.month) refl s.date.plain (λ rest. refl)))
-      (tag-line (codes "WhiteElo") (decimal header.white_rating) refl (decimal-plain header.white_rating (omega (arith, s.white))) (λ rest. refl)))
-      (tag-line (codes "BlackElo") (decimal header.black_rating) refl (decimal-plain header.black_rating (omega (arith, s.black))) (λ rest. refl)))
-      (tag-line (codes "TimeControl") header.time_control refl s.control.plain (λ rest. refl))
-
-  header-is : header_text index header ≡ event_tag ++ behind_event
-  header-is =
-      ap (λ (l : List ℕ). l ++ black ++ result ++ date ++ white_elo ++ black_elo ++ control) (append_assoc event_tag site white)
-      ∙ (ap (λ (l : List ℕ). l ++ result ++ date ++ white_elo ++ black_elo ++ control) (append_assoc event_tag (site ++ white) black)
-      ∙ (ap (λ (l : List ℕ). l ++ date ++ white_elo ++ black_elo ++ control) (append_assoc event_tag (site ++ white ++ black) result)
-      ∙ (ap (λ (l : List ℕ). l ++ white_elo ++ black_elo ++ control) (append_assoc event_tag (site ++ white ++ black ++ result) date)
-      ∙ (ap (λ (l : List ℕ). l ++ black_elo ++ control) (append_assoc event_tag (site ++ white ++ black ++ result ++ date) white_elo)
-      ∙ (ap (λ (l : List ℕ). l ++ control) (append_assoc event_tag (site ++ white ++ black ++ result ++ date ++ white_elo) black_elo)
-      ∙ append_assoc event_tag (site ++ white ++ black ++ result ++ date ++ white_elo ++ black_elo) control)))))
+tags-lines : (index : ℕ) (header : Header) → IsSound header → (rest : List ℕ) → AreLines rest → AreLines (behind_event index header rest)
+tags-lines index header s rest lines =
+    let control_on = control index header ++ rest in
+    let black_elo_on = black_elo index header ++ control_on in
+    let white_elo_on = white_elo index header ++ black_elo_on in
+    let date_on = date index header ++ white_elo_on in
+    let result_on = result index header ++ date_on in
+    let black_on = black index header ++ result_on in
+    let white_on = white index header ++ black_on in
+    lines-append (site index header) white_on
+    (tag-line (codes "Site") (codes "https://lichess.org/" ++ id_text index) refl (site-plain index) (λ more. refl))
+    (lines-append (white index header) black_on
+    (tag-line (codes "White") (player_text 119 index) refl (player-plain 119 index refl) (λ more. refl))
+    (lines-append (black index header) result_on
+    (tag-line (codes "Black") (player_text 98 index) refl (player-plain 98 index refl) (λ more. refl))
+    (lines-append (result index header) date_on
+    (tag-line (codes "Result") header.result refl s.result.plain (λ more. refl))
+    (lines-append (date index header) white_elo_on
+    (tag-line (codes "UTCDate") (date_text header.month) refl s.date.plain (λ more. refl))
+    (lines-append (white_elo index header) black_elo_on
+    (tag-line (codes "WhiteElo") (decimal header.white_rating) refl (decimal-plain header.white_rating (omega (arith, s.white))) (λ more. refl))
+    (lines-append (black_elo index header) control_on
+    (tag-line (codes "BlackElo") (decimal header.black_rating) refl (decimal-plain header.black_rating (omega (arith, s.black))) (λ more. refl))
+    (lines-append (control index header) rest
+    (tag-line (codes "TimeControl") header.time_control refl s.control.plain (λ more. refl)) lines)))))))
 
 -- a text of lines behind an Event tag
 record IsWhole (text : List ℕ) : Type 0 where
@@ -232,24 +189,21 @@ is-whole index before behind text sample =
     let few : length sample.moves ≤ 1024 = omega (arith, drawing.few) in
     let quiet : list_all is_quiet (sample.movetext ++ header.result) ≡ true =
     all-append is_quiet sample.movetext header.result (moves-quiet start 0 sample.moves sample.movetext sample.writes (omega (arith, few))) (result-quiet header.result s.result) in
-    let front : List ℕ = behind_event index header s in
     let line : List ℕ = (sample.movetext ++ header.result) ++ 10 ∷ [] in
     let tail : List ℕ = 10 ∷ (line ++ 10 ∷ []) in
-    let lines : AreLines (front ++ tail) =
-    lines-append front tail (tags-lines index header s)
-    (lines-append (10 ∷ line) (10 ∷ []) (lines-append (10 ∷ []) line blank-line (quiet-line (sample.movetext ++ header.result) quiet)) blank-line) in
+    let tail_lines : AreLines tail =
+    lines-append (10 ∷ line) (10 ∷ []) (lines-append (10 ∷ []) line blank-line (quiet-line (sample.movetext ++ header.result) quiet)) blank-line in
     record {
-      more = front ++ tail;
+      more = behind_event index header tail;
       is =
           sample.text_is
           ∙ (append_assoc (header_text index header ++ codes "\n" ++ sample.movetext) header.result (codes "\n\n")
           ∙ (append_assoc (header_text index header ++ codes "\n") sample.movetext (header.result ++ codes "\n\n")
           ∙ (append_assoc (header_text index header) (codes "\n") (sample.movetext ++ (header.result ++ codes "\n\n"))
-          ∙ (ap (λ (l : List ℕ). l ++ (10 ∷ (sample.movetext ++ (header.result ++ codes "\n\n")))) (header-is index header s)
-          ∙ (append_assoc event_tag front (10 ∷ (sample.movetext ++ (header.result ++ codes "\n\n")))
-          ∙ ap (λ (l : List ℕ). event_tag ++ (front ++ (10 ∷ l)))
-          (sym (append_assoc (sample.movetext ++ header.result) (10 ∷ []) (10 ∷ []) ∙ append_assoc sample.movetext header.result (codes "\n\n"))))))));
-      lines = lines;
+          ∙ (grouped index header (10 ∷ (sample.movetext ++ (header.result ++ codes "\n\n")))
+          ∙ ap (λ (l : List ℕ). event_tag ++ behind_event index header (10 ∷ l))
+          (sym (append_assoc (sample.movetext ++ header.result) (10 ∷ []) (10 ∷ []) ∙ append_assoc sample.movetext header.result (codes "\n\n")))))));
+      lines = tags-lines index header s tail tail_lines;
     }
 
 -- ---- streams of samples

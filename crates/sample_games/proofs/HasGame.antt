@@ -20,7 +20,8 @@ use Rattle.explorer_model.specs.Parts.{Section, Heading, parts}
 use Rattle.explorer_model.specs.Visits.{AreLegalFrom}
 use Rattle.legal_moves.proofs.StartIsValid.{start_is_valid}
 use Rattle.rand_pcg.specs.Lcg.{Lcg}
-use Rattle.sample_games.specs.Samples.{Header, drawn, later, DrawsMoves, header_drawn, tag_line, header_text, id_text, player_text, date_text, IsSample, HasGame}
+use Rattle.sample_games.specs.Samples.{Header, drawn, later, DrawsMoves, header_drawn, header_text, id_text, player_text, date_text, IsSample, HasGame}
+use Rattle.sample_games.proofs.HeaderLines.{grouped}
 use Rattle.sample_games.proofs.MovetextLemmas.{AreSan, ReadsAs, WrittenIsRead, reads-moves, plays-san}
 use Rattle.sample_games.proofs.Pairs.{reads-tag}
 use Rattle.sample_games.proofs.Symbols.{Parted, Reads, IsOpen, heading-open, reads-ending, reads-line, reads-end}
@@ -56,48 +57,10 @@ drawn-legal (suc plies) p before moves behind (inr (legal, m, rest, order, picks
 -- ---- what is read
 
 module _ (index : ℕ) (header : Header) (s : IsSound header) (rest : List ℕ) (texts : List (List ℕ)) (ending : Ending) (behind : Reads Heading rest [] texts ending) where
-  abbrev event : List ℕ
-  event = tag_line (codes "Event") (codes "Rated sample game")
-
-  abbrev site : List ℕ
-  site = tag_line (codes "Site") (codes "https://lichess.org/" ++ id_text index)
-
-  abbrev white : List ℕ
-  white = tag_line (codes "White") (player_text 119 index)
-
-  abbrev black : List ℕ
-  black = tag_line (codes "Black") (player_text 98 index)
-
-  abbrev result : List ℕ
-  result = tag_line (codes "Result") header.result
-
-  abbrev date : List ℕ
-  date = tag_line (codes "UTCDate") (date_text header.month)
-
-  abbrev white_elo : List ℕ
-  white_elo = tag_line (codes "WhiteElo") (decimal header.white_rating)
-
-  abbrev black_elo : List ℕ
-  black_elo = tag_line (codes "BlackElo") (decimal header.black_rating)
-
-  abbrev control : List ℕ
-  control = tag_line (codes "TimeControl") header.time_control
-
-  grouped : header_text index header ++ rest ≡ event ++ (site ++ (white ++ (black ++ (result ++ (date ++ (white_elo ++ (black_elo ++ (control ++ rest))))))))
-  grouped =
-      append_assoc (event ++ site ++ white ++ black ++ result ++ date ++ white_elo ++ black_elo) control rest
-      ∙ (append_assoc (event ++ site ++ white ++ black ++ result ++ date ++ white_elo) black_elo (control ++ rest)
-      ∙ (append_assoc (event ++ site ++ white ++ black ++ result ++ date) white_elo (black_elo ++ (control ++ rest))
-      ∙ (append_assoc (event ++ site ++ white ++ black ++ result) date (white_elo ++ (black_elo ++ (control ++ rest)))
-      ∙ (append_assoc (event ++ site ++ white ++ black) result (date ++ (white_elo ++ (black_elo ++ (control ++ rest))))
-      ∙ (append_assoc (event ++ site ++ white) black (result ++ (date ++ (white_elo ++ (black_elo ++ (control ++ rest)))))
-      ∙ (append_assoc (event ++ site) white (black ++ (result ++ (date ++ (white_elo ++ (black_elo ++ (control ++ rest))))))
-      ∙ append_assoc (event) site (white ++ (black ++ (result ++ (date ++ (white_elo ++ (black_elo ++ (control ++ rest)))))))))))))
-
   reads-header : Reads Heading (header_text index header ++ rest) (tags_of index header) texts ending
   unfolding name_at
   reads-header =
-      subst (λ (bytes : List ℕ). Reads Heading bytes (tags_of index header) texts ending) (sym grouped)
+      subst (λ (bytes : List ℕ). Reads Heading bytes (tags_of index header) texts ending) (sym (grouped index header rest))
       (reads-tag (codes "Event") (codes "Rated sample game") (λ more. refl) refl _ _ texts ending
       (reads-tag (codes "Site") (codes "https://lichess.org/" ++ id_text index) (λ more. refl) (site-plain index) _ _ texts ending
       (reads-tag (codes "White") (player_text 119 index) (λ more. refl) (player-plain 119 index refl) _ _ texts ending

@@ -5,6 +5,7 @@ pub mod Determined
 pub mod Drawing
 pub mod Ids
 pub mod HasGame
+pub mod HeaderLines
 pub mod Headers
 pub mod Pairs
 pub mod Symbols

@@ -1,9 +1,9 @@
 -- What the tags of a sample say.
-use Rattle.std.proofs.Common.{◌≡◌, ℕ, zero, suc, ◌+◌, ◌/◌, ◌%◌, ◌^◌, ◌<◌, ◌≤◌, ◌==◌, Bool, true, false, ◌&&◌, nat_le, List, [], ◌∷◌, ◌++◌, length, get_or, slice_index_or, Some, Ok, codes, decimal, refl, ap, ◌∙◌, arith, inl, inr}
+use Rattle.std.proofs.Common.{◌≡◌, ℕ, zero, suc, ◌+◌, ◌/◌, ◌%◌, ◌^◌, ◌<◌, ◌≤◌, ◌==◌, true, false, nat_le, List, [], ◌∷◌, ◌++◌, length, get_or, slice_index_or, Some, Ok, codes, decimal, refl, arith, inl, inr}
 use Rattle.std.specs.List.{list_all}
 use Rattle.std.specs.Char.{is_ascii_digit, is_ascii_alphanumeric}
 use Rattle.std.specs.Str.{IsAscii, all_ascii_digits}
-use Rattle.std.proofs.lemmas.Bool.{cases_lt}
+use Rattle.std.proofs.lemmas.Bool.{cases_lt, and_from, and_parts}
 use Rattle.std.proofs.lemmas.Bool.Decides.{nat_tests}
 use Rattle.std.proofs.lemmas.List.{get_or_past}
 use Rattle.std.proofs.lemmas.Fmt.{decimal_is_IsNumeral, length-decimal-le}
@@ -128,22 +128,11 @@ date-is (suc (suc (suc (suc (suc (suc (suc (suc (suc (suc (suc (suc n)))))))))))
 digit-plain : (b : ℕ) → is_ascii_digit b ≡ true → is_plain b ≡ true
 digit-plain b h = grind (arith, nat_tests, h)
 
-first-true : (a b : Bool) → (a && b) ≡ true → a ≡ true
-first-true true b h = refl
-first-true false b h = h
-
-second-true : (a b : Bool) → (a && b) ≡ true → b ≡ true
-second-true true b h = h
-second-true false b h = absurd (grind (arith, h))
-
-both-true : (a b : Bool) → a ≡ true → b ≡ true → (a && b) ≡ true
-both-true a b h k = ap (λ (c : Bool). c && b) h ∙ k
-
 digits-plain : (ds : List ℕ) → all_ascii_digits ds ≡ true → list_all is_plain ds ≡ true
 digits-plain [] h = refl
 digits-plain (c ∷ cs) h =
-    both-true (is_plain c) (list_all is_plain cs) (digit-plain c (first-true (is_ascii_digit c) (all_ascii_digits cs) h))
-    (digits-plain cs (second-true (is_ascii_digit c) (all_ascii_digits cs) h))
+    and_from (is_plain c) (list_all is_plain cs) (digit-plain c (and_parts (is_ascii_digit c) (all_ascii_digits cs) h).0)
+    (digits-plain cs (and_parts (is_ascii_digit c) (all_ascii_digits cs) h).1)
 
 decimal-digits : (n : ℕ) → n < 2 ^ 64 → all_ascii_digits (decimal n) ≡ true
 decimal-digits n lt = all-digits (decimal n) (decimal_is_IsNumeral n lt).0.1
@@ -165,8 +154,8 @@ rating-is n le =
 
 player-ascii : (ds : List ℕ) → all_ascii_digits ds ≡ true → (k : ℕ) → k < length ds → get_or ds k 0 < 128
 player-ascii [] h k lt = absurd (omega (arith, lt))
-player-ascii (c ∷ cs) h zero lt = (let digit_here = first-true (is_ascii_digit c) (all_ascii_digits cs) h in grind (arith, nat_tests, digit_here))
-player-ascii (c ∷ cs) h (suc k) lt = player-ascii cs (second-true (is_ascii_digit c) (all_ascii_digits cs) h) k (omega (arith, lt))
+player-ascii (c ∷ cs) h zero lt = (let digit_here = (and_parts (is_ascii_digit c) (all_ascii_digits cs) h).0 in grind (arith, nat_tests, digit_here))
+player-ascii (c ∷ cs) h (suc k) lt = player-ascii cs (and_parts (is_ascii_digit c) (all_ascii_digits cs) h).1 k (omega (arith, lt))
 
 ascii-of : (bytes : List ℕ) → ((k : ℕ) → k < length bytes → get_or bytes k 0 < 128) → IsAscii bytes
 ascii-of bytes h k = elim (cases_lt k (length bytes)) [
@@ -186,7 +175,7 @@ name-is letter index lt =
     each (suc k) in_text digits = player-ascii (decimal (index % 100)) digits k (omega (arith, in_text))
 
 pub player-plain : (letter index : ℕ) → is_plain letter ≡ true → list_all is_plain (player_text letter index) ≡ true
-player-plain letter index h = both-true (is_plain letter) (list_all is_plain (decimal (index % 100))) h (decimal-plain (index % 100) (omega arith))
+player-plain letter index h = and_from (is_plain letter) (list_all is_plain (decimal (index % 100))) h (decimal-plain (index % 100) (omega arith))
 
 -- ---- the id
 

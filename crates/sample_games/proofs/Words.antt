@@ -4,6 +4,7 @@ use Rattle.std.specs.List.{list_all}
 use Rattle.std.specs.Char.{is_ascii_digit, is_ascii_alphabetic}
 use Rattle.std.specs.Str.{all_ascii_digits}
 use Rattle.std.specs.Str.Parse.{AllDigits}
+use Rattle.std.proofs.lemmas.Bool.{and_from, and_parts}
 use Rattle.std.proofs.lemmas.Bool.Decides.{nat_tests}
 use Rattle.std.proofs.lemmas.Fmt.{decimal_is_IsNumeral}
 use Rattle.std.proofs.lemmas.List.Folds.{list_all-append}
@@ -89,16 +90,13 @@ alpha-goes_on b h = grind (arith, nat_tests, h)
 rank-goes_on : (n : ℕ) → n < 8 → continues_symbol (49 + n) ≡ true
 rank-goes_on n lt = grind (arith, nat_tests, lt)
 
-both-true : (a b : Bool) → a ≡ true → b ≡ true → (a && b) ≡ true
-both-true a b h k = ap (λ (c : Bool). c && b) h ∙ k
-
 file-word : (s : ℕ) (more : List ℕ) → list_all continues_symbol more ≡ true → IsWord (file_letter s ∷ more)
 file-word s more h =
     let alpha : is_ascii_alphabetic (97 + s % 8) ≡ true = file-alpha (s % 8) (omega arith) in
-    (alpha, both-true (continues_symbol (97 + s % 8)) (list_all continues_symbol more) (alpha-goes_on (97 + s % 8) alpha) h)
+    (alpha, and_from (continues_symbol (97 + s % 8)) (list_all continues_symbol more) (alpha-goes_on (97 + s % 8) alpha) h)
 
 rank-alone : (s : ℕ) → s < 64 → list_all continues_symbol (rank_digit s ∷ []) ≡ true
-rank-alone s lt = both-true (continues_symbol (49 + s / 8)) true (rank-goes_on (s / 8) (omega (arith, lt))) refl
+rank-alone s lt = and_from (continues_symbol (49 + s / 8)) true (rank-goes_on (s / 8) (omega (arith, lt))) refl
 
 square-word : (s : ℕ) → s < 64 → IsWord (square_text s)
 square-word s lt = file-word s (rank_digit s ∷ []) (rank-alone s lt)
@@ -195,29 +193,21 @@ digits-alike : (ds : List ℕ) → list_all is_ascii_digit ds ≡ all_ascii_digi
 digits-alike [] = refl
 digits-alike (c ∷ cs) = ap (λ (b : Bool). is_ascii_digit c && b) (digits-alike cs)
 
-first-true : (a b : Bool) → (a && b) ≡ true → a ≡ true
-first-true true b h = refl
-first-true false b h = h
-
-second-true : (a b : Bool) → (a && b) ≡ true → b ≡ true
-second-true true b h = h
-second-true false b h = absurd (grind (arith, h))
-
 pub digits-go_on : (ds : List ℕ) → all_ascii_digits ds ≡ true → list_all continues_symbol ds ≡ true
 digits-go_on [] h = refl
 digits-go_on (c ∷ cs) h =
-    both-true (continues_symbol c) (list_all continues_symbol cs) (digit-goes_on c (first-true (is_ascii_digit c) (all_ascii_digits cs) h))
-    (digits-go_on cs (second-true (is_ascii_digit c) (all_ascii_digits cs) h))
+    and_from (continues_symbol c) (list_all continues_symbol cs) (digit-goes_on c (and_parts (is_ascii_digit c) (all_ascii_digits cs) h).0)
+    (digits-go_on cs (and_parts (is_ascii_digit c) (all_ascii_digits cs) h).1)
 
 number-begins : (text : List ℕ) → 0 < length text → all_ascii_digits text ≡ true → BeginsNumber text
 number-begins [] some all = absurd (omega (arith, some))
 number-begins (c ∷ cs) some all =
-    let first : is_ascii_digit c ≡ true = first-true (is_ascii_digit c) (all_ascii_digits cs) all in
+    let first : is_ascii_digit c ≡ true = (and_parts (is_ascii_digit c) (all_ascii_digits cs) all).0 in
     record {
       first = c;
       more = cs;
       is = refl;
-      symbol = record { begins = digit-begins c first; dark = digit-dark c first; goes_on = digits-go_on cs (second-true (is_ascii_digit c) (all_ascii_digits cs) all) };
+      symbol = record { begins = digit-begins c first; dark = digit-dark c first; goes_on = digits-go_on cs (and_parts (is_ascii_digit c) (all_ascii_digits cs) all).1 };
       kind = rw (digits-alike (c ∷ cs) ∙ all) refl;
     }
 
