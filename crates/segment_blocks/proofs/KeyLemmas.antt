@@ -20,7 +20,7 @@ key_order = slice_cmp nat_cmp
 
 -- ---- keys in order
 
-first-less : (a b : RowKey) → row_order a b ≡ Less → is_gt (key_order a.key b.key) ≡ false
+pub first-less : (a b : RowKey) → row_order a b ≡ Less → is_gt (key_order a.key b.key) ≡ false
 unfolding row_order
 first-less a b e = first (key_order a.key b.key) _ e
   where

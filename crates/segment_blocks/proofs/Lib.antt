@@ -1,9 +1,12 @@
 pub mod AppendLemmas
 pub mod BlockLemmas
+pub mod BoundLemmas
 pub mod EncodedLemmas
 pub mod HalvingLemmas
 pub mod HeldLemmas
 pub mod KeyLemmas
+pub mod KeyOrderLemmas
+pub mod MovingLemmas
 pub mod OrderLemmas
 pub mod PackedLemmas
 pub mod SegmentLemmas

@@ -5,3 +5,4 @@ pub mod Walk
 pub mod PackedRows
 pub mod Segment
 pub mod HeldBatches
+pub mod Moving

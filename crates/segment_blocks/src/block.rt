@@ -3,8 +3,10 @@ ghost use Rattle.std.specs.Prelude.{◌≡◌, ℕ, List, ◌<◌, ◌≤◌, �
 ghost use Rattle.segment_blocks.specs.Block.{block_limit};
 ghost use Rattle.segment_blocks.specs.Encoded.{key_first};
 ghost use Rattle.segment_blocks.specs.HeldRow.{row_in};
+ghost use Rattle.segment_blocks.specs.Moving.{IfMoved, HasMoved, HaveMoved, Tells};
 
 use crate::block_cursor::BlockCursor;
+use crate::bound::Bound;
 use crate::encoded_rows::EncodedRows;
 use crate::held_row::HeldRow;
 use std::alloc::{AllocError, Global};
@@ -43,7 +45,7 @@ impl Block {
         ensures { IfOk result (λ block. block ≡ row_in held.now ∷ []) }
     {
         let key = held.key();
-        let mut rows = EncodedRows::new(alloc);
+        let mut rows = EncodedRows::new(alloc)?;
         rows.push(key, held)?;
         Ok(Block {
             first: *key,
@@ -92,6 +94,41 @@ impl Block {
         self.rows.push(&self.last, held)?;
         self.last = *held.key();
         Ok(())
+    }
+
+    /// Moves rows of one game from a place behind the others, with numbers that are greater by `by`,
+    /// as long as they stand before the bound. It may stop early. Says whether it has moved any.
+    pub fn take_games(
+        &mut self,
+        place: &mut BlockCursor<'_>,
+        by: u32,
+        bound: &Bound,
+    ) -> Result<bool, AllocError>
+        ensures moved { HaveMoved by bound.now place.old place.new self.old self.new }
+        ensures told { Tells result (length place.new < length place.old)
+            ((place.new ≡ place.old) × (self.new ≡ self.old)) }
+    {
+        let mut some = false;
+        while self.take_game(place, by, bound)? {
+            some = true;
+        }
+        Ok(some)
+    }
+
+    /// Moves the next row of a place, if it is such a row and there is room. Says whether it did.
+    fn take_game(
+        &mut self,
+        place: &mut BlockCursor<'_>,
+        by: u32,
+        bound: &Bound,
+    ) -> Result<bool, AllocError>
+        ensures { IfMoved result (HasMoved by bound.now place.old place.new self.old self.new)
+            ((place.new ≡ place.old) × (self.new ≡ self.old)) }
+    {
+        if self.rows.len() >= BLOCK_LIMIT {
+            return Ok(false);
+        }
+        place.move_game(&mut self.rows, &mut self.last, by, bound)
     }
 
     /// Gives back the room that no row takes.

@@ -1,6 +1,7 @@
 //! Rows in few bytes.
-ghost use Rattle.std.specs.Prelude.{◌≡◌, ◌≤◌, [], ℕ, List, IfSome, OnOk, OnErr, length, take};
+ghost use Rattle.std.specs.Prelude.{◌≡◌, ◌≤◌, [], ℕ, List, false, is_none, IfOk, IfSome, OnOk, OnErr, length, take};
 ghost use Rattle.segment_blocks.specs.Encoded.{IsMarkOf, IsAppended, rows_of};
+ghost use Rattle.tally_rows.specs.declared.row.Row.{Row};
 ghost use Rattle.segment_blocks.specs.HeldRow.{row_in};
 
 use crate::block_cursor::BlockCursor;
@@ -10,6 +11,12 @@ use explorer_model::archive::{Group, Month, Speed};
 use std::alloc::{AllocError, Global};
 use std::marker::Model;
 use tally_rows::Row;
+
+/// How many marks a block has at most.
+const MARKS: usize = 128;
+
+/// How many bytes of keys most blocks have at most.
+const TAILS: usize = 2048;
 
 /// Rows that stand one after another. A row of one game is a mark and those bytes of its key in
 /// which it differs from the key before it, from the first on. Each other row stands whole.
@@ -35,15 +42,17 @@ impl Model for EncodedRows {
 }
 
 impl EncodedRows {
-    /// No row.
-    pub fn new(alloc: Global) -> EncodedRows
-        ensures { (first : List ℕ) → rows_of result first ≡ [] }
+    /// No row, with room for those of a block.
+    pub fn new(alloc: Global) -> Result<EncodedRows, AllocError>
+        ensures { IfOk result (λ rows. (first : List ℕ) → rows_of rows first ≡ []) }
     {
-        EncodedRows {
-            marks: Vec::new(alloc),
-            tails: Vec::new(alloc),
+        let marks = Vec::with_capacity(alloc, MARKS)?;
+        let tails = Vec::with_capacity(alloc, TAILS)?;
+        Ok(EncodedRows {
+            marks,
+            tails,
             whole: Vec::new(alloc),
-        }
+        })
     }
 
     /// How many rows there are.
@@ -72,6 +81,22 @@ impl EncodedRows {
         Ok(())
     }
 
+    /// Puts a row of one game behind the others, by its mark and its key. After a refusal they are as
+    /// before.
+    pub fn push_game(&mut self, mark: Mark, key: &[u8; 34]) -> Result<(), AllocError>
+        requires { is_none mark.outcome ≡ false }
+        ensures ok { OnOk result ((before : List ℕ) (row : Row) → row.key ≡ key.now
+            → take mark.shared before ≡ take mark.shared key.now → IsMarkOf row mark.shared mark
+            → IsAppended before row self.old self.new) }
+        ensures err { OnErr result (self.new ≡ self.old) }
+    {
+        self.marks.reserve(1)?;
+        self.tails
+            .extend_from_slice(&key[usize::from(mark.shared)..])?;
+        self.marks.push_reserved(mark);
+        Ok(())
+    }
+
     /// Gives back the room that no row takes.
     pub fn shrink_to_fit(&mut self)
         ensures { self.new ≡ self.old }
@@ -95,7 +120,7 @@ impl EncodedRows {
 }
 
 /// How many bytes both keys begin with alike.
-fn shared_len(a: &[u8; 34], b: &[u8; 34]) -> u8
+pub fn shared_len(a: &[u8; 34], b: &[u8; 34]) -> u8
     ensures within { result ≤ 34 }
     ensures same { take result a.now ≡ take result b.now }
     ensures long { length b.now ≡ 34 }

@@ -1,12 +1,22 @@
 //! Segments: batches that stand one after another in a journal, with the rows that count their
 //! games, in packed blocks.
+//!
+//! ```rust
+//! let segment = Segment::of(alloc, 0, tally)?;
+//! let mut walk = segment.rows_at(&key, &mut steps);
+//! while let Some(row) = walk.next(&mut steps) {
+//!     // A row of the position that the key names.
+//! }
+//! ```
 #![tactic(auto)]
 
 mod block;
 mod block_cursor;
+mod bound;
 mod encoded_rows;
 mod held_batch;
 mod held_row;
+mod key_order;
 mod mark;
 mod packed_rows;
 mod row_walk;
@@ -18,7 +28,9 @@ mod steps;
 mod tests;
 mod until;
 
+pub use bound::Bound;
 pub use held_row::HeldRow;
+pub use key_order::order_of_row_keys;
 pub use packed_rows::PackedRows;
 pub use row_walk::RowWalk;
 pub use segment::{Segment, Span};

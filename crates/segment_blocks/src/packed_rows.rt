@@ -2,12 +2,15 @@
 ghost use Rattle.std.specs.Prelude.{◌≡◌, ℕ, List, ◌+◌, ◌≤◌, ◌<◌, ◌^◌, ◌++◌, ◌∷◌, [], filter, map, not, true, false, length, slice_get, slice_index_or, IfOk, OnOk, OnErr};
 ghost use Rattle.segment_blocks.specs.Block.{block_limit};
 ghost use Rattle.segment_blocks.specs.HeldRow.{row_in};
+ghost use Rattle.segment_blocks.specs.Moving.{HaveMoved, Tells};
 ghost use Rattle.segment_blocks.specs.PackedRows.{AreInOrder, ArePacked, is_first_below, rows_of_parts};
 ghost use Rattle.segment_blocks.specs.Walk.{is_below, is_within, has_key, from_key, from_bound, until_bound, rows_in, rows_until, front_rows};
 ghost use Rattle.tally_rows.specs.declared.row.Row.{Row};
+ghost use Rattle.tally_rows.specs.Row.{shifted_row};
 
 use crate::block::{BLOCK_LIMIT, Block};
 use crate::block_cursor::BlockCursor;
+use crate::bound::Bound;
 use crate::held_row::HeldRow;
 use crate::row_walk::RowWalk;
 use crate::rows_cursor::RowsCursor;
@@ -97,6 +100,27 @@ impl PackedRows {
             self.blocks[count - 1].shrink_to_fit();
         }
         Ok(())
+    }
+
+    /// Moves rows of one game from a walk behind the others, as they are packed and with numbers that
+    /// are greater by `by`, as long as they stand before the bound. It may stop early. Says whether
+    /// it has moved any.
+    pub fn take_games(
+        &mut self,
+        walk: &mut RowWalk<'_>,
+        by: u32,
+        bound: &Bound,
+    ) -> Result<bool, AllocError>
+        requires in_order { AreInOrder (self.old.rows ++ map (shifted_row by) walk.old) }
+        ensures moved { HaveMoved by bound.now walk.old walk.new self.old.rows self.new.rows }
+        ensures told { Tells result (length walk.new < length walk.old)
+            ((walk.new ≡ walk.old) × (self.new.rows ≡ self.old.rows)) }
+    {
+        let count = self.blocks.as_slice().len();
+        if count == 0 {
+            return Ok(false);
+        }
+        walk.move_games(&mut self.blocks[count - 1], by, bound)
     }
 
     /// A walk over the rows of the key, in their order. A step is a first key compared or a row

@@ -1,14 +1,18 @@
 //! Walks over rows.
-ghost use Rattle.std.specs.Prelude.{◌≡◌, ◌+◌, [], ◌∷◌, MatchOption};
+ghost use Rattle.std.specs.Prelude.{◌≡◌, ◌+◌, ◌<◌, [], ◌∷◌, MatchOption, length};
 ghost use Rattle.segment_blocks.specs.HeldRow.{row_in};
+ghost use Rattle.segment_blocks.specs.Moving.{next_row_key, HaveMoved, Tells};
 
+use crate::block::Block;
+use crate::bound::Bound;
 use crate::held_row::HeldRow;
 use crate::rows_cursor::RowsCursor;
 use crate::steps::Steps;
 use crate::until::Until;
+use std::alloc::AllocError;
 use std::marker::Model;
 use std::sync::ledger::Ledger;
-use tally_rows::Row;
+use tally_rows::{Row, RowKey};
 
 /// The rows that a walk has still to come to.
 #[derive(Drop)]
@@ -66,6 +70,35 @@ impl<'a> RowWalk<'a> {
                 None
             }
             Until::Done => None,
+        }
+    }
+
+    /// What the games of the next row have in common, or None at the end.
+    pub fn next_row_key(&self) -> Option<RowKey>
+        ensures { result ≡ next_row_key self.now }
+    {
+        let row_key = self.rest.next_row_key()?;
+        if self.until.goes_over(&row_key.key) {
+            Some(row_key)
+        } else {
+            None
+        }
+    }
+
+    /// Moves rows of one game to the end of a block, as `Block::take_games` does.
+    pub(crate) fn move_games(
+        &mut self,
+        block: &mut Block,
+        by: u32,
+        bound: &Bound,
+    ) -> Result<bool, AllocError>
+        ensures moved { HaveMoved by bound.now self.old self.new block.old block.new }
+        ensures told { Tells result (length self.new < length self.old)
+            ((self.new ≡ self.old) × (block.new ≡ block.old)) }
+    {
+        match self.until.bound_with(bound) {
+            Some(nearer) => self.rest.move_games(block, by, &nearer),
+            None => Ok(false),
         }
     }
 }

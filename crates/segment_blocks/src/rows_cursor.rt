@@ -1,11 +1,15 @@
 //! Rows over several blocks.
-ghost use Rattle.std.specs.Prelude.{◌≡◌, [], ◌∷◌, MatchOption};
+ghost use Rattle.std.specs.Prelude.{◌≡◌, ◌<◌, [], ◌∷◌, MatchOption, length};
 ghost use Rattle.segment_blocks.specs.HeldRow.{row_in};
+ghost use Rattle.segment_blocks.specs.Moving.{next_row_key, HaveMoved, Tells};
 
 use crate::block::Block;
 use crate::block_cursor::BlockCursor;
+use crate::bound::Bound;
 use crate::held_row::HeldRow;
+use std::alloc::AllocError;
 use std::marker::Model;
+use tally_rows::RowKey;
 
 /// What is left of blocks: perhaps a row that was looked at, the place in a block, and the blocks
 /// behind it.
@@ -45,5 +49,38 @@ impl<'a> RowsCursor<'a> {
         self.place = block.cursor();
         self.blocks = blocks;
         self.place.next()
+    }
+
+    /// What the games of the next row have in common, or None at the end.
+    pub fn next_row_key(&self) -> Option<RowKey>
+        ensures { result ≡ next_row_key self.now }
+    {
+        if let Some(held) = &self.front {
+            return Some(held.row_key());
+        }
+        if let Some(row_key) = self.place.next_row_key() {
+            return Some(row_key);
+        }
+        let (block, _blocks) = self.blocks.split_first()?;
+        // A block has some row, as its length says.
+        let _some = block.len();
+        block.cursor().next_row_key()
+    }
+
+    /// Moves rows of one game to the end of a block, as `Block::take_games` does.
+    pub fn move_games(
+        &mut self,
+        block: &mut Block,
+        by: u32,
+        bound: &Bound,
+    ) -> Result<bool, AllocError>
+        ensures moved { HaveMoved by bound.now self.old self.new block.old block.new }
+        ensures told { Tells result (length self.new < length self.old)
+            ((self.new ≡ self.old) × (block.new ≡ block.old)) }
+    {
+        if self.front.is_some() {
+            return Ok(false);
+        }
+        block.take_games(&mut self.place, by, bound)
     }
 }

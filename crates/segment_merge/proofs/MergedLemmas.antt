@@ -32,7 +32,8 @@ use Rattle.tally_rows.proofs.Both.{Tallied-both}
 use Rattle.std.proofs.lemmas.List.Concat.{flat_map-append}
 use Rattle.segment_blocks.specs.PackedRows.{AreInOrder}
 use Rattle.segment_blocks.proofs.OrderLemmas.{in_order-front}
-use Rattle.segment_merge.specs.Merged.{first_by, put_among, merged, next_order, next_row_key}
+use Rattle.segment_blocks.specs.Moving.{next_row_key}
+use Rattle.segment_merge.specs.Merged.{first_by, put_among, merged, next_order}
 
 -- ---- one step
 
@@ -298,58 +299,28 @@ not_less e = cc
 not_greater : {P : Type 0} → Some Less ≡ Some Greater → P
 not_greater e = cc
 
-less-some : (ls rs : List Row) → next_order ls rs ≡ Some Less → 0 < length ls
+pub less-some : (ls rs : List Row) → next_order ls rs ≡ Some Less → 0 < length ls
 less-some [] [] e = none-some Less e
 less-some [] (r ∷ rs) e = not_less e
 less-some (l ∷ ls) rs e = omega arith
 
-greater-some : (ls rs : List Row) → next_order ls rs ≡ Some Greater → 0 < length rs
+pub greater-some : (ls rs : List Row) → next_order ls rs ≡ Some Greater → 0 < length rs
 greater-some [] [] e = none-some Greater e
 greater-some (l ∷ ls) [] e = not_greater e
 greater-some [] (r ∷ rs) e = omega arith
 greater-some (l ∷ ls) (r ∷ rs) e = omega arith
 
-step-less : (ls rs : List Row) → next_order ls rs ≡ Some Less → merged ls rs ≡ take 1 ls ++ merged (drop 1 ls) rs
+pub step-less : (ls rs : List Row) → next_order ls rs ≡ Some Less → merged ls rs ≡ take 1 ls ++ merged (drop 1 ls) rs
 step-less [] [] e = none-some Less e
 step-less [] (r ∷ rs) e = not_less e
 step-less (l ∷ ls) [] e = merged-nil_right (l ∷ ls) ∙ ap (λ k. l ∷ k) (sym (merged-nil_right ls))
 step-less (l ∷ ls) (r ∷ rs) e = merged-less l ls r rs (some-is _ Less e)
 
-step-greater : (ls rs : List Row) → next_order ls rs ≡ Some Greater → merged ls rs ≡ take 1 rs ++ merged ls (drop 1 rs)
+pub step-greater : (ls rs : List Row) → next_order ls rs ≡ Some Greater → merged ls rs ≡ take 1 rs ++ merged ls (drop 1 rs)
 step-greater [] [] e = none-some Greater e
 step-greater (l ∷ ls) [] e = not_greater e
 step-greater [] (r ∷ rs) e = merged-nil_left (r ∷ rs) ∙ ap (λ k. r ∷ k) (sym (merged-nil_left rs))
 step-greater (l ∷ ls) (r ∷ rs) e = merged-greater l ls r rs (some-is _ Greater e)
-
-module _ (rows ls rs : List Row) where
-  pub before-less : next_order ls rs ≡ Some Less → AreInOrder (rows ++ merged ls rs) → AreInOrder (rows ++ take 1 ls)
-  before-less e h =
-      in_order-front (rows ++ take 1 ls) (merged (drop 1 ls) rs)
-      (subst AreInOrder (ap (λ l. rows ++ l) (step-less ls rs e) ∙ sym (append_assoc rows (take 1 ls) (merged (drop 1 ls) rs))) h)
-
-  pub before-greater : next_order ls rs ≡ Some Greater → AreInOrder (rows ++ merged ls rs) → AreInOrder (rows ++ take 1 rs)
-  before-greater e h =
-      in_order-front (rows ++ take 1 rs) (merged ls (drop 1 rs))
-      (subst AreInOrder (ap (λ l. rows ++ l) (step-greater ls rs e) ∙ sym (append_assoc rows (take 1 rs) (merged ls (drop 1 rs)))) h)
-
-  module _ {X E : Type 0} (result : Result X E) (new new_rows : List Row) where
-    pub after-less : next_order ls rs ≡ Some Less → OnOk result (new_rows ≡ rows ++ take 1 ls) → OnOk result (new ≡ drop 1 ls)
-        → OnOk result (new_rows ++ merged new rs ≡ rows ++ merged ls rs)
-    after-less e moved rest =
-        on_ok_both result (λ a b. (λ i. a i ++ merged (b i) rs) ∙ append_assoc rows (take 1 ls) (merged (drop 1 ls) rs)
-        ∙ ap (λ l. rows ++ l) (sym (step-less ls rs e))) moved rest
-
-    pub after-greater : next_order ls rs ≡ Some Greater → OnOk result (new_rows ≡ rows ++ take 1 rs) → OnOk result (new ≡ drop 1 rs)
-        → OnOk result (new_rows ++ merged ls new ≡ rows ++ merged ls rs)
-    after-greater e moved rest =
-        on_ok_both result (λ a b. (λ i. a i ++ merged ls (b i)) ∙ append_assoc rows (take 1 rs) (merged ls (drop 1 rs))
-        ∙ ap (λ l. rows ++ l) (sym (step-greater ls rs e))) moved rest
-
-    pub fewer-less : next_order ls rs ≡ Some Less → OnOk result (new ≡ drop 1 ls) → OnOk result (length new + length rs < length ls + length rs)
-    fewer-less e rest = on_ok_weaker result (λ b. omega (arith, ap length b, length-drop 1 ls, less-some ls rs e)) rest
-
-    pub fewer-greater : next_order ls rs ≡ Some Greater → OnOk result (new ≡ drop 1 rs) → OnOk result (length ls + length new < length ls + length rs)
-    fewer-greater e rest = on_ok_weaker result (λ b. omega (arith, ap length b, length-drop 1 rs, greater-some ls rs e)) rest
 
 -- both next rows have the same parts
 module _ (l r : Row) (ls rs new_ls new_rs : List Row) (e : next_order ls rs ≡ Some Equal) (at_l : ls ≡ l ∷ new_ls) (at_r : rs ≡ r ∷ new_rs) where
@@ -383,7 +354,7 @@ both-ended [] (r ∷ rs) e = cc
 both-ended (l ∷ ls) [] e = cc
 both-ended (l ∷ ls) (r ∷ rs) e = cc
 
-key-is : (o p : RowKey) → Some o ≡ Some p → o ≡ p
+pub key-is : (o p : RowKey) → Some o ≡ Some p → o ≡ p
 key-is o p e = ap (λ q. unwrap_or q o) e
 
 pub order-of-keys : (ls rs : List Row) (a b : RowKey) → next_row_key ls ≡ Some a → next_row_key rs ≡ Some b → next_order ls rs ≡ Some (row_order a b)
@@ -391,5 +362,6 @@ order-of-keys [] rs a b e f = cc
 order-of-keys (l ∷ ls) [] a b e f = cc
 order-of-keys (l ∷ ls) (r ∷ rs) a b e f = λ i. Some (row_order (key-is _ a e i) (key-is _ b f i))
 
-pub key-of-shifted : (by : ℕ) (row : Row) (rows : List Row) → next_row_key (map (shifted_row by) (row ∷ rows)) ≡ Some (row_key_of row)
-key-of-shifted by row rows = ap Some (shifted-row_key by row)
+pub next-shifted : (by : ℕ) (rows : List Row) → next_row_key (map (shifted_row by) rows) ≡ next_row_key rows
+next-shifted by [] = refl
+next-shifted by (row ∷ rows) = ap Some (shifted-row_key by row)

@@ -30,9 +30,7 @@ use Rattle.segment_blocks.specs.PackedRows.{AreInOrder}
 use Rattle.segment_blocks.specs.Segment.{CountedSpan, IsSegment, IsTallyOfBoth, segment_limit}
 use Rattle.segment_merge.specs.Merged.{merged}
 use Rattle.segment_merge.specs.Merging.{rows_of_both}
-use Rattle.segment_blocks.specs.declared.held_row.HeldRow.{HeldRow}
-use Rattle.segment_blocks.specs.HeldRow.{row_in}
-use Rattle.segment_merge.specs.Room.{HasRoom, IsSmall, IsSide, side_rows}
+use Rattle.segment_merge.specs.Room.{HasRoom, IsSmall}
 use Rattle.segment_merge.proofs.MergedLemmas.{Tallied-merged}
 
 -- ---- ratings
@@ -175,22 +173,6 @@ shifted-zero = λ i row. record row { top = all row.top i; recent = all row.rece
 
 pub rows-shifted-zero : (rows : List Row) → map (shifted_row 0) rows ≡ rows
 rows-shifted-zero rows = ap (λ f. map f rows) shifted-zero ∙ map-id rows
-
--- ---- one side
-
--- the next row of a walk, before the others
-module _ (by : ℕ) (front : Option HeldRow) (old new : List Row)
-    (told : MatchOption front ((old ≡ []) × (new ≡ [])) (λ held. old ≡ row_in held ∷ new)) (all : AllByRecursion (HasRoom by) old) where
-  side-with : (front : Option HeldRow) → MatchOption front ((old ≡ []) × (new ≡ [])) (λ held. old ≡ row_in held ∷ new)
-      → IsSide by front new × (side_rows by front new ≡ map (shifted_row by) old)
-  side-with None t = (t.1, sym (ap (map (shifted_row by)) t.0))
-  side-with (Some held) t = (subst (AllByRecursion (HasRoom by)) t all, sym (ap (map (shifted_row by)) t))
-
-  pub is_side : IsSide by front new
-  is_side = (side-with front told).0
-
-  pub rows-of-side : side_rows by front new ≡ map (shifted_row by) old
-  rows-of-side = (side-with front told).1
 
 -- a game with room is listed with a number that fits
 module _ (by : ℕ) (game : Single) (h : HasRoom by (row_of game)) where

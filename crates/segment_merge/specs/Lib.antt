@@ -1,4 +1,5 @@
 pub mod Merged
 pub mod Merging
+pub mod Pushed
 pub mod Ranges
 pub mod Room

@@ -3,7 +3,6 @@ use Rattle.std.specs.Prelude.{List, [], ◌∷◌, Option, None, Some}
 use Rattle.std.specs.declared.cmp.Ordering.{Ordering}
 use Rattle.std.specs.declared.cmp.Ordering.TheVariants.{Less, Equal, Greater}
 use Rattle.tally_rows.specs.declared.row.Row.{Row}
-use Rattle.tally_rows.specs.declared.row_key.RowKey.{RowKey}
 use Rattle.tally_rows.specs.RowKey.{row_order}
 use Rattle.tally_rows.specs.Row.{row_key_of, combined}
 
@@ -32,8 +31,3 @@ next_order [] [] = None
 next_order [] (right ∷ rights) = Some Greater
 next_order (left ∷ lefts) [] = Some Less
 next_order (left ∷ lefts) (right ∷ rights) = Some (row_order (row_key_of left) (row_key_of right))
-
--- what the games of the first row have in common
-abbrev pub next_row_key : List Row → Option RowKey
-next_row_key [] = None
-next_row_key (row ∷ rows) = Some (row_key_of row)

@@ -1,10 +1,9 @@
 -- Rows that have room for greater numbers and sums.
-use Rattle.std.specs.Prelude.{◌≡◌, ℕ, ◌+◌, ◌<◌, ◌^◌, Option, None, Some, List, [], ◌∷◌, map}
+use Rattle.std.specs.Prelude.{◌≡◌, ℕ, ◌+◌, ◌<◌, ◌^◌, Option, List}
 use Rattle.std.specs.List.{All, AllByRecursion}
 use Rattle.tally_rows.specs.declared.row.Row.{Row}
-use Rattle.tally_rows.specs.Row.{shifted_row}
-use Rattle.segment_blocks.specs.declared.held_row.HeldRow.{HeldRow}
-use Rattle.segment_blocks.specs.HeldRow.{row_in}
+use Rattle.tally_rows.specs.declared.row_key.RowKey.{RowKey}
+use Rattle.segment_blocks.specs.Moving.{next_row_key}
 
 -- the sums of two such rows have room
 pub record IsSmall (row : Row) : Type 0 where
@@ -19,11 +18,7 @@ pub record HasRoom (by : ℕ) (row : Row) : Type 0 where
   pub top : All (λ entry. entry.number + by < 2 ^ 32) row.top
   pub recent : All (λ entry. entry.number + by < 2 ^ 32) row.recent
 
--- a row that was looked at, and then others, shifted; without the first there are none
-abbrev pub side_rows : ℕ → Option HeldRow → List Row → List Row
-side_rows by None rest = []
-side_rows by (Some held) rest = map (shifted_row by) (row_in held ∷ rest)
-
-abbrev pub IsSide : ℕ → Option HeldRow → List Row → Type 0
-IsSide by None rest = rest ≡ []
-IsSide by (Some held) rest = AllByRecursion (HasRoom by) (row_in held ∷ rest)
+-- rows that have room, the games of the first of which have this in common
+pub record IsSide (by : ℕ) (next : Option RowKey) (rest : List Row) : Type 0 where
+  pub first : next ≡ next_row_key rest
+  pub room : AllByRecursion (HasRoom by) rest

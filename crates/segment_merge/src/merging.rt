@@ -4,7 +4,7 @@ ghost use Rattle.segment_blocks.specs.PackedRows.{AreInOrder};
 ghost use Rattle.segment_merge.specs.Merged.{merged, next_order};
 
 use crate::side::Side;
-use segment_blocks::PackedRows;
+use segment_blocks::{PackedRows, order_of_row_keys};
 use std::alloc::{AllocError, Global};
 use std::cmp::Ordering;
 
@@ -23,8 +23,8 @@ pub fn merge_rows(alloc: Global, left: Side<'_>, right: Side<'_>) -> Result<Pack
     Ok(packed)
 }
 
-/// Moves the next row of both sides, which stand so: the lesser one, or both put together where
-/// they have the same five parts.
+/// Moves the next row of both sides, which stand so: the lesser one, perhaps with more of its side,
+/// or both put together where they have the same five parts.
 fn push_next(
     alloc: Global,
     order: Ordering,
@@ -40,8 +40,8 @@ fn push_next(
         < length left.old + length right.old) }
 {
     match order {
-        Ordering::Less => left.push_next(alloc, packed),
-        Ordering::Greater => right.push_next(alloc, packed),
+        Ordering::Less => left.push_next(alloc, packed, &right.bound()),
+        Ordering::Greater => right.push_next(alloc, packed, &left.bound()),
         Ordering::Equal => {
             let (Some(first), Some(second)) = (left.take(), right.take()) else {
                 return Ok(());
@@ -57,7 +57,7 @@ fn order_of(left: &Side<'_>, right: &Side<'_>) -> Option<Ordering>
     ensures { result ≡ next_order left.now right.now }
 {
     match (left.row_key(), right.row_key()) {
-        (Some(first), Some(second)) => Some(first.cmp(&second)),
+        (Some(first), Some(second)) => Some(order_of_row_keys(first, second)),
         (Some(_), None) => Some(Ordering::Less),
         (None, Some(_)) => Some(Ordering::Greater),
         (None, None) => None,

@@ -1,13 +1,16 @@
 //! One side of a merge.
-ghost use Rattle.std.specs.Prelude.{◌≡◌, [], ◌∷◌, ◌++◌, MatchOption, OnOk, map, take, drop};
+ghost use Rattle.std.specs.Prelude.{◌≡◌, [], ◌∷◌, ◌++◌, Some, MatchOption, OnOk, map};
 ghost use Rattle.std.specs.List.{AllByRecursion};
+ghost use Rattle.segment_blocks.specs.declared.bound.Bound.TheVariants as bounds;
+ghost use Rattle.segment_blocks.specs.Moving.{next_row_key};
 ghost use Rattle.segment_blocks.specs.PackedRows.{AreInOrder};
-ghost use Rattle.segment_merge.specs.Merged.{next_row_key};
+ghost use Rattle.segment_merge.specs.Pushed.{HavePushed};
 ghost use Rattle.segment_merge.specs.Room.{HasRoom, IsSmall};
+ghost use Rattle.tally_rows.specs.declared.row_key.RowKey.{RowKey};
 ghost use Rattle.tally_rows.specs.Row.{shifted_row};
 
 use crate::shifting::{push_shifted, shifted};
-use segment_blocks::{HeldRow, PackedRows, RowWalk};
+use segment_blocks::{Bound, PackedRows, RowWalk};
 use std::alloc::{AllocError, Global};
 use std::marker::Model;
 use tally_rows::{Row, RowKey};
@@ -16,22 +19,24 @@ use tally_rows::{Row, RowKey};
 /// of both sides.
 #[derive(Drop)]
 pub struct Side<'a> {
-    front: Option<HeldRow<'a>>,
+    /// What the games of the next row have in common.
+    next: Option<RowKey>,
     rest: RowWalk<'a>,
     by: u32,
 }
 
 impl<'a> Model for Side<'a> {
-    ghost use Rattle.std.specs.Prelude.{List};
+    ghost use Rattle.std.specs.Prelude.{List, map};
     ghost use Rattle.tally_rows.specs.declared.row.Row.{Row};
+    ghost use Rattle.tally_rows.specs.Row.{shifted_row};
 
     ghost Value = { List Row };
 
-    ghost use Rattle.segment_merge.specs.Room.{side_rows, IsSide};
+    ghost use Rattle.segment_merge.specs.Room.{IsSide};
 
-    ghost view = { λ s. side_rows s.by s.front s.rest };
+    ghost view = { λ s. map (shifted_row s.by) s.rest };
 
-    ghost invariant = { λ s. IsSide s.by s.front s.rest };
+    ghost invariant = { λ s. IsSide s.by s.next s.rest };
 }
 
 impl<'a> Side<'a> {
@@ -40,33 +45,50 @@ impl<'a> Side<'a> {
         requires { AllByRecursion (HasRoom by) rest }
         ensures { result ≡ map (shifted_row by) rest.entry }
     {
-        let mut rest = rest;
-        let front = rest.advance();
-        Side { front, rest, by }
+        let next = rest.next_row_key();
+        Side { next, rest, by }
     }
 
     /// What the games of the next row have in common.
-    pub fn row_key(&self) -> Option<RowKey>
-        ensures { result ≡ next_row_key self.now }
+    pub fn row_key(&self) -> &Option<RowKey>
+        ensures { result.now ≡ next_row_key self.now }
     {
-        match &self.front {
-            Some(held) => Some(held.row_key()),
-            None => None,
+        &self.next
+    }
+
+    /// Before which rows those of the other side stand that come first.
+    pub fn bound(&self) -> Bound
+        ensures { (row_key : RowKey) → next_row_key self.now ≡ Some row_key
+            → result ≡ bounds.Row row_key }
+    {
+        match &self.next {
+            Some(row_key) => Bound::Row(*row_key),
+            None => Bound::Key([255; 34]),
         }
     }
 
-    /// Moves the next row, where there is one, to the rows of a merge.
-    pub fn push_next(&mut self, alloc: Global, packed: &mut PackedRows) -> Result<(), AllocError>
-        requires in_order { AreInOrder (packed.old.rows ++ take 1 self.old) }
-        ensures rows { OnOk result (packed.new.rows ≡ packed.old.rows ++ take 1 self.old) }
-        ensures rest { OnOk result (self.new ≡ drop 1 self.old) }
+    /// Moves the next row, where there is one, to the rows of a merge, perhaps with rows behind it
+    /// that stand before the bound as it does.
+    pub fn push_next(
+        &mut self,
+        alloc: Global,
+        packed: &mut PackedRows,
+        bound: &Bound,
+    ) -> Result<(), AllocError>
+        requires in_order { AreInOrder (packed.old.rows ++ self.old) }
+        ensures { OnOk result
+            (HavePushed bound.now self.old self.new packed.old.rows packed.new.rows) }
     {
-        let Some(held) = self.front else {
+        let moved = packed.take_games(&mut self.rest, self.by, bound);
+        self.next = self.rest.next_row_key();
+        if moved? {
+            return Ok(());
+        }
+        let Some(held) = self.rest.advance() else {
             return Ok(());
         };
-        push_shifted(alloc, packed, &held, self.by)?;
-        self.front = self.rest.advance();
-        Ok(())
+        self.next = self.rest.next_row_key();
+        push_shifted(alloc, packed, &held, self.by)
     }
 
     /// The next row by itself, which is then past.
@@ -74,9 +96,9 @@ impl<'a> Side<'a> {
         ensures { MatchOption result ((self.old ≡ []) × (self.new ≡ []))
             (λ row. (self.old ≡ row ∷ self.new) × IsSmall row) }
     {
-        let held = self.front?;
+        let held = self.rest.advance()?;
         let row = shifted(&held.to_row(), self.by);
-        self.front = self.rest.advance();
+        self.next = self.rest.next_row_key();
         Some(row)
     }
 }

@@ -2,30 +2,43 @@ use Rattle.std.proofs.Common.{◌++◌, ◌∷◌, [], Some, sym, ap, subst, ◌
 use Rattle.std.proofs.lemmas.Result.{on_ok_weaker}
 use Rattle.tally_rows.proofs.RowOrder.{row_order-IsAntisymmetric}
 use Rattle.segment_blocks.specs.PackedRows.{AreInOrder}
-use Rattle.segment_merge.proofs.MergedLemmas.{before-less, before-greater, after-less, after-greater, same-row_key, before-equal, after-equal}
+use Rattle.segment_merge.proofs.MergedLemmas.{same-row_key, before-equal, after-equal}
+use Rattle.segment_merge.proofs.PushedLemmas.{after-left, after-right, fewer-left, fewer-right, in_order-left, in_order-right}
 use Rattle.segment_merge.proofs.merging.push_next.Goals as goal
 
 pub push_next-requires : goal.push_next-requires
-push_next-requires c = record {
-  in_order = before-less c.args.packed.now.rows c.args.left.now c.args.right.now (c.requires.order ∙ ap Some c.in-Less.is) c.requires.in_order;
-}
+push_next-requires c = record { in_order = in_order-left c.args.packed.now.rows c.args.left.now c.args.right.now c.requires.in_order }
 
 pub push_next-requires-in-Greater : goal.push_next-requires-in-Greater
-push_next-requires-in-Greater c = record {
-  in_order = before-greater c.args.packed.now.rows c.args.left.now c.args.right.now (c.requires.order ∙ ap Some c.in-Greater.is) c.requires.in_order;
-}
+push_next-requires-in-Greater c = record { in_order = in_order-right c.args.packed.now.rows c.args.left.now c.args.right.now c.requires.in_order }
 
 pub returns-in-Less-clause-whole : goal.returns-in-Less-clause-whole
 returns-in-Less-clause-whole c =
-    let told = c.push_next.ensures in
-    after-less c.args.packed.now.rows c.args.left.now c.args.right.now c.push_next.result c.push_next.new.self c.push_next.new.packed.rows
-    (c.requires.order ∙ ap Some c.in-Less.is) told.rows told.rest
+    let moved = c.push_next in
+    on_ok_weaker moved.result
+    (after-left c.bound.result c.args.packed.now.rows moved.new.packed.rows c.args.left.now c.args.right.now moved.new.self (c.requires.order ∙ ap Some c.in-Less.is) c.bound.ensures)
+    moved.ensures
+
+pub returns-in-Less-clause-fewer : goal.returns-in-Less-clause-fewer
+returns-in-Less-clause-fewer c =
+    let moved = c.push_next in
+    on_ok_weaker moved.result
+    (fewer-left c.bound.result c.args.packed.now.rows moved.new.packed.rows c.args.left.now c.args.right.now moved.new.self (c.requires.order ∙ ap Some c.in-Less.is))
+    moved.ensures
 
 pub returns-in-Greater-clause-whole : goal.returns-in-Greater-clause-whole
 returns-in-Greater-clause-whole c =
     let moved = c.push_next-in-Greater in
-    after-greater c.args.packed.now.rows c.args.left.now c.args.right.now moved.result moved.new.self moved.new.packed.rows
-    (c.requires.order ∙ ap Some c.in-Greater.is) moved.ensures.rows moved.ensures.rest
+    on_ok_weaker moved.result
+    (after-right c.bound-in-Greater.result c.args.packed.now.rows moved.new.packed.rows c.args.left.now c.args.right.now moved.new.self (c.requires.order ∙ ap Some c.in-Greater.is) c.bound-in-Greater.ensures)
+    moved.ensures
+
+pub returns-in-Greater-clause-fewer : goal.returns-in-Greater-clause-fewer
+returns-in-Greater-clause-fewer c =
+    let moved = c.push_next-in-Greater in
+    on_ok_weaker moved.result
+    (fewer-right c.bound-in-Greater.result c.args.packed.now.rows moved.new.packed.rows c.args.left.now c.args.right.now moved.new.self (c.requires.order ∙ ap Some c.in-Greater.is))
+    moved.ensures
 
 pub combine-requires-clause-same : goal.combine-requires-clause-same
 combine-requires-clause-same c =

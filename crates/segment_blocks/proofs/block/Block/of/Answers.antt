@@ -9,7 +9,7 @@ pub invariant_of-result : goal.invariant_of-result
 invariant_of-result c =
     let row = row_in c.args.held.now in
     let key = c.key-key.result.now in
-    let none = c.new-rows.ensures key in
+    let none = c.in_ok-rows.ensures key in
     let rows = rows_of c.push.new.self key in
     subst (λ k. IsBlock k k rows) (sym c.key-key.ensures)
     (IsBlock-one row rows (c.in_ok-push.ensures.ok key (ap (key_after key) none ∙ key_after-nil key) ∙ ap (λ l. l ++ row ∷ []) none))
@@ -18,5 +18,5 @@ pub returns : goal.returns
 returns c =
     let row = row_in c.args.held.now in
     let key = c.key-key.result.now in
-    let none = c.new-rows.ensures key in
+    let none = c.in_ok-rows.ensures key in
     c.in_ok-push.ensures.ok key (ap (key_after key) none ∙ key_after-nil key) ∙ ap (λ l. l ++ row ∷ []) none

@@ -4,4 +4,4 @@ use Rattle.segment_blocks.proofs.encoded_rows.EncodedRows.new.Goals as goal
 
 pub returns : goal.returns
 returns c first =
-    rows_behind-nil c.new.result.items first c.new-2.result.items c.new-3.result.items (ap length c.new.ensures.items)
+    rows_behind-nil c.in_ok-marks.marks.items first c.in_ok-tails.tails.items c.new.result.items (ap length c.in_ok-marks.ensures.items)

@@ -1,0 +1,43 @@
+use Rattle.std.proofs.Common.{◌≡◌, ◌+◌, ◌-◌, [], ◌∷◌, ◌++◌, take, drop, refl, sym, ap, subst, ◌∙◌, arith}
+use Rattle.tally_rows.specs.Row.{row_of, shifted_row}
+use Rattle.segment_blocks.specs.Encoded.{own_len, key_behind, single_of, rows_behind}
+use Rattle.segment_blocks.proofs.EncodedLemmas.{rows_behind-game, key-game}
+use Rattle.segment_blocks.proofs.MovingLemmas.{game-shifted, shifted-key}
+use Rattle.segment_blocks.proofs.block_cursor.BlockCursor.move_game.Goals as goal
+
+pub returns : goal.returns
+returns c =
+    let p = c.self.inside in
+    let by = c.args.by in
+    let mark = c.in-Some.mark.now in
+    let moved = c.renumbered.result in
+    let marks = c.in-Some.marks.now in
+    let tails = c.split_at.result.1.now in
+    let outcome = c.in-Some-outcome._outcome in
+    let key = c.key_of-key.result in
+    let game = single_of key mark outcome in
+    let row = row_of game in
+    let key_is : key_behind p.before mark p.tails.now ≡ key =
+    sym (c.key_of-key.ensures ∙ ap (λ l. take mark.shared p.before ++ l) (c.split_at.ensures.front ∙ ap (λ n. take (34 - n) p.tails.now) c.from.ensures)) in
+    let rest : drop (own_len mark) p.tails.now ≡ tails =
+    sym (c.split_at.ensures.back ∙ ap (λ n. drop (34 - n) p.tails.now) c.from.ensures) in
+    let number : c.in-Some-checked_add.number ≡ mark.number + by = omega (arith, c.in-Some-checked_add.ensures) in
+    let row_key : (shifted_row by row).key ≡ key = shifted-key by row ∙ key-game key mark outcome in
+    let later : row_of (single_of key moved outcome) ≡ shifted_row by row =
+    ap row_of (c.renumbered.ensures.single key outcome ∙ (λ i. record game { number = number i })) ∙ game-shifted by game in
+    record {
+      row = row;
+      first = sym c.self.view_is
+          ∙ rows_behind-game mark p.marks.now marks p.before p.tails.now p.whole.now c.in-Some.ensures.cases.0 outcome c.in-Some-outcome.is
+          ∙ (λ i. row_of (single_of (key_is i) mark outcome) ∷ rows_behind marks (key_is i) (rest i) p.whole.now);
+      appended = c.in_ok-push_game.ensures.ok c.args.last.now (shifted_row by row) row_key
+          (subst (λ n. take n c.args.last.now ≡ take n key) (sym c.renumbered.ensures.shared) c.shared_with-shared.ensures.same)
+          (record {
+            at = refl;
+            outcome = outcome;
+            told = c.renumbered.ensures.outcome ∙ c.in-Some-outcome.is;
+            is = ap (λ k. row_of (single_of k moved outcome)) row_key ∙ later;
+          });
+      ends = sym (key-game key mark outcome);
+      before = sym (c.stands_before.ensures outcome) ∙ c.if-not-stands_before.false;
+    }

@@ -1,0 +1,31 @@
+use Rattle.std.proofs.Common.{◌≡◌, [], ◌∷◌, ◌++◌, ◌-◌, Some, take, drop, sym, ap, ◌∙◌}
+use Rattle.tally_rows.specs.Row.{row_of}
+use Rattle.segment_blocks.specs.Encoded.{own_len, key_behind, row_key_at, single_of}
+use Rattle.segment_blocks.specs.Moving.{next_row_key}
+use Rattle.segment_blocks.proofs.EncodedLemmas.{rows_behind-nil, rows_behind-game, rows_behind-whole}
+use Rattle.segment_blocks.proofs.MovingLemmas.{row_key-game}
+use Rattle.segment_blocks.proofs.block_cursor.BlockCursor.next_row_key.Goals as goal
+
+pub returns-in_err-mark : goal.returns-in_err-mark
+returns-in_err-mark c =
+    let none : c.args.self.now ≡ [] = sym c.self.view_is ∙ rows_behind-nil _ _ _ _ c.in_err-mark.ensures.cases in
+    c.from_residual.ensures ∙ ap next_row_key (sym none)
+
+pub returns-in-Some : goal.returns-in-Some
+returns-in-Some c =
+    let p = c.self.inside in
+    let mark = c.in_ok-mark.mark.now in
+    let outcome = c.in-Some._outcome in
+    let key : c.key_of.result ≡ key_behind p.before mark p.tails.now =
+    c.key_of.ensures ∙ ap (λ l. take mark.shared p.before ++ l) (c.split_at.ensures.front ∙ ap (λ n. take (34 - n) p.tails.now) c.from.ensures) in
+    ap Some (c.row_key_at.ensures ∙ ap (λ k. row_key_at k mark) key ∙ sym (row_key-game (key_behind p.before mark p.tails.now) mark outcome))
+    ∙ ap next_row_key (sym (rows_behind-game mark p.marks.now c.in_ok-mark._marks.now p.before p.tails.now p.whole.now c.in_ok-mark.ensures.cases.0 outcome c.in-Some.is) ∙ c.self.view_is)
+
+pub returns : goal.returns
+returns c =
+    let p = c.self.inside in
+    let mark = c.in_ok-mark.mark.now in
+    let row = c.in_ok-row.row.now in
+    ap Some c.row_key.ensures
+    ∙ ap next_row_key (sym (rows_behind-whole mark p.marks.now c.in_ok-mark._marks.now p.before p.tails.now p.whole.now c.in_ok-mark.ensures.cases.0 row c.in_ok-row._whole.now c.in_default.is c.in_ok-row.ensures.cases.0)
+    ∙ c.self.view_is)

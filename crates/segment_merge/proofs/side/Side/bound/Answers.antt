@@ -1,0 +1,10 @@
+use Rattle.std.proofs.Common.{sym, ap, ◌∙◌}
+use Rattle.segment_blocks.specs.declared.bound.Bound.TheVariants as bounds
+use Rattle.segment_blocks.specs.Moving.{next_row_key}
+use Rattle.segment_merge.proofs.MergedLemmas.{key-is, next-shifted}
+use Rattle.segment_merge.proofs.side.Side.bound.Goals as goal
+
+pub returns-in-Some : goal.returns-in-Some
+returns-in-Some c row_key e =
+    let s = c.self.inside in
+    ap bounds.Row (key-is _ _ (sym c.in-Some.is ∙ c.self.invariant.first ∙ sym (next-shifted s.by s.rest) ∙ ap next_row_key c.self.view_is ∙ e))
