@@ -1,5 +1,12 @@
 //! A list of segments that one publisher changes and that passes read without waiting. No pass ever
 //! sees less than it saw.
+//!
+//! ```rust
+//! let note = publisher.put(&rt, segment)?;
+//! pass.learn(note);
+//! // The snapshot has the segment's batch, and keeps it whatever is published later.
+//! let snapshot = pass.enter(alloc)?;
+//! ```
 #![tactic(auto)]
 
 mod fault;
