@@ -23,10 +23,10 @@ use Rattle.tally_rows.specs.Recount.{all_of, picks, picked_sum, picked_lists, co
 use Rattle.tally_rows.specs.Row.{row_key_of}
 use Rattle.tally_rows.specs.Tally.{IsTrackOf}
 use Rattle.lookup.specs.Parts.{Part, IsPart}
-use Rattle.lookup.specs.Hits.{NumberedRow, in_months, in_cells, rows_from}
+use Rattle.lookup.specs.Hits.{NumberedRow, rows_from}
 use Rattle.lookup.specs.Sums.{sum_where, totals_where, ratings_where, entries_where, is_of_month, top_where, recent_where, moves_in, months_in, before_by_total, history_in}
 use Rattle.lookup.specs.Parts.{tracks_in}
-use Rattle.lookup.proofs.Numbered.{numbered, passes-both}
+use Rattle.lookup.proofs.Numbered.{numbered}
 
 -- the rows of each part
 abbrev pub rows_in : List Part → List (List Row)
@@ -67,16 +67,6 @@ module _ (key : List ℕ) (wanted : Filter) where
       all : (a b c : Bool) → (a && (b && c)) ≡ ((a && (b && true)) && c)
       all true true c = refl
       all true false c = refl
-      all false b c = refl
-
-  pub picks-cells : (row : Row) → picks key (meets wanted any_next) row ≡ (picks key (in_months wanted) row && in_cells wanted (row_key_of row))
-  unfolding picks
-  picks-cells row =
-      ap (λ b. bytes_eq row.key key && b) (sym (passes-both wanted (row_key_of row)))
-      ∙ all (bytes_eq row.key key) (in_months wanted (row_key_of row)) (in_cells wanted (row_key_of row))
-    where
-      all : (a b c : Bool) → (a && (b && c)) ≡ ((a && b) && c)
-      all true b c = refl
       all false b c = refl
 
 -- ---- sums and lists, of one part after another
@@ -217,12 +207,6 @@ module _ (key : List ℕ) (wanted : Filter) (parts : List Part) where
       let of_b = totals-are (is_move b) in
       λ i. nat_lt (total (of_b i)) (total (of_a i))
       || ((total (of_a i) == total (of_b i)) && is_lt (slice_cmp nat_cmp (uci_text a) (uci_text b)))
-
-  -- the same totals, of the rows of the months of which the filter takes the cells
-  pub cell-totals-are : rows_totals key (rows_in parts) (meets wanted any_next)
-      ≡ totals_where (rows_from key (in_months wanted) 0 parts) (λ row. in_cells wanted (row_key_of row))
-  cell-totals-are =
-      totals-picked key (in_months wanted) (meets wanted any_next) (λ row. in_cells wanted (row_key_of row)) (picks-cells key wanted) 0 parts
 
   pub top-is : (each : AllByRecursion IsPart parts) (test : Option Move → Bool)
       → best before_by_rating 4 (cover_lists key (meets wanted test) (λ row. row.top) 0 (tracks_in parts each) (rows_in parts))

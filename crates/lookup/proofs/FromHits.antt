@@ -11,13 +11,12 @@ use Rattle.explorer_model.specs.Counting.{any_next, is_move, total}
 use Rattle.explorer_model.specs.San.{SanText}
 use Rattle.tally_rows.specs.Cover.{listing, only_entry}
 use Rattle.tally_rows.specs.Recount.{all_of}
-use Rattle.tally_rows.specs.Row.{row_key_of}
 use Rattle.lookup.specs.Parts.{Part, IsPart}
 use Rattle.lookup.specs.FromRows.{IsRowsLine, rows_history, IsFromRows}
-use Rattle.lookup.specs.Hits.{NumberedRow, in_months, in_cells, rows_from}
+use Rattle.lookup.specs.Hits.{NumberedRow}
 use Rattle.lookup.specs.Sums.{any_row, plays, totals_where, ratings_where, top_where, recent_where, moves_in, before_by_total, history_in}
 use Rattle.lookup.specs.Parts.{tracks_in}
-use Rattle.lookup.proofs.Bridges.{rows_in, hits_of, totals-are, ratings-are, cell-totals-are, top-is, recent-is, first-moves-are, history-is}
+use Rattle.lookup.proofs.Bridges.{rows_in, hits_of, totals-are, ratings-are, top-is, recent-is, first-moves-are, history-is}
 
 module _ (query : Query) (key : List ℕ) (parts : List Part) (each : AllByRecursion IsPart parts) where
   -- the rows that the filter takes
@@ -32,9 +31,9 @@ module _ (query : Query) (key : List ℕ) (parts : List Part) (each : AllByRecur
     pub totals : line.totals ≡ totals_where hits (plays m)
     pub game : line.game ≡ option_and_then (listing key (all_of (tracks_in parts each))) (only_entry (top_where hits (plays m)))
 
-  -- the totals are of the rows of all speeds and groups of the months, of which the filter takes the cells
+  -- the answer
   pub record IsFromHits (found : Found) : Type 0 where
-    pub totals : found.totals ≡ totals_where (rows_from key (in_months query.filter) 0 parts) (λ row. in_cells query.filter (row_key_of row))
+    pub totals : found.totals ≡ totals_where hits any_row
     pub moves : AllZip IsHitsLine (best (before_by_total hits) query.moves (moves_in hits)) found.moves
     pub top : map Some found.top ≡ map (listing key (all_of (tracks_in parts each))) (take query.top (top_where hits any_row))
     pub recent : map Some found.recent ≡ map (listing key (all_of (tracks_in parts each))) (take query.recent (recent_where hits any_row))
@@ -64,7 +63,7 @@ module _ (query : Query) (key : List ℕ) (parts : List Part) (each : AllByRecur
   from-hits found is =
       let R = IsRowsLine query key (tracks_in parts each) (rows_in parts) in
       record {
-        totals = is.totals ∙ sym (cell-totals-are key query.filter parts);
+        totals = is.totals ∙ sym (totals-are key query.filter parts any_next);
         moves = subst (λ ms. AllZip R ms found.moves) (sym (first-moves-are key query.filter parts query.moves))
             (lines-from-rows (best (before_by_total hits) query.moves (moves_in hits)) found.moves is.moves);
         top = is.top ∙ ap (λ l. map (listing key (all_of (tracks_in parts each))) (take query.top l)) (sym (top-is key query.filter parts each any_next));

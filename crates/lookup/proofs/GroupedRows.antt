@@ -127,7 +127,7 @@ module _ (hits : List Hit) (i : ℕ) (hit : Hit) (within : i < length hits) (is 
   now = take (i + 1) (map hit_as hits)
 
   abbrev row : Row
-  row = hit.row.now
+  row = (hit_as hit).row
 
   sum-kept : (test : Row → Bool) → test row ≡ false → (count : Row → ℕ) → sum_where now test count ≡ sum_where before test count
   sum-kept test fails count = sum-next test count hits i hit within is false fails ∙ add-zero (sum_where before test count)
@@ -140,7 +140,7 @@ module _ (hits : List Hit) (i : ℕ) (hit : Hit) (within : i < length hits) (is 
       totals-same (totals_where now test) (totals_where before test) (sum-kept test fails (λ r. r.white)) (sum-kept test fails (λ r. r.draws))
       (sum-kept test fails (λ r. r.black))
 
-  totals-taken : (test : Row → Bool) → test row ≡ true → totals_where now test ≡ totals_with row (totals_where before test)
+  pub totals-taken : (test : Row → Bool) → test row ≡ true → totals_where now test ≡ totals_with row (totals_where before test)
   totals-taken test passes =
       totals-same (totals_where now test) (totals_with row (totals_where before test)) (sum-with test passes (λ r. r.white))
       (sum-with test passes (λ r. r.draws)) (sum-with test passes (λ r. r.black))
@@ -286,7 +286,7 @@ module _ (hits : List Hit) (i : ℕ) (hit : Hit) (within : i < length hits) (is 
 -- ---- what is added has room
 
 module _ (hits : List Hit) (sound : AreSound (map hit_as hits)) (i : ℕ) (hit : Hit) (within : i < length hits) (is : hit ≡ get_or hits i hit) where
-  has-room : (test : Row → Bool) → HasRoom (totals_where (take i (map hit_as hits)) test) hit.row.now
+  pub has-room : (test : Row → Bool) → HasRoom (totals_where (take i (map hit_as hits)) test) (hit_as hit).row
   has-room test = record {
     white = count-fits test hits sound i hit within is (λ row. row.white) (λ row. omega arith) _ refl;
     draws = count-fits test hits sound i hit within is (λ row. row.draws) (λ row. omega arith) _ refl;
@@ -294,10 +294,10 @@ module _ (hits : List Hit) (sound : AreSound (map hit_as hits)) (i : ℕ) (hit :
   }
 
   pub lines-room : (lines : List MonthLine) → lines ≡ map (month_line (take i (map hit_as hits))) (months_in (take i (map hit_as hits)))
-      → All (λ line. HasRoom line.totals hit.row.now) lines
+      → All (λ line. HasRoom line.totals (hit_as hit).row) lines
   lines-room lines are =
-      subst (All (λ (line : MonthLine). HasRoom line.totals hit.row.now)) (sym are)
-      (All-map (λ (line : MonthLine). HasRoom line.totals hit.row.now) (month_line (take i (map hit_as hits))) (months_in (take i (map hit_as hits)))
+      subst (All (λ (line : MonthLine). HasRoom line.totals (hit_as hit).row)) (sym are)
+      (All-map (λ (line : MonthLine). HasRoom line.totals (hit_as hit).row) (month_line (take i (map hit_as hits))) (months_in (take i (map hit_as hits)))
       (λ k d less. has-room (is_of_month _)))
 
   pub sums-room : (sums : List MoveSum) → sums ≡ map (sum_as (take i (map hit_as hits))) (moves_in (take i (map hit_as hits)))
@@ -310,9 +310,9 @@ module _ (hits : List Hit) (sound : AreSound (map hit_as hits)) (i : ℕ) (hit :
       record { totals = has-room (plays m); ratings = ratings-fit (plays m) hits sound i hit within is _ refl }))
 
   -- also to what has no game yet
-  pub line-room : HasRoom no_totals hit.row.now
+  pub line-room : HasRoom no_totals (hit_as hit).row
   line-room =
-      let room = has-room (is_of_month hit.row.now.month) in
+      let room = has-room (is_of_month (hit_as hit).row.month) in
       record { white = omega (arith, room.white); draws = omega (arith, room.draws); black = omega (arith, room.black) }
 
   pub sum-room : (next : Move) → HasRoomFor (no_sum next) (hit_as hit)

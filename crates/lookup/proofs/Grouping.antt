@@ -120,8 +120,41 @@ module _ {S : Type 0} (places : HashMap ℕ ℕ S) (numbers : List ℕ) (tells :
           later false none fails =
               position-none (λ m. m == n) numbers none ∙ sym (push-none (λ m. m == n) numbers number none fails)
 
-pub tells-none : {S : Type 0} (places : HashMap ℕ ℕ S) → ((number : ℕ) → get nat_eq places number ≡ None) → TellsPlaces places []
-tells-none places none = λ number. none number
+-- a number that came has its place
+pub with-there : (numbers : List ℕ) (number : ℕ) → position (λ n. n == number) (with_number numbers number) ≡ Some (place_of numbers number)
+with-there numbers number = by (list_any (λ n. n == number) numbers) refl
+  where
+    by : (b : Bool) → list_any (λ n. n == number) numbers ≡ b
+        → position (λ n. n == number) (cond (list_any (λ n. n == number) numbers) numbers (numbers ++ number ∷ [])) ≡ Some (place_of numbers number)
+    by true some =
+        ap (λ b. position (λ n. n == number) (cond b numbers (numbers ++ number ∷ []))) some ∙ position-some (λ n. n == number) numbers some
+    by false none =
+        ap (λ b. position (λ n. n == number) (cond b numbers (numbers ++ number ∷ []))) none
+        ∙ push-new (λ n. n == number) numbers number none (grind (arith, nat_tests))
+        ∙ ap Some (sym (place-none (λ n. n == number) numbers none))
+
+-- a number whose place is told is there
+pub there-told : (numbers : List ℕ) (number place : ℕ) → position (λ n. n == number) numbers ≡ Some place → list_any (λ n. n == number) numbers ≡ true
+there-told numbers number place told = by (list_any (λ n. n == number) numbers) refl
+  where
+    by : (b : Bool) → list_any (λ n. n == number) numbers ≡ b → list_any (λ n. n == number) numbers ≡ true
+    by true is = is
+    by false is = (let none = sym told ∙ position-none (λ n. n == number) numbers is in cc)
+
+pub there-place : (numbers : List ℕ) (number place : ℕ) → position (λ n. n == number) numbers ≡ Some place → place ≡ place_of numbers number
+there-place numbers number place told =
+    some-of (position (λ n. n == number) numbers) place (place_of numbers number) told
+    (position-some (λ n. n == number) numbers (there-told numbers number place told))
+
+pub there-same : (numbers : List ℕ) (number place : ℕ) → position (λ n. n == number) numbers ≡ Some place → with_number numbers number ≡ numbers
+there-same numbers number place told = ap (λ b. cond b numbers (numbers ++ number ∷ [])) (there-told numbers number place told)
+
+-- the number that came last stays found
+pub last-told : (numbers : List ℕ) (number place : ℕ) → place ≡ place_of numbers number → (last : Option (ℕ × ℕ)) → last ≡ Some (number, place)
+    → (n p : ℕ) → last ≡ Some (n, p) → position (λ m. m == n) (with_number numbers number) ≡ Some p
+last-told numbers number place at last is n p told =
+    let pair : (number, place) ≡ (n, p) = some-of last (number, place) (n, p) is told in
+    (λ i. position (λ m. m == (sym pair i).0) (with_number numbers number)) ∙ with-there numbers number ∙ ap Some (sym at ∙ ap (λ x. x.1) pair)
 
 -- ---- groups, of which one is changed or added
 

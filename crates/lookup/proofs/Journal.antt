@@ -1,7 +1,6 @@
 -- Spans cover the games of a journal, and parts have spans.
 use Rattle.std.proofs.Common.{◌≡◌, ℕ, ◌+◌, List, [], ◌∷◌, ◌++◌, map, length, refl, ap, ◌∙◌, sym, subst, append_assoc}
-use Rattle.std.specs.List.{AllByRecursion, AllZip, sum_by}
-use Rattle.std.proofs.lemmas.List.Sums.{sum_by-cons}
+use Rattle.std.specs.List.{AllByRecursion, AllZip}
 use Rattle.explorer_model.specs.declared.archive.Batch.{Batch}
 use Rattle.explorer_model.specs.declared.archive.Game.{Game}
 use Rattle.explorer_model.specs.Spans.{Span, Adjoin, Covers, batches_of}
@@ -9,10 +8,9 @@ use Rattle.explorer_model.specs.Visits.{IsTextOf, AreGamesOf, texts_of}
 use Rattle.explorer_model.proofs.Lists.{zip-append}
 use Rattle.tally_rows.specs.Recount.{all_of}
 use Rattle.tally_rows.specs.Tallied.{Tallied}
-use Rattle.tally_rows.specs.Tally.{Counted, IsCounted, IsTallyOf, IsTrackOf}
+use Rattle.tally_rows.specs.Tally.{IsTrackOf}
 use Rattle.segment_blocks.specs.Segment.{CountedSpan}
-use Rattle.lookup.specs.Parts.{Part, IsPart, games_in, journal_of, segment_part, spans_from, tallied_part, tracks_in}
-use Rattle.lookup.specs.Hits.{games_counted}
+use Rattle.lookup.specs.Parts.{Part, IsPart, games_in, journal_of, segment_part, spans_from, tracks_in}
 use Rattle.lookup.specs.FromRows.{AreTallied, texts_in}
 
 -- ---- the games of spans are those of their batches
@@ -63,27 +61,8 @@ batches-are first (part ∷ parts) = ap (λ l. part.batches ++ l) (batches-are (
 pub covers : (parts : List Part) → Covers (spans_from 0 parts) (journal_of parts)
 covers parts = record { adjoin = adjoins 0 parts; whole = batches-are 0 parts }
 
--- ---- tallies and segments
-
-append-nil : (texts : List (List ℕ)) → texts ++ [] ≡ texts
-append-nil [] = refl
-append-nil (text ∷ texts) = ap (λ l. text ∷ l) (append-nil texts)
-
-pub counted-part : (tally : Counted) → IsCounted tally → IsPart (tallied_part tally)
-counted-part tally counted =
-    let T : List (List ℕ) → Type 0 = λ texts. IsTallyOf texts tally.classes tally.rows in
-    record { tally = subst T (sym (append-nil tally.batch.texts)) counted.tally }
-
-pub tallies-journal : (tallies : List Counted) → journal_of (map tallied_part tallies) ≡ map (λ tally. tally.batch) tallies
-tallies-journal [] = refl
-tallies-journal (tally ∷ tallies) = ap (λ l. tally.batch ∷ l) (tallies-journal tallies)
+-- ---- segments
 
 pub segments-journal : (segments : List CountedSpan) → journal_of (map segment_part segments) ≡ batches_of (map (λ segment. segment.span) segments)
 segments-journal [] = refl
 segments-journal (segment ∷ segments) = ap (λ l. segment.span.batches ++ l) (segments-journal segments)
-
-pub tallies-counted : (tallies : List Counted) → games_counted (map tallied_part tallies) ≡ sum_by (λ tally. length tally.classes) tallies
-tallies-counted [] = refl
-tallies-counted (tally ∷ tallies) =
-    sum_by-cons (λ (part : Part). length part.classes) (tallied_part tally) (map tallied_part tallies)
-    ∙ (ap (λ n. length tally.classes + n) (tallies-counted tallies) ∙ sym (sum_by-cons (λ (t : Counted). length t.classes) tally tallies))

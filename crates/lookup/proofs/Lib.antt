@@ -2,11 +2,9 @@ pub mod Bridge
 pub mod Made
 pub mod Determined
 pub mod Journal
-pub mod RowsAt
 pub mod Numbered
 pub mod Bridges
 pub mod Bounds
-pub mod GridSums
 pub mod RowNexts
 pub mod Averages
 pub mod LineLoops
@@ -20,6 +18,8 @@ pub mod Once
 pub mod RowMoves
 pub mod Places
 pub mod Listings
+pub mod KeptLists
+pub mod KeptRows
 pub mod OnlyGames
 pub mod FromHits
 pub mod Looking

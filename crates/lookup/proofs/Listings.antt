@@ -17,10 +17,9 @@ use Rattle.explorer_model.specs.declared.answer.Listed.{Listed}
 use Rattle.explorer_model.specs.declared.archive.Classes.{Classes}
 use Rattle.explorer_model.specs.declared.archive.Game.{Game}
 use Rattle.explorer_model.specs.declared.chess.Move.{Move}
-use Rattle.explorer_model.specs.declared.query.Filter.{Filter}
 use Rattle.lookup.specs.Hits.{NumberedRow, rows_from}
-use Rattle.lookup.specs.Listing.{lists_number, next_where, all_classes, listed_where, AreEntriesOf, IsListingOf}
-use Rattle.lookup.specs.Sums.{entries_where}
+use Rattle.lookup.specs.Listing.{lists_number, next_where, all_classes, listed_where, AreBestOf, IsListingOf}
+use Rattle.lookup.specs.Sums.{any_row, entries_where}
 use Rattle.lookup.specs.Parts.{tracks_in}
 use Rattle.lookup.proofs.Places.{get-left, get-right}
 use Rattle.tally_rows.specs.declared.row_key.RowKey.{RowKey}
@@ -300,14 +299,14 @@ module _ (list : Row → List Entry) (lists : ListsGames list) (key : List ℕ) 
   unfolding next_where
   next-is hits first m is = ap (option_and_then (λ (hit : NumberedRow). hit.row.next)) first.is ∙ is
 
-  entry-found : (hits : List NumberedRow) → hits ≡ rows_from key pick 0 parts → list_any (lists_number list entry.number) hits ≡ true
+  entry-found : (hits : List NumberedRow) → All (Contains (rows_from key pick 0 parts)) hits → list_any (lists_number list entry.number) hits ≡ true
       → IsFoundAs key (all_of (tracks_in parts each)) entry (listed_where list parts hits entry.number)
   entry-found hits are listed =
       let tracks = all_of (tracks_in parts each) in
       let first = find-first (lists_number list entry.number) hits listed in
       let hit = first.value in
       let by = find-first (λ e. e.number + hit.first == entry.number) (list hit.row) first.passes in
-      let told = rows-tell list lists key pick parts each 0 hit (subst (IsIn hit) are first.is_in) by.value by.is_in in
+      let told = rows-tell list lists key pick parts each 0 hit (IsIn-from_Contains (rows_from key pick 0 parts) hit (All-IsIn (Contains (rows_from key pick 0 parts)) hits are hit first.is_in)) by.value by.is_in in
       let same : by.value.number + hit.first ≡ entry.number = (let passes = by.passes in grind (arith, nat_tests)) in
       let place : told.place ≡ entry.number = omega (arith, told.is, same) in
       let track = told.played.track in
@@ -354,20 +353,20 @@ best-stand before n entries =
     All-best before (λ entry. Contains entries entry) n entries
     (All-from_IsIn (λ entry. Contains entries entry) entries (λ entry m. Contains-IsIn entries entry m))
 
--- and so do the first few of these
-pub first-entries : (list : Row → List Entry) (key : List ℕ) (wanted : Filter) (parts : List Part) (hits : List NumberedRow) (test : Row → Bool)
-    (before : Entry → Entry → Bool) (n most : ℕ) → hits ≡ rows_from key (meets wanted any_next) 0 parts
-    → AreEntriesOf list key wanted parts hits test (take most (best before n (entries_where hits test list)))
-first-entries list key wanted parts hits test before n most are = record {
-  rows = are;
-  stand = All-take (λ entry. Contains (entries_where hits test list) entry) most (best before n (entries_where hits test list))
-      (best-stand before n (entries_where hits test list));
-}
-
-pub best-entries : (list : Row → List Entry) (key : List ℕ) (wanted : Filter) (parts : List Part) (hits : List NumberedRow) (test : Row → Bool)
-    (before : Entry → Entry → Bool) (n : ℕ) → hits ≡ rows_from key (meets wanted any_next) 0 parts
-    → AreEntriesOf list key wanted parts hits test (best before n (entries_where hits test list))
-best-entries list key wanted parts hits test before n are = record { rows = are; stand = best-stand before n (entries_where hits test list) }
+-- the games of the first few of the best entries of rows, where they are looked up in rows that list them
+pub listed-among : (list : Row → List Entry) (before : Entry → Entry → Bool) (parts : List Part) (hits rows : List NumberedRow) (best_four : List Entry)
+    (most : ℕ) (listed : List Listed) → AreBestOf before list hits hits rows best_four → IsListingOf list parts rows (take most best_four) listed
+    → IsListingOf list parts hits (take most (best before 4 (entries_where hits any_row list))) listed
+listed-among list before parts hits rows best_four most listed of is = λ key wanted test each are.
+    let all : List NumberedRow = rows_from key (meets wanted any_next) 0 parts in
+    let among : All (Contains all) rows =
+    All-from_IsIn (Contains all) rows (λ row m.
+    All-IsIn (Contains all) hits are.rows row (IsIn-from_Contains hits row (All-IsIn (Contains hits) rows of.among row m))) in
+    let stand : All (Contains (entries_where rows any_row list)) (take most best_four) =
+    subst (λ (entries : List Entry). All (Contains (entries_where rows any_row list)) (take most entries)) (sym of.of_rows)
+    (All-take (Contains (entries_where rows any_row list)) most (best before 4 (entries_where rows any_row list)) (best-stand before 4 (entries_where rows any_row list))) in
+    is key wanted any_row each (record { rows = among; stand = stand })
+    ∙ ap (λ entries. map (listing key (all_of (tracks_in parts each))) (take most entries)) of.of_all
 
 -- where there is a value, what follows from what holds of it
 pub if-ok : {A E : Type 0} (P Q : A → Type 0) (result : Result A E) → ((value : A) → P value → Q value) → IfOk result P → IfOk result Q

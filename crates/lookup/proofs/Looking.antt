@@ -1,5 +1,5 @@
 -- What is put together of hits is an answer that is made from them.
-use Rattle.std.proofs.Common.{◌≡◌, ℕ, Bool, List, [], ◌∷◌, map, take, Result, Ok, Err, IfOk, refl, subst}
+use Rattle.std.proofs.Common.{◌≡◌, ℕ, Bool, List, [], ◌∷◌, map, take, refl, subst}
 use Rattle.std.specs.List.{AllByRecursion, AllZip, Contains}
 use Rattle.std.proofs.lemmas.List.Elements.{All-from_recursion, recursion_from_All, All-take}
 use Rattle.best_lists.specs.declared.entry.Entry.{Entry}
@@ -12,18 +12,18 @@ use Rattle.explorer_model.specs.declared.chess.Move.{Move}
 use Rattle.explorer_model.specs.declared.query.Query.{Query}
 use Rattle.lookup.specs.declared.moves.MoveSum.{MoveSum}
 use Rattle.lookup.specs.FromRows.{IsFromRows}
-use Rattle.lookup.specs.Hits.{NumberedRow, in_months, in_cells, rows_from}
+use Rattle.lookup.specs.Hits.{NumberedRow}
 use Rattle.lookup.specs.Lines.{IsLineMade, IsPutTogether}
 use Rattle.lookup.specs.Listing.{AreEntriesOf}
 use Rattle.lookup.specs.MoveSums.{sum_as}
-use Rattle.lookup.specs.Sums.{any_row, totals_where, entries_where, moves_in, before_by_total}
+use Rattle.lookup.specs.Sums.{any_row, entries_where, moves_in, before_by_total}
 use Rattle.lookup.specs.Parts.{tracks_in}
 use Rattle.lookup.proofs.Bridges.{rows_in, hits_of}
 use Rattle.lookup.proofs.FromHits.{IsHitsLine, IsFromHits, from-hits}
 use Rattle.lookup.proofs.Listings.{best-stand}
 use Rattle.tally_rows.specs.declared.row.Row.{Row}
-use Rattle.tally_rows.specs.Row.{row_key_of}
 use Rattle.lookup.specs.Parts.{Part, IsPart}
+use Rattle.tally_rows.proofs.Members.{All-from_IsIn, Contains-IsIn}
 
 -- ---- the sums of moves
 
@@ -64,14 +64,13 @@ module _ (query : Query) (bytes : List ℕ) (parts : List Part) (each : AllByRec
   entries-of : (list : Row → List Entry) (before : Entry → Entry → Bool) (n : ℕ)
       → AreEntriesOf list bytes query.filter parts own_hits any_row (take n (best before 4 (entries_where own_hits any_row list)))
   entries-of list before n = record {
-    rows = refl;
+    rows = All-from_IsIn (Contains own_hits) own_hits (λ hit m. Contains-IsIn own_hits hit m);
     stand = All-take (λ entry. Contains (entries_where own_hits any_row list) entry) n (best before 4 (entries_where own_hits any_row list)) (best-stand before 4 (entries_where own_hits any_row list));
   }
 
-  put-own : (found : Found) → found.totals ≡ totals_where (rows_from bytes (in_months query.filter) 0 parts) (λ row. in_cells query.filter (row_key_of row))
-      → IsPutTogether query parts own_hits found → IsFromHits query bytes parts each found
-  put-own found totals is = record {
-    totals = totals;
+  put-own : (found : Found) → IsPutTogether query parts own_hits found → IsFromHits query bytes parts each found
+  put-own found is = record {
+    totals = is.totals;
     moves = lines-made (best (before_by_total own_hits) query.moves (moves_in own_hits)) found.moves is.lines;
     top = is.top bytes query.filter any_row each (entries-of (λ row. row.top) before_by_rating query.top);
     recent = is.recent bytes query.filter any_row each (entries-of (λ row. row.recent) before_by_month query.recent);
@@ -79,14 +78,8 @@ module _ (query : Query) (bytes : List ℕ) (parts : List Part) (each : AllByRec
   }
 
   pub put-together : (hits : List NumberedRow) (found : Found) → hits ≡ own_hits
-      → found.totals ≡ totals_where (rows_from bytes (in_months query.filter) 0 parts) (λ row. in_cells query.filter (row_key_of row))
       → IsPutTogether query parts hits found
       → IsFromRows query bytes (tracks_in parts each) (rows_in parts) found
-  put-together hits found rows totals is =
+  put-together hits found rows is =
       let P : List NumberedRow → Type 0 = λ h. IsPutTogether query parts h found in
-      from-hits query bytes parts each found (put-own found totals (subst P rows is))
-
--- two facts of what is given
-pub both-ok : {A E : Type 0} (P Q : A → Type 0) (result : Result A E) → IfOk result P → IfOk result Q → IfOk result (λ value. P value × Q value)
-both-ok P Q (Ok value) p q = (p, q)
-both-ok P Q (Err error) p q = tt
+      from-hits query bytes parts each found (put-own found (subst P rows is))

@@ -2,7 +2,6 @@
 use Rattle.std.proofs.Common.{◌≡◌, ℕ, ◌+◌, ◌<◌, Bool, true, false, ◌&&◌, cond, List, [], ◌∷◌, ◌++◌, map, filter, take, length, get_or, bytes_eq, refl, sym, ap, subst, ◌∙◌, zero-add, append_assoc, arith}
 use Rattle.std.specs.List.{AllByRecursion}
 use Rattle.std.proofs.lemmas.List.{append-nil, take_more}
-use Rattle.std.proofs.lemmas.List.Elements.{filter-append, filter_agree}
 use Rattle.std.proofs.lemmas.List.Sums.{sum_by-cons}
 use Rattle.tally_rows.specs.declared.row_key.RowKey.{RowKey}
 use Rattle.tally_rows.specs.declared.row.Row.{Row}
@@ -11,9 +10,8 @@ use Rattle.tally_rows.specs.Recount.{picks}
 use Rattle.tally_rows.specs.Row.{row_key_of}
 use Rattle.lookup.specs.Parts.{Part}
 use Rattle.explorer_model.specs.declared.query.Filter.{Filter}
-use Rattle.explorer_model.specs.Counting.{any_next, group_place, is_since, is_until}
-use Rattle.explorer_model.specs.Order.{speed_index}
-use Rattle.lookup.specs.Hits.{NumberedRow, in_months, in_cells, rows_from, games_counted}
+use Rattle.explorer_model.specs.Counting.{any_next}
+use Rattle.lookup.specs.Hits.{NumberedRow, rows_from, games_counted}
 
 -- a row with the number of the first game of its batch
 abbrev pub numbered : ℕ → Row → NumberedRow
@@ -28,15 +26,6 @@ module _ {X : Type 0} where
       elim (p x) as (λ b. filter q (cond b (x ∷ filter p xs) (filter p xs)) ≡ cond (b && q x) (x ∷ filter (λ y. p y && q y) xs) (filter (λ y. p y && q y) xs)) [
         | true ↦ ap (λ l. cond (q x) (x ∷ l) l) (filter-both p q xs)
         | false ↦ filter-both p q xs
-      ]
-
-module _ {X Y : Type 0} where
-  pub map-filter : (p : Y → Bool) (f : X → Y) (xs : List X) → filter p (map f xs) ≡ map f (filter (λ x. p (f x)) xs)
-  map-filter p f [] = refl
-  map-filter p f (x ∷ xs) =
-      elim (p (f x)) as (λ b. cond b (f x ∷ filter p (map f xs)) (filter p (map f xs)) ≡ map f (cond b (x ∷ filter (λ y. p (f y)) xs) (filter (λ y. p (f y)) xs))) [
-        | true ↦ ap (λ l. f x ∷ l) (map-filter p f xs)
-        | false ↦ map-filter p f xs
       ]
 
 -- ---- the rows of parts
@@ -81,46 +70,13 @@ AllByRecursion-more P xs i d below each one = subst (AllByRecursion P) (sym (tak
     push [] h = (one, tt)
     push (y ∷ ys) h = (h.0, push ys h.1)
 
--- ---- rows of months, and of them those of cells
+-- ---- the rows that a filter takes
 
-pub passes-both : (wanted : Filter) (row_key : RowKey) → (in_months wanted row_key && in_cells wanted row_key) ≡ meets wanted any_next row_key
-unfolding passes_row_key
-passes-both wanted row_key =
-    all (is_since wanted.since row_key.month) (is_until wanted.until row_key.month)
-    (get_or wanted.speeds (speed_index row_key.speed) false) (get_or wanted.groups (group_place row_key.group.value) false)
+pub taken-rows : (key : List ℕ) (wanted : Filter) (parts : List Part)
+    → rows_from key (passes_row_key wanted) 0 parts ≡ rows_from key (meets wanted any_next) 0 parts
+taken-rows key wanted parts =
+    ap (λ pick. rows_from key pick 0 parts) (λ i row_key. and-true (passes_row_key wanted row_key) i)
   where
-    all : (a b c d : Bool) → ((a && b) && (c && d)) ≡ ((((c && d) && a) && b) && true)
-    all true true true true = refl
-    all true true true false = refl
-    all true true false d = refl
-    all true false true true = refl
-    all true false true false = refl
-    all true false false d = refl
-    all false b true true = refl
-    all false b true false = refl
-    all false b false d = refl
-
-pub filter-rows_from : (key : List ℕ) (pick test : RowKey → Bool) (first : ℕ) (parts : List Part)
-    → filter (λ hit. test (row_key_of hit.row)) (rows_from key pick first parts) ≡ rows_from key (λ row_key. pick row_key && test row_key) first parts
-unfolding rows_from picks
-filter-rows_from key pick test first [] = refl
-filter-rows_from key pick test first (part ∷ parts) =
-    filter-append (λ (hit : NumberedRow). test (row_key_of hit.row)) (map (numbered first) (filter (picks key pick) part.rows)) (rows_from key pick (first + length part.classes) parts)
-    ∙ ap (λ l. l ++ filter (λ hit. test (row_key_of hit.row)) (rows_from key pick (first + length part.classes) parts))
-    (map-filter (λ (hit : NumberedRow). test (row_key_of hit.row)) (numbered first) (filter (picks key pick) part.rows)
-    ∙ ap (map (numbered first)) (filter-both (picks key pick) (λ row. test (row_key_of row)) part.rows
-    ∙ filter_agree (λ row. picks key pick row && test (row_key_of row)) (picks key (λ row_key. pick row_key && test row_key))
-    (λ row. three (bytes_eq row.key key) (pick (row_key_of row)) (test (row_key_of row))) part.rows))
-    ∙ ap (λ l. map (numbered first) (filter (picks key (λ row_key. pick row_key && test row_key)) part.rows) ++ l)
-    (filter-rows_from key pick test (first + length part.classes) parts)
-  where
-    three : (a b c : Bool) → ((a && b) && c) ≡ (a && (b && c))
-    three true b c = refl
-    three false b c = refl
-
--- the rows of the wanted months, speeds and groups
-pub cells-kept : (key : List ℕ) (wanted : Filter) (parts : List Part)
-    → filter (λ hit. in_cells wanted (row_key_of hit.row)) (rows_from key (in_months wanted) 0 parts) ≡ rows_from key (meets wanted any_next) 0 parts
-cells-kept key wanted parts =
-    filter-rows_from key (in_months wanted) (in_cells wanted) 0 parts
-    ∙ ap (λ pick. rows_from key pick 0 parts) (λ i row_key. passes-both wanted row_key i)
+    and-true : (b : Bool) → b ≡ (b && true)
+    and-true true = refl
+    and-true false = refl

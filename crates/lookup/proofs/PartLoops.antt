@@ -1,4 +1,4 @@
--- What stands at a place of tallies or segments stands there among their parts.
+-- What stands at a place of segments stands there among their parts.
 use Rattle.std.proofs.Common.{◌≡◌, ℕ, zero, suc, ◌<◌, ◌≤◌, List, [], ◌∷◌, map, length, get_or, refl, sym, ap, ◌∙◌, arith}
 use Rattle.std.proofs.lemmas.List.{length-map}
 

@@ -35,7 +35,7 @@ module _ (list : Row → List Entry) (hits : List Hit) (i : ℕ) (hit : Hit) (wi
       ∙ ap (λ h. h ∷ drop (i + 1) (map hit_as hits)) (hit-at hits i hit within is)
 
   next-by : (b : Bool) → lists_number list number (hit_as hit) ≡ b
-      → next_where list (drop i (map hit_as hits)) number ≡ cond b hit.row.now.next (next_where list (drop (i + 1) (map hit_as hits)) number)
+      → next_where list (drop i (map hit_as hits)) number ≡ cond b (hit_as hit).row.next (next_where list (drop (i + 1) (map hit_as hits)) number)
   unfolding next_where
   next-by true lists =
       ap (λ l. option_and_then (λ h. h.row.next) (find (lists_number list number) l)) rest-is
@@ -44,7 +44,7 @@ module _ (list : Row → List Entry) (hits : List Hit) (i : ℕ) (hit : Hit) (wi
       ap (λ l. option_and_then (λ h. h.row.next) (find (lists_number list number) l)) rest-is
       ∙ ap (λ b. option_and_then (λ (h : NumberedRow). h.row.next) (cond b (Some (hit_as hit)) (find (lists_number list number) (drop (i + 1) (map hit_as hits))))) lists
 
-  pub next-found : lists_number list number (hit_as hit) ≡ true → next_where list (drop i (map hit_as hits)) number ≡ hit.row.now.next
+  pub next-found : lists_number list number (hit_as hit) ≡ true → next_where list (drop i (map hit_as hits)) number ≡ (hit_as hit).row.next
   next-found lists = next-by true lists
 
   pub next-later : lists_number list number (hit_as hit) ≡ false

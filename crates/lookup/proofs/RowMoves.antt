@@ -28,20 +28,20 @@ unfolding months_in
 months-none = refl
 
 module _ (hits : List Hit) (i : ℕ) (hit : Hit) (within : i < length hits) (is : hit ≡ get_or hits i hit) where
-  nexts-more : filter_map (λ h. h.row.next) (take (i + 1) (map hit_as hits)) ≡ filter_map (λ h. h.row.next) (take i (map hit_as hits)) ++ cons_option hit.row.now.next []
+  nexts-more : filter_map (λ h. h.row.next) (take (i + 1) (map hit_as hits)) ≡ filter_map (λ h. h.row.next) (take i (map hit_as hits)) ++ cons_option (hit_as hit).row.next []
   nexts-more =
       ap (λ l. filter_map {X = NumberedRow} (λ h. h.row.next) l) (hit-next hits i hit within is)
       ∙ filter_map-append (λ h. h.row.next) (take i (map hit_as hits)) (hit_as hit ∷ [])
 
   -- without a move
-  pub moves-same : hit.row.now.next ≡ None → moves_in (take (i + 1) (map hit_as hits)) ≡ moves_in (take i (map hit_as hits))
+  pub moves-same : (hit_as hit).row.next ≡ None → moves_in (take (i + 1) (map hit_as hits)) ≡ moves_in (take i (map hit_as hits))
   unfolding moves_in
   moves-same none =
       let before = filter_map {X = NumberedRow} (λ h. h.row.next) (take i (map hit_as hits)) in
       ap (distinct is_same_move) (nexts-more ∙ ap (λ n. before ++ cons_option n []) none ∙ append-nil before)
 
   -- with a move, by whether it is there already
-  pub moves-more : (next : Move) → hit.row.now.next ≡ Some next → (b : Bool)
+  pub moves-more : (next : Move) → (hit_as hit).row.next ≡ Some next → (b : Bool)
       → list_any (λ known. is_same_move known next) (moves_in (take i (map hit_as hits))) ≡ b
       → moves_in (take (i + 1) (map hit_as hits)) ≡ cond b (moves_in (take i (map hit_as hits))) (moves_in (take i (map hit_as hits)) ++ next ∷ [])
   unfolding moves_in
@@ -49,10 +49,10 @@ module _ (hits : List Hit) (i : ℕ) (hit : Hit) (within : i < length hits) (is 
       let before = filter_map {X = NumberedRow} (λ h. h.row.next) (take i (map hit_as hits)) in
       ap (distinct is_same_move) (nexts-more ∙ ap (λ n. before ++ cons_option n []) some) ∙ once-more is_same_move same_move-transitive before next b known
 
-  pub months-more : (b : Bool) → list_any (λ known. is_same_month known hit.row.now.month) (months_in (take i (map hit_as hits))) ≡ b
-      → months_in (take (i + 1) (map hit_as hits)) ≡ cond b (months_in (take i (map hit_as hits))) (months_in (take i (map hit_as hits)) ++ hit.row.now.month ∷ [])
+  pub months-more : (b : Bool) → list_any (λ known. is_same_month known (hit_as hit).row.month) (months_in (take i (map hit_as hits))) ≡ b
+      → months_in (take (i + 1) (map hit_as hits)) ≡ cond b (months_in (take i (map hit_as hits))) (months_in (take i (map hit_as hits)) ++ (hit_as hit).row.month ∷ [])
   unfolding months_in
   months-more b known =
       let before = map {A = NumberedRow} (λ h. h.row.month) (take i (map hit_as hits)) in
       ap (distinct is_same_month) (ap (map {A = NumberedRow} (λ h. h.row.month)) (hit-next hits i hit within is) ∙ map-append (λ h. h.row.month) (take i (map hit_as hits)) (hit_as hit ∷ []))
-      ∙ once-more is_same_month same_month-transitive before hit.row.now.month b known
+      ∙ once-more is_same_month same_month-transitive before (hit_as hit).row.month b known

@@ -44,11 +44,11 @@ module _ (test : Row → Bool) (count : Row → ℕ) where
   unfolding sum_where
   sum-more hits hit = sum_by_push (λ h. cond (test h.row) (count h.row) 0) hits hit
 
-  pub sum-next : (hits : List Hit) (i : ℕ) (hit : Hit) → i < length hits → hit ≡ get_or hits i hit → (b : Bool) → test hit.row.now ≡ b
-      → sum_where (take (i + 1) (map hit_as hits)) test count ≡ sum_where (take i (map hit_as hits)) test count + cond b (count hit.row.now) 0
+  pub sum-next : (hits : List Hit) (i : ℕ) (hit : Hit) → i < length hits → hit ≡ get_or hits i hit → (b : Bool) → test (hit_as hit).row ≡ b
+      → sum_where (take (i + 1) (map hit_as hits)) test count ≡ sum_where (take i (map hit_as hits)) test count + cond b (count (hit_as hit).row) 0
   sum-next hits i hit within is b holds =
       ap (λ l. sum_where l test count) (hit-next hits i hit within is) ∙ sum-more (take i (map hit_as hits)) (hit_as hit)
-      ∙ ap (λ c. sum_where (take i (map hit_as hits)) test count + cond c (count hit.row.now) 0) holds
+      ∙ ap (λ c. sum_where (take i (map hit_as hits)) test count + cond c (count (hit_as hit).row) 0) holds
 
   part-le : (b : Bool) (n : ℕ) → cond b n 0 ≤ n
   part-le true n = omega arith
@@ -56,7 +56,7 @@ module _ (test : Row → Bool) (count : Row → ℕ) where
 
   -- the sum so far and the next one are within the sum of all
   pub sum-part : (hits : List Hit) (i : ℕ) (hit : Hit) → i < length hits → hit ≡ get_or hits i hit
-      → sum_where (take i (map hit_as hits)) test count + count hit.row.now ≤ sum_by (λ h. count h.row) (map hit_as hits)
+      → sum_where (take i (map hit_as hits)) test count + count (hit_as hit).row ≤ sum_by (λ h. count h.row) (map hit_as hits)
   unfolding sum_where
   sum-part hits i hit within is =
       let more = sum_by_more_le_part (λ h. cond (test h.row) (count h.row) 0) (λ h. count h.row) (map hit_as hits) i (hit_as hit)
@@ -97,25 +97,34 @@ module _ (test : Row → Bool) (list : Row → List Entry) where
       let f : NumberedRow → List Entry = λ h. cond (test h.row) (map (moved_by h.first) (list h.row)) [] in
       flat_map-append f hits (hit ∷ []) ∙ ap (λ l. flat_map f hits ++ l) (append-nil (f hit))
 
-  pub entries-next : (hits : List Hit) (i : ℕ) (hit : Hit) → i < length hits → hit ≡ get_or hits i hit → (b : Bool) → test hit.row.now ≡ b
+  pub entries-next : (hits : List Hit) (i : ℕ) (hit : Hit) → i < length hits → hit ≡ get_or hits i hit → (b : Bool) → test (hit_as hit).row ≡ b
       → entries_where (take (i + 1) (map hit_as hits)) test list
-      ≡ entries_where (take i (map hit_as hits)) test list ++ cond b (map (moved_by hit.first) (list hit.row.now)) []
+      ≡ entries_where (take i (map hit_as hits)) test list ++ cond b (map (moved_by hit.first) (list (hit_as hit).row)) []
   entries-next hits i hit within is b holds =
       ap (λ l. entries_where l test list) (hit-next hits i hit within is) ∙ entries-more (take i (map hit_as hits)) (hit_as hit)
-      ∙ ap (λ c. entries_where (take i (map hit_as hits)) test list ++ cond c (map (moved_by hit.first) (list hit.row.now)) []) holds
+      ∙ ap (λ c. entries_where (take i (map hit_as hits)) test list ++ cond c (map (moved_by hit.first) (list (hit_as hit).row)) []) holds
 
   module _ {before : Entry → Entry → Bool} (order : IsStrictTotalOrder before) where
-    pub best-taken : (hits : List Hit) (i : ℕ) (hit : Hit) → i < length hits → hit ≡ get_or hits i hit → test hit.row.now ≡ true
+    pub best-taken : (hits : List Hit) (i : ℕ) (hit : Hit) → i < length hits → hit ≡ get_or hits i hit → test (hit_as hit).row ≡ true
         → (sofar now : List Entry) → sofar ≡ best before 4 (entries_where (take i (map hit_as hits)) test list)
-        → now ≡ best before 4 (sofar ++ map (moved_by hit.first) (list hit.row.now))
+        → now ≡ best before 4 (sofar ++ map (moved_by hit.first) (list (hit_as hit).row))
         → now ≡ best before 4 (entries_where (take (i + 1) (map hit_as hits)) test list)
     best-taken hits i hit within is holds sofar now so joined =
-        let more = map (moved_by hit.first) (list hit.row.now) in
+        let more = map (moved_by hit.first) (list (hit_as hit).row) in
         let all = entries_where (take i (map hit_as hits)) test list in
         joined ∙ ap (λ l. best before 4 (l ++ more)) so ∙ best-left order 4 all more
         ∙ ap (best before 4) (sym (entries-next hits i hit within is true holds))
 
-    pub best-passed : (hits : List Hit) (i : ℕ) (hit : Hit) → i < length hits → hit ≡ get_or hits i hit → test hit.row.now ≡ false
+    -- the best of rows, with one row more
+    pub best-more : (rows : List NumberedRow) (hit : NumberedRow) → test hit.row ≡ true → (sofar now : List Entry)
+        → sofar ≡ best before 4 (entries_where rows test list) → now ≡ best before 4 (sofar ++ map (moved_by hit.first) (list hit.row))
+        → now ≡ best before 4 (entries_where (rows ++ hit ∷ []) test list)
+    best-more rows hit holds sofar now so joined =
+        let more = map (moved_by hit.first) (list hit.row) in
+        joined ∙ ap (λ l. best before 4 (l ++ more)) so ∙ best-left order 4 (entries_where rows test list) more
+        ∙ ap (best before 4) (sym (entries-more rows hit ∙ ap (λ b. entries_where rows test list ++ cond b more []) holds))
+
+    pub best-passed : (hits : List Hit) (i : ℕ) (hit : Hit) → i < length hits → hit ≡ get_or hits i hit → test (hit_as hit).row ≡ false
         → (sofar now : List Entry) → sofar ≡ best before 4 (entries_where (take i (map hit_as hits)) test list)
         → now ≡ sofar → now ≡ best before 4 (entries_where (take (i + 1) (map hit_as hits)) test list)
     best-passed hits i hit within is holds sofar now so same =
@@ -124,21 +133,21 @@ module _ (test : Row → Bool) (list : Row → List Entry) where
 -- the next row's count still fits
 module _ (test : Row → Bool) (hits : List Hit) (sound : AreSound (map hit_as hits)) (i : ℕ) (hit : Hit) (within : i < length hits) (is : hit ≡ get_or hits i hit) where
   pub count-fits : (count : Row → ℕ) → ((row : Row) → count row ≤ games_of row) → (sofar : ℕ) → sofar ≡ sum_where (take i (map hit_as hits)) test count
-      → sofar + count hit.row.now < 2 ^ 64
+      → sofar + count (hit_as hit).row < 2 ^ 64
   count-fits count below sofar so =
       omega (arith, sum-part test count hits i hit within is, count-limit (map hit_as hits) sound count below)
 
-  pub ratings-fit : (sofar : ℕ) → sofar ≡ sum_where (take i (map hit_as hits)) test (λ row. row.ratings) → sofar + hit.row.now.ratings < 2 ^ 64
+  pub ratings-fit : (sofar : ℕ) → sofar ≡ sum_where (take i (map hit_as hits)) test (λ row. row.ratings) → sofar + (hit_as hit).row.ratings < 2 ^ 64
   ratings-fit sofar so = omega (arith, sum-part test (λ row. row.ratings) hits i hit within is, ratings-limit (map hit_as hits) sound)
 
 -- the sum of one row more
 module _ (test : Row → Bool) (hits : List Hit) (i : ℕ) (hit : Hit) (within : i < length hits) (is : hit ≡ get_or hits i hit) where
-  pub sum-taken : test hit.row.now ≡ true → (count : Row → ℕ) (sofar n : ℕ) → sofar ≡ sum_where (take i (map hit_as hits)) test count
-      → n ≡ count hit.row.now → sofar + n ≡ sum_where (take (i + 1) (map hit_as hits)) test count
+  pub sum-taken : test (hit_as hit).row ≡ true → (count : Row → ℕ) (sofar n : ℕ) → sofar ≡ sum_where (take i (map hit_as hits)) test count
+      → n ≡ count (hit_as hit).row → sofar + n ≡ sum_where (take (i + 1) (map hit_as hits)) test count
   sum-taken holds count sofar n so is_n =
       ap (λ s. s + n) so ∙ ap (λ m. sum_where (take i (map hit_as hits)) test count + m) is_n ∙ sym (sum-next test count hits i hit within is true holds)
 
-  pub sum-passed : test hit.row.now ≡ false → (count : Row → ℕ) (sofar : ℕ) → sofar ≡ sum_where (take i (map hit_as hits)) test count
+  pub sum-passed : test (hit_as hit).row ≡ false → (count : Row → ℕ) (sofar : ℕ) → sofar ≡ sum_where (take i (map hit_as hits)) test count
       → sofar ≡ sum_where (take (i + 1) (map hit_as hits)) test count
   sum-passed fails count sofar so =
       so ∙ sym (sum-next test count hits i hit within is false fails ∙ add-zero (sum_where (take i (map hit_as hits)) test count))

@@ -1,7 +1,8 @@
 -- Groups of rows that are told apart by numbers, in the order in which they first come.
-use Rattle.std.specs.Prelude.{◌≡◌, ℕ, zero, suc, ◌==◌, cond, nat_eq, List, [], ◌∷◌, ◌++◌}
+use Rattle.std.specs.Prelude.{◌≡◌, ℕ, zero, suc, ◌==◌, cond, nat_eq, List, [], ◌∷◌, ◌++◌, Some}
 use Rattle.std.specs.HashMap.{HashMap, get}
 use Rattle.std.specs.List.{list_any, position, position_or_len}
+use Rattle.lookup.specs.declared.groups.Places.{Places}
 
 -- ---- the numbers
 
@@ -18,6 +19,12 @@ with_number numbers number =
 abbrev pub TellsPlaces : {S : Type 0} → HashMap ℕ ℕ S → List ℕ → Type 0
 TellsPlaces places numbers =
     (number : ℕ) → get nat_eq places number ≡ position (λ n. n == number) numbers
+
+-- so do places with a map that has them, of which the last one is a place of its number
+pub record Tells (places : Places) (numbers : List ℕ) : Type 0 where
+  pub each : TellsPlaces places.all numbers
+  pub last : (number place : ℕ) → places.last ≡ Some (number, place)
+      → position (λ n. n == number) numbers ≡ Some place
 
 -- ---- the groups
 

@@ -1,35 +1,22 @@
 -- Rows of a position, with the numbers that their games have among the games of all batches.
-use Rattle.std.specs.Prelude.{ℕ, ◌+◌, ◌*◌, ◌<◌, ◌≤◌, ◌^◌, Bool, false, ◌&&◌, List, [], ◌∷◌, ◌++◌, map, filter, length, slice_index_or}
+use Rattle.std.specs.Prelude.{ℕ, ◌+◌, ◌*◌, ◌<◌, ◌≤◌, ◌^◌, Bool, List, [], ◌∷◌, ◌++◌, map, filter, length}
 use Rattle.std.specs.List.{All, sum_by}
-use Rattle.explorer_model.specs.declared.query.Filter.{Filter}
-use Rattle.explorer_model.specs.Counting.{group_place, is_since, is_until}
-use Rattle.explorer_model.specs.Order.{speed_index}
 use Rattle.lookup.specs.declared.hits.Hit.{Hit}
+use Rattle.segment_blocks.specs.HeldRow.{row_in}
 use Rattle.tally_rows.specs.declared.row_key.RowKey.{RowKey}
 use Rattle.tally_rows.specs.declared.row.Row.{Row}
 use Rattle.tally_rows.specs.Recount.{picks}
 use Rattle.lookup.specs.Parts.{Part}
 
--- a row, and the number of the first game of its batch
+-- a row, and the number of the first game of its segment
 pub record NumberedRow : Type 0 where
   pub row : Row
   pub first : ℕ
 
 abbrev pub hit_as : Hit → NumberedRow
-hit_as hit = record { row = hit.row.now; first = hit.first }
+hit_as hit = record { row = row_in hit.row; first = hit.first }
 
 -- ---- which rows
-
--- the month is among those that the filter takes
-abbrev pub in_months : Filter → RowKey → Bool
-in_months wanted row_key =
-    is_since wanted.since row_key.month && is_until wanted.until row_key.month
-
--- the speed and the group are among those that the filter takes
-abbrev pub in_cells : Filter → RowKey → Bool
-in_cells wanted row_key =
-    slice_index_or wanted.speeds (speed_index row_key.speed) false
-    && slice_index_or wanted.groups (group_place row_key.group.value) false
 
 -- the rows of a position that are picked by their parts, of parts whose games are numbered one after another from a first one on
 unfoldable pub rows_from : List ℕ → (RowKey → Bool) → ℕ → List Part → List NumberedRow

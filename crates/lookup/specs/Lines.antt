@@ -44,9 +44,10 @@ IsLineMade at parts hits m line =
     → hits ≡ rows_from key (meets wanted any_next) 0 parts
     → IsLineIn at key parts each hits m line
 
--- what is put together of the rows that are counted: the first moves, the best and the latest games, and the months
+-- what is put together of the rows that are counted: their totals, the first moves, the best and the latest games, and the months
 pub record IsPutTogether (query : Query) (parts : List Part) (hits : List NumberedRow)
     (found : Found) : Type 0 where
+  pub totals : found.totals ≡ totals_where hits any_row
   pub lines : AllZip (λ (sum : MoveSum) line. IsLineMade query.at parts hits sum.next line)
       (map (sum_as hits) (best (before_by_total hits) query.moves (moves_in hits))) found.moves
   pub top : IsListingOf (λ row. row.top) parts hits

@@ -2,6 +2,7 @@
 use Rattle.std.specs.Prelude.{◌≡◌, ℕ, ◌+◌, ◌==◌, Bool, List, map, Option, None, Some, option_map, option_and_then}
 use Rattle.std.specs.List.{All, AllByRecursion, Contains, find, flat_map, list_any, slice_get}
 use Rattle.best_lists.specs.declared.entry.Entry.{Entry}
+use Rattle.explorer_model.specs.Best.{best}
 use Rattle.explorer_model.specs.Counting.{any_next}
 use Rattle.explorer_model.specs.declared.answer.Listed.{Listed}
 use Rattle.explorer_model.specs.declared.archive.Classes.{Classes}
@@ -12,7 +13,7 @@ use Rattle.lookup.specs.declared.listing.Listing.TheVariants.{Top, Recent}
 use Rattle.lookup.specs.declared.moves.Shown.{Shown}
 use Rattle.lookup.specs.declared.moves.Shown.TheVariants.{One}
 use Rattle.lookup.specs.Hits.{NumberedRow, rows_from}
-use Rattle.lookup.specs.Sums.{entries_where}
+use Rattle.lookup.specs.Sums.{any_row, entries_where}
 use Rattle.lookup.specs.Parts.{tracks_in}
 use Rattle.tally_rows.specs.declared.row.Row.{Row}
 use Rattle.tally_rows.specs.Cover.{meets, listing}
@@ -53,11 +54,18 @@ abbrev pub shown_game : List Part → Move → Shown → Option Listed
 shown_game parts next (One entry) = listed_as parts next entry.number
 shown_game parts next _ = None
 
--- the rows are those of a position, and the entries are theirs
+-- the best entries of rows, and some rows of all that list them
+pub record AreBestOf (before : Entry → Entry → Bool) (list : Row → List Entry)
+    (all hits rows : List NumberedRow) (entries : List Entry) : Type 0 where
+  pub of_all : entries ≡ best before 4 (entries_where hits any_row list)
+  pub of_rows : entries ≡ best before 4 (entries_where rows any_row list)
+  pub among : All (Contains all) rows
+
+-- the rows are some of those of a position, and the entries are theirs
 pub record AreEntriesOf (list : Row → List Entry) (key : List ℕ) (wanted : Filter)
     (parts : List Part) (hits : List NumberedRow) (test : Row → Bool)
     (entries : List Entry) : Type 0 where
-  pub rows : hits ≡ rows_from key (meets wanted any_next) 0 parts
+  pub rows : All (Contains (rows_from key (meets wanted any_next) 0 parts)) hits
   pub stand : All (λ entry. Contains (entries_where hits test list) entry) entries
 
 -- what is listed are the games of the entries

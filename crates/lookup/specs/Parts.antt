@@ -1,18 +1,17 @@
 -- Statement. Parts of a journal: batches that stand one after another, with what their tags say and
--- the rows that count their games. Tallies are parts of one batch, segments of some.
+-- the rows that count their games.
 use Rattle.std.specs.Prelude.{ℕ, ◌+◌, List, [], ◌∷◌, map, length}
-use Rattle.std.specs.List.{AllByRecursion, flat_map}
 use Rattle.std.specs.Arc.{arc_value}
+use Rattle.std.specs.declared.sync.Arc.{Arc}
+use Rattle.std.specs.List.{AllByRecursion, flat_map}
 use Rattle.explorer_model.specs.declared.archive.Batch.{Batch}
 use Rattle.explorer_model.specs.declared.archive.Classes.{Classes}
 use Rattle.explorer_model.specs.declared.archive.Game.{Game}
 use Rattle.explorer_model.specs.Spans.{Span}
 use Rattle.explorer_model.specs.Visits.{texts_of}
-use Rattle.lookup.specs.declared.parts.Parts.{Parts}
-use Rattle.lookup.specs.declared.parts.Parts.TheVariants.{Tallies, Segments}
 use Rattle.segment_blocks.specs.Segment.{CountedSpan}
 use Rattle.tally_rows.specs.declared.row.Row.{Row}
-use Rattle.tally_rows.specs.Tally.{Counted, IsTallyOf}
+use Rattle.tally_rows.specs.Tally.{IsTallyOf}
 use Rattle.tally_rows.specs.Track.{Track}
 
 pub record Part : Type 0 where
@@ -28,19 +27,14 @@ pub record IsPart (part : Part) : Type 0 where
 abbrev pub journal_of : List Part → List Batch
 journal_of parts = flat_map (λ part. part.batches) parts
 
--- ---- what parts are
-
-abbrev pub tallied_part : Counted → Part
-tallied_part tally =
-    record { batches = tally.batch ∷ []; classes = tally.classes; rows = tally.rows }
-
+-- a segment is a part
 abbrev pub segment_part : CountedSpan → Part
 segment_part segment =
     record { batches = segment.span.batches; classes = segment.classes; rows = segment.rows }
 
-abbrev pub parts_in : Parts → List Part
-parts_in (Tallies tallies) = map tallied_part tallies.now
-parts_in (Segments segments) = map segment_part (map arc_value segments.now)
+-- so are segments that are shared
+abbrev pub parts_in : {Z : Type 0} → List (Arc CountedSpan Z) → List Part
+parts_in segments = map segment_part (map arc_value segments)
 
 -- ---- parts as a cover of their games
 

@@ -1,13 +1,8 @@
--- The rows of a position in segments, and what it costs to walk over them.
+-- What it costs to walk over the rows of a position.
 use Rattle.std.specs.Prelude.{ℕ, ◌+◌, List, filter, length}
-use Rattle.lookup.specs.declared.segment_rows.SegmentRow.{SegmentRow}
-use Rattle.lookup.specs.Hits.{NumberedRow}
 use Rattle.segment_blocks.specs.Block.{block_limit}
 use Rattle.segment_blocks.specs.Segment.{CountedSpan}
 use Rattle.segment_blocks.specs.Walk.{has_key}
-
-abbrev pub segment_row_as : SegmentRow → NumberedRow
-segment_row_as found = record { row = found.row; first = found.first }
 
 -- where a segment has fewer than 2 to the power of `digits` blocks: the steps to its first row of
 -- the key, one for each row of the key, and one that finds no more

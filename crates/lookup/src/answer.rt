@@ -5,28 +5,27 @@ ghost use Rattle.std.specs.List.{All, AllByRecursion, sum_by};
 ghost use Rattle.explorer_model.specs.declared.archive.Batch.{Batch};
 ghost use Rattle.explorer_model.specs.Chess.{IsValid, Legal};
 ghost use Rattle.explorer_model.specs.Finds.{IsFound};
-ghost use Rattle.explorer_model.specs.Journal.{game_limit};
 ghost use Rattle.explorer_model.specs.Spans.{Covers};
 ghost use Rattle.explorer_model.specs.Tidy.{IsTidyKey};
-ghost use Rattle.lookup.specs.Hits.{hit_as, games_counted, look_limit, rows_from, in_months, AreSound};
+ghost use Rattle.lookup.specs.Hits.{hit_as, games_counted, look_limit, rows_from, AreSound};
 ghost use Rattle.lookup.specs.Lines.{IsPutTogether};
-ghost use Rattle.lookup.specs.Parts.{IsPart, parts_in, tallied_part, segment_part, journal_of};
+ghost use Rattle.lookup.specs.Parts.{IsPart, parts_in, journal_of};
 ghost use Rattle.lookup.specs.SegmentRows.{row_steps};
 ghost use Rattle.lookup.specs.Sums.{history_in, moves_in};
 ghost use Rattle.segment_blocks.specs.Segment.{CountedSpan};
+ghost use Rattle.tally_rows.specs.Cover.{passes_row_key};
 
 use crate::best_games::{recent_of, top_of};
 use crate::history::history_of;
-use crate::hits::{Hit, hits_of, hits_of_tallies, keep_cells, picked_rows_are_sound};
+use crate::hits::{Hit, picked_rows_are_sound};
 use crate::laws::{parts_recount, tracks_tell_legal_moves};
 use crate::lines::lines_of;
 use crate::listing::{listed_by_month, listed_by_rating};
 use crate::moves::first_moves;
-use crate::parts::Parts;
 use crate::segment_rows::rows_of_segments;
 use crate::totals::totals_of;
 use best_lists::Entry;
-use explorer_model::answer::{Found, MonthLine, Totals};
+use explorer_model::answer::{Found, MonthLine};
 use explorer_model::list::Items;
 use explorer_model::query::Query;
 use legal_moves::board::Board;
@@ -36,21 +35,6 @@ use segment_blocks::{Segment, Steps};
 use std::alloc::{AllocError, Global};
 use std::sync::Arc;
 use std::sync::ledger::Ledger;
-use tally_rows::Tally;
-
-/// What is found in the batches of the tallies, whose games are numbered one after another.
-pub fn look_rows(alloc: Global, tallies: &[Tally], query: &Query) -> Result<Found, AllocError>
-    requires valid { IsValid query.now.at }
-    requires top { query.now.top ≤ 4 }
-    requires recent { query.now.recent ≤ 4 }
-    requires games { sum_by (λ tally. length tally.classes) tallies.now ≤ game_limit }
-    ensures { IfOk result
-        (λ found. IsFound (map (λ tally. tally.batch) tallies.now) query.now found) }
-{
-    let (board, key) = board_and_key(query);
-    let hits = hits_of_tallies(alloc, tallies, &key, &query.filter)?;
-    found_of(alloc, &board, &key, &Parts::Tallies(tallies), query, hits)
-}
 
 /// What is found in the journal that at most 64 segments cover, by their rows alone. With r rows of the
 /// position a segment takes the steps of `rows_at`, r and one.
@@ -74,9 +58,8 @@ pub fn look_segments<L: Ledger>(
     // law: a position has one tidy form, so one key
     tidy_is_determined();
     let (board, key) = board_and_key(query);
-    let rows = rows_of_segments(alloc, segments, &key, &query.filter, steps)?;
-    let hits = hits_of(alloc, rows.as_slice())?;
-    found_of(alloc, &board, &key, &Parts::Segments(segments), query, hits)
+    let hits = rows_of_segments(alloc, segments, &key, &query.filter, steps)?;
+    found_of(alloc, &board, &key, segments, query, hits.as_slice())
 }
 
 /// The position that is asked for, and the key of its rows.
@@ -92,59 +75,57 @@ fn board_and_key(query: &Query) -> (Board, [u8; 34])
     (board, key)
 }
 
-/// What is found in the journal of the parts, of their rows of the months that are asked for.
+/// What is found in the journal of the segments, of their rows that the filter takes.
 fn found_of(
     alloc: Global,
     board: &Board,
     key: &[u8; 34],
-    parts: &Parts,
+    segments: &[Arc<Segment>],
     query: &Query,
-    hits: Vec<Hit>,
+    hits: &[Hit],
 ) -> Result<Found, AllocError>
     requires board { board.now ≡ query.now.at }
     requires key { IsTidyKey query.now.at key.now }
     requires valid { IsValid query.now.at }
     requires top { query.now.top ≤ 4 }
     requires recent { query.now.recent ≤ 4 }
-    requires games { games_counted (parts_in parts.now) ≤ look_limit }
-    requires parts { AllByRecursion IsPart (parts_in parts.now) }
-    requires rows { map hit_as hits.items
-        ≡ rows_from key.now (in_months query.now.filter) 0 (parts_in parts.now) }
-    ensures { IfOk result (λ found. IsFound (journal_of (parts_in parts.now)) query.now found) }
+    requires games { games_counted (parts_in segments.now) ≤ look_limit }
+    requires parts { AllByRecursion IsPart (parts_in segments.now) }
+    requires rows { map hit_as hits.now
+        ≡ rows_from key.now (passes_row_key query.now.filter) 0 (parts_in segments.now) }
+    ensures { IfOk result (λ found. IsFound (journal_of (parts_in segments.now)) query.now found) }
 {
     // laws: what is made of rows is what is found; rows tell legal moves, and are sound
     parts_recount();
     tracks_tell_legal_moves();
     picked_rows_are_sound();
-    let totals = totals_of(hits.as_slice(), &query.filter);
-    let hits = keep_cells(hits, &query.filter);
-    found_in(alloc, board, parts, query, totals, hits.as_slice())
+    found_in(alloc, board, segments, query, hits)
 }
 
 /// Puts an answer together.
 fn found_in(
     alloc: Global,
     board: &Board,
-    parts: &Parts,
+    segments: &[Arc<Segment>],
     query: &Query,
-    totals: Totals,
     hits: &[Hit],
 ) -> Result<Found, AllocError>
     requires board { board.now ≡ query.now.at }
     requires sound { AreSound (map hit_as hits.now) }
     requires legal { AllByRecursion (λ m. Legal board.now m) (moves_in (map hit_as hits.now)) }
-    ensures totals { IfOk result (λ found. found.totals ≡ totals) }
-    ensures rest { IfOk result
-        (λ found. IsPutTogether query.now (parts_in parts.now) (map hit_as hits.now) found) }
+    ensures { IfOk result
+        (λ found. IsPutTogether query.now (parts_in segments.now) (map hit_as hits.now) found) }
 {
     let sums = first_moves(alloc, hits, query.moves)?;
-    let moves = lines_of(alloc, board, parts, hits, sums.as_slice())?;
-    let top = top_of(hits);
-    let top = listed_by_rating(alloc, parts, hits, first(top.entries(), query.top))?;
-    let recent = recent_of(hits);
-    let recent = listed_by_month(alloc, parts, hits, first(recent.entries(), query.recent))?;
+    let moves = lines_of(alloc, board, segments, hits, sums.as_slice())?;
+    let (top, rows) = top_of(alloc, hits)?;
+    let entries = first(top.entries(), query.top);
+    let top = listed_by_rating(alloc, segments, rows.as_slice(), entries)?;
+    let (recent, rows) = recent_of(alloc, hits)?;
+    let entries = first(recent.entries(), query.recent);
+    let recent = listed_by_month(alloc, segments, rows.as_slice(), entries)?;
     Ok(Found {
-        totals,
+        totals: totals_of(hits),
         moves: Items::from_vec(moves),
         top: Items::from_vec(top),
         recent: Items::from_vec(recent),

@@ -1,32 +1,28 @@
 //! Which rows a filter takes.
 ghost use Rattle.std.specs.Prelude.{◌≡◌, ◌==◌, false, position, slice_index_or};
 ghost use Rattle.explorer_model.specs.Counting.{group_place, group_ratings, month_number, is_since, is_until};
-ghost use Rattle.lookup.specs.Hits.{in_months, in_cells};
-ghost use Rattle.tally_rows.specs.Row.{row_key_of};
+ghost use Rattle.tally_rows.specs.Cover.{passes_row_key};
 
 use explorer_model::archive::{Group, Month};
 use explorer_model::query::Filter;
-use tally_rows::Row;
+use tally_rows::RowKey;
 
 /// The least ratings of the groups.
 const GROUP_RATINGS: [u16; 9] = [0, 1000, 1200, 1400, 1600, 1800, 2000, 2200, 2500];
 
-/// Whether the filter takes the row's month.
-pub fn is_in_months(filter: &Filter, row: &Row) -> bool
-    ensures { result ≡ in_months filter.now (row_key_of row.now) }
+/// Whether the filter takes the speed, the group and the month of a row.
+#[tactic(auto, unfolding(tally_rows::specs::Cover::passes_row_key))]
+pub fn takes(filter: &Filter, row_key: &RowKey) -> bool
+    ensures { result ≡ passes_row_key filter.now row_key.now }
 {
-    is_since(filter.since, row.month) && is_until(filter.until, row.month)
-}
-
-/// Whether the filter takes the row's speed and group.
-pub fn is_in_cells(filter: &Filter, row: &Row) -> bool
-    ensures { result ≡ in_cells filter.now (row_key_of row.now) }
-{
-    filter.speeds[usize::from(row.speed.index())] && is_in_groups(filter, row.group)
+    filter.speeds[usize::from(row_key.speed.index())]
+        && is_in_groups(filter, row_key.group)
+        && is_since(filter.since, row_key.month)
+        && is_until(filter.until, row_key.month)
 }
 
 /// The place of the group among the groups, 0 to 8, or None for a rating that is no group's least.
-pub fn group_place(group: Group) -> Option<usize>
+fn group_place(group: Group) -> Option<usize>
     ensures { result ≡ position (λ least. least == group.value) group_ratings }
 {
     GROUP_RATINGS.iter().position(|least| *least == group.value)

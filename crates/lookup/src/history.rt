@@ -8,13 +8,11 @@ ghost use Rattle.lookup.specs.Hits.{hit_as, AreSound};
 ghost use Rattle.lookup.specs.Sums.{months_in, month_line, history_in};
 
 use crate::filter::month_number;
-use crate::groups::place_of;
+use crate::groups::Places;
 use crate::hits::Hit;
-use crate::totals::with_row;
+use crate::totals::with_games;
 use explorer_model::answer::{MonthLine, Totals};
 use std::alloc::{AllocError, Global};
-use std::collections::HashMap;
-use tally_rows::Row;
 
 /// A line for each month of the rows, ascending.
 pub fn history_of(alloc: Global, hits: &[Hit]) -> Result<Vec<MonthLine>, AllocError>
@@ -36,34 +34,34 @@ fn lines_of_months(alloc: Global, hits: &[Hit]) -> Result<Vec<MonthLine>, AllocE
     ensures { IfOk result (λ lines. lines.items
         ≡ map (month_line (map hit_as hits.now)) (months_in (map hit_as hits.now))) }
 {
-    let mut places = HashMap::new(alloc);
+    let mut places = Places::new(alloc);
     let mut lines = Vec::new(alloc);
     for hit in hits {
-        let place = place_of(&mut places, month_number(hit.row.month), lines.len())?;
-        add_row(&mut lines, place, hit.row)?;
+        let place = places.place_of(month_number(hit.month()), lines.len())?;
+        add_hit(&mut lines, place, hit)?;
     }
     Ok(lines)
 }
 
 /// Adds the row to the line at the place, or behind the last one to a line of its own.
-fn add_row(lines: &mut Vec<MonthLine>, place: usize, row: &Row) -> Result<(), AllocError>
-    requires room { All (λ line. HasRoom line.totals row.now) lines.old.items }
-    requires alone { HasRoom no_totals row.now }
+fn add_hit(lines: &mut Vec<MonthLine>, place: usize, hit: &Hit) -> Result<(), AllocError>
+    requires room { All (λ line. HasRoom line.totals (hit_as hit.now).row) lines.old.items }
+    requires alone { HasRoom no_totals (hit_as hit.now).row }
     requires place { place ≤ length lines.old.items }
-    ensures { OnOk result (lines.new.items ≡ changed_at (line_with row.now)
-        (line_with row.now (no_line row.now.month)) place lines.old.items) }
+    ensures { let row = (hit_as hit.now).row in OnOk result (lines.new.items
+        ≡ changed_at (line_with row) (line_with row (no_line row.month)) place lines.old.items) }
 {
     if place < lines.len() {
         let line = &lines[place];
-        let totals = with_row(&line.totals, row);
+        let totals = with_games(&line.totals, hit);
         lines[place] = MonthLine {
             month: line.month,
             totals,
         };
     } else {
         lines.push(MonthLine {
-            month: row.month,
-            totals: with_row(&Totals::default(), row),
+            month: hit.month(),
+            totals: with_games(&Totals::default(), hit),
         })?;
     }
     Ok(())

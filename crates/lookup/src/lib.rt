@@ -3,6 +3,7 @@
 
 mod answer;
 mod best_games;
+mod classes;
 mod filter;
 mod groups;
 mod history;
@@ -12,13 +13,11 @@ mod lines;
 mod listing;
 mod moves;
 mod notation;
-mod parts;
-mod rows_at;
 mod segment_rows;
 pub mod snapshot;
 #[cfg(test)]
 mod tests;
 mod totals;
 
-pub use answer::{look_rows, look_segments};
+pub use answer::look_segments;
 pub use snapshot::look;

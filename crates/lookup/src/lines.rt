@@ -14,17 +14,18 @@ use crate::hits::Hit;
 use crate::listing::listed;
 use crate::moves::{MoveSum, Shown};
 use crate::notation::san_of;
-use crate::parts::Parts;
 use explorer_model::answer::{Listed, MoveLine};
 use explorer_model::chess::Move as Step;
 use legal_moves::board::Board;
+use segment_blocks::Segment;
 use std::alloc::{AllocError, Global};
+use std::sync::Arc;
 
 /// The lines of moves that are legal on the board, in their order.
 pub fn lines_of(
     alloc: Global,
     board: &Board,
-    parts: &Parts,
+    segments: &[Arc<Segment>],
     hits: &[Hit],
     sums: &[MoveSum],
 ) -> Result<Vec<MoveLine>, AllocError>
@@ -34,13 +35,13 @@ pub fn lines_of(
     requires sums { AllByRecursion (λ sum. sum ≡ sum_as (map hit_as hits.now) sum.next) sums.now }
     ensures { IfOk result
         (λ lines. AllZip
-        (λ sum line. IsLineMade board.now (parts_in parts.now)
+        (λ sum line. IsLineMade board.now (parts_in segments.now)
         (map hit_as hits.now) sum.next line) sums.now lines.items) }
 {
     let legal = board.legal();
     let mut lines = Vec::with_capacity(alloc, sums.len())?;
     for sum in sums {
-        lines.push(line_of(alloc, board, legal.as_slice(), parts, hits, sum)?)?;
+        lines.push(line_of(alloc, board, legal.as_slice(), segments, hits, sum)?)?;
     }
     Ok(lines)
 }
@@ -50,7 +51,7 @@ fn line_of(
     alloc: Global,
     board: &Board,
     legal: &[Step],
-    parts: &Parts,
+    segments: &[Arc<Segment>],
     hits: &[Hit],
     sum: &MoveSum,
 ) -> Result<MoveLine, AllocError>
@@ -61,7 +62,7 @@ fn line_of(
     requires averaged { IsAveraged (map hit_as hits.now) sum.now.next }
     requires sum { sum.now ≡ sum_as (map hit_as hits.now) sum.now.next }
     ensures { IfOk result
-        (λ line. IsLineMade board.now (parts_in parts.now) (map hit_as hits.now)
+        (λ line. IsLineMade board.now (parts_in segments.now) (map hit_as hits.now)
         sum.now.next line) }
 {
     Ok(MoveLine {
@@ -69,7 +70,7 @@ fn line_of(
         san: san_of(alloc, board, legal, sum.next)?,
         average: average_of(sum),
         totals: sum.totals,
-        game: only_game(parts, sum)?,
+        game: only_game(segments, sum)?,
     })
 }
 
@@ -84,12 +85,12 @@ fn average_of(sum: &MoveSum) -> u32
 }
 
 /// The game of a move that just one game plays.
-fn only_game(parts: &Parts, sum: &MoveSum) -> Result<Option<Listed>, AllocError>
+fn only_game(segments: &[Arc<Segment>], sum: &MoveSum) -> Result<Option<Listed>, AllocError>
     ensures { IfOk result
-        (λ game. game ≡ shown_game (parts_in parts.now) sum.now.next sum.now.shown) }
+        (λ game. game ≡ shown_game (parts_in segments.now) sum.now.next sum.now.shown) }
 {
     match sum.shown {
-        Shown::One(entry) => listed(parts, sum.next, entry.number),
+        Shown::One(entry) => listed(segments, sum.next, entry.number),
         Shown::Nothing | Shown::Several => Ok(None),
     }
 }

@@ -3,15 +3,17 @@ ghost use Rattle.std.specs.Prelude.{◌≡◌, ◌+◌, ◌==◌, map, filter_ma
 ghost use Rattle.std.specs.List.{list_any};
 ghost use Rattle.lookup.specs.Hits.{hit_as};
 ghost use Rattle.lookup.specs.Parts.{parts_in};
-ghost use Rattle.lookup.specs.Listing.{list_of, next_where, listed_as, listed_where, IsListingOf};
+ghost use Rattle.lookup.specs.Listing.{list_of, lists_number, next_where, listed_as, listed_where, IsListingOf};
 
+use crate::classes::classes_of;
 use crate::hits::Hit;
-use crate::parts::Parts;
 use best_lists::Entry;
 use explorer_model::answer::Listed;
 use explorer_model::archive::Classes;
 use explorer_model::chess::Move;
+use segment_blocks::{HeldRow, Segment};
 use std::alloc::{AllocError, Global};
+use std::sync::Arc;
 use tally_rows::Row;
 
 /// One of the two lists of a row.
@@ -36,46 +38,46 @@ impl Listing {
 /// The games of entries of the `top` lists of the rows, in order. Fails only where memory runs out.
 pub fn listed_by_rating(
     alloc: Global,
-    parts: &Parts,
+    segments: &[Arc<Segment>],
     hits: &[Hit],
     entries: &[Entry],
 ) -> Result<Vec<Listed>, AllocError>
     ensures { IfOk result
-        (λ listed. IsListingOf (λ row. row.top) (parts_in parts.now)
+        (λ listed. IsListingOf (λ row. row.top) (parts_in segments.now)
         (map hit_as hits.now) entries.now listed.items) }
 {
-    listed_in(alloc, parts, hits, Listing::Top, entries)
+    listed_in(alloc, segments, hits, Listing::Top, entries)
 }
 
 /// The games of entries of the `recent` lists of the rows, in order. Fails only where memory runs out.
 pub fn listed_by_month(
     alloc: Global,
-    parts: &Parts,
+    segments: &[Arc<Segment>],
     hits: &[Hit],
     entries: &[Entry],
 ) -> Result<Vec<Listed>, AllocError>
     ensures { IfOk result
-        (λ listed. IsListingOf (λ row. row.recent) (parts_in parts.now)
+        (λ listed. IsListingOf (λ row. row.recent) (parts_in segments.now)
         (map hit_as hits.now) entries.now listed.items) }
 {
-    listed_in(alloc, parts, hits, Listing::Recent, entries)
+    listed_in(alloc, segments, hits, Listing::Recent, entries)
 }
 
 /// The games that are found by the numbers of the entries, in order.
 fn listed_in(
     alloc: Global,
-    parts: &Parts,
+    segments: &[Arc<Segment>],
     hits: &[Hit],
     list: Listing,
     entries: &[Entry],
 ) -> Result<Vec<Listed>, AllocError>
     ensures { IfOk result (λ listed. listed.items
-        ≡ filter_map (λ entry. listed_where (list_of list) (parts_in parts.now)
+        ≡ filter_map (λ entry. listed_where (list_of list) (parts_in segments.now)
         (map hit_as hits.now) entry.number) entries.now) }
 {
     let mut listed = Vec::with_capacity(alloc, entries.len())?;
     for entry in entries {
-        if let Some(game) = game_of(parts, hits, list, entry.number)? {
+        if let Some(game) = game_of(segments, hits, list, entry.number)? {
             listed.push(game)?;
         }
     }
@@ -84,25 +86,29 @@ fn listed_in(
 
 /// The game of a number.
 fn game_of(
-    parts: &Parts,
+    segments: &[Arc<Segment>],
     hits: &[Hit],
     list: Listing,
     number: u32,
 ) -> Result<Option<Listed>, AllocError>
     ensures { IfOk result (λ game. game
-        ≡ listed_where (list_of list) (parts_in parts.now) (map hit_as hits.now) number) }
+        ≡ listed_where (list_of list) (parts_in segments.now) (map hit_as hits.now) number) }
 {
     let Some(next) = next_in(hits, list, number) else {
         return Ok(None);
     };
-    listed(parts, next, number)
+    listed(segments, next, number)
 }
 
 /// The game of a number with its next move.
-pub fn listed(parts: &Parts, next: Move, number: u32) -> Result<Option<Listed>, AllocError>
-    ensures { IfOk result (λ listed. listed ≡ listed_as (parts_in parts.now) next number) }
+pub fn listed(
+    segments: &[Arc<Segment>],
+    next: Move,
+    number: u32,
+) -> Result<Option<Listed>, AllocError>
+    ensures { IfOk result (λ listed. listed ≡ listed_as (parts_in segments.now) next number) }
 {
-    let Some(classes) = parts.classes_of(number as usize) else {
+    let Some(classes) = classes_of(segments, number as usize) else {
         return Ok(None);
     };
     Ok(Some(Listed {
@@ -123,14 +129,29 @@ fn next_in(hits: &[Hit], list: Listing, number: u32) -> Option<Move>
     ensures { result ≡ next_where (list_of list) (map hit_as hits.now) number }
 {
     for hit in hits {
-        if has_number(list.of(hit.row), hit.first, number) {
-            return hit.row.next;
+        if lists(list, hit, number) {
+            return hit.next();
         }
     }
     None
 }
 
-/// Whether the entries of a batch whose first game has the number `first` list the game of a number.
+/// Whether the row lists the game of a number among all games.
+#[tactic(auto, unfolding(tally_rows::specs::Row::row_of))]
+fn lists(list: Listing, hit: &Hit, number: u32) -> bool
+    ensures { result ≡ lists_number (list_of list) number (hit_as hit.now) }
+{
+    match &hit.row {
+        HeldRow::Game(game) => {
+            game.row_key.next.is_some()
+                && u64::from(game.number) + u64::from(hit.first) == u64::from(number)
+        }
+        HeldRow::Whole(row) => has_number(list.of(row), hit.first, number),
+    }
+}
+
+/// Whether the entries of a row list the game of a number, where the row's segment begins with game
+/// `first`.
 fn has_number(entries: &[Entry], first: u32, number: u32) -> bool
     ensures { result ≡ list_any (λ entry. entry.number + first == number) entries.now }
 {

@@ -11,16 +11,17 @@ ghost use Rattle.lookup.specs.Hits.{hit_as, AreSound, IsSound};
 ghost use Rattle.lookup.specs.MoveSums.{sum_as, before_as_sum};
 ghost use Rattle.lookup.specs.Sums.{moves_in, before_by_total};
 
-use crate::groups::place_of;
+use crate::best_games::top_of_game;
+use crate::groups::Places;
 use crate::hits::Hit;
-use crate::totals::with_row;
+use crate::totals::with_games;
 use best_lists::Entry;
 use explorer_model::answer::Totals;
 use explorer_model::chess::Move;
 use fen_uci::write_uci;
+use segment_blocks::HeldRow;
 use std::alloc::{AllocError, Global};
 use std::cmp::Ordering;
-use std::collections::HashMap;
 
 /// What the `top` lists of a move's rows show: no game, one, or more.
 #[derive(Clone, Copy, Debug)]
@@ -61,11 +62,11 @@ fn sums_of_moves(alloc: Global, hits: &[Hit]) -> Result<Vec<MoveSum>, AllocError
     ensures { IfOk result (λ sums. sums.items
         ≡ map (sum_as (map hit_as hits.now)) (moves_in (map hit_as hits.now))) }
 {
-    let mut places = HashMap::new(alloc);
+    let mut places = Places::new(alloc);
     let mut sums = Vec::new(alloc);
     for hit in hits {
-        if let Some(next) = hit.row.next {
-            let place = place_of(&mut places, move_number(next), sums.len())?;
+        if let Some(next) = hit.next() {
+            let place = places.place_of(move_number(next), sums.len())?;
             add_hit(&mut sums, place, next, hit)?;
         }
     }
@@ -111,9 +112,22 @@ fn with_hit(sum: &MoveSum, hit: &Hit) -> MoveSum
 {
     MoveSum {
         next: sum.next,
-        totals: with_row(&sum.totals, hit.row),
-        ratings: sum.ratings + hit.row.ratings,
-        shown: with_entries(sum.shown, hit.row.top.entries(), hit.first),
+        totals: with_games(&sum.totals, hit),
+        ratings: sum.ratings + hit.ratings(),
+        shown: with_row(sum.shown, hit),
+    }
+}
+
+/// What is shown with the entries of the row.
+#[tactic(auto, unfolding(tally_rows::specs::Row::row_of))]
+fn with_row(shown: Shown, hit: &Hit) -> Shown
+    requires { All (λ entry. entry.number + hit.now.first < 2 ^ 32) (hit_as hit.now).row.top }
+    ensures { result ≡ shown_with shown (map (moved_by hit.now.first) (hit_as hit.now).row.top) }
+{
+    match (shown, &hit.row) {
+        (Shown::Several, _) => shown,
+        (_, HeldRow::Game(game)) => with_entries(shown, top_of_game(game).entries(), hit.first),
+        (_, HeldRow::Whole(row)) => with_entries(shown, row.top.entries(), hit.first),
     }
 }
 

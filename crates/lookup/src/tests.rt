@@ -1,9 +1,8 @@
-ghost use Rattle.std.specs.Prelude.{◌≡◌, ◌≤◌, ◌<◌, length, map, IsTrue, IfOk, IfSome};
-ghost use Rattle.std.specs.List.{All, sum_by};
+ghost use Rattle.std.specs.Prelude.{◌≡◌, ◌≤◌, ◌<◌, length, IsTrue};
+ghost use Rattle.std.specs.List.{All};
 ghost use Rattle.explorer_model.specs.Chess.{IsValid};
-ghost use Rattle.explorer_model.specs.Journal.{game_limit};
 
-use crate::{look_rows, look_segments};
+use crate::look_segments;
 use batch_tally::tally;
 use explorer_model::answer::{Found, Listed, MonthLine, MoveLine, Totals};
 use explorer_model::archive::{Bytes, Month, Placed};
@@ -71,16 +70,6 @@ fn tally_of<R: Threads + Sync>(
         return Ok(None);
     }
     Ok(tally(rt, alloc, texts, 1, &FreeGate)?.tally)
-}
-
-/// Both, where they are as small as batches are.
-fn both(first: Tally, second: Tally) -> Option<[Tally; 2]>
-    ensures { IfSome result (λ tallies. sum_by (λ tally. length tally.classes) tallies ≤ game_limit) }
-{
-    if 512 < first.classes().len() || 512 < second.classes().len() {
-        return None;
-    }
-    Some([first, second])
 }
 
 /// What is asked of the starting position.
@@ -232,19 +221,6 @@ fn eve() -> Played<'static> {
     }
 }
 
-fn two_batches<R: Threads + Sync>(rt: &R, alloc: Global) -> Result<Option<[Tally; 2]>, AllocError>
-    ensures { IfOk result (λ made. IfSome made
-        (λ tallies. sum_by (λ tally. length tally.classes) tallies ≤ game_limit)) }
-{
-    match (
-        tally_of(rt, alloc, &[ann(), bea()])?,
-        tally_of(rt, alloc, &[cid(), dan(), eve()])?,
-    ) {
-        (Some(first), Some(second)) => Ok(both(first, second)),
-        _ => Ok(None),
-    }
-}
-
 /// Everything of the rapid games, of the group of 1400, since January 2020, and until then.
 fn narrowed() -> [Asked; 4] {
     let january = Some(Month {
@@ -275,48 +251,18 @@ fn narrowed() -> [Asked; 4] {
 const EVERYTHING: &str = "3/1/1; moves e4 1567 2/0/1 d4 2000 0/1/0 Cid; top Cid Bea Dan Ann; \
     recent Dan Bea Ann Cid; months 2019-12 0/1/0 2020-1 2/0/0 2020-2 1/0/1";
 
+const RAPID: &str = "0/0/1; moves e4 1702 0/0/1 Bea; top Bea; recent Bea; months 2020-2 0/0/1";
+
+const GROUP_1400: &str = "3/0/0; moves e4 1500 2/0/0; top Dan Ann; recent Dan Ann; \
+    months 2020-1 2/0/0 2020-2 1/0/0";
+
 const SINCE_JANUARY: &str = "3/0/1; moves e4 1567 2/0/1; top Bea Dan Ann; recent Dan Bea Ann; \
     months 2020-1 2/0/0 2020-2 1/0/1";
 
-#[test]
-fn two_batches_with_every_filter(rt: HostRuntime) -> Result<(), Fail> {
-    let Some(tallies) = two_batches(&rt, rt.alloc())? else {
-        assert!(rt; false);
-        return Ok(());
-    };
-    let [rapid, group_1400, since, until] = narrowed();
-    let short = Asked {
-        moves: 1,
-        top: 2,
-        recent: 1,
-        history: false,
-        ..everything_of(EVERY_GAME)
-    };
-    let table = [
-        (everything_of(EVERY_GAME), EVERYTHING),
-        (
-            rapid,
-            "0/0/1; moves e4 1702 0/0/1 Bea; top Bea; recent Bea; months 2020-2 0/0/1",
-        ),
-        (
-            group_1400,
-            "3/0/0; moves e4 1500 2/0/0; top Dan Ann; recent Dan Ann; \
-             months 2020-1 2/0/0 2020-2 1/0/0",
-        ),
-        (since, SINCE_JANUARY),
-        (
-            until,
-            "2/1/0; moves d4 2000 0/1/0 Cid e4 1500 1/0/0 Ann; top Cid Ann; recent Ann Cid; \
-             months 2019-12 0/1/0 2020-1 2/0/0",
-        ),
-        (short, "3/1/1; moves e4 1567 2/0/1; top Cid Bea; recent Dan"),
-    ];
-    for (asked, answer) in &table {
-        let found = look_rows(rt.alloc(), &tallies, &query_of(rt.alloc(), asked))?;
-        assert_eq!(rt; told(rt.alloc(), &found)?.as_str(), *answer);
-    }
-    Ok(())
-}
+const UNTIL_JANUARY: &str = "2/1/0; moves d4 2000 0/1/0 Cid e4 1500 1/0/0 Ann; top Cid Ann; \
+    recent Ann Cid; months 2019-12 0/1/0 2020-1 2/0/0";
+
+const SHORT: &str = "3/1/1; moves e4 1567 2/0/1; top Cid Bea; recent Dan";
 
 /// Segments of so many of the five games, one segment after another; None where a batch is refused
 /// or the games are too few.
@@ -377,14 +323,29 @@ fn told_by_cut<R: Threads + Sync>(
     }
 }
 
+/// What is asked of the five games, and the answer in one line.
+fn table() -> [(Asked, &'static str); 6] {
+    let [rapid, group_1400, since, until] = narrowed();
+    let short = Asked {
+        moves: 1,
+        top: 2,
+        recent: 1,
+        history: false,
+        ..everything_of(EVERY_GAME)
+    };
+    [
+        (everything_of(EVERY_GAME), EVERYTHING),
+        (rapid, RAPID),
+        (group_1400, GROUP_1400),
+        (since, SINCE_JANUARY),
+        (until, UNTIL_JANUARY),
+        (short, SHORT),
+    ]
+}
+
 #[test]
 fn one_two_and_five_segments_answer_alike(rt: HostRuntime) -> Result<(), Fail> {
-    let [_, _, since, _] = narrowed();
-    let table = [
-        (everything_of(EVERY_GAME), EVERYTHING),
-        (since, SINCE_JANUARY),
-    ];
-    for (asked, answer) in &table {
+    for (asked, answer) in &table() {
         let one = told_by_cut(&rt, rt.alloc(), &[5], asked)?;
         assert_eq!(rt; one.as_str(), *answer);
         let two = told_by_cut(&rt, rt.alloc(), &[2, 3], asked)?;

@@ -1,5 +1,6 @@
 use Rattle.std.proofs.Common.{◌≡◌, List, map, take, sym, ap, ◌∙◌, subst}
 use Rattle.std.specs.List.{AllByRecursion, AllZip}
+use Rattle.best_lists.specs.Ranking.{before_by_rating, before_by_month}
 use Rattle.best_lists.specs.declared.entry.Entry.{Entry}
 use Rattle.explorer_model.specs.Best.{best}
 use Rattle.explorer_model.specs.declared.answer.Listed.{Listed}
@@ -7,7 +8,7 @@ use Rattle.explorer_model.specs.declared.answer.MoveLine.{MoveLine}
 use Rattle.explorer_model.specs.declared.chess.Move.{Move}
 use Rattle.explorer_model.specs.declared.chess.Position.{Position}
 use Rattle.explorer_model.specs.Chess.{Legal}
-use Rattle.lookup.specs.Parts.{parts_in}
+use Rattle.lookup.specs.Parts.{Part, parts_in}
 use Rattle.lookup.specs.declared.moves.MoveSum.{MoveSum}
 use Rattle.lookup.specs.Hits.{NumberedRow, hit_as}
 use Rattle.lookup.specs.Lines.{IsAveraged, IsLineMade}
@@ -15,6 +16,7 @@ use Rattle.lookup.specs.Listing.{IsListingOf}
 use Rattle.lookup.specs.MoveSums.{sum_as}
 use Rattle.lookup.specs.Sums.{any_row, top_where, recent_where, moves_in, before_by_total}
 use Rattle.lookup.proofs.Averages.{averaged}
+use Rattle.lookup.proofs.Listings.{listed-among}
 use Rattle.lookup.proofs.Looking.{sums-have, sums-are}
 use Rattle.lookup.proofs.answer.found_in.Goals as goal
 
@@ -37,26 +39,35 @@ lines_of-requires-clause-sums c =
     let S : List MoveSum → Type 0 = λ sums. AllByRecursion (λ (sum : MoveSum). sum ≡ sum_as (map hit_as c.args.hits.now) sum.next) sums in
     subst S (sym (sums c)) (sums-are (map hit_as c.args.hits.now) _)
 
-pub returns-clause-rest : goal.returns-clause-rest
-returns-clause-rest c =
+pub returns : goal.returns
+returns c =
     let hits : List NumberedRow = map hit_as c.args.hits.now in
-    let moves : List Move = best (before_by_total hits) c.args.query.now.moves (moves_in hits) in
+    let parts : List Part = parts_in c.args.segments.now in
+    let query = c.args.query.now in
+    let moves : List Move = best (before_by_total hits) query.moves (moves_in hits) in
     let sums : c.as_slice.result.now ≡ map (sum_as hits) moves = c.as_slice.ensures.value ∙ c.in_ok-sums.ensures in
-    let made : (at : Position) → MoveSum → MoveLine → Type 0 = λ at sum line. IsLineMade at (parts_in c.args.parts.now) hits sum.next line in
+    let made : (at : Position) → MoveSum → MoveLine → Type 0 = λ at sum line. IsLineMade at parts hits sum.next line in
     let AtBoard : Position → Type 0 = λ at. AllZip (made at) c.as_slice.result.now c.in_ok-moves.moves.items in
-    let OfSums : List MoveSum → Type 0 = λ sums. AllZip (made c.args.query.now.at) sums c.in_ok-moves.moves.items in
-    let OfLines : List MoveLine → Type 0 = λ lines. AllZip (made c.args.query.now.at) (map (sum_as hits) moves) lines in
-    let top : c.first.result.now ≡ take c.args.query.now.top (top_where hits any_row) =
-    c.first.ensures ∙ ap (take c.args.query.now.top) (c.entries.ensures.entries ∙ c.top_of-top.ensures) in
-    let recent : c.first-2.result.now ≡ take c.args.query.now.recent (recent_where hits any_row) =
-    c.first-2.ensures ∙ ap (take c.args.query.now.recent) (c.entries-2.ensures.entries ∙ c.recent_of-recent.ensures) in
-    let TopOf : List Entry → Type 0 = λ entries. IsListingOf (λ row. row.top) (parts_in c.args.parts.now) hits entries c.in_ok-top.top.items in
-    let TopAs : List Listed → Type 0 = λ listed. IsListingOf (λ row. row.top) (parts_in c.args.parts.now) hits (take c.args.query.now.top (top_where hits any_row)) listed in
-    let RecentOf : List Entry → Type 0 = λ entries. IsListingOf (λ row. row.recent) (parts_in c.args.parts.now) hits entries c.in_ok-recent.recent.items in
-    let RecentAs : List Listed → Type 0 = λ listed. IsListingOf (λ row. row.recent) (parts_in c.args.parts.now) hits (take c.args.query.now.recent (recent_where hits any_row)) listed in
+    let OfSums : List MoveSum → Type 0 = λ sums. AllZip (made query.at) sums c.in_ok-moves.moves.items in
+    let OfLines : List MoveLine → Type 0 = λ lines. AllZip (made query.at) (map (sum_as hits) moves) lines in
+    let top : List NumberedRow → List Entry → List Listed → Type 0 = λ rows entries listed. IsListingOf (λ row. row.top) parts rows entries listed in
+    let top_rows : List NumberedRow = map hit_as c.in_ok-top.rows.items in
+    let top_found : top top_rows (take query.top c.in_ok-top.top) c.in_ok-top-2.top.items =
+    subst (λ (rows : List NumberedRow). top rows (take query.top c.in_ok-top.top) c.in_ok-top-2.top.items) (ap (map hit_as) c.as_slice-2.ensures.value)
+    (subst (λ (entries : List Entry). top (map hit_as c.as_slice-2.result.now) entries c.in_ok-top-2.top.items)
+    (c.first-entries.ensures ∙ ap (take query.top) c.entries.ensures.entries) c.in_ok-top-2.ensures) in
+    let recent : List NumberedRow → List Entry → List Listed → Type 0 = λ rows entries listed. IsListingOf (λ row. row.recent) parts rows entries listed in
+    let recent_rows : List NumberedRow = map hit_as c.in_ok-recent.rows.items in
+    let recent_found : recent recent_rows (take query.recent c.in_ok-recent.recent) c.in_ok-recent-2.recent.items =
+    subst (λ (rows : List NumberedRow). recent rows (take query.recent c.in_ok-recent.recent) c.in_ok-recent-2.recent.items) (ap (map hit_as) c.as_slice-3.ensures.value)
+    (subst (λ (entries : List Entry). recent (map hit_as c.as_slice-3.result.now) entries c.in_ok-recent-2.recent.items)
+    (c.first-entries-2.ensures ∙ ap (take query.recent) c.entries-2.ensures.entries) c.in_ok-recent-2.ensures) in
     record {
+      totals = c.totals_of.ensures;
       lines = subst OfLines (sym c.from_vec.ensures) (subst OfSums sums (subst AtBoard c.requires.board c.in_ok-moves.ensures));
-      top = subst TopAs (sym c.from_vec-2.ensures) (subst TopOf top c.in_ok-top.ensures);
-      recent = subst RecentAs (sym c.from_vec-3.ensures) (subst RecentOf recent c.in_ok-recent.ensures);
+      top = subst (top hits (take query.top (top_where hits any_row))) (sym c.from_vec-2.ensures)
+          (listed-among (λ row. row.top) before_by_rating parts hits top_rows c.in_ok-top.top query.top c.in_ok-top-2.top.items c.in_ok-top.ensures top_found);
+      recent = subst (recent hits (take query.recent (recent_where hits any_row))) (sym c.from_vec-3.ensures)
+          (listed-among (λ row. row.recent) before_by_month parts hits recent_rows c.in_ok-recent.recent query.recent c.in_ok-recent-2.recent.items c.in_ok-recent.ensures recent_found);
       history = c.in_ok-asked_history.ensures;
     }

@@ -12,12 +12,6 @@ use Rattle.lookup.proofs.OneKey.{one-key}
 use Rattle.segment_blocks.specs.Segment.{CountedSpan}
 use Rattle.lookup.proofs.answer.look_segments.Goals as goal
 
-pub returns-in_err-rows-clause-cost : goal.returns-in_err-rows-clause-cost
-returns-in_err-rows-clause-cost g c = λ key digits tidy small.
-    subst (λ (k : List ℕ). c.rows_of_segments.new.steps ≤ c.args.steps.now + sum_by (row_steps k digits) (map arc_value c.args.segments.now))
-    (one-key c.tidy_is_determined.ensures c.args.query.now.at c.board_and_key-board.result.1 key c.board_and_key-board.ensures.key tidy)
-    (c.rows_of_segments.ensures.cost digits small)
-
 pub returns-in_err-hits-clause-cost : goal.returns-in_err-hits-clause-cost
 returns-in_err-hits-clause-cost g c = λ key digits tidy small.
     subst (λ (k : List ℕ). c.rows_of_segments.new.steps ≤ c.args.steps.now + sum_by (row_steps k digits) (map arc_value c.args.segments.now))

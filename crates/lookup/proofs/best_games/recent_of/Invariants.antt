@@ -1,7 +1,9 @@
-use Rattle.std.proofs.Common.{◌≡◌, map, take}
+use Rattle.std.proofs.Common.{map, take}
+use Rattle.best_lists.specs.Ranking.{before_by_month}
 use Rattle.lookup.specs.Hits.{hit_as}
-use Rattle.lookup.specs.Sums.{any_row, recent_where}
+use Rattle.lookup.specs.Listing.{AreBestOf}
 use Rattle.lookup.proofs.best_games.recent_of.Given as goal
 
 abbrev pub invariant-loop-hit : goal.invariant-loop-hit
-invariant-loop-hit l = l.recent ≡ recent_where (take l.hit-index (map hit_as l.hits)) any_row
+invariant-loop-hit l =
+    AreBestOf before_by_month (λ row. row.recent) (map hit_as l.hits) (take l.hit-index (map hit_as l.hits)) (map hit_as l.rows.items) l.recent

@@ -1,6 +1,6 @@
 use Rattle.std.proofs.Common.{◌≡◌, map, take}
 use Rattle.explorer_model.specs.Counting.{month_number}
-use Rattle.lookup.specs.Groups.{TellsPlaces}
+use Rattle.lookup.specs.Groups.{Tells}
 use Rattle.lookup.specs.Hits.{hit_as}
 use Rattle.lookup.specs.Sums.{month_line, months_in}
 use Rattle.lookup.proofs.history.lines_of_months.Given as goal
@@ -10,5 +10,5 @@ invariant-loop-hit l =
     let hits = take l.hit-index (map hit_as l.hits) in
     record {
       lines : l.lines.items ≡ map (month_line hits) (months_in hits);
-      places : TellsPlaces l.places (map month_number (months_in hits));
+      places : Tells l.places (map month_number (months_in hits));
     }

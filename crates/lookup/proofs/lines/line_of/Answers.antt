@@ -14,6 +14,6 @@ returns c = λ key wanted each rows. record {
   average = c.average_of.ensures ∙ ap (λ sum. sum.ratings / total sum.totals) c.requires.sum;
   totals = ap (λ sum. sum.totals) c.requires.sum;
   game = c.in_ok-only_game.ensures
-      ∙ ap (λ sum. shown_game (parts_in c.args.parts.now) c.args.sum.now.next sum.shown) c.requires.sum
-      ∙ only-game key (meets wanted any_next) (parts_in c.args.parts.now) each c.args.sum.now.next (map hit_as c.args.hits.now) rows;
+      ∙ ap (λ sum. shown_game (parts_in c.args.segments.now) c.args.sum.now.next sum.shown) c.requires.sum
+      ∙ only-game key (meets wanted any_next) (parts_in c.args.segments.now) each c.args.sum.now.next (map hit_as c.args.hits.now) rows;
 }

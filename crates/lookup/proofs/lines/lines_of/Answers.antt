@@ -21,7 +21,7 @@ line_of-requires-clause-legal c =
 
 pub loop-sum-preserved : goal.loop-sum-preserved
 loop-sum-preserved c =
-    let R : MoveSum → MoveLine → Type 0 = λ sum line. IsLineMade c.args.board.now (parts_in c.args.parts.now) (map hit_as c.args.hits.now) sum.next line in
+    let R : MoveSum → MoveLine → Type 0 = λ sum line. IsLineMade c.args.board.now (parts_in c.args.segments.now) (map hit_as c.args.hits.now) sum.next line in
     let Z : List MoveLine → Type 0 = λ lines. AllZip R (take (c.loop-sum.sum-index + 1) c.args.sums.now) lines in
     subst Z (sym c.in_ok-push.ensures.items)
     (zip-next R c.args.sums.now c.loop-sum.lines.items c.loop-sum.sum-index c.sum-item.result _ c.loop-sum.invariant c.loop-sum-test.true c.sum-item.is c.in_ok-line_of.ensures)

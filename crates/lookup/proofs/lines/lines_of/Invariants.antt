@@ -7,4 +7,4 @@ use Rattle.lookup.proofs.lines.lines_of.Given as goal
 
 abbrev pub invariant-loop-sum : goal.invariant-loop-sum
 invariant-loop-sum l =
-    AllZip (λ sum line. IsLineMade l.board (parts_in l.parts) (map hit_as l.hits) sum.next line) (take l.sum-index l.sums) l.lines.items
+    AllZip (λ sum line. IsLineMade l.board (parts_in l.segments) (map hit_as l.hits) sum.next line) (take l.sum-index l.sums) l.lines.items

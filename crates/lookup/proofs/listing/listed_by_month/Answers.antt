@@ -8,7 +8,7 @@ use Rattle.lookup.proofs.listing.listed_by_month.Goals as goal
 
 pub returns : goal.returns
 returns c =
-    let parts = (parts_in c.args.parts.now) in
+    let parts = (parts_in c.args.segments.now) in
     let hits = map hit_as c.args.hits.now in
     let entries = c.args.entries.now in
     if-ok (λ listed. listed.items ≡ filter_map (λ entry. listed_where (λ row. row.recent) parts hits entry.number) entries)

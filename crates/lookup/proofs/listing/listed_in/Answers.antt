@@ -9,7 +9,7 @@ use Rattle.lookup.proofs.listing.listed_in.Goals.{in-Some+in_ok-push, in_default
 pub loop-entry-preserved : goal.loop-entry-preserved
 loop-entry-preserved c =
     let next =
-    found-next (λ entry. listed_where (list_of c.args.list) (parts_in c.args.parts.now) (map hit_as c.args.hits.now) entry.number) c.args.entries.now
+    found-next (λ entry. listed_where (list_of c.args.list) (parts_in c.args.segments.now) (map hit_as c.args.hits.now) entry.number) c.args.entries.now
     c.loop-entry.entry-index (record { rank = 0; number = 0 }) c.loop-entry-test.true in
     let found = c.in_ok-game.ensures in
     elim c.match-branch-3.branch [

@@ -7,4 +7,4 @@ use Rattle.lookup.proofs.listing.listed_in.Given as goal
 
 abbrev pub invariant-loop-entry : goal.invariant-loop-entry
 invariant-loop-entry l =
-    l.listed.items ≡ filter_map (λ entry. listed_where (list_of l.list) (parts_in l.parts) (map hit_as l.hits) entry.number) (take l.entry-index l.entries)
+    l.listed.items ≡ filter_map (λ entry. listed_where (list_of l.list) (parts_in l.segments) (map hit_as l.hits) entry.number) (take l.entry-index l.entries)

@@ -1,12 +1,12 @@
-use Rattle.std.proofs.Common.{◌≡◌, ◌==◌, List, [], length, map, take, sym, ap, subst, ◌∙◌, rules, arith}
+use Rattle.std.proofs.Common.{◌≡◌, ◌==◌, List, [], length, map, take, sym, ap, subst, ◌∙◌, arith}
 use Rattle.std.proofs.lemmas.List.{length-map}
 use Rattle.explorer_model.specs.declared.chess.Move.{Move}
-use Rattle.lookup.specs.Groups.{TellsPlaces, place_of, with_number}
+use Rattle.lookup.specs.Groups.{Tells, place_of, with_number}
 use Rattle.lookup.specs.GroupSums.{move_number}
 use Rattle.lookup.specs.Hits.{NumberedRow, hit_as}
 use Rattle.lookup.specs.MoveSums.{sum_as}
 use Rattle.lookup.specs.Sums.{moves_in}
-use Rattle.lookup.proofs.Grouping.{place-least, tells-none}
+use Rattle.lookup.proofs.Grouping.{place-least}
 use Rattle.lookup.proofs.GroupedRows.{sum-room, sums-room, sums-next, sums-same, move-numbers-next, move-numbers-same}
 use Rattle.lookup.proofs.RowMoves.{moves-none}
 use Rattle.lookup.proofs.Rows.{hit-sound, hits-all}
@@ -16,8 +16,8 @@ use Rattle.lookup.proofs.moves.sums_of_moves.Goals.{in-Some+in_ok-place+in_ok-ad
 pub loop-hit-init : goal.loop-hit-init
 loop-hit-init c = record {
   sums = c.new-sums.ensures.items ∙ sym (ap (map (sum_as [])) moves-none);
-  places = subst (λ (ms : List Move). TellsPlaces c.new-places.result (map move_number ms)) (sym moves-none)
-      (tells-none c.new-places.result (λ n. search rules));
+  places = subst (λ (ms : List Move). Tells c.new-places.result (map move_number ms)) (sym moves-none)
+      c.new-places.ensures;
 }
 
 pub add_hit-requires-clause-room : goal.add_hit-requires-clause-room
@@ -53,7 +53,7 @@ loop-hit-preserved c =
     let before : List NumberedRow = take i (map hit_as hits) in
     let moves = moves_in before in
     let numbers = map move_number moves in
-    elim c.match-hit.branch [
+    elim c.match-next.branch [
       | in-Some+in_ok-place+in_ok-add_hit w ↦ (
           let long : length numbers ≡ w.len.result =
           omega (arith, w.len.ensures, ap length c.loop-hit.invariant.sums, length-map moves (sum_as before), length-map moves move_number) in
@@ -62,17 +62,17 @@ loop-hit-preserved c =
           let told = w.in_ok-place.ensures.places numbers long c.loop-hit.invariant.places in
           record {
             sums = ap (λ s. s.items) w.sums-is ∙ w.in_ok-add_hit.ensures
-                ∙ sums-next hits i hit within is w.in-Some.next w.in-Some.is c.loop-hit.sums.items w.in_ok-place.place c.loop-hit.invariant.sums
+                ∙ sums-next hits i hit within is w.in-Some.next (sym c.next.ensures ∙ w.in-Some.is) c.loop-hit.sums.items w.in_ok-place.place c.loop-hit.invariant.sums
                 (at ∙ ap (place_of numbers) number);
             places = rw w.places-is
-                (subst (TellsPlaces w.place_of.new.places)
-                (ap (with_number numbers) number ∙ sym (move-numbers-next hits i hit within is w.in-Some.next w.in-Some.is)) told);
+                (subst (Tells w.place_of.new.self)
+                (ap (with_number numbers) number ∙ sym (move-numbers-next hits i hit within is w.in-Some.next (sym c.next.ensures ∙ w.in-Some.is))) told);
           })
       | in_default w ↦
           record {
-            sums = ap (λ s. s.items) w.sums-is ∙ sums-same hits i hit within is c.loop-hit.sums.items w.in_default.is c.loop-hit.invariant.sums;
+            sums = ap (λ s. s.items) w.sums-is ∙ sums-same hits i hit within is c.loop-hit.sums.items (sym c.next.ensures ∙ w.in_default.is) c.loop-hit.invariant.sums;
             places = rw w.places-is
-                (subst (TellsPlaces c.loop-hit.places) (sym (move-numbers-same hits i hit within is w.in_default.is)) c.loop-hit.invariant.places);
+                (subst (Tells c.loop-hit.places) (sym (move-numbers-same hits i hit within is (sym c.next.ensures ∙ w.in_default.is))) c.loop-hit.invariant.places);
           }
     ]
 

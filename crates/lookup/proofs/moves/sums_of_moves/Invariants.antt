@@ -1,5 +1,5 @@
 use Rattle.std.proofs.Common.{◌≡◌, map, take}
-use Rattle.lookup.specs.Groups.{TellsPlaces}
+use Rattle.lookup.specs.Groups.{Tells}
 use Rattle.lookup.specs.GroupSums.{move_number}
 use Rattle.lookup.specs.Hits.{hit_as}
 use Rattle.lookup.specs.MoveSums.{sum_as}
@@ -11,5 +11,5 @@ invariant-loop-hit l =
     let hits = take l.hit-index (map hit_as l.hits) in
     record {
       sums : l.sums.items ≡ map (sum_as hits) (moves_in hits);
-      places : TellsPlaces l.places (map move_number (moves_in hits));
+      places : Tells l.places (map move_number (moves_in hits));
     }

@@ -1,7 +1,7 @@
 use Rattle.std.proofs.Common.{◌≡◌, ◌+◌, ◌++◌, map, filter, length}
-use Rattle.lookup.specs.Hits.{in_months}
-use Rattle.lookup.specs.SegmentRows.{segment_row_as}
+use Rattle.lookup.specs.Hits.{hit_as}
 use Rattle.lookup.proofs.Numbered.{numbered}
+use Rattle.tally_rows.specs.Cover.{passes_row_key}
 use Rattle.tally_rows.specs.Row.{row_key_of}
 use Rattle.lookup.proofs.segment_rows.add_rows.Given as goal
 
@@ -10,7 +10,7 @@ decreases-loop-row g l = length l.walk
 
 abbrev pub invariant-loop-row : goal.invariant-loop-row
 invariant-loop-row g l = record {
-  rows : map segment_row_as l.rows.items ++ map (numbered l.first) (filter (λ row. in_months l.wanted (row_key_of row)) l.walk)
-      ≡ map segment_row_as l.initial.rows.items ++ map (numbered l.first) (filter (λ row. in_months l.wanted (row_key_of row)) l.initial.walk);
+  rows : map hit_as l.hits.items ++ map (numbered l.first) (filter (λ row. passes_row_key l.wanted (row_key_of row)) l.walk)
+      ≡ map hit_as l.initial.hits.items ++ map (numbered l.first) (filter (λ row. passes_row_key l.wanted (row_key_of row)) l.initial.walk);
   steps : l.steps + length l.walk ≡ l.initial.steps + length l.initial.walk;
 }

@@ -3,21 +3,22 @@ use Rattle.std.specs.Arc.{arc_value}
 use Rattle.std.specs.List.{sum_by}
 use Rattle.std.proofs.lemmas.List.{take_all}
 use Rattle.std.proofs.lemmas.List.Sums.{sum_by_more, sum_by-take-le}
-use Rattle.lookup.specs.Hits.{in_months, rows_from, games_counted}
+use Rattle.lookup.specs.Hits.{hit_as, rows_from, games_counted}
 use Rattle.lookup.specs.Parts.{Part, IsPart, segment_part}
-use Rattle.lookup.specs.SegmentRows.{segment_row_as, row_steps}
+use Rattle.lookup.specs.SegmentRows.{row_steps}
 use Rattle.lookup.proofs.Numbered.{numbered, picked-rows, rows_from-nil, rows_from-more, AllByRecursion-more}
 use Rattle.lookup.proofs.PartLoops.{mapped-at, mapped-past, mapped-within}
 use Rattle.lookup.proofs.SegmentRowLemmas.{cost-more}
 use Rattle.segment_blocks.specs.Segment.{CountedSpan, IsSegment}
 use Rattle.segment_blocks.specs.Walk.{has_key}
 use Rattle.tally_rows.specs.Recount.{picks}
+use Rattle.tally_rows.specs.Cover.{passes_row_key}
 use Rattle.tally_rows.specs.Row.{row_key_of}
 use Rattle.lookup.proofs.segment_rows.rows_of_segments.Goals as goal
 
 pub loop-segment-init : goal.loop-segment-init
 loop-segment-init g c = record {
-  rows = ap (map segment_row_as) c.new-rows.ensures.items ∙ sym (rows_from-nil c.args.key.now (in_months c.args.wanted.now) 0);
+  rows = ap (map hit_as) c.new-hits.ensures.items ∙ sym (rows_from-nil c.args.key.now (passes_row_key c.args.wanted.now) 0);
   within = omega arith;
   room = omega arith;
   first = omega arith;
@@ -37,7 +38,7 @@ loop-segment-preserved g c =
     let within : i < length parts = mapped-within segment_part segments i in_segments in
     let is : part ≡ get_or parts i part = mapped-at segment_part segments i segment stands in
     let key = c.args.key.now in
-    let pick = in_months c.args.wanted.now in
+    let pick = passes_row_key c.args.wanted.now in
     let counted : IsSegment segment = subst IsSegment c.deref.ensures c.add_rows.ensures.segment in
     let games : c.games-first.result ≡ length segment.classes = c.games-first.ensures ∙ ap (λ (s : CountedSpan). length s.classes) c.deref-in-loop-segment.ensures in
     record {

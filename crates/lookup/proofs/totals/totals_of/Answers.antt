@@ -1,21 +1,26 @@
-use Rattle.std.proofs.Common.{◌≡◌, length, map, lit<, rules}
+use Rattle.std.proofs.Common.{[], refl, sym, ap, ◌∙◌, rules, subst}
+use Rattle.explorer_model.specs.declared.answer.Totals.{Totals}
+use Rattle.lookup.specs.GroupSums.{HasRoom, totals_with}
 use Rattle.lookup.specs.Hits.{hit_as}
-use Rattle.lookup.proofs.GridSums.{room}
-use Rattle.tally_rows.specs.Grid.{chosen}
+use Rattle.lookup.specs.Sums.{any_row, totals_where}
+use Rattle.lookup.proofs.GroupedRows.{has-room, totals-taken}
+use Rattle.lookup.proofs.Rows.{hits-all, sum-none, totals-same}
 use Rattle.lookup.proofs.totals.totals_of.Goals as goal
 
-pub sum_of-requires : goal.sum_of-requires
-sum_of-requires c =
-    let wanted = c.args.wanted.now in
-    let speeds : length wanted.speeds ≡ 6 = search rules in
-    let groups : length wanted.groups ≡ 9 = search rules in (
-      lit< tt,
-      (
-        lit< tt,
-        (
-          lit< tt,
-          room (map hit_as c.args.hits.now) c.requires.sound (chosen wanted.speeds wanted.groups c.grid_of-grid.result) wanted
-              (c.grid_of-grid.ensures wanted speeds groups),
-        ),
-      ),
-    )
+pub loop-hit-init : goal.loop-hit-init
+loop-hit-init c =
+    totals-same c.default-totals.result (totals_where [] any_row) (search rules ∙ sym (sum-none any_row (λ row. row.white)))
+    (search rules ∙ sym (sum-none any_row (λ row. row.draws))) (search rules ∙ sym (sum-none any_row (λ row. row.black)))
+
+pub with_games-totals-requires : goal.with_games-totals-requires
+with_games-totals-requires c =
+    subst (λ (totals : Totals). HasRoom totals (hit_as c.hit-item.result).row) (sym c.loop-hit.invariant)
+    (has-room c.args.hits.now c.requires c.loop-hit.hit-index c.hit-item.result c.loop-hit-test.true c.hit-item.is any_row)
+
+pub loop-hit-preserved : goal.loop-hit-preserved
+loop-hit-preserved c =
+    c.with_games-totals.ensures ∙ ap (totals_with (hit_as c.hit-item.result).row) c.loop-hit.invariant
+    ∙ sym (totals-taken c.args.hits.now c.loop-hit.hit-index c.hit-item.result c.loop-hit-test.true c.hit-item.is any_row refl)
+
+pub returns : goal.returns
+returns c = c.loop-hit.invariant ∙ ap (λ hits. totals_where hits any_row) (hits-all c.args.hits.now c.loop-hit.hit-index c.loop-hit-test.false)

@@ -3,7 +3,7 @@ use Rattle.std.specs.Arc.{arc_value}
 use Rattle.std.specs.List.{slice_get}
 use Rattle.lookup.specs.Parts.{segment_part}
 use Rattle.lookup.specs.Listing.{all_classes}
-use Rattle.lookup.proofs.parts.classes_in_segments.Given as goal
+use Rattle.lookup.proofs.classes.classes_of.Given as goal
 
 abbrev pub invariant-loop-segment : goal.invariant-loop-segment
 invariant-loop-segment l =

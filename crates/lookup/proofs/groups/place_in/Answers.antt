@@ -2,7 +2,7 @@ use Rattle.std.proofs.Common.{◌≡◌, Some, None, sym, subst, ◌∙◌, rule
 use Rattle.std.specs.Prelude.{nat_eq}
 use Rattle.std.specs.HashMap.{get, Updates}
 use Rattle.lookup.proofs.Grouping.{untold-place, untold-told}
-use Rattle.lookup.proofs.groups.place_of.Goals as goal
+use Rattle.lookup.proofs.groups.place_in.Goals as goal
 
 pub returns-clause-place : goal.returns-clause-place
 returns-clause-place c = λ numbers long tells.

@@ -6,7 +6,7 @@ use Rattle.lookup.specs.Listing.{all_classes}
 use Rattle.lookup.proofs.PartLoops.{mapped-at, mapped-within, mapped-past}
 use Rattle.lookup.proofs.Places.{classes-here, classes-later, classes-none}
 use Rattle.segment_blocks.specs.Segment.{CountedSpan}
-use Rattle.lookup.proofs.parts.classes_in_segments.Goals as goal
+use Rattle.lookup.proofs.classes.classes_of.Goals as goal
 
 pub returns-then-left-games : goal.returns-then-left-games
 returns-then-left-games c =
