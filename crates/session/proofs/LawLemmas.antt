@@ -1,9 +1,10 @@
 -- What follows of exchanges.
-use Rattle.std.proofs.Common.{◌≡◌, ℕ, ◌+◌, ◌≤◌, ◌<◌, Bool, true, false, List, [], ◌∷◌, Option, Some, None, Result, Ok, Err, length, take, refl, sym, ◌∙◌, ap, subst, arith}
+use Rattle.std.proofs.Common.{◌≡◌, ℕ, ◌+◌, ◌≤◌, ◌<◌, Bool, true, false, List, [], ◌∷◌, Option, Some, None, Result, Ok, Err, length, take, refl, sym, ◌∙◌, ap, subst, inl, inr, arith}
 use Rattle.std.specs.List.{AllByRecursion, cons_option}
 use Rattle.std.proofs.lemmas.List.{length-take}
 use Rattle.explorer_model.specs.declared.answer.Found.{Found}
 use Rattle.explorer_model.specs.declared.archive.Batch.{Batch}
+use Rattle.explorer_model.specs.declared.fault.Refusal.{Refusal}
 use Rattle.explorer_model.specs.declared.query.BadParameter.{BadParameter}
 use Rattle.explorer_model.specs.declared.query.Query.{Query}
 use Rattle.explorer_model.specs.declared.wire.Asked.{Asked}
@@ -23,7 +24,7 @@ use Rattle.ingest_desk.specs.declared.report.ImportCall.{ImportCall}
 use Rattle.ingest_desk.specs.declared.report.ImportEnding.{ImportEnding}
 use Rattle.ingest_desk.specs.declared.report.ImportEnding.TheVariants as endings
 use Rattle.session.specs.Exchanges.{Exchange, Grants, Moment, AreExchanges}
-use Rattle.session.specs.Imports.{RepliesTo, TellsStored}
+use Rattle.session.specs.Imports.{TellsEnding}
 use Rattle.session.specs.Laws.{AscendFrom, IsOverFront, IsTold, number_of, numbers, unread_in, unread_one}
 use Rattle.session.specs.Replies.{AnswersQuery, Answer, Fixed, Import, MayEnter, Readings, Route, Silence, route_by, route_of}
 
@@ -56,21 +57,16 @@ answer-number text journal before after (replies.Found batches body) n a e = let
 answer-number text journal before after (replies.Stored batches body) n a e = absurd a
 answer-number text journal before after _ n a e = absurd (cc)
 
-stored-number : (journal : List Batch) (body : List ℕ) (games : ℕ) (reply : Reply) (n : ℕ)
-    → TellsStored journal body games reply → number_of reply ≡ Some n → n ≡ length journal
-stored-number journal body games (replies.Stored batches text) n a e = let number = a.number in cc
-stored-number journal body games (replies.Found batches text) n a e = absurd a
-stored-number journal body games _ n a e = absurd (cc)
-
-ending-number : (ending : ImportEnding) (journal : List Batch) (body : List ℕ) (games : ℕ) (reply : Reply) (n : ℕ)
-    → RepliesTo ending journal body games reply → number_of reply ≡ Some n → n ≡ length journal
-ending-number endings.Whole journal body games reply n a e = stored-number journal body games reply n a e
-ending-number (endings.DiskFault x y) journal body games reply n a e = absurd (same-number reply (replies.DiskFault games) n refl a.0 e)
-ending-number (endings.Closed x y) journal body games reply n a e = absurd (same-number reply (replies.Closed games) n refl a.0 e)
-ending-number (endings.Full x y) journal body games reply n a e = absurd (same-number reply (replies.Full x y games) n refl a.0 e)
-ending-number endings.OutOfMemory journal body games reply n a e = absurd (same-number reply replies.NoMemory n refl a e)
-ending-number (endings.ReadFault x y) journal body games reply n a e = absurd a
-ending-number (endings.TooMuch x) journal body games reply n a e = absurd a
+ending-number : (ending : ImportEnding) (batches games : ℕ) (refused : List Refusal) (reply : Reply) (n : ℕ)
+    → TellsEnding ending batches games refused reply → number_of reply ≡ Some n → n ≡ batches
+ending-number endings.Whole batches games refused reply n (inl told) e = let number : number_of reply ≡ Some batches = ap number_of told in cc
+ending-number endings.Whole batches games refused reply n (inr lacks) e = absurd (same-number reply replies.NoMemory n refl lacks e)
+ending-number (endings.DiskFault x y) batches games refused reply n told e = absurd (same-number reply (replies.DiskFault games) n refl told e)
+ending-number (endings.Closed x y) batches games refused reply n told e = absurd (same-number reply (replies.Closed games) n refl told e)
+ending-number (endings.Full x y) batches games refused reply n told e = absurd (same-number reply (replies.Full x y games) n refl told e)
+ending-number endings.OutOfMemory batches games refused reply n told e = absurd (same-number reply replies.NoMemory n refl told e)
+ending-number (endings.ReadFault x y) batches games refused reply n told e = absurd told
+ending-number (endings.TooMuch x) batches games refused reply n told e = absurd told
 
 -- a fixed reply names no number
 IsUnnumbered : Route → Type 0
@@ -81,7 +77,8 @@ route-number : (route : Route) (journal : List Batch) (before after : Moment) (c
     → IsUnnumbered route → Grants route journal before after call reply → number_of reply ≡ Some n → n ≡ length journal
 unfolding IsUnnumbered
 route-number (Answer text) journal before after call reply n none a e = answer-number text journal before.readings after.readings reply n a.answers e
-route-number (Import body) journal before after call reply n none a e = ending-number a.made.ending journal body a.made.games reply n a.replies e
+route-number (Import body) journal before after call reply n none a e =
+    ending-number a.made.ending (length journal) a.made.games a.replies.refused reply n a.replies.tells e
 route-number (Fixed fixed) journal before after call reply n none a e = absurd (same-number reply fixed n none a.is_fixed e)
 route-number Silence journal before after call reply n none a e = absurd a
 
@@ -165,21 +162,16 @@ answer-unread text journal before after replies.NoMemory a = omega (arith, a.1)
 answer-unread text journal before after replies.Unread a = omega (arith, a.1)
 answer-unread text journal before after _ a = absurd a
 
-stored-unread : (journal : List Batch) (body : List ℕ) (games : ℕ) (reply : Reply) → TellsStored journal body games reply
-    → unread_one reply ≡ 0
-stored-unread journal body games (replies.Stored batches text) a = refl
-stored-unread journal body games replies.NoMemory a = refl
-stored-unread journal body games _ a = absurd a
-
-ending-unread : (ending : ImportEnding) (journal : List Batch) (body : List ℕ) (games : ℕ) (reply : Reply)
-    → RepliesTo ending journal body games reply → unread_one reply ≡ 0
-ending-unread endings.Whole journal body games reply a = stored-unread journal body games reply a
-ending-unread (endings.DiskFault x y) journal body games reply a = ap unread_one a.0
-ending-unread (endings.Closed x y) journal body games reply a = ap unread_one a.0
-ending-unread (endings.Full x y) journal body games reply a = ap unread_one a.0
-ending-unread endings.OutOfMemory journal body games reply a = ap unread_one a
-ending-unread (endings.ReadFault x y) journal body games reply a = absurd a
-ending-unread (endings.TooMuch x) journal body games reply a = absurd a
+ending-unread : (ending : ImportEnding) (batches games : ℕ) (refused : List Refusal) (reply : Reply)
+    → TellsEnding ending batches games refused reply → unread_one reply ≡ 0
+ending-unread endings.Whole batches games refused reply (inl told) = ap unread_one told
+ending-unread endings.Whole batches games refused reply (inr lacks) = ap unread_one lacks
+ending-unread (endings.DiskFault x y) batches games refused reply told = ap unread_one told
+ending-unread (endings.Closed x y) batches games refused reply told = ap unread_one told
+ending-unread (endings.Full x y) batches games refused reply told = ap unread_one told
+ending-unread endings.OutOfMemory batches games refused reply told = ap unread_one told
+ending-unread (endings.ReadFault x y) batches games refused reply told = absurd told
+ending-unread (endings.TooMuch x) batches games refused reply told = absurd told
 
 route-unread : (route : Route) (journal : List Batch) (before after : Moment) (call : Option ImportCall) (reply : Reply)
     → IsRead route → Grants route journal before after call reply
@@ -187,7 +179,7 @@ route-unread : (route : Route) (journal : List Batch) (before after : Moment) (c
 unfolding IsRead
 route-unread (Answer text) journal before after call reply read a = answer-unread text journal before.readings after.readings reply a.answers
 route-unread (Import body) journal before after call reply read a =
-    let none = ending-unread a.made.ending journal body a.made.games reply a.replies in
+    let none = ending-unread a.made.ending (length journal) a.made.games a.replies.refused reply a.replies.tells in
     let same : after.readings.unread ≡ before.readings.unread = ap (λ (r : Readings). r.unread) a.readings in
     omega (arith, none, same)
 route-unread (Fixed fixed) journal before after call reply read a =

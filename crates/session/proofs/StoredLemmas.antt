@@ -1,6 +1,6 @@
 -- What an import stored, in what the pass then has seen.
-use Rattle.std.proofs.Common.{◌≡◌, ◌⊎◌, ◌≤◌, ◌+◌, ℕ, zero, suc, List, [], ◌∷◌, ◌++◌, Some, length, refl, sym, ◌∙◌, ap, subst, length-append, inl, inr, arith}
-use Rattle.std.specs.List.{All, AllByRecursion, Contains, slice_get}
+use Rattle.std.proofs.Common.{◌≡◌, ◌≤◌, ◌+◌, ℕ, List, [], ◌∷◌, Some, length, refl, sym, ◌∙◌, ap, length-append}
+use Rattle.std.specs.List.{All, Contains, slice_get}
 use Rattle.std.proofs.lemmas.List.Concat.{flat_map-append}
 use Rattle.std.proofs.lemmas.List.Elements.{All-contains, All-from_recursion, All-weaker}
 use Rattle.std.proofs.lemmas.List.Sums.{sum_by-cons}
@@ -8,22 +8,19 @@ use Rattle.explorer_model.specs.declared.archive.Batch.{Batch}
 use Rattle.explorer_model.specs.declared.fault.Refusal.{Refusal}
 use Rattle.explorer_model.specs.declared.fault.Why.{Why}
 use Rattle.explorer_model.specs.declared.fault.Why.TheVariants.{Preamble, TooLong, Game, Twice, Repeated}
-use Rattle.explorer_model.specs.declared.wire.Reply.{Reply}
-use Rattle.explorer_model.specs.declared.wire.Reply.TheVariants as replies
 use Rattle.explorer_model.specs.Cuts.{Cut, cuts}
-use Rattle.explorer_model.specs.Imports.{AccountedBeside, Candidate, groups}
+use Rattle.explorer_model.specs.Imports.{AccountedBeside, groups}
 use Rattle.explorer_model.specs.Journal.{game_count}
-use Rattle.explorer_model.specs.Replies.{stored_body}
 use Rattle.explorer_model.specs.Timeline.{IsPrefix}
 use Rattle.explorer_model.specs.Visits.{texts_of}
 use Rattle.ingest_desk.specs.declared.receipt.Receipt.{Receipt}
 use Rattle.ingest_desk.specs.declared.report.End.{End}
 use Rattle.ingest_desk.specs.declared.report.End.TheVariants as ends
 use Rattle.ingest_desk.specs.declared.report.Report.{Report}
-use Rattle.ingest_desk.specs.Importers.{ending_of}
-use Rattle.ingest_desk.specs.Reporting.{AccountsTo, AreReceipts, BreaksAt, FindsNoRoom, RepeatsBy, RepeatsGame, Reports, games_of}
-use Rattle.session.specs.Imports.{HasStored, HasStoredBody, IsFullFor, IsRepeatOf, RepliesTo, StandFrom, TellsStored}
-use Rattle.session.specs.Steps.{IsReplyBy, KnowsEnd, KnowsNotes, KnowsReceipts}
+use Rattle.ingest_desk.specs.Importers.{EndsInMemory, ending_of}
+use Rattle.ingest_desk.specs.Reporting.{AccountsTo, AreReceipts, RepeatsBy, RepeatsGame, Reports, games_of}
+use Rattle.session.specs.Imports.{AccountsBy, HasImported, HasStoredBody, IsRepeatOf, StandFrom}
+use Rattle.session.specs.Steps.{KnowsEnd, KnowsNotes, KnowsReceipts}
 use Rattle.session.proofs.FrontLemmas.{get-prefix}
 
 -- the batches of receipts stand in a journal that begins with their notes
@@ -88,83 +85,31 @@ repeats-known cuts notes refused journal knows each =
     All-weaker (λ r. RepeatsBy cuts notes r.place r.why) (λ r. IsRepeatOf cuts journal r.place r.why)
     (λ r. repeat-known cuts notes r.place r.why journal knows) refused each
 
-has-stored : {J : Type 0} (receipts : List (Receipt J)) (batches journal : List Batch)
-    → AreReceipts 0 receipts batches → KnowsReceipts receipts journal → HasStored journal (games_of receipts)
-has-stored receipts batches journal are knows = record {
-  batches = batches;
-  stand = receipts-stand 0 receipts batches journal are knows;
-  count = receipts-count 0 receipts batches are;
+-- how an import accounted the groups, over a journal that has all that was told
+accounts-by : {J : Type 0} (end : End J) (journal : List Batch) (groups : List (List Cut)) (batches : List Batch)
+    (refused : List Refusal) → EndsInMemory (ending_of end) → KnowsEnd end journal → AccountsTo end groups batches refused
+    → AccountsBy (ending_of end) journal groups batches refused
+accounts-by ends.Whole journal groups batches refused in_memory told a = a
+accounts-by (ends.ReadFault before after) journal groups batches refused in_memory told a = absurd in_memory
+accounts-by (ends.DiskFault before after mark) journal groups batches refused in_memory told a = (a.1, a.2)
+accounts-by (ends.Closed before after mark) journal groups batches refused in_memory told a = (a.1, a.2)
+accounts-by (ends.Full games bytes note) journal groups batches refused in_memory told a =
+    (a.0, a.1, record { front = note; is_front = told; no_room = a.2 })
+accounts-by (ends.TooMuch bytes) journal groups batches refused in_memory told a = absurd in_memory
+accounts-by ends.OutOfMemory journal groups batches refused in_memory told a = a
+
+-- what an import stored and refused of a body, over a journal that has all that was told
+pub has-imported : {J : Type 0} (body : List ℕ) (report : Report J) (journal : List Batch)
+    → Reports (cuts body) report → EndsInMemory (ending_of report.end)
+    → KnowsReceipts report.receipts.items journal → KnowsNotes report.clashes.items journal → KnowsEnd report.end journal
+    → HasImported (ending_of report.end) journal body (games_of report.receipts.items) report.refused.items
+has-imported body report journal reports in_memory knows notes told = record {
+  batches = reports.batches;
+  stand = receipts-stand 0 report.receipts.items reports.batches journal reports.are_receipts knows;
+  count = receipts-count 0 report.receipts.items reports.batches reports.are_receipts;
+  accounted = accounts-by report.end journal (groups (cuts body)) reports.batches report.refused.items in_memory told reports.accounts;
+  repeats = repeats-known (cuts body) report.clashes.items report.refused.items journal notes reports.repeats;
 }
-
--- what stands at a place of a list is in it
-contains-at : {A : Type 0} (xs : List A) (i : ℕ) (x : A) → slice_get xs i ≡ Some x → Contains xs x
-contains-at [] i x h = absurd (cc)
-contains-at (y ∷ ys) zero x h = let e : y ≡ x = cc in subst (λ (z : _). Contains (y ∷ ys) z) e (0, omega arith, refl)
-contains-at (y ∷ ys) (suc i) x h =
-    let c = contains-at ys i x h in
-    (suc c.0, omega (arith, c.1), c.2)
-
--- the reply to a whole import tells what is stored
-tells-stored : (journal : List Batch) (body : List ℕ) (games : ℕ) (refused : List Refusal) (reply : Reply)
-    → HasStoredBody journal body games refused
-    → (reply ≡ replies.Stored (length journal) (stored_body (length journal) games refused)) ⊎ (reply ≡ replies.NoMemory)
-    → TellsStored journal body games reply
-tells-stored journal body games refused reply has (inl e) =
-    subst (λ (told : Reply). TellsStored journal body games told) (sym e)
-    (record { number = refl; refused = refused; is_text = refl; has_stored = has })
-tells-stored journal body games refused reply has (inr e) =
-    subst (λ (told : Reply). TellsStored journal body games told) (sym e) tt
-
--- where an import found no room, there is none behind a front of a journal that has the note
-is-full : (journal : List Batch) (body : List ℕ) (games bytes : ℕ) (note : List Batch) (left : List Candidate)
-    (batches : List Batch) (refused : List Refusal) → IsPrefix note journal
-    → BreaksAt (groups (cuts body)) batches refused left → FindsNoRoom note games bytes left
-    → IsFullFor journal body games bytes
-is-full journal body games bytes note left batches refused p b room = record {
-  front = note;
-  is_front = p;
-  group = b.group;
-  is_group = contains-at (groups (cuts body)) b.finished b.group b.in_hand;
-  left = left;
-  refused = b.hand;
-  judged = b.judged;
-  no_room = room;
-}
-
--- the reply is the one for how the import ended, over a journal that has all that was told
-module _ {J : Type 0} (body : List ℕ) (receipts : List (Receipt J)) (refused : List Refusal) (clashes : List (List Batch))
-    (journal : List Batch) (reply : Reply) (knows : KnowsReceipts receipts journal) (notes : KnowsNotes clashes journal) where
-  replies-to : (end : End J) (batches : List Batch) → AreReceipts 0 receipts batches
-      → AccountsTo end (groups (cuts body)) batches refused
-      → All (λ r. RepeatsBy (cuts body) clashes r.place r.why) refused
-      → KnowsEnd end journal → IsReplyBy (ending_of end) (length journal) (games_of receipts) refused reply
-      → RepliesTo (ending_of end) journal body (games_of receipts) reply
-  replies-to ends.Whole batches are accounts repeats told by = tells-stored journal body (games_of receipts) refused reply (record {
-    batches = batches;
-    stand = receipts-stand 0 receipts batches journal are knows;
-    count = receipts-count 0 receipts batches are;
-    accounted = accounts;
-    repeats = repeats-known (cuts body) clashes refused journal notes repeats;
-  }) by
-  replies-to (ends.ReadFault before after) batches are accounts repeats told by = absurd by
-  replies-to (ends.DiskFault before after mark) batches are accounts repeats told by = (by, has-stored receipts batches journal are knows)
-  replies-to (ends.Closed before after mark) batches are accounts repeats told by = (by, has-stored receipts batches journal are knows)
-  replies-to (ends.Full games bytes note) batches are accounts repeats told by = (
-    by,
-    has-stored receipts batches journal are knows,
-    is-full journal body games bytes note accounts.0 batches refused told accounts.1 accounts.2,
-  )
-  replies-to (ends.TooMuch bytes) batches are accounts repeats told by = absurd by
-  replies-to ends.OutOfMemory batches are accounts repeats told by = by
-
-pub import-replied : {J : Type 0} (body : List ℕ) (report : Report J) (journal : List Batch) (reply : Reply)
-    → Reports (cuts body) report → KnowsReceipts report.receipts.items journal
-    → KnowsNotes report.clashes.items journal → KnowsEnd report.end journal
-    → IsReplyBy (ending_of report.end) (length journal) (games_of report.receipts.items) report.refused.items reply
-    → RepliesTo (ending_of report.end) journal body (games_of report.receipts.items) reply
-import-replied body report journal reply r knows notes told by =
-    replies-to body report.receipts.items report.refused.items report.clashes.items journal reply knows notes
-    report.end r.batches r.are_receipts r.accounts r.repeats told by
 
 -- a whole import stored its body in a journal that has all that was told
 pub has-stored-body : {J : Type 0} (body : List ℕ) (report : Report J) (journal : List Batch)

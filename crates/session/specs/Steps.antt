@@ -1,16 +1,13 @@
 -- How a connection comes to be served, step by step.
-use Rattle.std.specs.Prelude.{◌≡◌, ◌⊎◌, ⊤, ◌+◌, ◌≤◌, ℕ, List, [], ◌∷◌, ◌++◌, length, Option, None, Some}
+use Rattle.std.specs.Prelude.{◌≡◌, ⊤, ◌+◌, ◌≤◌, ℕ, List, [], ◌∷◌, ◌++◌, length, Option, None, Some}
 use Rattle.std.specs.Io.KnownBytes.{Appends, Consumes}
 use Rattle.std.specs.List.{AllByRecursion}
 use Rattle.outside.specs.Stream.{Stream}
 use Rattle.explorer_model.specs.declared.archive.Batch.{Batch}
-use Rattle.explorer_model.specs.declared.fault.Refusal.{Refusal}
 use Rattle.explorer_model.specs.declared.wire.Asked.{Asked}
 use Rattle.explorer_model.specs.declared.wire.Asked.TheVariants as asks
 use Rattle.explorer_model.specs.declared.wire.Reply.{Reply}
-use Rattle.explorer_model.specs.declared.wire.Reply.TheVariants as replies
 use Rattle.explorer_model.specs.Cuts.{cuts}
-use Rattle.explorer_model.specs.Replies.{stored_body}
 use Rattle.explorer_model.specs.Timeline.{IsPrefix}
 use Rattle.explorer_model.specs.Wire.{body_limit, request_limit}
 use Rattle.http_wire.specs.Asking.{Buffer}
@@ -19,8 +16,6 @@ use Rattle.ingest_desk.specs.declared.report.End.{End}
 use Rattle.ingest_desk.specs.declared.report.End.TheVariants as ends
 use Rattle.ingest_desk.specs.declared.report.ImportCall.{ImportCall}
 use Rattle.ingest_desk.specs.declared.report.Report.{Report}
-use Rattle.ingest_desk.specs.declared.report.ImportEnding.{ImportEnding}
-use Rattle.ingest_desk.specs.declared.report.ImportEnding.TheVariants as endings
 use Rattle.ingest_desk.specs.Importers.{CountsRose, ImporterState, TellsAll, call_of}
 use Rattle.ingest_desk.specs.Reporting.{Reports}
 use Rattle.session.specs.Exchanges.{Backend, Exchange, Grants, AreExchanges, asked_in, calls_in, moment_of, reply_texts}
@@ -51,20 +46,6 @@ pub record HasLearnt (J : Type 0) (body : List ℕ) (before after : ImporterStat
   pub receipts : KnowsReceipts report.receipts.items seen
   pub clashes : KnowsNotes report.clashes.items seen
   pub end : KnowsEnd report.end seen
-
--- the reply to an import that ended so, where the pass has seen so many batches then
-abbrev pub IsReplyBy : ImportEnding → ℕ → ℕ → List Refusal → Reply → Type 0
-IsReplyBy endings.Whole batches stored refused reply =
-    (reply ≡ replies.Stored batches (stored_body batches stored refused))
-    ⊎ (reply ≡ replies.NoMemory)
-IsReplyBy (endings.DiskFault before after) batches stored refused reply =
-    reply ≡ replies.DiskFault stored
-IsReplyBy (endings.Closed before after) batches stored refused reply =
-    reply ≡ replies.Closed stored
-IsReplyBy (endings.Full games bytes) batches stored refused reply =
-    reply ≡ replies.Full games bytes stored
-IsReplyBy endings.OutOfMemory batches stored refused reply = reply ≡ replies.NoMemory
-IsReplyBy _ batches stored refused reply = ⊥
 
 -- the body is imported and gets the reply
 pub record ImportReplied (body : List ℕ) (before : Backend) (reply : Reply) (after : Backend)

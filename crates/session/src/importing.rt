@@ -5,11 +5,11 @@ ghost use Rattle.explorer_model.specs.Wire.{body_limit};
 ghost use Rattle.ingest_desk.specs.Importers.{EndsInMemory, ending_of};
 ghost use Rattle.ingest_desk.specs.Reporting.{games_of};
 ghost use Rattle.session.specs.Exchanges.{backend};
+ghost use Rattle.session.specs.Imports.{TellsEnding};
 ghost use Rattle.session.specs.Replies.{readings_of};
 ghost use Rattle.session.specs.Steps.{
   HasLearnt,
   ImportReplied,
-  IsReplyBy,
   KnowsEnd,
   KnowsNotes,
   KnowsReceipts,
@@ -98,7 +98,7 @@ fn reply_to_end<J: Index>(
     refused: &[Refusal],
 ) -> Reply
     requires { EndsInMemory (ending_of end) }
-    ensures reply { IsReplyBy (ending_of end) (length pass.new.seen) stored refused.now result }
+    ensures reply { TellsEnding (ending_of end) (length pass.new.seen) stored refused.now result }
     ensures knows { KnowsEnd end pass.new.seen }
     ensures grew { IsPrefix pass.old.seen pass.new.seen }
     ensures readings { readings_of pass.new ≡ readings_of pass.old }
