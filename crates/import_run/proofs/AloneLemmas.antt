@@ -196,6 +196,7 @@ module _ {D : Type 0} (disk : D → DiskState) (left_since : D → ℕ → List 
           batches = c.batches;
           receipts = c.receipts;
           stands = c.stands;
+          repeats = i.repeats;
           stores = stores;
           sound = sound_after;
           disk_faults = disk_faults start i.stream source_after.left c.batches (journal before ++ c.batches) report.refused.items refl report.end c.stands stores;

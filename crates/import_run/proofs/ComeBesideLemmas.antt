@@ -302,6 +302,13 @@ module _ {J : Type 0} (front stream : List ℕ) (report : Report J) (w : IsWhole
   all : cuts stream ≡ all_cuts w.whole ++ (w.follows rest).0
   all = ap cuts (sym is) ∙ (w.follows rest).1
 
+  -- the repeats of its whole groups are those of its cuts
+  pub whole_repeats : AreRepeats (cuts stream) report.clashes.items report.refused.items
+  whole_repeats =
+      let C : Cut → List Cut → Type 0 = λ cut l. Contains l cut in
+      all-repeats-grow (all_cuts w.whole) (cuts stream) report.clashes.items report.clashes.items report.refused.items
+      (λ cut c. subst (C cut) (sym all) (Contains-append_left (all_cuts w.whole) (w.follows rest).0 cut c)) (prefix-self report.clashes.items) w.repeats
+
   -- the report of a stream that was cut off, by its end
   comes_cut : (left_over : Option (List ℕ)) (end : End J) → report.end ≡ end → ((front : AccountedFront (groups (cuts stream)) w.batches report.refused.items) → AccountsTo end (groups (cuts stream)) w.batches report.refused.items)
       → StandsBeside end stream left_over w.batches report.refused.items → ComesBeside stream left_over report
@@ -310,7 +317,6 @@ module _ {J : Type 0} (front stream : List ℕ) (report : Report J) (w : IsWhole
       let so_far = subst F (sym all) (accounted_front w.whole (w.follows rest).0 w.batches report.refused.items w.in_groups.each (behind_closed stream w.whole (w.follows rest).0 all) w.accounted) in
       let A : End J → Type 0 = λ e. AccountsTo e (groups (cuts stream)) w.batches report.refused.items in
       let B : End J → Type 0 = λ e. StandsBeside e stream left_over w.batches report.refused.items in
-      let C : Cut → List Cut → Type 0 = λ cut l. Contains l cut in
       let within = games_within w.whole report.receipts.items w.batches report.refused.items w.are_receipts w.accounted in
       let long = ap (λ (l : List Cut). length l) all in
       record {
@@ -318,8 +324,7 @@ module _ {J : Type 0} (front stream : List ℕ) (report : Report J) (w : IsWhole
           batches = w.batches;
           are_receipts = w.are_receipts;
           accounts = subst A (sym end_is) (accounts so_far);
-          repeats = all-repeats-grow (all_cuts w.whole) (cuts stream) report.clashes.items report.clashes.items report.refused.items
-              (λ cut c. subst (C cut) (sym all) (Contains-append_left (all_cuts w.whole) (w.follows rest).0 cut c)) (prefix-self report.clashes.items) w.repeats;
+          repeats = whole_repeats;
         };
         stands = subst B (sym end_is) stands;
         few = omega (arith, within, long, length-append (all_cuts w.whole) (w.follows rest).0);

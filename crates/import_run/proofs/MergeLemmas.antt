@@ -137,33 +137,6 @@ pub woven_verdicts : (cuts : List Cut) (examinations : List Examination) → Asc
     → (candidates (verdicts (woven cuts examinations)) ≡ candidates (verdicts examinations)) × (refusals (verdicts (woven cuts examinations)) ≡ merged (refusals (verdicts examinations)) (filter_map unread_of cuts))
 woven_verdicts cuts examinations h each = woven_from 0 cuts [] examinations h each
 
--- ---- the loop that merges
-
-dropped : (xs : List Refusal) (i : ℕ) (x : Refusal) → i < length xs → x ≡ get_or xs i x → drop i xs ≡ x ∷ drop (i + 1) xs
-dropped xs i x less is = rw add-one (drop-cons xs i x less ∙ ap (λ (y : Refusal). y ∷ drop (suc i) xs) (sym is))
-
-pub merge_text : (all goal texts unread : List Refusal) (i j : ℕ) (a b : Refusal) → i < length texts → a ≡ get_or texts i a → j < length unread → b ≡ get_or unread j b
-    → a.place < b.place → all ++ merged (drop i texts) (drop j unread) ≡ goal → (all ++ a ∷ []) ++ merged (drop (i + 1) texts) (drop j unread) ≡ goal
-merge_text all goal texts unread i j a b less is less' is' before so_far =
-    let other = dropped unread j b less' is' in
-    append_assoc all (a ∷ []) (merged (drop (i + 1) texts) (drop j unread))
-    ∙ ap (λ (l : List Refusal). all ++ a ∷ merged (drop (i + 1) texts) l) other
-    ∙ ap (λ (l : List Refusal). all ++ l) (sym (put_now a b (merged (drop (i + 1) texts)) (drop (j + 1) unread) before))
-    ∙ ap (λ (l : List Refusal). all ++ merged l (b ∷ drop (j + 1) unread)) (sym (dropped texts i a less is))
-    ∙ ap (λ (l : List Refusal). all ++ merged (drop i texts) l) (sym other)
-    ∙ so_far
-
-pub merge_unread : (all goal texts unread : List Refusal) (i j : ℕ) (a b : Refusal) → i < length texts → a ≡ get_or texts i a → j < length unread → b ≡ get_or unread j b
-    → b.place ≤ a.place → all ++ merged (drop i texts) (drop j unread) ≡ goal → (all ++ b ∷ []) ++ merged (drop i texts) (drop (j + 1) unread) ≡ goal
-merge_unread all goal texts unread i j a b less is less' is' before so_far =
-    let one = dropped texts i a less is in
-    append_assoc all (b ∷ []) (merged (drop i texts) (drop (j + 1) unread))
-    ∙ ap (λ (l : List Refusal). all ++ b ∷ merged l (drop (j + 1) unread)) one
-    ∙ ap (λ (l : List Refusal). all ++ l) (sym (put_later a b (merged (drop (i + 1) texts)) (drop (j + 1) unread) before))
-    ∙ ap (λ (l : List Refusal). all ++ merged l (b ∷ drop (j + 1) unread)) (sym one)
-    ∙ ap (λ (l : List Refusal). all ++ merged (drop i texts) l) (sym (dropped unread j b less' is'))
-    ∙ so_far
-
 -- ---- a group that is tallied
 
 pub is_tallied : (cuts : List Cut) (group : TextGroup) (made : Tallying) (tallied : TalliedGroup) → Ascend cuts → IsGroupOf cuts group → IsTallying group.texts.items made

@@ -4,12 +4,13 @@ use Rattle.std.proofs.lemmas.Bool.{ltb-true, ltb-false}
 use Rattle.std.proofs.lemmas.List.{append-nil, length-take-le}
 use Rattle.outside.specs.Stream.{Stream, Gives, FailsToGive, Reads, Rises}
 use Rattle.outside.proofs.StreamLemmas.{reads-none, reads-gives, reads-fails, reads-trans}
-use Rattle.explorer_model.specs.Cuts.{Cut}
+use Rattle.explorer_model.specs.Cuts.{Cut, cuts}
 use Rattle.explorer_model.specs.Journal.{input_limit}
 use Rattle.ingest_desk.specs.declared.report.End.{End}
 use Rattle.ingest_desk.specs.declared.report.End.TheVariants as ends
 use Rattle.ingest_desk.specs.declared.report.Report.{Report}
 use Rattle.import_run.specs.declared.groups.OpenImport.{OpenImport}
+use Rattle.import_run.specs.Beside.{AreRepeats}
 use Rattle.import_run.specs.Committing.{Known, Store}
 use Rattle.import_run.specs.Ending.{ReadFaultsAre}
 use Rattle.import_run.specs.Taking.{ComesQuietly, ComesTo, CutSoFar, Imports, IsWholeSettled}
@@ -59,11 +60,6 @@ pub one_byte : (buffer : List ℕ) → 0 < length buffer → (last : ℕ) × (ta
 one_byte [] some = absurd (omega (arith, some))
 one_byte (last ∷ rest) some = (last, refl)
 
-pub bound_byte : (front : List ℕ) (n : ℕ) (buffer : List ℕ) → n ≡ 1 → n ≤ length buffer → (last : ℕ) × (front ++ take n buffer ≡ front ++ last ∷ [])
-bound_byte front n buffer one within =
-    let byte = one_byte buffer (omega (arith, within, one)) in
-    (byte.0, ap (λ (k : ℕ). front ++ take k buffer) one ∙ ap (λ (l : List ℕ). front ++ l) byte.1)
-
 module _ {J : Type 0} where
   pub read_nothing : (start : Option Store) (old : Stream) (after : List ℕ → List Cut) (import : OpenImport J) (told : Option Store) → CutSoFar start [] after import told → HasRead start 0 old old after import told
   read_nothing start old after import told cut = record { stream = []; long = refl; reads = reads-none old; faults = refl; cut = cut }
@@ -82,14 +78,14 @@ module _ {J : Type 0} where
 
   -- an import without a fault of a read
   pub imports_quietly : (start : Known) (old new : Stream) (report : Report J) (told : Option Store) (stream : List ℕ) → Reads stream old new → new.read_faults ≡ old.read_faults
-      → ComesQuietly start stream new.left report told → Imports start old new report told
-  imports_quietly start old new report told stream reads same c = record { stream = stream; reads = reads; faults = c.quiet old new same; comes = c.comes }
+      → ComesQuietly start stream new.left report told → AreRepeats (cuts stream) report.clashes.items report.refused.items → Imports start old new report told
+  imports_quietly start old new report told stream reads same c repeats = record { stream = stream; reads = reads; faults = c.quiet old new same; comes = c.comes; repeats = repeats }
 
   -- a read failed
   pub imports_failed : (start : Known) (old mid new : Stream) (report : Report J) (told : Option Store) (stream : List ℕ) (before after : ℕ) → report.end ≡ ends.ReadFault before after
       → before ≡ mid.read_faults → after ≡ new.read_faults → mid.read_faults ≡ old.read_faults → Reads stream old mid → FailsToGive mid new → ComesTo start stream new.left report told
-      → Imports start old new report told
-  imports_failed start old mid new report told stream before after is first last same reads fails comes =
+      → AreRepeats (cuts stream) report.clashes.items report.refused.items → Imports start old new report told
+  imports_failed start old mid new report told stream before after is first last same reads fails comes repeats =
       let P : End J → Type 0 = λ e. ReadFaultsAre e old new in
       let R : ℕ → Type 0 = λ n. Rises n new.read_faults in
       let S : ℕ → Type 0 = λ n. Rises before n in
@@ -98,13 +94,15 @@ module _ {J : Type 0} where
         reads = read_failed stream old mid new reads fails;
         faults = subst P (sym is) (first ∙ same, last, subst S (sym last) (subst R (sym first) fails.rises));
         comes = comes;
+        repeats = repeats;
       }
 
   -- the bound was reached, by one byte that was read alone
   pub imports_bound : (start : Known) (old mid new : Stream) (report : Report J) (told : Option Store) (front : List ℕ) (n bytes : ℕ) (buffer : List ℕ) → report.end ≡ ends.TooMuch bytes
       → Reads front old mid → mid.read_faults ≡ old.read_faults → Gives n buffer mid new → n ≡ 1 → length front + 1 ≡ input_limit → bytes ≡ input_limit
-      → IsWholeSettled start front report.receipts.items report.refused.items told → Imports start old new report told
-  imports_bound start old mid new report told front n bytes buffer is reads same gives one long bound whole =
+      → IsWholeSettled start front report.receipts.items report.refused.items told → AreRepeats (cuts (front ++ take n buffer)) report.clashes.items report.refused.items
+      → Imports start old new report told
+  imports_bound start old mid new report told front n bytes buffer is reads same gives one long bound whole repeats =
       let some : 0 < length buffer = omega (arith, gives.within, one) in
       let byte = one_byte buffer some in
       let front_is : front ++ take n buffer ≡ front ++ byte.0 ∷ [] = ap (λ (k : ℕ). front ++ take k buffer) one ∙ ap (λ (l : List ℕ). front ++ l) byte.1 in
@@ -115,4 +113,5 @@ module _ {J : Type 0} where
         reads = read_more front n buffer old mid new reads gives;
         faults = subst P (sym is) (no_fault n buffer old mid new same gives);
         comes = comes_too_much start report (front ++ take n buffer) new.left told bytes is (bound ∙ sym all) all front byte.0 front_is whole;
+        repeats = repeats;
       }

@@ -64,10 +64,6 @@ sooner : (a b : ℕ) (l : List Refusal) → a ≤ b → Above b l → Above a l
 sooner a b [] le h = tt
 sooner a b (r ∷ l) le h = (omega (arith, h.0), sooner a b l le h.1)
 
-cons_above : (first : ℕ) (candidate : Candidate) (o : Option ℕ) (l : List Verdict) (more : List Refusal) → first ≤ candidate.place → Above first more → Above first (refusals (verdict_if_stored o candidate ∷ []) ++ more)
-cons_above first candidate None l more le h = h
-cons_above first candidate (Some n) l more le h = (le, h)
-
 above_lost : (stored : Numbering) (first : ℕ) (fs : List Verdict) → Ascends first fs → Above first (lost stored fs)
 above_lost stored first [] h = tt
 above_lost stored first (Refused refusal ∷ fs) h = (h.0, sooner first (refusal.place + 1) (lost stored fs) (omega (arith, h.0)) (above_lost stored (refusal.place + 1) fs h.1))
@@ -76,11 +72,6 @@ above_lost stored first (Accepted c ∷ fs) h = by_stored (stored (id_of c)) (so
     by_stored : (o : Option ℕ) → Above first (lost stored fs) → Above first (refusals (verdict_if_stored o c ∷ map (verdict_behind stored) fs))
     by_stored None later = later
     by_stored (Some n) later = (h.0, later)
-
-named_cons : (number : Numbering) (first : ℕ) (c : Candidate) (o : Option ℕ) (more : List Candidate) → first ≤ c.place → Above first (named_by number more)
-    → Above first (filter_map (option_map (repeated c.place)) (o ∷ []) ++ named_by number more)
-named_cons number first c None more le h = h
-named_cons number first c (Some n) more le h = (le, h)
 
 above_named : (stored number : Numbering) (first : ℕ) (fs : List Verdict) → Ascends first fs → Above first (named_by number (kept stored fs))
 above_named stored number first [] h = tt

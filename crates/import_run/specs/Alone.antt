@@ -3,6 +3,7 @@ use Rattle.std.specs.Prelude.{◌≡◌, ℕ, List, ◌++◌, None}
 use Rattle.disk_model.specs.Disk.{DiskState}
 use Rattle.outside.specs.Stream.{Stream, Reads}
 use Rattle.explorer_model.specs.declared.archive.Batch.{Batch}
+use Rattle.explorer_model.specs.Cuts.{cuts}
 use Rattle.explorer_model.specs.Journal.{IsSound}
 use Rattle.record_log.specs.Log.{IsFault}
 use Rattle.ingest_desk.specs.Kept.{Keeps}
@@ -11,6 +12,7 @@ use Rattle.ingest_desk.specs.Stored.{Stored, journal}
 use Rattle.ingest_desk.specs.declared.report.End.{End}
 use Rattle.ingest_desk.specs.declared.report.End.TheVariants as ends
 use Rattle.ingest_desk.specs.declared.report.Report.{Report}
+use Rattle.import_run.specs.Beside.{AreRepeats}
 use Rattle.import_run.specs.Committing.{Known, Store, store_of}
 use Rattle.import_run.specs.Ending.{ReadFaultsAre, StandsAt, StoresBy}
 use Rattle.import_run.specs.Progress.{AreReceiptsOf}
@@ -42,6 +44,8 @@ pub record ImportsAlone {D J : Type 0} (disk : D → DiskState)
   pub batches : List Batch
   pub receipts : AreReceiptsOf start.journal report.receipts.items batches
   pub stands : StandsAt report.end start stream source_after.left batches report.refused.items
+  -- each number that a text is refused with is that of a game in the journal of one of the notes
+  pub repeats : AreRepeats (cuts stream) report.clashes.items report.refused.items
   -- the store afterwards
   pub stores : StoresBy report.end (start.journal ++ batches) start.fault (stored_in after)
   pub sound : IsSound (journal after)

@@ -177,6 +177,7 @@ pub record Imports {J : Type 0} (start : Known) (before after : Stream) (report 
   pub reads : Reads stream before after
   pub faults : ReadFaultsAre report.end before after
   pub comes : ComesTo start stream after.left report told
+  pub repeats : AreRepeats (cuts stream) report.clashes.items report.refused.items
 
 -- ---- what an import comes to, whoever else stores beside it
 

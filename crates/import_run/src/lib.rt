@@ -15,8 +15,6 @@ mod merging;
 mod naming;
 mod settle;
 mod stream;
-#[cfg(test)]
-mod tests;
 mod text_group;
 
 pub use alone::import_alone;

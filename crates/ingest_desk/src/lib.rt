@@ -1,4 +1,13 @@
 //! The desk of a store: a batch that is acknowledged is stored, counted once and published.
+//!
+//! ```rust
+//! // Behind an Ok the batch is stored, counted and published.
+//! let receipt = ingest.commit(&rt, alloc, tally)?;
+//! if let Some(job) = ingest.pick()? {
+//!     let merged = merge(&rt, alloc, &job.left, &job.right, workers, &FreeGate)?;
+//!     let note = ingest.install(&rt, alloc, job, merged)?;
+//! }
+//! ```
 #![tactic(auto)]
 
 mod batches;
@@ -18,8 +27,6 @@ mod receipt;
 mod recount;
 mod register;
 mod report;
-#[cfg(test)]
-mod tests;
 mod unnamed;
 
 pub use clashing::Clashing;

@@ -1,5 +1,5 @@
 //! Tests of the store's crates together: a batch as a segment, two segments as one, the list of
-//! segments that passes enter while it is changed, and connections over a desk.
+//! segments that passes enter while it is changed, and a desk for all commits.
 #![tactic(auto)]
 
 #[cfg(test)]

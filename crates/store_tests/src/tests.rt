@@ -1,9 +1,10 @@
 //! Segments of worked games.
-mod connections;
+mod commits;
 mod desk;
 mod merges;
 mod published;
 mod segments;
+mod stores;
 
 ghost use Rattle.std.specs.Prelude.{◌≡◌, ◌≤◌, length, IsTrue, IfOk};
 ghost use Rattle.std.specs.List.{All};

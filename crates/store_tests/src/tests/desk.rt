@@ -1,13 +1,13 @@
-//! A desk at its limit, behind a disk fault, and beside another worker.
+//! A desk at its limit, beside another worker, and with changes that are held.
 ghost use Rattle.std.specs.Prelude.{◌≡◌};
 
-use super::{tally_of, text};
+use super::stores::{games, join_twice, named, new_store};
+use super::text;
 use disk_model::{Disk, MemDisk};
 use explorer_model::store::LogFault;
-use ingest_desk::{CommitFault, Ingest, InstallFault, Receipt, Standing, Unnamed, fresh, open};
-use manifest::create;
+use ingest_desk::{CommitFault, Ingest, Receipt, Standing, Unnamed, open};
 use outside::FreeGate;
-use published_index::{Index, Pass};
+use published_index::Index;
 use record_log::OpenFault;
 use segment_merge::merge;
 use std::alloc::{AllocError, Global};
@@ -16,19 +16,9 @@ use std::process::Abort;
 use std::sync::Wait;
 use std::test::Fail;
 use std::thread::Threads;
-use tally_rows::Tally;
 
 /// How many games a store may have.
 const LIMIT: u32 = 131_072;
-
-/// The tally of so many games without a move, with ids by their numbers.
-fn games<R: Threads + Sync>(rt: &R, alloc: Global, first: u32, count: u32) -> Result<Tally, Fail> {
-    let mut texts = Vec::new(alloc);
-    for number in first..first.saturating_add(count) {
-        texts.push(text(alloc, number, 0, "")?)?;
-    }
-    tally_of(rt, alloc, texts)
-}
 
 /// The file of a store: batches of games without a move, with ids by their numbers. It has at most
 /// one batch more than a store may have.
@@ -73,34 +63,6 @@ fn disk_with(alloc: Global, file: &[u8]) -> Result<MemDisk, Fail> {
         return Err(Fail::from("not written"));
     }
     Ok(disk)
-}
-
-/// An ingest of a new store on a disk, of whose calls these fail.
-fn new_store<R: Wait>(rt: &R, alloc: Global, failing: Vec<u64>) -> Result<Unnamed<MemDisk>, Fail> {
-    let Ok(manifest) = create(MemDisk::new(alloc, 1_000_000, failing)?) else {
-        return Err(Fail::from("not created"));
-    };
-    match fresh(rt, alloc, manifest, 1) {
-        Ok(unnamed) => Ok(unnamed),
-        Err(_) => Err(Fail::from("no room")),
-    }
-}
-
-/// The ingest and its passes.
-fn named<J: Index, R: Wait>(
-    rt: &R,
-    alloc: Global,
-    unnamed: Unnamed<MemDisk>,
-) -> Result<(Ingest<MemDisk, J>, Vec<Pass<J>>), Fail>
-    requires { unnamed.index.name ≡ J.name }
-{
-    match unnamed.named::<J>(alloc) {
-        Ok(named) => Ok(named),
-        Err(unnamed) => {
-            let _disk = unnamed.into_disk(rt);
-            Err(Fail::from("no room for the passes"))
-        }
-    }
 }
 
 // ---- limits
@@ -202,7 +164,7 @@ fn joins<J: Index, R: Threads + Wait + Abort + Sync>(
     outcome
 }
 
-/// Two workers have the job of the first two of three batches, and one of them comes later.
+/// Of three batches another worker joins the first two.
 fn join_first_two<J: Index, R: Threads + Wait + Abort + Sync>(
     rt: &R,
     alloc: Global,
@@ -214,15 +176,7 @@ fn join_first_two<J: Index, R: Threads + Wait + Abort + Sync>(
             return Err(Fail::from("not stored"));
         }
     }
-    let (Some(job), Some(late)) = (ingest.pick()?, ingest.pick()?) else {
-        return Err(Fail::from("the first two are due"));
-    };
-    let merged = merge(rt, alloc, &job.left, &job.right, 1, &FreeGate)?;
-    let merged_late = merge(rt, alloc, &late.left, &late.right, 2, &FreeGate)?;
-    assert!(rt; ingest.install(rt, alloc, job, merged).is_ok());
-    let Err(InstallFault::Gone { spans }) = ingest.install(rt, alloc, late, merged_late) else {
-        return Err(Fail::from("joined twice"));
-    };
+    let spans = join_twice(rt, alloc, ingest)?;
     let wanted = [
         Standing { first: 0, count: 2 },
         Standing { first: 2, count: 1 },
@@ -231,84 +185,7 @@ fn join_first_two<J: Index, R: Threads + Wait + Abort + Sync>(
     Ok(())
 }
 
-// ---- faults
-
-#[test]
-fn second_sync_of_the_second_commit_fails(rt: HostRuntime) -> Result<(), Fail> {
-    let alloc: Global = rt.alloc();
-    // The disk's calls: three of the creation, four of the first commit, and of the second one a
-    // write, a sync, and a write before the second sync.
-    let unnamed = new_store(&rt, alloc, vec![in alloc; 10]?)?;
-    let disk = breaks::<Brand, _>(&rt, alloc, unnamed)?;
-    let Ok(unnamed) = open(&rt, alloc, disk, 1, 1) else {
-        return Err(Fail::from("not opened"));
-    };
-    // All of the second batch was written.
-    let (batches, _disk) = counted::<Brand, _>(&rt, alloc, unnamed)?;
-    assert_eq!(rt; batches, 2);
-    Ok(())
-}
-
-fn breaks<J: Index, R: Threads + Wait + Abort + Sync>(
-    rt: &R,
-    alloc: Global,
-    unnamed: Unnamed<MemDisk>,
-) -> Result<MemDisk, Fail>
-    requires { unnamed.index.name ≡ J.name }
-{
-    let (mut ingest, passes) = named::<J, R>(rt, alloc, unnamed)?;
-    let outcome = go_on_behind_a_fault(rt, alloc, &mut ingest, passes);
-    let disk = ingest.into_disk(rt);
-    outcome?;
-    Ok(disk)
-}
-
-/// The second batch meets a disk fault, the third finds the store closed, and readers go on.
-fn go_on_behind_a_fault<J: Index, R: Threads + Wait + Abort + Sync>(
-    rt: &R,
-    alloc: Global,
-    ingest: &mut Ingest<MemDisk, J>,
-    mut passes: Vec<Pass<J>>,
-) -> Result<(), Fail> {
-    let mut pass = passes.pop().ok_or("a pass")?;
-    let mut faults = Vec::new(alloc);
-    for number in 0..3 {
-        let tally = games(rt, alloc, number, 1)?;
-        faults.push(fault_of(ingest.commit(rt, alloc, tally)))?;
-        assert_eq!(rt; pass.enter(alloc)?.batches(), 1);
-    }
-    let wanted = [None, Some(("disk fault", 0, 1)), Some(("closed", 0, 1))];
-    assert!(rt; faults.as_slice() == wanted.as_slice());
-    assert_eq!(rt; ingest.batches(), 1);
-    assert!(rt; matches!(ingest.catch_up(rt), Ok(None)));
-    pass.learn(ingest.tell());
-    assert_eq!(rt; pass.front(), 1);
-    Ok(())
-}
-
-/// The fault of the disk that an answer tells of, with its counts.
-fn fault_of<J: Index>(
-    answer: Result<Receipt<J>, CommitFault<J>>,
-) -> Option<(&'static str, u64, u64)> {
-    match answer {
-        Err(CommitFault::DiskFault { before, after, .. }) => Some(("disk fault", before, after)),
-        Err(CommitFault::Closed { before, after, .. }) => Some(("closed", before, after)),
-        _ => None,
-    }
-}
-
-/// How many batches a store has.
-fn counted<J: Index, R: Wait>(
-    rt: &R,
-    alloc: Global,
-    unnamed: Unnamed<MemDisk>,
-) -> Result<(u32, MemDisk), Fail>
-    requires { unnamed.index.name ≡ J.name }
-{
-    let (ingest, _passes) = named::<J, R>(rt, alloc, unnamed)?;
-    let batches = ingest.batches();
-    Ok((batches, ingest.into_disk(rt)))
-}
+// ---- held changes
 
 /// Without memory for its publication a change is held, and the next commit publishes it. An
 /// allocation that fails here makes it so.

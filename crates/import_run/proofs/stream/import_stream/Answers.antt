@@ -1,9 +1,10 @@
+use Rattle.std.proofs.lemmas.List.{append-nil}
 use Rattle.std.proofs.Common.{◌≡◌, ◌+◌, ◌<◌, ℕ, List, [], ◌∷◌, ◌++◌, Option, take, length, length-take, refl, sym, ap, subst, Some, ◌∙◌, arith}
 use Rattle.pgn_cut.specs.Cutter.{cuts_of_rest}
 use Rattle.explorer_model.specs.Journal.{input_limit}
 use Rattle.import_run.specs.Committing.{Store, store_of}
 use Rattle.import_run.specs.Taking.{CutSoFar, LacksWithin, StopsWithin}
-use Rattle.import_run.proofs.ComeBesideLemmas.{imports_bound_beside, imports_failed_beside, imports_quietly_beside, lacking_within_beside}
+use Rattle.import_run.proofs.ComeBesideLemmas.{imports_bound_beside, imports_failed_beside, imports_quietly_beside, lacking_within_beside, whole_repeats}
 use Rattle.import_run.proofs.ComeLemmas.{comes_cut_off, lacking_within}
 use Rattle.import_run.proofs.ReadLemmas.{imports_bound, imports_failed, imports_quietly, longer, no_fault, one_read, read_last, read_more, read_nothing, read_on}
 use Rattle.import_run.proofs.TakingLemmas.{ready_none, taken_none}
@@ -46,6 +47,7 @@ returns-in_default-clause-told g c = λ start is.
     c.read_faults-before.ensures c.read_faults-after.ensures read.faults read.reads c.in_default.ensures.fails
     (comes_cut_off start c.cut_off.result read.stream _ told c.read_faults-before.result c.read_faults-after.result c.cut_off.ensures.end (omega (arith, read.long, c.reading.invariant.below))
     (c.cut_off.ensures.settled start read.stream told (subst P is read.cut)))
+    (whole_repeats read.stream read.stream c.cut_off.result (c.cut_off.ensures.beside (g.C.Committer.told c.args.committer.now) read.stream told read.cut) [] (append-nil read.stream))
 
 pub returns-then-count-eq0-clause-told : goal.returns-then-count-eq0-clause-told
 returns-then-count-eq0-clause-told g c = λ start is.
@@ -58,6 +60,7 @@ returns-then-count-eq0-clause-told g c = λ start is.
     imports_quietly start old new c.end.result (g.C.Committer.told c.end.new.committer) read.stream
     (read_last read.stream c.in-Ok.count c.read.new.into old mid new c.if-count-eq0.true read.reads gives) (no_fault c.in-Ok.count c.read.new.into old mid new read.faults gives)
     (c.end.ensures.comes start read.stream new.left (gives.ended c.if-count-eq0.true) (omega (arith, read.long, c.reading.invariant.below)) (subst P is read.cut))
+    (c.end.ensures.beside (g.C.Committer.told c.args.committer.now) read.stream new.left (gives.ended c.if-count-eq0.true) (omega (arith, read.long, c.reading.invariant.below)) read.cut).comes.reports.repeats
 
 pub returns-then-taken-eq-INPUT_LIMIT-clause-told : goal.returns-then-taken-eq-INPUT_LIMIT-clause-told
 returns-then-taken-eq-INPUT_LIMIT-clause-told g c = λ start is.
@@ -70,6 +73,8 @@ returns-then-taken-eq-INPUT_LIMIT-clause-told g c = λ start is.
     imports_bound start _ _ _ c.cut_off-then-taken-eq-INPUT_LIMIT.result told read.stream c.in-Ok.count (c.reading.taken + c.in-Ok.count) c.read.new.into c.cut_off-then-taken-eq-INPUT_LIMIT.ensures.end read.reads read.faults gives one
     (omega (arith, read.long, one, c.if-taken-eq-INPUT_LIMIT.true)) (omega (arith, c.if-taken-eq-INPUT_LIMIT.true))
     (c.cut_off-then-taken-eq-INPUT_LIMIT.ensures.settled start read.stream told (subst P is read.cut))
+    (whole_repeats read.stream (read.stream ++ take c.in-Ok.count c.read.new.into) c.cut_off-then-taken-eq-INPUT_LIMIT.result
+    (c.cut_off-then-taken-eq-INPUT_LIMIT.ensures.beside (g.C.Committer.told c.args.committer.now) read.stream told read.cut) (take c.in-Ok.count c.read.new.into) refl)
 
 pub returns-in-Err-Fault-clause-told : goal.returns-in-Err-Fault-clause-told
 returns-in-Err-Fault-clause-told g c = λ start is.
@@ -83,12 +88,17 @@ returns-in-Err-Fault-clause-told g c = λ start is.
     omega (arith, longer c.reading.taken c.in-Ok.count c.read.new.into read.stream read.long gives.within, gives.within, c.read.auto.into, room, c.room_behind.ensures.within, c.if-taken-eq-INPUT_LIMIT.false, c.reading.invariant.below) in
     let stops : StopsWithin (Some (store_of start)) (read.stream ++ take c.in-Ok.count c.read.new.into) c.feed.new.self c.in-Err-Fault.stopped told =
     (rw c.in-Err-Fault.field-0-is at c.in-Err-Fault.ensures.stops) (Some (store_of start)) read.stream (subst P is read.cut) in
+    let begin = g.C.Committer.told c.args.committer.now in
+    let stops_beside : StopsWithin begin (read.stream ++ take c.in-Ok.count c.read.new.into) c.feed.new.self c.in-Err-Fault.stopped told =
+    (rw c.in-Err-Fault.field-0-is at c.in-Err-Fault.ensures.stops) begin read.stream read.cut in
     let old = g.S.Source.source c.args.source.now in
     let mid = g.S.Source.source c.reading.source in
     let new = g.S.Source.source c.read.new.self in
     imports_quietly start old new c.stopped.result told stream (read_more read.stream c.in-Ok.count c.read.new.into old mid new read.reads gives) (no_fault c.in-Ok.count c.read.new.into old mid new read.faults gives)
     (c.stopped.ensures.within start stream new.left told below
     (subst (λ stopped. StopsWithin (Some (store_of start)) (read.stream ++ take c.in-Ok.count c.read.new.into) c.feed.new.self stopped told) (sym c.in-Err-Fault.stopped-is) stops))
+    (c.stopped.ensures.beside_within begin stream new.left told below
+    (subst (λ stopped. StopsWithin begin (read.stream ++ take c.in-Ok.count c.read.new.into) c.feed.new.self stopped told) (sym c.in-Err-Fault.stopped-is) stops_beside)).comes.reports.repeats
 
 pub returns-in-Err-OutOfMemory-clause-told : goal.returns-in-Err-OutOfMemory-clause-told
 returns-in-Err-OutOfMemory-clause-told g c = λ start is.
@@ -102,11 +112,15 @@ returns-in-Err-OutOfMemory-clause-told g c = λ start is.
     omega (arith, longer c.reading.taken c.in-Ok.count c.read.new.into read.stream read.long gives.within, gives.within, c.read.auto.into, room, c.room_behind.ensures.within, c.if-taken-eq-INPUT_LIMIT.false, c.reading.invariant.below) in
     let lacks : LacksWithin (Some (store_of start)) (read.stream ++ take c.in-Ok.count c.read.new.into) c.feed.new.self told =
     (rw c.in-Err-OutOfMemory.field-0-is at c.in-Err-OutOfMemory.ensures.lacks) (Some (store_of start)) read.stream (subst P is read.cut) in
+    let begin = g.C.Committer.told c.args.committer.now in
+    let lacks_beside : LacksWithin begin (read.stream ++ take c.in-Ok.count c.read.new.into) c.feed.new.self told =
+    (rw c.in-Err-OutOfMemory.field-0-is at c.in-Err-OutOfMemory.ensures.lacks) begin read.stream read.cut in
     let old = g.S.Source.source c.args.source.now in
     let mid = g.S.Source.source c.reading.source in
     let new = g.S.Source.source c.read.new.self in
     imports_quietly start old new c.report.result told stream (read_more read.stream c.in-Ok.count c.read.new.into old mid new read.reads gives) (no_fault c.in-Ok.count c.read.new.into old mid new read.faults gives)
     (lacking_within start c.report.result stream new.left told c.feed.new.self c.report.ensures.end c.report.ensures.receipts c.report.ensures.refused below lacks)
+    (lacking_within_beside stream new.left c.report.result c.feed.new.self c.report.ensures.receipts c.report.ensures.clashes below c.report.ensures.refused begin told c.report.ensures.end lacks_beside).comes.reports.repeats
 
 pub returns-then-count-eq0-clause-since : goal.returns-then-count-eq0-clause-since
 returns-then-count-eq0-clause-since g c = g.met.C.Committer.since_before c.args.committer.now c.reading.committer c.end.new.committer c.reading.invariant.since c.end.ensures.since

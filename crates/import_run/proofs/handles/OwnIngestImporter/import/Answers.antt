@@ -26,3 +26,4 @@ pub returns-clause-alone : goal.returns-clause-alone
 returns-clause-alone g c =
     imports_body g.D.Disk.disk g.D.Disk.left_since c.args.self.now.ingest c.import_bytes-report.new.committer c.import_bytes-report.ensures.since c.args.body.now c.import_bytes-report.result
     c.batches-before.ensures.sound c.batches-after.ensures.sound c.batches-after.ensures.keeps c.import_bytes-report.ensures.told
+    c.import_bytes-report.ensures.beside

@@ -1,4 +1,4 @@
-use Rattle.store_tests.proofs.tests.connections.replies.Given as goal
+use Rattle.import_tests.proofs.tests.connections.replies.Given as goal
 
 -- the index that was just opened
 abbrev pub ghosts-converse : goal.ghosts-converse

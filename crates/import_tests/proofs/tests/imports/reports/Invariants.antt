@@ -1,4 +1,4 @@
-use Rattle.import_run.proofs.tests.imports.Given as goal
+use Rattle.import_tests.proofs.tests.imports.reports.Given as goal
 
 -- the index that was just opened
 abbrev pub ghosts-import_all : goal.ghosts-import_all

@@ -1,4 +1,4 @@
-use Rattle.import_run.proofs.tests.desks.a_handle_and_an_ingest_of_its_own_import_alike.Given as goal
+use Rattle.import_tests.proofs.tests.desks.a_handle_and_an_ingest_of_its_own_import_alike.Given as goal
 
 -- the indexes that were just opened
 abbrev pub ghosts-over_a_desk : goal.ghosts-over_a_desk

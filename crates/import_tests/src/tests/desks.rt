@@ -2,14 +2,11 @@
 ghost use Rattle.std.specs.Prelude.{◌≡◌};
 ghost use Rattle.std.specs.Thread.{IsSync};
 
-use super::{Stream, Told, games, summary_of};
-use crate::draining::{Drained, drain};
-use crate::handles::{DeskHandle, OwnIngest};
-use crate::importing::import;
+use super::{Told, games, named, new_store, summary_of};
 use disk_model::MemDisk;
 use explorer_model::fault::Why;
-use ingest_desk::{Desk, ImportEnding, Importer, Unnamed, fresh};
-use manifest::create;
+use import_run::{DeskHandle, Drained, OwnIngest, drain, import};
+use ingest_desk::{Desk, ImportEnding, Importer, Unnamed};
 use outside::{FreeGate, MemSource};
 use published_index::Index;
 use std::alloc::{AllocError, Global};
@@ -18,17 +15,6 @@ use std::process::Abort;
 use std::sync::{Mutex, Wait};
 use std::test::Fail;
 use std::thread::{Threads, join};
-
-/// A new store on a disk, of whose calls these fail.
-fn new_store<R: Wait>(rt: &R, alloc: Global, failing: Vec<u64>) -> Result<Unnamed<MemDisk>, Fail> {
-    let Ok(manifest) = create(MemDisk::new(alloc, 1_000_000, failing)?) else {
-        return Err(Fail::from("not created"));
-    };
-    match fresh(rt, alloc, manifest, 1) {
-        Ok(unnamed) => Ok(unnamed),
-        Err(_) => Err(Fail::from("no room")),
-    }
-}
 
 #[test]
 fn two_threads_store_common_games_once(rt: HostRuntime) -> Result<(), Fail> {
@@ -67,18 +53,12 @@ fn import_two<J: Index + Send + Sync, R: Threads + Wait + Abort + Sync>(
     rt: &R,
     alloc: Global,
     unnamed: Unnamed<MemDisk>,
-    first: Stream,
-    second: Stream,
+    first: Vec<u8>,
+    second: Vec<u8>,
 ) -> Result<(Told, Told), Fail>
     requires { unnamed.index.name ≡ J.name }
 {
-    let (ingest, _passes) = match unnamed.named::<J>(alloc) {
-        Ok(named) => named,
-        Err(unnamed) => {
-            let _disk = unnamed.into_disk(rt);
-            return Err(Fail::from("no room for the passes"));
-        }
-    };
+    let (ingest, _passes) = named::<J, R>(rt, alloc, unnamed)?;
     let desk = Mutex::new(ingest);
     let (one, two) = join(
         rt,
@@ -99,10 +79,9 @@ fn import_one<J: Index, R: Threads + Wait + Sync>(
     rt: &R,
     alloc: Global,
     desk: &Desk<MemDisk, J>,
-    stream: Stream,
+    bytes: Vec<u8>,
 ) -> Result<Told, AllocError> {
-    let most = stream.most.max(1);
-    let mut source = MemSource::new(stream.bytes, most, stream.failing);
+    let mut source = MemSource::new(bytes, 4096, Vec::new(alloc));
     let report = import(rt, alloc, &mut source, desk, 2, &FreeGate);
     summary_of(alloc, report)
 }
@@ -145,7 +124,7 @@ fn import_bodies<J: Index, I: Importer<J>, R: Threads + Wait + Sync>(
 ) -> Result<Vec<Told>, Fail> {
     let mut told = Vec::new(alloc);
     for (first, count) in [(0, 1), (0, 2), (3, 1)] {
-        let body = games(alloc, first, count)?.bytes;
+        let body = games(alloc, first, count)?;
         if body.len() > 4_194_304 {
             return Err(Fail::from("too long"));
         }
@@ -162,13 +141,7 @@ fn over_a_desk<J: Index, R: Threads + Wait + Abort + Sync>(
 ) -> Result<Vec<Told>, Fail>
     requires { unnamed.index.name ≡ J.name }
 {
-    let (ingest, _passes) = match unnamed.named::<J>(alloc) {
-        Ok(named) => named,
-        Err(unnamed) => {
-            let _disk = unnamed.into_disk(rt);
-            return Err(Fail::from("no room for the passes"));
-        }
-    };
+    let (ingest, _passes) = named::<J, R>(rt, alloc, unnamed)?;
     let desk = Mutex::new(ingest);
     let told = import_bodies(rt, alloc, &mut DeskHandle::new(&desk, 2));
     let _disk = desk.into_inner().into_disk(rt);
@@ -182,13 +155,7 @@ fn over_an_ingest<J: Index, R: Threads + Wait + Abort + Sync>(
 ) -> Result<Vec<Told>, Fail>
     requires { unnamed.index.name ≡ J.name }
 {
-    let (ingest, _passes) = match unnamed.named::<J>(alloc) {
-        Ok(named) => named,
-        Err(unnamed) => {
-            let _disk = unnamed.into_disk(rt);
-            return Err(Fail::from("no room for the passes"));
-        }
-    };
+    let (ingest, _passes) = named::<J, R>(rt, alloc, unnamed)?;
     let mut own = OwnIngest::new(alloc, ingest, 2);
     let told = import_bodies(rt, alloc, &mut own);
     let calls = own.calls().map_or(0, |calls| calls.len());

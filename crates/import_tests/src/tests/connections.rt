@@ -1,10 +1,10 @@
 //! Connections over a desk.
 ghost use Rattle.std.specs.Prelude.{◌≡◌};
 
+use super::{named, new_store};
 use disk_model::MemDisk;
 use import_run::DeskHandle;
-use ingest_desk::{Desk, Unnamed, fresh};
-use manifest::create;
+use ingest_desk::{Desk, Unnamed};
 use outside::{MemLink, MemSink, MemSource};
 use published_index::{Index, Pass};
 use session::{Ended, serve_connection};
@@ -82,12 +82,7 @@ fn replies<R: Threads + Wait + Abort + Sync>(
     failing: Vec<u64>,
     talks: Vec<Talk>,
 ) -> Result<Vec<Vec<u8>>, Fail> {
-    let Ok(manifest) = create(MemDisk::new(alloc, 1_000_000, failing)?) else {
-        return Err(Fail::from("not created"));
-    };
-    let Ok(unnamed) = fresh(rt, alloc, manifest, 2) else {
-        return Err(Fail::from("no room"));
-    };
+    let unnamed = new_store(rt, alloc, failing)?;
     converse::<Brand, _>(rt, alloc, unnamed, talks)
 }
 
@@ -99,13 +94,7 @@ fn converse<J: Index, R: Threads + Wait + Abort + Sync>(
 ) -> Result<Vec<Vec<u8>>, Fail>
     requires { unnamed.index.name ≡ J.name }
 {
-    let (ingest, passes) = match unnamed.named::<J>(alloc) {
-        Ok(named) => named,
-        Err(unnamed) => {
-            let _disk = unnamed.into_disk(rt);
-            return Err(Fail::from("no room for the passes"));
-        }
-    };
+    let (ingest, passes) = named::<J, R>(rt, alloc, unnamed)?;
     let desk = Mutex::new(ingest);
     let written = converse_each(rt, alloc, &desk, passes, talks);
     let _disk = desk.into_inner().into_disk(rt);

@@ -1,16 +1,11 @@
-ghost use Rattle.std.specs.Prelude.{◌≡◌, ◌<◌};
+//! Imports of one who stores alone.
+ghost use Rattle.std.specs.Prelude.{◌≡◌};
 
-mod desks;
-
-use crate::alone::import_alone;
-use crate::draining::{Drained, drain_alone};
-use crate::naming::name;
-use crate::text_group::merge;
+use super::{Told, games, named, new_store, summary_of};
 use disk_model::MemDisk;
-use explorer_model::archive::{Batch, Bytes, Texts};
 use explorer_model::fault::{Refusal, Why};
-use ingest_desk::{Clashing, End, ImportEnding, Ingest, Report, Unnamed, fresh};
-use manifest::create;
+use import_run::{Drained, drain_alone, import_alone};
+use ingest_desk::{ImportEnding, Ingest, Unnamed};
 use outside::{FreeGate, MemSource};
 use published_index::Index;
 use std::alloc::{AllocError, Global};
@@ -20,52 +15,6 @@ use std::sync::Wait;
 use std::test::Fail;
 use std::thread::Threads;
 
-#[test]
-fn named_text_is_refused_and_the_other_stays(rt: HostRuntime) -> Result<(), Fail> {
-    let mut texts = Vec::new(rt.alloc());
-    texts.push(Bytes::from_vec(b"one".to_vec(rt.alloc())?))?;
-    texts.push(Bytes::from_vec(b"two".to_vec(rt.alloc())?))?;
-    let batch = Batch {
-        texts: Texts::from_vec(texts),
-    };
-    let pairs = [Clashing {
-        place: 1,
-        number: 700,
-    }];
-    let named = name(rt.alloc(), batch, [10, 40].as_slice(), pairs.as_slice())?;
-    let refused = [Refusal {
-        place: 40,
-        why: Why::Repeated { number: 700 },
-    }];
-    assert!(rt; named.refused.as_slice() == refused.as_slice());
-    assert_eq!(rt; named.rest.len(), 1);
-    assert_eq!(rt; named.rest[0].place, 10);
-    assert!(rt; named.rest[0].bytes.as_slice() == b"one".as_slice());
-    Ok(())
-}
-
-#[test]
-fn refusals_stand_in_the_order_of_their_places(rt: HostRuntime) -> Result<(), Fail> {
-    let refusal = |place| Refusal {
-        place,
-        why: Why::Preamble,
-    };
-    let texts = [refusal(3), refusal(90)];
-    let unread = [refusal(0), refusal(50)];
-    let all = [refusal(0), refusal(3), refusal(50), refusal(90)];
-    let merged = merge(rt.alloc(), texts.as_slice(), unread.as_slice())?;
-    assert!(rt; merged.as_slice() == all.as_slice());
-    Ok(())
-}
-
-/// What a report says, without notes and marks.
-#[derive(Debug, Drop)]
-struct Told {
-    ending: ImportEnding,
-    batches: Vec<(u32, u32, u32)>,
-    refused: Vec<Refusal>,
-}
-
 /// One import into a store: its stream, how many bytes a read gives at most, and which reads fail.
 #[derive(Drop)]
 struct Stream {
@@ -74,37 +23,23 @@ struct Stream {
     failing: Vec<u64>,
 }
 
-/// A stream of games without a move, each with an id by its number.
-fn games(alloc: Global, first: usize, count: usize) -> Result<Stream, AllocError> {
-    let mut bytes = Vec::new(alloc);
-    for n in first..first.saturating_add(count) {
-        let text = format!(in alloc;
-            "[Event \"Rated blitz game\"]\n[Site \"https://lichess.org/{n:08}\"]\n\
-             [White \"Ann\"]\n[Black \"Bob\"]\n[Result \"1-0\"]\n[UTCDate \"2020.01.15\"]\n\
-             [WhiteElo \"1500\"]\n[BlackElo \"1400\"]\n[TimeControl \"300+0\"]\n\n1-0\n"
-        )?;
-        bytes.extend_from_slice(text.as_bytes())?;
-    }
-    Ok(Stream {
+/// A stream that each read gives as much of as is asked for.
+fn whole(alloc: Global, bytes: Vec<u8>) -> Stream {
+    Stream {
         bytes,
         most: 4096,
         failing: Vec::new(alloc),
-    })
+    }
 }
 
 /// Imports the streams one after another into a new store on a disk, of whose calls these fail.
-fn imports<R: Threads + Wait + Abort + Sync>(
+fn reports<R: Threads + Wait + Abort + Sync>(
     rt: &R,
     alloc: Global,
     failing: Vec<u64>,
     streams: Vec<Stream>,
 ) -> Result<Vec<Told>, Fail> {
-    let Ok(manifest) = create(MemDisk::new(alloc, 1_000_000, failing)?) else {
-        return Err(Fail::from("not created"));
-    };
-    let Ok(unnamed) = fresh(rt, alloc, manifest, 1) else {
-        return Err(Fail::from("no room"));
-    };
+    let unnamed = new_store(rt, alloc, failing)?;
     import_all::<Brand, _>(rt, alloc, unnamed, streams)
 }
 
@@ -116,13 +51,7 @@ fn import_all<J: Index, R: Threads + Wait + Abort + Sync>(
 ) -> Result<Vec<Told>, Fail>
     requires { unnamed.index.name ≡ J.name }
 {
-    let (mut ingest, _passes) = match unnamed.named::<J>(alloc) {
-        Ok(named) => named,
-        Err(unnamed) => {
-            let _disk = unnamed.into_disk(rt);
-            return Err(Fail::from("no room for the passes"));
-        }
-    };
+    let (mut ingest, _passes) = named::<J, R>(rt, alloc, unnamed)?;
     let told = import_each(rt, alloc, &mut ingest, streams);
     let drained = drain_alone(rt, alloc, &mut ingest, 2);
     let _disk = ingest.into_disk(rt);
@@ -148,34 +77,15 @@ fn import_each<J: Index, R: Threads + Wait + Abort + Sync>(
     Ok(all)
 }
 
-fn summary_of<J: Index>(alloc: Global, report: Report<J>) -> Result<Told, AllocError> {
-    let mut batches = Vec::new(alloc);
-    for receipt in report.receipts.as_slice() {
-        batches.push((receipt.batches(), receipt.first(), receipt.games()))?;
-    }
-    let ending = match report.end {
-        End::Whole => ImportEnding::Whole,
-        End::ReadFault { before, after } => ImportEnding::ReadFault { before, after },
-        End::DiskFault { before, after, .. } => ImportEnding::DiskFault { before, after },
-        End::Closed { before, after, .. } => ImportEnding::Closed { before, after },
-        End::Full { games, bytes, .. } => ImportEnding::Full { games, bytes },
-        End::TooMuch { bytes } => ImportEnding::TooMuch { bytes },
-        End::OutOfMemory => ImportEnding::OutOfMemory,
-    };
-    Ok(Told {
-        ending,
-        batches,
-        refused: report.refused,
-    })
-}
+// ---- what is stored and refused
 
 #[test]
 fn a_stream_of_1500_games_is_stored_once(rt: HostRuntime) -> Result<(), Fail> {
     let alloc: Global = rt.alloc();
     let mut streams = Vec::new(alloc);
-    streams.push(games(alloc, 0, 1500)?)?;
-    streams.push(games(alloc, 0, 1500)?)?;
-    let told = imports(&rt, alloc, Vec::new(alloc), streams)?;
+    streams.push(whole(alloc, games(alloc, 0, 1500)?))?;
+    streams.push(whole(alloc, games(alloc, 0, 1500)?))?;
+    let told = reports(&rt, alloc, Vec::new(alloc), streams)?;
     let [first, second] = told.as_slice() else {
         return Err(Fail::from("two imports have two reports"));
     };
@@ -195,18 +105,87 @@ fn a_stream_of_1500_games_is_stored_once(rt: HostRuntime) -> Result<(), Fail> {
 }
 
 #[test]
+fn stored_text_is_refused_with_its_number_and_the_other_stays(rt: HostRuntime) -> Result<(), Fail> {
+    let alloc: Global = rt.alloc();
+    let mut streams = Vec::new(alloc);
+    streams.push(whole(alloc, games(alloc, 0, 701)?))?;
+    let mut bytes = games(alloc, 900, 1)?;
+    bytes.extend_from_slice(games(alloc, 700, 1)?.as_slice())?;
+    streams.push(whole(alloc, bytes))?;
+    let told = reports(&rt, alloc, Vec::new(alloc), streams)?;
+    let [_first, second] = told.as_slice() else {
+        return Err(Fail::from("two imports have two reports"));
+    };
+    assert_eq!(rt; second.ending, ImportEnding::Whole);
+    assert!(rt; second.batches.as_slice() == [(3, 701, 1)].as_slice());
+    let refused = [Refusal {
+        place: 194,
+        why: Why::Repeated { number: 700 },
+    }];
+    assert!(rt; second.refused.as_slice() == refused.as_slice());
+    Ok(())
+}
+
+/// A text of 65,537 bytes, which is one too many.
+fn long_text(alloc: Global) -> Result<Vec<u8>, AllocError> {
+    let mut bytes = b"[Event \"?\"]\n".to_vec(alloc)?;
+    for _ in bytes.len()..65_537 {
+        bytes.push(b'\n')?;
+    }
+    Ok(bytes)
+}
+
+#[test]
+fn refusals_stand_in_the_order_of_their_places(rt: HostRuntime) -> Result<(), Fail> {
+    let alloc: Global = rt.alloc();
+    let game = games(alloc, 0, 1)?;
+    let mut bytes = b"x\n".to_vec(alloc)?;
+    bytes.extend_from_slice(game.as_slice())?;
+    bytes.extend_from_slice(game.as_slice())?;
+    bytes.extend_from_slice(long_text(alloc)?.as_slice())?;
+    bytes.extend_from_slice(game.as_slice())?;
+    let mut streams = Vec::new(alloc);
+    streams.push(whole(alloc, bytes.clone()?))?;
+    streams.push(whole(alloc, bytes))?;
+    let told = reports(&rt, alloc, Vec::new(alloc), streams)?;
+    let [first, second] = told.as_slice() else {
+        return Err(Fail::from("two imports have two reports"));
+    };
+    let refusal = |place, why| Refusal { place, why };
+    let refused = [
+        refusal(0, Why::Preamble),
+        refusal(196, Why::Twice { first: 2 }),
+        refusal(390, Why::TooLong { length: 65_537 }),
+        refusal(65_927, Why::Twice { first: 2 }),
+    ];
+    assert!(rt; first.batches.as_slice() == [(1, 0, 1)].as_slice());
+    assert!(rt; first.refused.as_slice() == refused.as_slice());
+    // Once more, the first text is a repeat, and stands between the others.
+    let refused = [
+        refusal(0, Why::Preamble),
+        refusal(2, Why::Repeated { number: 0 }),
+        refusal(196, Why::Twice { first: 2 }),
+        refusal(390, Why::TooLong { length: 65_537 }),
+        refusal(65_927, Why::Twice { first: 2 }),
+    ];
+    assert_eq!(rt; second.batches.len(), 0);
+    assert!(rt; second.refused.as_slice() == refused.as_slice());
+    Ok(())
+}
+
+#[test]
 fn equal_streams_in_other_pieces_have_equal_reports(rt: HostRuntime) -> Result<(), Fail> {
     let alloc: Global = rt.alloc();
     let mut streams = Vec::new(alloc);
     for most in [1, 7, 4096] {
-        let mut stream = games(alloc, 0, 2)?;
-        let again = games(alloc, 1, 2)?;
-        stream.bytes.extend_from_slice(again.bytes.as_slice())?;
-        stream.bytes.extend_from_slice(b"[Event \"?\"]\n1. e4")?;
+        let mut bytes = games(alloc, 0, 2)?;
+        bytes.extend_from_slice(games(alloc, 1, 2)?.as_slice())?;
+        bytes.extend_from_slice(b"[Event \"?\"]\n1. e4")?;
+        let mut stream = whole(alloc, bytes);
         stream.most = most;
         streams.push(stream)?;
     }
-    let told = imports(&rt, alloc, Vec::new(alloc), streams)?;
+    let told = reports(&rt, alloc, Vec::new(alloc), streams)?;
     let [first, second, third] = told.as_slice() else {
         return Err(Fail::from("three imports have three reports"));
     };
@@ -220,14 +199,16 @@ fn equal_streams_in_other_pieces_have_equal_reports(rt: HostRuntime) -> Result<(
     Ok(())
 }
 
+// ---- faults
+
 #[test]
 fn a_failed_read_leaves_the_whole_groups(rt: HostRuntime) -> Result<(), Fail> {
     let alloc: Global = rt.alloc();
-    let mut stream = games(alloc, 0, 600)?;
+    let mut stream = whole(alloc, games(alloc, 0, 600)?);
     stream.failing.push(26)?;
     let mut streams = Vec::new(alloc);
     streams.push(stream)?;
-    let told = imports(&rt, alloc, Vec::new(alloc), streams)?;
+    let told = reports(&rt, alloc, Vec::new(alloc), streams)?;
     let [only] = told.as_slice() else {
         return Err(Fail::from("one import has one report"));
     };
@@ -245,16 +226,13 @@ fn a_failed_read_leaves_the_whole_groups(rt: HostRuntime) -> Result<(), Fail> {
 fn a_disk_fault_closes_the_store(rt: HostRuntime) -> Result<(), Fail> {
     let alloc: Global = rt.alloc();
     let mut streams = Vec::new(alloc);
-    streams.push(games(alloc, 0, 1)?)?;
-    let mut stream = games(alloc, 0, 1)?;
-    let more = games(alloc, 1, 1)?;
-    stream.bytes.extend_from_slice(more.bytes.as_slice())?;
-    streams.push(stream)?;
-    streams.push(games(alloc, 2, 1)?)?;
+    for (first, count) in [(0, 1), (0, 2), (2, 1)] {
+        streams.push(whole(alloc, games(alloc, first, count)?))?;
+    }
     // Making the store calls the disk three times, and storing a batch four times.
     let mut failing = Vec::new(alloc);
     failing.push(8)?;
-    let told = imports(&rt, alloc, failing, streams)?;
+    let told = reports(&rt, alloc, failing, streams)?;
     let [first, second, third] = told.as_slice() else {
         return Err(Fail::from("three imports have three reports"));
     };

@@ -1,8 +1,0 @@
-use Rattle.ingest_desk.proofs.tests.batches_are_stored_published_and_joined.Given as goal
-
--- the index that was just opened
-abbrev pub ghosts-stores_three : goal.ghosts-stores_three
-ghosts-stores_three g a = record { name = a.unnamed.index.name }
-
-abbrev pub ghosts-holds : goal.ghosts-holds
-ghosts-holds g a = record { name = a.unnamed.index.name }

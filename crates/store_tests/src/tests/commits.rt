@@ -1,0 +1,281 @@
+//! Batches that are stored, published and read again, and stores that are damaged.
+ghost use Rattle.std.specs.Prelude.{◌≡◌, ◌∷◌, [], IfOk};
+
+use super::stores::{games, join_twice, named, new_store};
+use super::{tally_of, text};
+use disk_model::{Disk, MemDisk};
+use explorer_model::archive::{Batch, Bytes, Texts};
+use explorer_model::store::LogFault;
+use ingest_desk::{Clashing, CommitFault, Ingest, Marks, Receipt, Standing, Unnamed, open};
+use manifest::{Manifest, create};
+use published_index::{Index, Pass};
+use record_log::{AppendFault, OpenFault};
+use std::alloc::{AllocError, Global};
+use std::marker::Brand;
+use std::process::Abort;
+use std::sync::Wait;
+use std::test::Fail;
+use std::thread::Threads;
+
+// ---- stored batches
+
+#[test]
+fn batches_are_stored_published_and_joined(rt: HostRuntime) -> Result<(), Fail> {
+    let alloc: Global = rt.alloc();
+    let unnamed = new_store(&rt, alloc, Vec::new(alloc))?;
+    let disk = stores_three::<Brand, _>(&rt, alloc, unnamed)?;
+    let Ok(unnamed) = open(&rt, alloc, disk, 2, 1) else {
+        return Err(Fail::from("not opened"));
+    };
+    let (batches, _disk) = batches_of::<Brand, _>(&rt, alloc, unnamed)?;
+    assert_eq!(rt; batches, 2);
+    Ok(())
+}
+
+/// Stores two batches, of which the first comes twice, and joins them.
+fn stores_three<J: Index, R: Threads + Wait + Abort + Sync>(
+    rt: &R,
+    alloc: Global,
+    unnamed: Unnamed<MemDisk>,
+) -> Result<MemDisk, Fail>
+    requires { unnamed.index.name ≡ J.name }
+{
+    let (mut ingest, _passes) = named::<J, R>(rt, alloc, unnamed)?;
+    let outcome = store_three(rt, alloc, &mut ingest);
+    let disk = ingest.into_disk(rt);
+    outcome?;
+    Ok(disk)
+}
+
+fn store_three<J: Index, R: Threads + Wait + Abort + Sync>(
+    rt: &R,
+    alloc: Global,
+    ingest: &mut Ingest<MemDisk, J>,
+) -> Result<(), Fail> {
+    let first = games(rt, alloc, 1, 1)?;
+    let mut texts = Vec::new(alloc);
+    texts.push(text(alloc, 2, 0, "")?)?;
+    texts.push(text(alloc, 1, 0, "")?)?;
+    let again = tally_of(rt, alloc, texts)?;
+    let second = games(rt, alloc, 2, 2)?;
+    assert_eq!(rt; stored(&ingest.commit(rt, alloc, first)), Some((1, 0, 1)));
+    assert_eq!(rt;
+        clash_of(ingest.commit(rt, alloc, again)),
+        Some(Clashing {
+            place: 1,
+            number: 0
+        })
+    );
+    assert_eq!(rt; stored(&ingest.commit(rt, alloc, second)), Some((2, 1, 2)));
+    assert!(rt; matches!(ingest.catch_up(rt), Ok(None)));
+    let spans = join_twice(rt, alloc, ingest)?;
+    assert!(rt; spans.as_slice() == [Standing { first: 0, count: 2 }].as_slice());
+    assert!(rt; matches!(ingest.pick(), Ok(None)));
+    Ok(())
+}
+
+/// How many batches there are with a batch that was stored, the number of its first game, and how
+/// many games it has.
+fn stored<J: Index>(answer: &Result<Receipt<J>, CommitFault<J>>) -> Option<(u32, u32, u32)> {
+    match answer {
+        Ok(receipt) => Some((receipt.batches(), receipt.first(), receipt.games())),
+        Err(_) => None,
+    }
+}
+
+/// The first text that clashes.
+fn clash_of<J: Index>(answer: Result<Receipt<J>, CommitFault<J>>) -> Option<Clashing> {
+    let Err(fault) = answer else {
+        return None;
+    };
+    match fault {
+        CommitFault::Clash {
+            tally: _tally,
+            pairs,
+            note: _note,
+        } => pairs.as_slice().first().copied(),
+        _other => None,
+    }
+}
+
+/// How many batches a store has, which are all published.
+fn batches_of<J: Index, R: Wait + Abort>(
+    rt: &R,
+    alloc: Global,
+    unnamed: Unnamed<MemDisk>,
+) -> Result<(u32, MemDisk), Fail>
+    requires { unnamed.index.name ≡ J.name }
+{
+    let (mut ingest, mut passes) = named::<J, R>(rt, alloc, unnamed)?;
+    let stored = ingest.batches();
+    let note = ingest.tell();
+    let disk = ingest.into_disk(rt);
+    let mut pass = passes.pop().ok_or("there is a pass")?;
+    pass.learn(note);
+    assert_eq!(rt; pass.front(), stored);
+    Ok((stored, disk))
+}
+
+// ---- faults of the disk
+
+/// How many batches a store has once a call of its disk failed under its second commit.
+fn batches_behind_a_fault<R: Threads + Wait + Abort + Sync>(
+    rt: &R,
+    alloc: Global,
+    failing: u64,
+) -> Result<u32, Fail> {
+    let unnamed = new_store(rt, alloc, vec![in alloc; failing]?)?;
+    let disk = breaks::<Brand, _>(rt, alloc, unnamed)?;
+    let Ok(unnamed) = open(rt, alloc, disk, 1, 1) else {
+        return Err(Fail::from("not opened"));
+    };
+    let (batches, _disk) = batches_of::<Brand, _>(rt, alloc, unnamed)?;
+    Ok(batches)
+}
+
+#[test]
+fn sync_of_the_second_commit_fails(rt: HostRuntime) -> Result<(), Fail> {
+    let alloc: Global = rt.alloc();
+    // The disk's calls: three of the creation, four of the first commit, and of the second one a
+    // write, a sync, a write of the gate and a sync.
+    assert_eq!(rt; batches_behind_a_fault(&rt, alloc, 8)?, 1);
+    // All of the second batch was written.
+    assert_eq!(rt; batches_behind_a_fault(&rt, alloc, 10)?, 2);
+    Ok(())
+}
+
+fn breaks<J: Index, R: Threads + Wait + Abort + Sync>(
+    rt: &R,
+    alloc: Global,
+    unnamed: Unnamed<MemDisk>,
+) -> Result<MemDisk, Fail>
+    requires { unnamed.index.name ≡ J.name }
+{
+    let (mut ingest, passes) = named::<J, R>(rt, alloc, unnamed)?;
+    let outcome = go_on_behind_a_fault(rt, alloc, &mut ingest, passes);
+    let disk = ingest.into_disk(rt);
+    outcome?;
+    Ok(disk)
+}
+
+/// The second batch meets a disk fault, the third finds the store closed, and readers go on.
+fn go_on_behind_a_fault<J: Index, R: Threads + Wait + Abort + Sync>(
+    rt: &R,
+    alloc: Global,
+    ingest: &mut Ingest<MemDisk, J>,
+    mut passes: Vec<Pass<J>>,
+) -> Result<(), Fail> {
+    let mut pass = passes.pop().ok_or("a pass")?;
+    let mut marks = Marks::new();
+    let mut faults = Vec::new(alloc);
+    for number in 0..3 {
+        let tally = games(rt, alloc, number, 1)?;
+        faults.push(fault_of(&mut marks, ingest.commit(rt, alloc, tally)))?;
+        assert_eq!(rt; pass.enter(alloc)?.batches(), 1);
+    }
+    let wanted = [None, Some(("disk fault", 0, 1)), Some(("closed", 0, 1))];
+    assert!(rt; faults.as_slice() == wanted.as_slice());
+    assert_eq!(rt; (marks.disk_faults(), marks.closed()), (1, 1));
+    assert_eq!(rt; ingest.batches(), 1);
+    assert!(rt; matches!(ingest.catch_up(rt), Ok(None)));
+    pass.learn(ingest.tell());
+    assert_eq!(rt; pass.front(), 1);
+    Ok(())
+}
+
+/// The fault of the disk that an answer tells of, with its counts. Its mark is counted.
+fn fault_of<J: Index>(
+    marks: &mut Marks,
+    answer: Result<Receipt<J>, CommitFault<J>>,
+) -> Option<(&'static str, u64, u64)> {
+    match answer {
+        Err(
+            CommitFault::DiskFault {
+                before,
+                after,
+                mark,
+            },
+        ) => {
+            marks.add(&mark);
+            Some(("disk fault", before, after))
+        }
+        Err(
+            CommitFault::Closed {
+                before,
+                after,
+                mark,
+            },
+        ) => {
+            marks.add(&mark);
+            Some(("closed", before, after))
+        }
+        _ => None,
+    }
+}
+
+// ---- damaged stores
+
+/// The gate at which a store of two batches, of one text each, is damaged.
+fn damaged_at<R: Threads + Wait + Sync>(
+    rt: &R,
+    alloc: Global,
+    first: Bytes,
+    second: Bytes,
+) -> Result<u64, Fail> {
+    let Ok(mut manifest) = create(MemDisk::new(alloc, 10_000, Vec::new(alloc))?) else {
+        return Err(Fail::from("not created"));
+    };
+    let stored = store_text(alloc, &mut manifest, first);
+    let stored_too = store_text(alloc, &mut manifest, second);
+    if stored.is_err() || stored_too.is_err() {
+        return Err(Fail::from("not stored"));
+    }
+    match open(rt, alloc, manifest.into_disk(), 1, 1) {
+        Ok(unnamed) => {
+            let _disk = unnamed.into_disk(rt);
+            Err(Fail::from("opened"))
+        }
+        Err(back) => match back.fault {
+            OpenFault::Log(LogFault::Damaged { at }) => Ok(at),
+            _ => Err(Fail::from("another fault")),
+        },
+    }
+}
+
+/// Stores a batch of one short text, whether it has a game or not.
+fn store_text<D: Disk>(
+    alloc: Global,
+    manifest: &mut Manifest<D>,
+    text: Bytes,
+) -> Result<(), AppendFault> {
+    if text.len() == 0 || text.len() > 300 || manifest.gate() > 70_000 {
+        return Err(AppendFault::OutOfMemory);
+    }
+    let Ok(batch) = batch_of(alloc, text) else {
+        return Err(AppendFault::OutOfMemory);
+    };
+    manifest.store(alloc, &batch)
+}
+
+fn batch_of(alloc: Global, text: Bytes) -> Result<Batch, AllocError>
+    ensures { IfOk result (λ batch. batch.texts ≡ text ∷ []) }
+{
+    Ok(Batch {
+        texts: Texts::from_vec(vec![in alloc; text]?),
+    })
+}
+
+#[test]
+fn damaged_store_is_not_opened(rt: HostRuntime) -> Result<(), Fail> {
+    let alloc: Global = rt.alloc();
+    let game = text(alloc, 1, 0, "")?.bytes;
+    let again = text(alloc, 1, 0, "")?.bytes;
+    assert_eq!(rt; game.len(), 195);
+    // The same id again, behind a record of one text: its gate, its length, and that of its text.
+    assert_eq!(rt; damaged_at(&rt, alloc, game, again)?, 12 + 5 + 2 + 4 + 195);
+    // A text without a game.
+    let other = Bytes::from_vec(vec![in alloc; b'x']?);
+    let game = text(alloc, 1, 0, "")?.bytes;
+    assert_eq!(rt; damaged_at(&rt, alloc, other, game)?, 12);
+    Ok(())
+}

@@ -1,0 +1,81 @@
+//! Stores in memory, and batches of games without a move.
+ghost use Rattle.std.specs.Prelude.{◌≡◌};
+
+use super::{tally_of, text};
+use disk_model::MemDisk;
+use ingest_desk::{Ingest, InstallFault, Standing, Unnamed, fresh};
+use manifest::create;
+use outside::FreeGate;
+use published_index::{Index, Pass};
+use segment_merge::merge;
+use std::alloc::Global;
+use std::process::Abort;
+use std::sync::Wait;
+use std::test::Fail;
+use std::thread::Threads;
+use tally_rows::Tally;
+
+/// An ingest of a new store on a disk, of whose calls these fail.
+pub(super) fn new_store<R: Wait>(
+    rt: &R,
+    alloc: Global,
+    failing: Vec<u64>,
+) -> Result<Unnamed<MemDisk>, Fail> {
+    let Ok(manifest) = create(MemDisk::new(alloc, 1_000_000, failing)?) else {
+        return Err(Fail::from("not created"));
+    };
+    match fresh(rt, alloc, manifest, 1) {
+        Ok(unnamed) => Ok(unnamed),
+        Err(_) => Err(Fail::from("no room")),
+    }
+}
+
+/// The ingest and its passes.
+pub(super) fn named<J: Index, R: Wait>(
+    rt: &R,
+    alloc: Global,
+    unnamed: Unnamed<MemDisk>,
+) -> Result<(Ingest<MemDisk, J>, Vec<Pass<J>>), Fail>
+    requires { unnamed.index.name ≡ J.name }
+{
+    match unnamed.named::<J>(alloc) {
+        Ok(named) => Ok(named),
+        Err(unnamed) => {
+            let _disk = unnamed.into_disk(rt);
+            Err(Fail::from("no room for the passes"))
+        }
+    }
+}
+
+/// The tally of so many games without a move, with ids by their numbers.
+pub(super) fn games<R: Threads + Sync>(
+    rt: &R,
+    alloc: Global,
+    first: u32,
+    count: u32,
+) -> Result<Tally, Fail> {
+    let mut texts = Vec::new(alloc);
+    for number in first..first.saturating_add(count) {
+        texts.push(text(alloc, number, 0, "")?)?;
+    }
+    tally_of(rt, alloc, texts)
+}
+
+/// Two workers have the job of the last two that are due, and one of them comes later. It finds
+/// these spans.
+pub(super) fn join_twice<J: Index, R: Threads + Wait + Abort + Sync>(
+    rt: &R,
+    alloc: Global,
+    ingest: &mut Ingest<MemDisk, J>,
+) -> Result<Vec<Standing>, Fail> {
+    let (Some(job), Some(late)) = (ingest.pick()?, ingest.pick()?) else {
+        return Err(Fail::from("two are due"));
+    };
+    let merged = merge(rt, alloc, &job.left, &job.right, 1, &FreeGate)?;
+    let merged_late = merge(rt, alloc, &late.left, &late.right, 2, &FreeGate)?;
+    assert!(rt; ingest.install(rt, alloc, job, merged).is_ok());
+    let Err(InstallFault::Gone { spans }) = ingest.install(rt, alloc, late, merged_late) else {
+        return Err(Fail::from("joined twice"));
+    };
+    Ok(spans.as_slice().to_vec(alloc)?)
+}
