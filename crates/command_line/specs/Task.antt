@@ -27,6 +27,13 @@ readers_bounds = record { least = 1; most = 64 }
 abbrev pub connections_bounds : Bounds
 connections_bounds = record { least = 1; most = 1000000 }
 
+abbrev pub games_bounds : Bounds
+games_bounds = record { least = 1; most = 131072 }
+
+-- all numbers of 64 bits
+abbrev pub seed_bounds : Bounds
+seed_bounds = record { least = 0; most = 18446744073709551615 }
+
 -- `[NAME]`, which is any text
 abbrev pub optional_rule : Text → Rule
 optional_rule name = record (new_rule name) { value_names = 1 }
@@ -42,6 +49,12 @@ option_rule name bounds default = record (new_rule name) {
   value_names = 1;
   parser = Some (parser.Unsigned bounds.least bounds.most);
   defaults = default ∷ [];
+}
+
+-- `NAME`, which is a number within bounds
+abbrev pub number_rule : Text → Bounds → Rule
+number_rule name bounds = record (required_rule name) {
+  parser = Some (parser.Unsigned bounds.least bounds.most);
 }
 
 -- `[FILE]...`, any number of texts
@@ -86,6 +99,12 @@ serve_shape = (with_rules (new_app (codes "serve"))
     ∷ option_rule (codes "readers") readers_bounds (codes "4")
     ∷ option_rule (codes "connections") connections_bounds (codes "1000") ∷ [])).top
 
+-- `trial GAMES SEED [--workers N]`
+abbrev pub trial_shape : Shape
+trial_shape = (with_rules (new_app (codes "trial"))
+    (number_rule (codes "games") games_bounds ∷ number_rule (codes "seed") seed_bounds
+    ∷ workers_rule ∷ [])).top
+
 -- `explorer`, which wants a subcommand
 abbrev pub bare_app : App
 bare_app = let app = new_app (codes "explorer") in
@@ -97,7 +116,8 @@ with_shapes app [] = app
 with_shapes app (shape ∷ shapes) = with_shapes (with_subcommand app shape) shapes
 
 abbrev pub explorer_app : App
-explorer_app = with_shapes bare_app (count_shape ∷ create_shape ∷ import_shape ∷ query_shape ∷ serve_shape ∷ [])
+explorer_app = with_shapes bare_app
+    (count_shape ∷ create_shape ∷ import_shape ∷ query_shape ∷ serve_shape ∷ trial_shape ∷ [])
 
 -- ---- what words ask for
 
@@ -112,6 +132,8 @@ pub data Task : Type 0 where
   Query : (store query : List ℕ) (workers : ℕ) → Task
   -- serve a store at an address while files are imported into it
   Serve : (store address : List ℕ) (files : List (List ℕ)) (workers readers connections : ℕ) → Task
+  -- store sample games that are drawn from the seed, and count them
+  Trial : (games seed workers : ℕ) → Task
 
 -- what is given under a name, or nothing
 abbrev pub word_in : Text → List Row → List ℕ
@@ -139,6 +161,10 @@ serve_task rows = Serve (word_in (codes "store") rows) (word_in (codes "address"
     (number_in (codes "readers") readers_bounds 4 rows)
     (number_in (codes "connections") connections_bounds 1000 rows)
 
+abbrev pub trial_task : List Row → Task
+trial_task rows = Trial (number_in (codes "games") games_bounds 1 rows)
+    (number_in (codes "seed") seed_bounds 0 rows) (workers_in rows)
+
 -- what a subcommand asks for, with what is given for its arguments
 abbrev pub task_named : Text → List Row → Option Task
 task_named name rows =
@@ -150,6 +176,7 @@ task_named name rows =
     else if bytes_eq name (codes "query") then
     Some (Query (word_in (codes "store") rows) (word_in (codes "query") rows) (workers_in rows))
     else if bytes_eq name (codes "serve") then Some (serve_task rows)
+    else if bytes_eq name (codes "trial") then Some (trial_task rows)
     else None
 
 abbrev pub task_said : Option (Text × List Row) → Option Task

@@ -6,7 +6,7 @@ use Rattle.explorer_model.specs.declared.fault.Stop.TheVariants as stops
 use Rattle.command_line.specs.declared.command.Command.{Command}
 use Rattle.command_line.specs.declared.command.Command.TheVariants as commands
 use Rattle.command_line.specs.declared.words.UsageError.{UsageError}
-use Rattle.command_line.specs.Task.{Bounds, Count, Create, Import, Query, Serve, Task, connections_bounds, readers_bounds, task_named, task_of, workers_bounds}
+use Rattle.command_line.specs.Task.{Bounds, Count, Create, Import, Query, Serve, Task, Trial, connections_bounds, games_bounds, readers_bounds, seed_bounds, task_named, task_of, workers_bounds}
 
 abbrev pub task_in : Command → Task
 task_in (commands.Count query workers) = Count (string_bytes query) workers
@@ -18,6 +18,7 @@ task_in (commands.Query store query workers) =
 task_in (commands.Serve store address files workers readers connections) =
     Serve (string_bytes store) (string_bytes address) (map string_bytes files.items)
     workers readers connections
+task_in (commands.Trial games seed workers) = Trial games seed workers
 
 -- ---- bounds
 
@@ -33,6 +34,8 @@ IsInBounds (Query store query workers) = IsIn workers_bounds workers
 IsInBounds (Serve store address files workers readers connections) =
     IsIn workers_bounds workers × IsIn readers_bounds readers
     × IsIn connections_bounds connections
+IsInBounds (Trial games seed workers) =
+    IsIn games_bounds games × IsIn seed_bounds seed × IsIn workers_bounds workers
 
 -- the number, where it stands within the bounds
 abbrev pub kept_in : Bounds → ℕ → Option ℕ → ℕ

@@ -9,13 +9,17 @@ ghost use Rattle.command_line.specs.Task.{
   create_shape,
   explorer_app,
   files_rule,
+  games_bounds,
   import_shape,
+  number_rule,
   option_rule,
   optional_rule,
   query_shape,
   readers_bounds,
   required_rule,
+  seed_bounds,
   serve_shape,
+  trial_shape,
   with_rules,
   with_shapes,
   workers_rule,
@@ -30,7 +34,8 @@ pub fn explorer_command<'a>(alloc: Global) -> Result<Command<'a>, AllocError>
 {
     let command = command_without_answers(alloc)?;
     let command = with_command(command, query_command(alloc)?)?;
-    with_command(command, serve_command(alloc)?)
+    let command = with_command(command, serve_command(alloc)?)?;
+    with_command(command, trial_command(alloc)?)
 }
 
 /// The command line with the first three of its subcommands.
@@ -118,6 +123,18 @@ fn serve_command_of_texts<'a>(alloc: Global) -> Result<Command<'a>, AllocError>
     with_arg(command, files_arg(alloc))
 }
 
+fn trial_command<'a>(alloc: Global) -> Result<Command<'a>, AllocError>
+    ensures shape { IfOk result (λ command. shape_of command ≡ trial_shape) }
+    ensures globals { IfOk result (λ command. (fields_of command).has_globals ≡ false) }
+{
+    let command = Command::new(alloc, "trial").about(
+        "Store sample games that are drawn from a seed, and count them",
+    );
+    let command = with_arg(command, games_arg(alloc))?;
+    let command = with_arg(command, seed_arg(alloc))?;
+    with_arg(command, workers_arg(alloc))
+}
+
 fn query_arg<'a>(alloc: Global) -> Arg<'a>
     ensures rule { rule_of result ≡ optional_rule (codes "query") }
     ensures local { result.global ≡ false }
@@ -166,6 +183,28 @@ fn files_arg<'a>(alloc: Global) -> Arg<'a>
         .action(ArgAction::Append)
         .num_args(0usize..)
         .help("Files of games in PGN, to be imported meanwhile")
+}
+
+fn games_arg<'a>(alloc: Global) -> Arg<'a>
+    ensures rule { rule_of result ≡ number_rule (codes "games") games_bounds }
+    ensures local { result.global ≡ false }
+{
+    Arg::new(alloc, "games")
+        .value_name("GAMES")
+        .required(true)
+        .value_parser(value_parser!(u64).range(1..=131_072))
+        .help("How many games are drawn, 1 to 131072")
+}
+
+fn seed_arg<'a>(alloc: Global) -> Arg<'a>
+    ensures rule { rule_of result ≡ number_rule (codes "seed") seed_bounds }
+    ensures local { result.global ≡ false }
+{
+    Arg::new(alloc, "seed")
+        .value_name("SEED")
+        .required(true)
+        .value_parser(value_parser!(u64))
+        .help("The number that the games are drawn from")
 }
 
 fn workers_arg<'a>(alloc: Global) -> Arg<'a>

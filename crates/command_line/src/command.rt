@@ -41,6 +41,12 @@ pub enum Command {
         readers: u8,
         connections: u32,
     },
+    /// Store 1 to 131,072 sample games that are drawn from the seed, and count them.
+    Trial {
+        games: u32,
+        seed: u64,
+        workers: u8,
+    },
 }
 
 /// The command that the matches of the command line say.
@@ -62,10 +68,13 @@ pub fn command_of(alloc: Global, matches: &ArgMatches<'_>) -> Result<Command, Al
     if let Some(given) = matches.subcommand_matches("query") {
         return query_of(alloc, given);
     }
-    let Some(given) = matches.subcommand_matches("serve") else {
+    if let Some(given) = matches.subcommand_matches("serve") {
+        return serve_of(alloc, given);
+    }
+    let Some(given) = matches.subcommand_matches("trial") else {
         unreachable!();
     };
-    serve_of(alloc, given)
+    Ok(trial_of(given))
 }
 
 fn count_of(alloc: Global, given: &ArgMatches<'_>) -> Result<Command, AllocError>
@@ -126,6 +135,17 @@ fn serve_of(alloc: Global, given: &ArgMatches<'_>) -> Result<Command, AllocError
         readers: number_of(given, "readers", 1, 64, 4) as u8,
         connections: number_of(given, "connections", 1, 1_000_000, 1000) as u32,
     })
+}
+
+fn trial_of(given: &ArgMatches<'_>) -> Command
+    ensures task { task_named (codes "trial") (rows_of (found_of given.now)) ≡ Some (task_in result) }
+    ensures bounds { IsInBounds (task_in result) }
+{
+    Command::Trial {
+        games: number_of(given, "games", 1, 131_072, 1) as u32,
+        seed: number_of(given, "seed", 0, u64::MAX, 0),
+        workers: workers_of(given),
+    }
 }
 
 /// What is given under a name, or nothing.

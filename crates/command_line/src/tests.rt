@@ -25,7 +25,7 @@ fn shown(alloc: Global, words: &[&str]) -> Result<String, AllocError> {
 #[test]
 fn each_command_is_read(rt: HostRuntime) -> Result<(), Fail> {
     let alloc = rt.alloc();
-    let table: [(&[&str], &str); 11] = [
+    let table: [(&[&str], &str); 13] = [
         (&["count"], "Count { query: \"\", workers: 4 }"),
         (
             &["count", "play=e2e4"],
@@ -74,6 +74,14 @@ fn each_command_is_read(rt: HostRuntime) -> Result<(), Fail> {
             ],
             "Serve { store: \"s\", address: \"a\", files: [\"f\", \"g\"], workers: 4, readers: 64, connections: 1000000 }",
         ),
+        (
+            &["trial", "2000", "7"],
+            "Trial { games: 2000, seed: 7, workers: 4 }",
+        ),
+        (
+            &["trial", "--workers", "8", "131072", "18446744073709551615"],
+            "Trial { games: 131072, seed: 18446744073709551615, workers: 8 }",
+        ),
     ];
     for (words, command) in table {
         assert_eq!(rt; shown(alloc, words)?.as_str(), command);
@@ -84,7 +92,7 @@ fn each_command_is_read(rt: HostRuntime) -> Result<(), Fail> {
 #[test]
 fn other_words_are_refused(rt: HostRuntime) -> Result<(), Fail> {
     let alloc = rt.alloc();
-    let table: [(&[&str], &str); 12] = [
+    let table: [(&[&str], &str); 16] = [
         (
             &[],
             "error: 'explorer' requires a subcommand but one was not provided\n",
@@ -129,6 +137,22 @@ fn other_words_are_refused(rt: HostRuntime) -> Result<(), Fail> {
         (
             &["serve", "s", "a", "--readers", "65"],
             "error: invalid value '65' for '--readers <N>': 65 is not in 1..=64\n",
+        ),
+        (
+            &["trial", "5"],
+            "error: the following required arguments were not provided:\n  <SEED>\n",
+        ),
+        (
+            &["trial", "0", "7"],
+            "error: invalid value '0' for '<GAMES>': 0 is not in 1..=131072\n",
+        ),
+        (
+            &["trial", "131073", "7"],
+            "error: invalid value '131073' for '<GAMES>': 131073 is not in 1..=131072\n",
+        ),
+        (
+            &["trial", "5", "x"],
+            "error: invalid value 'x' for '<SEED>': invalid digit found in string\n",
         ),
     ];
     for (words, front) in table {

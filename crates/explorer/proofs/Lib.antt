@@ -17,3 +17,9 @@ mod ServedLemmas
 mod WorkerLists
 mod QueryLemmas
 mod ServeLemmas
+mod ByteLemmas
+mod SampleLemmas
+mod NewGameLemmas
+mod LastGameLemmas
+mod DefaultQueryLemmas
+mod TrialLemmas

@@ -13,7 +13,7 @@ use Rattle.explorer.specs.Laws.{CountsAtMost, IsTold, WroteAlike}
 use Rattle.explorer.specs.Lines.{AreLinesOf, Ending, Done, Stopped, Tells, status_of}
 use Rattle.explorer.specs.Report.{report}
 use Rattle.explorer.specs.Run.{Meets, Runs, StartsWithout}
-use Rattle.command_line.specs.Task.{Task, Count, Create, Import, Query, Serve, task_of}
+use Rattle.command_line.specs.Task.{Task, Count, Create, Import, Query, Serve, Trial, task_of}
 use Rattle.explorer.specs.World.{World, IsFaultless}
 use Rattle.import_run.proofs.VerdictLemmas.{OneGame}
 use Rattle.explorer.proofs.LawLemmas.{OneAnswer}
@@ -150,6 +150,7 @@ one_run words stream before after other status status' counts_only game one answ
     by_task (Some (Import store file workers)) only meets meets' = absurd only
     by_task (Some (Query store query workers)) only meets meets' = absurd only
     by_task (Some (Serve store address files workers readers connections)) only meets meets' = absurd only
+    by_task (Some (Trial games seed workers)) only meets meets' = absurd only
 
     by_meets : StartsWithout before first.ended first.ending ⊎ Meets (task_of words) before first.ended first.ending → StartsWithout before second.ended second.ending ⊎ Meets (task_of words) before second.ended second.ending → OneRun after other status status'
     by_meets (inl starves) meets' = absurd (no_memory status first.ending fed first.status_is starves.0)

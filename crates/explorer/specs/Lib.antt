@@ -2,12 +2,15 @@ pub mod World
 pub mod Lines
 pub mod Report
 pub mod Answer
+pub mod Bytes
 pub mod Imported
 pub mod Count
 pub mod Run
 pub mod Laws
 pub mod Faults
 pub mod Stores
+pub mod Trial
+pub mod Trying
 pub mod Create
 pub mod Opened
 pub mod ImportStore

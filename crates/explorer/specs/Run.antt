@@ -10,7 +10,8 @@ use Rattle.explorer.specs.ImportStore.{ImportsBy}
 use Rattle.explorer.specs.Lines.{Ending, Stopped, Tells, status_of}
 use Rattle.explorer.specs.QueryStore.{QueriesBy}
 use Rattle.explorer.specs.Serve.{Serves}
-use Rattle.command_line.specs.Task.{Task, Count, Create, Import, Query, Serve, task_of}
+use Rattle.explorer.specs.Trial.{TriesBy}
+use Rattle.command_line.specs.Task.{Task, Count, Create, Import, Query, Serve, Trial, task_of}
 use Rattle.explorer.specs.World.{World}
 
 -- Memory was refused, which may come at any moment: some of the input may be read, and nothing is
@@ -40,6 +41,7 @@ Ends (Serve store address files workers readers connections) before after ending
       readers = readers;
       connections = connections;
     }) before after ending
+Ends (Trial games seed workers) before after ending = TriesBy games seed before after ending
 
 -- words that are refused touch nothing
 abbrev pub Meets : Option Task → World → World → Ending → Type 0

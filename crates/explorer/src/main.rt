@@ -5,6 +5,7 @@ ghost use Rattle.std.specs.Prelude.{◌≡◌, ◌⊎◌, IfErr};
 ghost use Rattle.explorer.specs.declared.fault.Fault.{Fault as AFault};
 
 mod answer;
+mod byte_source;
 mod count;
 mod create;
 mod fault;
@@ -22,6 +23,7 @@ mod serving;
 mod status;
 #[cfg(test)]
 mod tests;
+mod trial;
 mod workers;
 
 use fault::Fault;

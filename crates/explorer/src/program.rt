@@ -15,6 +15,7 @@ use crate::order::Order;
 use crate::query_store::query_store;
 use crate::serve::serve;
 use crate::status::Status;
+use crate::trial::trial;
 use command_line::{Command, UsageError, parse_words};
 use explorer_model::fault::Stop;
 use host::Host;
@@ -139,6 +140,11 @@ fn run_command<R: AllocGlobal + Wait + Threads + Sync, I: Source, O: Sink, E: Si
             errors,
             host,
         ),
+        Command::Trial {
+            games,
+            seed,
+            workers,
+        } => trial(rt, games, seed, usize::from(workers), output),
     }
 }
 

@@ -4,6 +4,7 @@ mod imports;
 mod serving;
 mod stores;
 mod streams;
+mod trials;
 mod words;
 
 ghost use Rattle.std.specs.Prelude.{◌<◌};
@@ -64,6 +65,17 @@ fn tagged(alloc: Global, tags: &Tags, movetext: &str) -> Result<String, AllocErr
          [White \"Ann\"]\n[Black \"Bob\"]\n[Result \"{outcome}\"]\n[UTCDate \"2020.01.15\"]\n\
          [WhiteElo \"{white_rating}\"]\n[BlackElo \"{black_rating}\"]\n[TimeControl \"{time}\"]\n\n{movetext}\n"
     )
+}
+
+/// So many moveless games that White won, each of 194 bytes, with ids of their own.
+fn games(alloc: Global, count: u32) -> Result<String, AllocError> {
+    let mut text = String::new(alloc);
+    for number in 0..count {
+        let id = format!(in alloc; "{number:08}")?;
+        let game = named(alloc, id.as_str(), "1-0", "1-0")?;
+        text.push_str(game.as_str())?;
+    }
+    Ok(text)
 }
 
 /// A game as an answer lists it.

@@ -1,7 +1,7 @@
 //! Stores that are served over a host in memory.
-use super::{NO_GAME, ONE_WHITE, ends, five_games, game, listed, named};
+use super::{NO_GAME, ONE_WHITE, ends, five_games, game, games, listed, named};
 use disk_model::MemDisk;
-use host::{MemCall, MemHost, MemLinks};
+use host::{Host, MemCall, MemFile, MemHost, MemLinks};
 use outside::{MemLink, MemSink, MemSource};
 use std::alloc::{AllocError, Global};
 use std::test::Fail;
@@ -213,5 +213,45 @@ fn batches_are_merged_beside_answers(rt: HostRuntime) -> Result<(), Fail> {
     }
     let told = found(alloc, "5", answer.as_str())?;
     assert!(rt; wrote(&host, &[told.as_str()]));
+    Ok(())
+}
+
+/// How many games each batch of the store `s` has.
+fn batch_sizes(alloc: Global, host: &mut MemHost) -> Result<Vec<usize>, Fail> {
+    let Ok(opened) = manifest::open(alloc, host.disk("s")?) else {
+        return Err(Fail::from("not a store"));
+    };
+    let mut sizes = Vec::new(alloc);
+    for batch in &opened.journal {
+        sizes.push(batch.texts.len())?;
+    }
+    Ok(sizes)
+}
+
+/// A batch has at most 512 games. The peer asks for nothing.
+#[test]
+fn imports_a_file_of_two_groups(rt: HostRuntime) -> Result<(), Fail> {
+    let alloc = rt.alloc();
+    let file = MemFile {
+        bytes: games(alloc, 513)?.into_bytes(),
+        failing: Vec::new(alloc),
+    };
+    let mut host = MemHost::new(alloc);
+    host.add_disk("s", new_store(alloc, &[])?)?;
+    host.add_links("a", links(alloc, &[""], &[], &[])?)?;
+    host.add_file("f", file)?;
+    let words = [
+        "serve",
+        "s",
+        "a",
+        "f",
+        "--readers",
+        "1",
+        "--connections",
+        "1",
+    ];
+    assert!(rt; ends(&rt, &mut host, &words, (0, "listening a\n", ""))?);
+    assert!(rt; wrote(&host, &[""]));
+    assert_eq!(rt; batch_sizes(alloc, &mut host)?, vec![in alloc; 512, 1]?);
     Ok(())
 }

@@ -2,7 +2,8 @@
 ghost use Rattle.std.specs.Prelude.{◌<◌};
 
 use super::{
-    FAULTLESS, NEVER, NO_GAME, ONE_DRAW, ONE_WHITE, Tags, game, named, one_move, run_on, tagged,
+    FAULTLESS, NEVER, NO_GAME, ONE_DRAW, ONE_WHITE, Tags, game, games, named, one_move, run_on,
+    tagged,
 };
 use std::alloc::{AllocError, Global};
 use std::sync::Wait;
@@ -174,17 +175,6 @@ fn won(alloc: Global, games: u32) -> Result<String, AllocError> {
         "{{\"black\":0,\"draws\":0,\"moves\":[],\"opening\":null,\"recentGames\":[],\
          \"topGames\":[],\"white\":{games}}}\n"
     )
-}
-
-/// So many moveless games that White won, each of 194 bytes, with ids of their own.
-fn games(alloc: Global, count: u32) -> Result<String, AllocError> {
-    let mut text = String::new(alloc);
-    for number in 0..count {
-        let id = format!(in alloc; "{number:08}")?;
-        let game = named(alloc, id.as_str(), "1-0", "1-0")?;
-        text.push_str(game.as_str())?;
-    }
-    Ok(text)
 }
 
 /// A group has 512 texts, and ids are compared over the whole input: within a group with the

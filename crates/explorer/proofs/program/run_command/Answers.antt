@@ -29,3 +29,6 @@ returns-in-Serve g c =
     let same = same_service (string_bytes c.in-Serve.store) (string_bytes c.in-Serve.store) (string_bytes c.in-Serve.address) (string_bytes c.in-Serve.address) files files
     c.from-in-Serve.result c.in-Serve.workers c.from-in-Serve-2.result c.in-Serve.readers c.in-Serve.connections refl refl refl (search rules) (search rules) in
     rw c.in-Serve.is (subst (λ (s : Service). Serves s before after (ending_of c.serve.result)) same (c.serve.ensures (g.I.Source.source c.args.input.now)))
+
+pub returns-in-Trial : goal.returns-in-Trial
+returns-in-Trial g c = rw c.in-Trial.is (c.trial.ensures (g.I.Source.source c.args.input.now) (g.E.Sink.sink c.args.errors.now) (g.H.Host.host c.args.host.now))

@@ -1,0 +1,183 @@
+-- How a run of `trial` ends.
+use Rattle.std.proofs.Common.{◌≡◌, ℕ, ◌<◌, ◌-◌, ◌^◌, ◌≤◌, List, [], ◌∷◌, ◌++◌, Option, None, Some, Result, Ok, Err, length, map, refl, sym, ap, subst, ◌∙◌, arith}
+use Rattle.std.specs.Prelude.{IfOk}
+use Rattle.std.specs.Io.KnownBytes.{Consumes, IsAtEnd}
+use Rattle.std.proofs.lemmas.List.{append-nil}
+use Rattle.disk_model.specs.Disk.{DiskState}
+use Rattle.outside.specs.Stream.{Stream}
+use Rattle.explorer_model.specs.declared.answer.Found.{Found}
+use Rattle.explorer_model.specs.declared.archive.Batch.{Batch}
+use Rattle.explorer_model.specs.declared.archive.Game.{Game}
+use Rattle.explorer_model.specs.declared.archive.Placed.{Placed}
+use Rattle.explorer_model.specs.declared.fault.Refusal.{Refusal}
+use Rattle.explorer_model.specs.declared.notation.FenFault.{FenFault}
+use Rattle.explorer_model.specs.Chess.{start}
+use Rattle.explorer_model.specs.Cuts.{cuts}
+use Rattle.explorer_model.specs.declared.query.Query.{Query}
+use Rattle.explorer_model.specs.Fen.{FenReads}
+use Rattle.explorer_model.specs.Finds.{IsFound}
+use Rattle.explorer_model.specs.Imports.{Accounted, groups}
+use Rattle.explorer_model.specs.Visits.{IsTextOf, texts_of}
+use Rattle.ingest_desk.specs.Importers.{ending_of}
+use Rattle.ingest_desk.specs.Stored.{Stored, journal, with_held}
+use Rattle.ingest_desk.specs.declared.report.End.{End}
+use Rattle.ingest_desk.specs.declared.report.End.TheVariants as ends
+use Rattle.ingest_desk.specs.declared.report.ImportEnding.{ImportEnding}
+use Rattle.ingest_desk.specs.declared.report.ImportEnding.TheVariants as endings
+use Rattle.ingest_desk.specs.declared.report.Report.{Report}
+use Rattle.import_run.specs.Alone.{ImportsAlone, stored_in}
+use Rattle.import_run.specs.Committing.{Known, Store}
+use Rattle.import_run.specs.Ending.{StandsAt, StoresBy}
+use Rattle.import_run.specs.Faultless.{StoresAll}
+use Rattle.published_index.specs.Changes.{Change}
+use Rattle.published_index.specs.Cover.{journal_of}
+use Rattle.published_index.specs.States.{Publishing}
+use Rattle.segment_blocks.specs.Segment.{CountedSpan}
+use Rattle.rand_pcg.specs.Lcg.{Lcg}
+use Rattle.sample_games.specs.Samples.{HasGame, IsSample}
+use Rattle.sample_games.specs.Streams.{generator, joined}
+use Rattle.explorer.specs.declared.trial.Tried.{Tried}
+use Rattle.explorer.specs.Imported.{new_store}
+use Rattle.explorer.specs.Trial.{StoresTexts, TellsTrial, position_behind, summary}
+use Rattle.explorer.specs.Trying.{AreDrawn, IsLastOf, IsReadable, IsStreamOf, IsTriedOf}
+use Rattle.explorer.proofs.LastGameLemmas.{last_readable}
+use Rattle.explorer.proofs.NewGameLemmas.{bytes_placed, placed_at}
+use Rattle.explorer.proofs.NewStoreLemmas.{known_is_new}
+
+pub ok_then : {A E : Type 0} (r : Result A E) (P Q : A → Type 0) → ((x : A) → P x → Q x) → IfOk r P → IfOk r Q
+ok_then (Ok x) P Q step p = step x p
+ok_then (Err e) P Q step p = tt
+
+-- ---- the end of an import
+
+-- an import of new games that find room ends so, where no call fails
+abbrev pub IsWholeOrLacks : ImportEnding → Type 0
+IsWholeOrLacks endings.Whole = Unit {0}
+IsWholeOrLacks endings.OutOfMemory = Unit {0}
+IsWholeOrLacks _ = ⊥
+
+-- it ends in no other way
+pub other_end : (told : ImportEnding) → IsWholeOrLacks told → (told ≡ endings.Whole → ⊥) → (told ≡ endings.OutOfMemory → ⊥) → ⊥
+other_end endings.Whole so whole lacks = whole refl
+other_end (endings.ReadFault first last) so whole lacks = so
+other_end (endings.DiskFault first last) so whole lacks = so
+other_end (endings.Closed first last) so whole lacks = so
+other_end (endings.Full games bytes) so whole lacks = so
+other_end (endings.TooMuch bytes) so whole lacks = so
+other_end endings.OutOfMemory so whole lacks = lacks refl
+
+module _ {J : Type 0} where
+  pub ends_so : (end : End J) (before after : List Batch) (texts : List Placed) (refused : List Refusal) → StoresAll end before texts refused after → IsWholeOrLacks (ending_of end)
+  ends_so ends.Whole before after texts refused all = tt
+  ends_so (ends.ReadFault first last) before after texts refused all = absurd all
+  ends_so (ends.DiskFault first last mark) before after texts refused all = absurd all
+  ends_so (ends.Closed first last mark) before after texts refused all = absurd all
+  ends_so (ends.Full games bytes note) before after texts refused all = absurd all
+  ends_so (ends.TooMuch bytes) before after texts refused all = absurd all
+  ends_so ends.OutOfMemory before after texts refused all = tt
+
+  is_whole : (end : End J) → ending_of end ≡ endings.Whole → end ≡ ends.Whole
+  is_whole ends.Whole is = refl
+  is_whole (ends.ReadFault first last) is = cc
+  is_whole (ends.DiskFault first last mark) is = cc
+  is_whole (ends.Closed first last mark) is = cc
+  is_whole (ends.Full games bytes note) is = cc
+  is_whole (ends.TooMuch bytes) is = cc
+  is_whole ends.OutOfMemory is = cc
+
+-- ---- what is stored
+
+all_taken : (left after : Option (List ℕ)) (bytes stream : List ℕ) → left ≡ Some bytes → Consumes left after stream → IsAtEnd after → stream ≡ bytes
+all_taken None after bytes stream told next at_end = cc
+all_taken (Some xs) None bytes stream told next at_end = absurd next
+all_taken (Some xs) (Some rest) bytes stream told next at_end =
+    let same : xs ≡ bytes = cc in
+    sym (append-nil stream) ∙ ap (λ (l : List ℕ). stream ++ l) (sym at_end) ∙ sym next ∙ same
+
+module _ {D J : Type 0} (disk : D → DiskState) (left_since : D → ℕ → List ℕ → Type 0) (source source_after : Stream) (before after : Stored D) (report : Report J)
+    (is : ImportsAlone disk left_since source before source_after after report) (stream : List ℕ) (told : source.left ≡ Some stream) (open_is : before.manifest.fault ≡ None) (empty : journal before ≡ [])
+    (ending : ImportEnding) (ended : ending ≡ ending_of report.end) (whole : ending ≡ endings.Whole) (texts : List (List ℕ)) (of_texts : stream ≡ joined texts)
+    (all : StoresAll report.end (journal before) (placed_at 0 texts) report.refused.items (journal after)) where
+  end_is : report.end ≡ ends.Whole
+  end_is = is_whole report.end (sym ended ∙ whole)
+
+  start_journal : is.start.journal ≡ []
+  start_journal = ap (λ (s : Store). s.journal) is.start_is ∙ empty
+
+  start_is : is.start ≡ new_store
+  start_is = known_is_new is.start start_journal (ap (λ (s : Store). s.fault) is.start_is ∙ open_is)
+
+  -- the texts are stored
+  pub stores_texts : StoresTexts texts (journal after)
+  stores_texts =
+      let stands = subst (λ (e : End J). StandsAt e is.start is.stream source_after.left is.batches report.refused.items) end_is is.stands in
+      let stores = subst (λ (e : End J). StoresBy e (is.start.journal ++ is.batches) is.start.fault (stored_in after)) end_is is.stores in
+      let whole_all = subst (λ (e : End J). StoresAll e (journal before) (placed_at 0 texts) report.refused.items (journal after)) end_is all in
+      let games_are : is.start.games ≡ [] = ap (λ (k : Known). k.games) start_is in
+      let stream_is : is.stream ≡ joined texts = all_taken source.left source_after.left stream is.stream told is.reads.next stands.0 ∙ of_texts in
+      let batches_are : is.batches ≡ journal after = sym (stores.0 ∙ ap (λ (j : List Batch). j ++ is.batches) start_journal) in
+      let A : List Game → List ℕ → List Batch → List Refusal → Type 0 = λ g s b r. Accounted g (groups (cuts s)) b r in
+      record {
+        accounted =
+            subst (λ (r : List Refusal). A [] (joined texts) (journal after) r) whole_all.0
+            (subst (λ (b : List Batch). A [] (joined texts) b report.refused.items) batches_are
+            (subst (λ (s : List ℕ). A [] s is.batches report.refused.items) stream_is
+            (subst (λ (g : List Game). A g is.stream is.batches report.refused.items) games_are stands.2.accounted)));
+        texts_are =
+            whole_all.1 ∙ ap (λ (j : List Batch). texts_of j ++ map (λ (text : Placed). text.bytes) (placed_at 0 texts)) empty ∙ bytes_placed 0 texts;
+      }
+
+-- a count of faults that is 0
+pub zero_fits : 0 < 2 ^ 64 - 1
+zero_fits = omega arith
+
+-- what is published is what was stored, where nothing is held
+pub all_published : (list : List CountedSpan) (held : Option Change) (stored : List Batch) → held ≡ None → with_held (journal_of list) held ≡ stored → journal_of list ≡ stored
+all_published list held stored none same = sym (ap (with_held (journal_of list)) none) ∙ same
+
+-- what is found over what is published is found over what was stored
+pub found_over : (told index : Publishing) (stored : List Batch) (query : Query) (found : Found) → told ≡ index → journal_of index.list ≡ stored → IsFound (journal_of told.list) query found → IsFound stored query found
+found_over told index stored query found same covers is =
+    subst (λ (j : List Batch). IsFound j query found) covers (subst (λ (p : Publishing). IsFound (journal_of p.list) query found) same is)
+
+-- ---- the samples that were drawn
+
+last_is : (texts : List (List ℕ)) (last : List ℕ) → 1 ≤ length texts → IsLastOf texts last → (earlier : List (List ℕ)) × (texts ≡ earlier ++ last ∷ [])
+last_is [] last some is = absurd (omega (arith, some))
+last_is (text ∷ texts) last some is = is
+
+module _ (games seed : ℕ) (stream last : List ℕ) (draws : Lcg) (are : AreDrawn games seed stream last draws) where
+  -- they make the stream
+  pub drawn_stream : games ≤ 131072 → IsStreamOf are.texts stream
+  drawn_stream few = record {
+    seed = seed;
+    are_samples = record { behind = draws; drawn = are.drawn; count = refl };
+    few = omega (arith, are.count, few);
+    short = are.short;
+    joined_is = are.joined_is;
+  }
+
+  module _ (some : 1 ≤ games) where
+    last_of : (earlier : List (List ℕ)) × (are.texts ≡ earlier ++ last ∷ [])
+    last_of = last_is are.texts last (omega (arith, are.count, some)) are.last_is
+
+    -- the last of them can be read
+    pub drawn_readable : ((index : ℕ) (before behind : Lcg) (text : List ℕ) → (sample : IsSample index before text behind) → HasGame index text sample.moves) → IsReadable last
+    drawn_readable has = last_readable has 0 (generator seed) draws are.texts last_of.0 last are.drawn are.short last_of.1
+
+    -- what is told of them
+    pub tells_trial : IsReadable last → (tried : Tried) → IsTriedOf are.texts tried → (fen lines : List ℕ) → ((game : Game) → IsTextOf last game → FenReads fen (Ok (position_behind start game.moves)))
+        → lines ≡ summary games tried.batches tried.segments tried.totals fen → TellsTrial games seed lines
+    tells_trial readable tried (batches, stores, over) fen lines reads is = record {
+      texts = are.texts;
+      are_samples = record { behind = draws; drawn = are.drawn; count = are.count };
+      batches = batches;
+      stores = stores;
+      segments = over.segments;
+      drained = over.drained;
+      found = over.found;
+      is_found = over.is_found;
+      fen = fen;
+      tells_last = record { earlier = last_of.0; text = last; texts_are = last_of.1; game = readable.game; is_game = readable.is_game; reads = reads readable.game readable.is_game };
+      lines_are = is ∙ (λ i. summary games (over.batches_are i) (over.segments_are i) (over.totals_are i) fen);
+    }

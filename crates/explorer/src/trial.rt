@@ -1,0 +1,333 @@
+//! The command `trial`: stores sample games in a new store, and counts them.
+ghost use Rattle.std.specs.Prelude.{◌≡◌, ◌≤◌, ◌++◌, ℕ, List, Ok, [], None, IfOk, OnOk, codes, decimal};
+ghost use Rattle.outside.specs.Stream.{Stream};
+ghost use Rattle.host.specs.Hosts.{HostState};
+ghost use Rattle.explorer_model.specs.declared.archive.Game.{Game as AGame};
+ghost use Rattle.explorer_model.specs.Chess.{IsValid, start};
+ghost use Rattle.explorer_model.specs.Fen.{FenReads};
+ghost use Rattle.explorer_model.specs.Query.{QueryReads};
+ghost use Rattle.explorer_model.specs.Visits.{AreLegalFrom, IsTextOf};
+ghost use Rattle.rand_pcg.specs.Lcg.{Lcg};
+ghost use Rattle.ingest_desk.specs.Stored.{journal};
+ghost use Rattle.explorer.specs.Lines.{ending_of};
+ghost use Rattle.explorer.specs.Trial.{StoresTexts, TellsTrial, TriesBy, line, position_behind, summary};
+ghost use Rattle.explorer.specs.Trying.{AreDrawn, IsOfSamples, IsReadable, IsStreamOf, IsTriedOf, IsTriedOver};
+ghost use Rattle.explorer.specs.World.{world};
+
+use crate::answer::found_in;
+use crate::byte_source::ByteSource;
+use crate::fault::Fault;
+use crate::opening::new_store;
+use arrayvec::ArrayVec;
+use disk_model::Unkept;
+use explorer_model::answer::Totals;
+use explorer_model::archive::Bytes;
+use explorer_model::chess::Move;
+use explorer_model::fault::Stop;
+use explorer_model::query::Query;
+use fen_uci::laws::written_fen_is_read;
+use fen_uci::write_fen;
+use game_replay::laws::game_is_determined;
+use game_replay::replay;
+use import_run::laws::new_games_are_stored;
+use import_run::{Drained, drain_alone, ending_of, import_alone};
+use ingest_desk::{ImportEnding, Ingest, Unnamed};
+use itoa::Buffer;
+use legal_moves::board::Board;
+use outside::{FreeGate, Sink};
+use published_index::Index;
+use query_params::query;
+use rand_pcg::Lcg64Xsh32;
+use sample_games::laws::{ids_differ, samples_have_games, streams_are_cut_into_samples};
+use sample_games::sample;
+use std::alloc::{AllocError, Global};
+use std::marker::Brand;
+use std::sync::Wait;
+use std::thread::Threads;
+
+/// Draws sample games from a seed, imports them as one stream into a new store, merges what is due,
+/// and prints how they are stored, their totals, and where the last of them ends.
+pub fn trial<R: AllocGlobal + Wait + Threads + Sync, O: Sink>(
+    rt: &R,
+    games: u32,
+    seed: u64,
+    workers: usize,
+    output: &mut O,
+) -> Result<(), Fault>
+    requires some_games { 1 ≤ games }
+    requires few_games { games ≤ 131072 }
+    requires some_workers { 1 ≤ workers }
+    requires few_workers { workers ≤ 16 }
+    ensures { (input errors : Stream) (host : HostState) →
+        let before = world input (O.sink output.old) errors host in
+        let after = world input (O.sink output.new) errors host in
+        TriesBy games seed before after (ending_of result) }
+{
+    let Ok(lines) = trial_lines(rt, games, seed, workers) else {
+        return Err(Fault::OutOfMemory);
+    };
+    match output.write(lines.as_slice()) {
+        Ok(()) => Ok(()),
+        Err(_) => Err(Fault::WriteFault),
+    }
+}
+
+/// The lines that tell of a trial.
+fn trial_lines<R: AllocGlobal + Wait + Threads + Sync>(
+    rt: &R,
+    games: u32,
+    seed: u64,
+    workers: usize,
+) -> Result<Vec<u8>, AllocError>
+    requires some_games { 1 ≤ games }
+    requires few_games { games ≤ 131072 }
+    requires some_workers { 1 ≤ workers }
+    requires few_workers { workers ≤ 16 }
+    ensures { IfOk result (λ lines. TellsTrial games seed lines.items) }
+{
+    // law: each sample has a game
+    samples_have_games();
+    let samples = draw_samples(rt.alloc(), games, seed)?;
+    let fen = last_fen(rt.alloc(), samples.last.as_slice())?;
+    let tried = try_stream(rt, samples.stream, workers)?;
+    summary_lines(rt.alloc(), games, &tried, fen.as_slice())
+}
+
+// ---- samples
+
+/// Sample games as one stream, and the text of the last of them.
+#[derive(Debug, Drop)]
+struct Samples {
+    stream: Vec<u8>,
+    last: Bytes,
+}
+
+fn draw_samples(alloc: Global, games: u32, seed: u64) -> Result<Samples, AllocError>
+    requires { games ≤ 131072 }
+    ensures { IfOk result (λ samples.
+        (draws : Lcg) × AreDrawn games seed samples.stream.items samples.last draws) }
+{
+    let mut draws = Lcg64Xsh32::new(seed, 1);
+    let mut stream = Vec::new(alloc);
+    let mut last = Bytes::from_vec(Vec::new(alloc));
+    for index in 0..games {
+        last = sample(alloc, index, &mut draws)?;
+        stream.extend_from_slice(last.as_slice())?;
+    }
+    Ok(Samples { stream, last })
+}
+
+/// The position in which the game of a text ends, in FEN.
+fn last_fen(alloc: Global, text: &[u8]) -> Result<ArrayVec<u8, 96>, AllocError>
+    requires { IsReadable text.now }
+    ensures { IfOk result (λ fen. (game : AGame) → IsTextOf text.now game
+        → FenReads fen.items (Ok (position_behind start game.moves))) }
+{
+    // laws: a text has one game; what is written of a valid position is read
+    game_is_determined();
+    written_fen_is_read();
+    let game = match replay(alloc, text) {
+        Ok(game) => game,
+        Err(Stop::OutOfMemory) => return Err(AllocError),
+        Err(Stop::Fault(_)) => unreachable!(),
+    };
+    let board = board_behind(game.moves.as_slice());
+    // The position of a board is valid.
+    let _position = board.position();
+    Ok(write_fen(&board))
+}
+
+/// The board behind the moves of a game.
+fn board_behind(moves: &[Move]) -> Board
+    requires { AreLegalFrom start moves.now }
+    ensures { result ≡ position_behind start moves.now }
+{
+    let mut board = Board::start();
+    for step in moves {
+        board.play_on(*step);
+    }
+    board
+}
+
+// ---- the store
+
+/// How many batches and segments a store has, and the totals over its games.
+#[derive(Clone, Copy, Debug)]
+struct Tried {
+    batches: u32,
+    segments: usize,
+    totals: Totals,
+}
+
+/// Stores the games of a stream of samples in a new store, which nothing is kept of, and counts
+/// them.
+fn try_stream<R: AllocGlobal + Wait + Threads + Sync>(
+    rt: &R,
+    stream: Vec<u8>,
+    workers: usize,
+) -> Result<Tried, AllocError>
+    requires some_workers { 1 ≤ workers }
+    requires few_workers { workers ≤ 16 }
+    requires samples { IsOfSamples stream.items }
+    ensures { IfOk result (λ tried.
+        (texts : List (List ℕ)) → IsStreamOf texts stream.items → IsTriedOf texts tried) }
+{
+    let unnamed = new_store(rt)?;
+    try_unnamed::<Brand, R>(rt, unnamed, stream, workers)
+}
+
+/// The same, where the store is made.
+fn try_unnamed<J: Index, R: AllocGlobal + Wait + Threads + Sync>(
+    rt: &R,
+    unnamed: Unnamed<Unkept>,
+    stream: Vec<u8>,
+    workers: usize,
+) -> Result<Tried, AllocError>
+    requires name { unnamed.index.name ≡ J.name }
+    requires sound { unnamed.manifest.fault ≡ None }
+    requires empty { unnamed.index.list ≡ [] }
+    requires some_workers { 1 ≤ workers }
+    requires few_workers { workers ≤ 16 }
+    requires samples { IsOfSamples stream.items }
+    ensures { IfOk result (λ tried.
+        (texts : List (List ℕ)) → IsStreamOf texts stream.items → IsTriedOf texts tried) }
+{
+    let (mut ingest, _passes) = match unnamed.named::<J>(rt.alloc()) {
+        Ok(named) => named,
+        Err(unnamed) => {
+            let _disk = unnamed.into_disk(rt);
+            return Err(AllocError);
+        }
+    };
+    let tried = try_in(rt, &mut ingest, stream, workers);
+    let _disk = ingest.into_disk(rt);
+    tried
+}
+
+/// The same, where the store without a batch is open.
+fn try_in<J: Index, R: AllocGlobal + Wait + Threads + Sync>(
+    rt: &R,
+    ingest: &mut Ingest<Unkept, J>,
+    stream: Vec<u8>,
+    workers: usize,
+) -> Result<Tried, AllocError>
+    requires sound { ingest.old.manifest.fault ≡ None }
+    requires empty { journal ingest.old ≡ [] }
+    requires some_workers { 1 ≤ workers }
+    requires few_workers { workers ≤ 16 }
+    requires samples { IsOfSamples stream.items }
+    ensures { IfOk result (λ tried.
+        (texts : List (List ℕ)) → IsStreamOf texts stream.items → IsTriedOf texts tried) }
+{
+    store_samples(rt, ingest, stream, workers)?;
+    count_stored(rt, ingest, workers)
+}
+
+/// Imports a stream of samples into a store without a batch.
+fn store_samples<J: Index, R: AllocGlobal + Wait + Threads + Sync>(
+    rt: &R,
+    ingest: &mut Ingest<Unkept, J>,
+    stream: Vec<u8>,
+    workers: usize,
+) -> Result<(), AllocError>
+    requires sound { ingest.old.manifest.fault ≡ None }
+    requires empty { journal ingest.old ≡ [] }
+    requires some_workers { 1 ≤ workers }
+    requires few_workers { workers ≤ 16 }
+    requires samples { IsOfSamples stream.items }
+    ensures { OnOk result ((texts : List (List ℕ)) → IsStreamOf texts stream.items
+        → StoresTexts texts (journal ingest.new)) }
+{
+    // laws: a stream of samples is cut into them; each has a game; no two have one id; an import
+    // stores all texts of new games that find room
+    streams_are_cut_into_samples();
+    samples_have_games();
+    ids_differ();
+    new_games_are_stored::<Unkept, J>();
+    let mut source = ByteSource::new(stream);
+    let report = import_alone(rt, rt.alloc(), &mut source, ingest, workers, &FreeGate);
+    match ending_of(&report.end) {
+        ImportEnding::Whole => Ok(()),
+        ImportEnding::OutOfMemory => Err(AllocError),
+        // No read and no call of the disk fails, and all samples find room.
+        _ => unreachable!(),
+    }
+}
+
+/// Merges the segments of a store until no neighbours are due, and counts its games.
+fn count_stored<J: Index, R: AllocGlobal + Wait + Threads + Sync>(
+    rt: &R,
+    ingest: &mut Ingest<Unkept, J>,
+    workers: usize,
+) -> Result<Tried, AllocError>
+    requires some_workers { 1 ≤ workers }
+    requires few_workers { workers ≤ 16 }
+    ensures { IfOk result (IsTriedOver (journal ingest.old)) }
+{
+    // Nobody else changes the list: where some are left, memory is wanting.
+    let Drained::Idle = drain_alone(rt, rt.alloc(), ingest, workers) else {
+        return Err(AllocError);
+    };
+    let query = default_query(rt.alloc())?;
+    let found = found_in(rt.alloc(), ingest.publisher(), &query)?;
+    Ok(Tried {
+        batches: ingest.batches(),
+        segments: ingest.publisher().list().segments().len(),
+        totals: found.totals,
+    })
+}
+
+/// The query of a query string that gives no parameter.
+fn default_query(alloc: Global) -> Result<Query, AllocError>
+    ensures asks { IfOk result (λ query. QueryReads [] (Ok query)) }
+    ensures valid { IfOk result (λ query. IsValid query.at) }
+    ensures top { IfOk result (λ query. query.top ≤ 4) }
+    ensures recent { IfOk result (λ query. query.recent ≤ 4) }
+{
+    match query(alloc, b"") {
+        Ok(query) => Ok(query),
+        Err(Stop::OutOfMemory) => Err(AllocError),
+        Err(Stop::Fault(_)) => unreachable!(),
+    }
+}
+
+// ---- what is printed
+
+/// The lines that tell of a trial, by what it came to.
+fn summary_lines(
+    alloc: Global,
+    games: u32,
+    tried: &Tried,
+    fen: &[u8],
+) -> Result<Vec<u8>, AllocError>
+    ensures { IfOk result (λ lines. lines.items ≡ summary games tried.now.batches
+        tried.now.segments tried.now.totals fen.now) }
+{
+    let mut lines = Vec::new(alloc);
+    push_number(&mut lines, b"games", u64::from(games))?;
+    push_number(&mut lines, b"batches", u64::from(tried.batches))?;
+    push_number(&mut lines, b"segments", tried.segments as u64)?;
+    push_number(&mut lines, b"white", tried.totals.white)?;
+    push_number(&mut lines, b"draws", tried.totals.draws)?;
+    push_number(&mut lines, b"black", tried.totals.black)?;
+    push_line(&mut lines, b"last", fen)?;
+    Ok(lines)
+}
+
+fn push_number(lines: &mut Vec<u8>, name: &[u8], number: u64) -> Result<(), AllocError>
+    ensures { OnOk result (lines.new.items ≡ lines.old.items ++ line name.now (decimal number)) }
+{
+    let mut buffer = Buffer::new();
+    push_line(lines, name, buffer.format(number).as_bytes())
+}
+
+/// Appends a name, a space, a value and a line end.
+fn push_line(lines: &mut Vec<u8>, name: &[u8], value: &[u8]) -> Result<(), AllocError>
+    ensures { OnOk result (lines.new.items ≡ lines.old.items ++ line name.now value.now) }
+{
+    lines.extend_from_slice(name)?;
+    lines.push(b' ')?;
+    lines.extend_from_slice(value)?;
+    lines.push(b'\n')?;
+    Ok(())
+}
