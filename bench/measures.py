@@ -88,15 +88,21 @@ def speeds(title, runs, games):
     return table(title, head, rows)
 
 
+def counted(pgn, workers):
+    """A run of `explorer count`."""
+    return Ran([measuring.explorer(), "count", "", "--workers", workers], stdin=pgn)
+
+
 def count(options):
-    """`explorer count` beside Scid's import and pgn-extract."""
-    pgn = measuring.games(options.archive, options.few)
-    runs = {}
-    for workers in options.workers:
-        words = [measuring.explorer(), "count", "", "--workers", workers]
-        ran = measuring.best(options.rounds, lambda words=words: Ran(words, stdin=pgn))
-        runs[f"explorer count, {workers} workers"] = ran
-    return [speeds(f"Count of {options.few:,} games", {**runs, **others(pgn, options.rounds)}, options.few)]
+    """`explorer count` beside Scid's import, pgn-extract and polyglot."""
+    tables = []
+    for games in (options.few, options.many):
+        pgn = measuring.games(options.archive, games)
+        rounds = options.rounds if games == options.few else 1
+        runs = {f"explorer count, {workers} workers": measuring.best(rounds, lambda w=workers: counted(pgn, w))
+                for workers in options.workers}
+        tables.append(speeds(f"Count of {games:,} games", {**runs, **others(pgn, rounds)}, games))
+    return tables
 
 
 def imports(options):
@@ -392,17 +398,42 @@ def wire(_):
     return printed("wire")
 
 
-def lookup(options):
-    """Answers alone, without a server."""
-    return printed("lookup", measuring.store_of(measuring.games(options.archive, options.many)))
+def tally(options):
+    """Tallying groups that are held in memory, and handing one out."""
+    return printed("tally", measuring.games(options.archive, options.many))
+
+
+def segments(options):
+    """Rows of segments: their bytes, walks, look-ups, merges."""
+    tables = []
+    for games in (options.few, options.most):
+        found = printed("segments", measuring.games(options.archive, games))
+        found[0]["title"] += f", {games:,} games"
+        tables += found
+    return tables
 
 
 def steps(options):
-    """The steps of a store: tally, commits, merges, opening, entering."""
+    """The steps of a store: commits, merges, opening, entering, ids."""
     return printed("steps", measuring.games(options.archive, options.many), more_games(options))
 
 
+def lookup(options):
+    """Answers alone, without a server."""
+    pgn = measuring.games(options.archive, options.many)
+    fens = measuring.positions(pgn, 1000)
+    strings = ["", "history=true", "play=e2e4,c7c5", *(urllib.parse.urlencode({"fen": fen}) for fen in fens)]
+    # The default of `moves` stands for the empty string, which would be no line.
+    queries = script("queries", "\n".join(string or "moves=12" for string in strings) + "\n")
+    found = printed("lookup", measuring.store_of(pgn), queries)
+    names = {"0": "start", "1": "start, with history", "2": "after 1. e4 c5", str(len(strings)): f"{len(fens)} positions"}
+    for row in found[0]["rows"]:
+        number, colon, figure = row[0].partition(": ")
+        row[0] = names.get(number, number) + colon + figure
+    return found
+
+
 MEASURES = {
-    "count": count, "instructions": instructions, "import": imports, "query": query, "lookups": lookups,
-    "lookup": lookup, "replies": replies, "perft": perft, "wire": wire, "steps": steps, "gate": gate,
+    "count": count, "instructions": instructions, "import": imports, "query": query, "tally": tally, "segments": segments,
+    "steps": steps, "lookup": lookup, "lookups": lookups, "replies": replies, "perft": perft, "wire": wire, "gate": gate,
 }

@@ -1,5 +1,6 @@
 """What the measures share: programs, games, servers and times."""
 import contextlib
+import hashlib
 import json
 import os
 import pathlib
@@ -165,12 +166,23 @@ def wait_for_port(port):
 
 
 def build(script, *words):
-    """Runs a script of this folder, which proves and builds its program first, and answers what it printed."""
-    told(f"{script}: its program is proved and built, which takes long the first time")
-    ran = subprocess.run([TOP / "bench" / script, *map(str, words)], capture_output=True, text=True, check=False)
+    """Runs a script of this folder, and answers what it printed. Its program is proved and built once for a text of the crates."""
+    program = work_folder() / f"{script}-{sum_of_sources(script)}"
+    if not program.exists():
+        told(f"{script}: its program is proved and built, which takes long")
+    ran = subprocess.run([TOP / "bench" / script, *map(str, words)], capture_output=True, text=True, check=False,
+                         cwd=work_folder(), env={**os.environ, "PROGRAM": str(program)})
     if ran.returncode:
         raise Trouble(f"bench/{script} ended with status {ran.returncode}: {ran.stderr[-400:].strip()}")
     return ran.stdout
+
+
+def sum_of_sources(script):
+    """A checksum of the crates' code and of a script."""
+    found = hashlib.sha256((TOP / "bench" / script).read_bytes())
+    for place in sorted(TOP.glob("crates/*/src/**/*.rt")):
+        found.update(place.read_bytes())
+    return found.hexdigest()[:12]
 
 
 def told(line):

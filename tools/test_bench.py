@@ -1,5 +1,8 @@
 #!/usr/bin/env python3
-"""Tests of bench/run on a few games: what it writes, and what it says where a measure cannot be taken."""
+"""Tests of bench/run on a few games: what it writes, and what it says where a measure cannot be taken; and of the right bodies that
+stand beside wrong ones: that each is such."""
+import importlib.machinery
+import importlib.util
 import os
 import pathlib
 import tempfile
@@ -48,6 +51,29 @@ class Run(unittest.TestCase):
             status, _, errors = self.run_tool(*words, program="x")
             self.assertEqual(status, 2)
             self.assertIn("bench/run: error:", errors)
+
+
+class RightBodies(unittest.TestCase):
+    def test_each_stands_beside_a_wrong_one(self):
+        loader = importlib.machinery.SourceFileLoader("right_bodies", str(support.TOP / "bench/right-bodies"))
+        tool = importlib.util.module_from_spec(importlib.util.spec_from_loader("right_bodies", loader))
+        loader.exec_module(tool)
+        edits = sorted(tool.CONTROLS.glob("*/*.edit"))
+        self.assertTrue(edits)
+        for edit in edits:
+            crate = support.TOP / "crates" / edit.parent.name
+            wrong = {(file, old) for file, old, _ in tool.replacements(crate / "must-fail" / edit.name)}
+            for file, old, new in tool.replacements(edit):
+                self.assertEqual((crate / file).read_text(encoding="utf-8").count(old), 1, edit)
+                self.assertTrue(any(file == place and (old in text or text in old) for place, text in wrong), edit)
+                self.assertNotEqual(old, new, edit)
+
+    def test_help_and_faulty_words(self):
+        tool = str(support.TOP / "bench/right-bodies")
+        self.assertIn("usage: bench/right-bodies", support.run_tool(tool, "--help")[1])
+        status, _, errors = support.run_tool(tool, "nowhere")
+        self.assertEqual(status, 2)
+        self.assertIn("there is no right body of nowhere", errors)
 
 
 if __name__ == "__main__":

@@ -1,0 +1,62 @@
+# Sourced by the scripts that measure by a program of their own over the crates. The program is written into a temporary copy of the
+# crates, and proved and built there by `rt run`; the one that PROGRAM names is taken, or kept there once it is built.
+top=$(cd "$(dirname "${BASH_SOURCE[0]}")/.." && pwd)
+rt=${RT:-rt}
+copy=$(mktemp -d)
+litter=("$copy")
+trap 'rm -rf "${litter[@]}"' EXIT
+
+# new_program NAME CRATE..: makes room for the program, which stands on these crates. Its text is to be written to $main.
+new_program() {
+  name=$1
+  shift
+  folder=$copy/crates/$name
+  program=${PROGRAM:-$folder/out/$name}
+  main=$folder/src/main.rt
+  if [ ! -x "$program" ]; then
+    tar -C "$top" --exclude=out -cf - crates HANDLES | tar -C "$copy" -xf -
+    { cat "$top/crates.txt"; echo "$name: $*"; } >"$copy/crates.txt"
+  fi
+  mkdir -p "$folder/src" "$folder/proofs"
+  echo >"$folder/proofs/Lib.antt"
+}
+
+# prove PATH: takes a file of the program's proofs from the standard input.
+prove() {
+  mkdir -p "$(dirname "$folder/proofs/$1")"
+  cat >"$folder/proofs/$1"
+}
+
+# What the prover needs of a function `are_short`, by which a program knows that its texts have at most 65,536 bytes.
+prove_are_short() {
+  prove are_short/Invariants.antt <<ANTT
+use Rattle.std.proofs.Common.{ℕ, ◌<◌, ◌≤◌, length, slice_index_or}
+use Rattle.explorer_model.specs.declared.archive.Placed.{Placed}
+use Rattle.$name.proofs.are_short.Given as goal
+
+abbrev pub invariant-loop-text : goal.invariant-loop-text
+invariant-loop-text l = (k : ℕ) (d : Placed) → k < l.text-index → length (slice_index_or l.texts k d).bytes ≤ 65536
+ANTT
+}
+
+build_program() {
+  if [ -x "$program" ]; then return; fi
+  (cd "$folder" && $rt run >"$copy/log" 2>&1 </dev/null) || true
+  if [ ! -x "$folder/out/$name" ]; then
+    tail -n 40 "$copy/log" >&2
+    exit 1
+  fi
+  [ "$program" = "$folder/out/$name" ] || cp "$folder/out/$name" "$program"
+}
+
+# needs_files COUNT WORD..: ends with the comment at the script's head, unless so many words name files.
+needs_files() {
+  count=$1
+  shift
+  if [ $# -eq "$count" ]; then
+    for word; do [ -f "$word" ] || count=none; done
+    if [ "$count" != none ]; then return; fi
+  fi
+  sed -n '2,/^[^#]/s/^# //p' "$0" >&2
+  exit 2
+}
