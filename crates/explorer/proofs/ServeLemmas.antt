@@ -45,10 +45,10 @@ use Rattle.session.specs.Imports.{HasStoredBody, IsRepeatOf, StandFrom}
 use Rattle.session.proofs.FrontLemmas.{get-prefix}
 use Rattle.explorer.specs.declared.fault.Fault.{Fault}
 use Rattle.explorer.specs.declared.fault.Fault.TheVariants as faults
-use Rattle.explorer.specs.Concluding.{Concludes, EndsBy, TellsLonger}
+use Rattle.explorer.specs.Concluding.{Concludes, EndsBy, TellsLonger, fault_told}
 use Rattle.explorer.specs.Lines.{Done, Ending, Stopped}
-use Rattle.explorer.specs.Serve.{HasNoStore, HasStore, IsServed, IsWorkedTo, Listens, RefusesAddress, RefusesOneFile, Reports, Serves, ServesBy, listening_line}
-use Rattle.explorer.specs.Served.{DoorRun, FileRun, IsGivenUp, IsImported, IsServedFrom, IsServedIn, IsStoredIn, IsWorked, Service, fault_of_door, fault_of_doors, fault_of_import, file_at, files_back, files_out, first_fault, serve_report}
+use Rattle.explorer.specs.Serve.{HasNoStore, HasStore, IsFull, IsServed, IsWorkedTo, Listens, RefusesAddress, RefusesOneFile, Reports, Serves, ServesBy, listening_line}
+use Rattle.explorer.specs.Served.{DoorRun, FileRun, FindsFull, IsFullBy, IsGivenUp, IsImported, IsServedFrom, IsServedIn, IsStoredIn, IsWorked, Service, fault_of_door, fault_of_doors, fault_of_import, file_at, files_back, files_out, first_fault, serve_report}
 use Rattle.explorer.specs.Serving.{AreCounted, FilesServed, HasGivenUp, HasWorked, IsGivenUpSo, IsToldBy, ListensSo, WroteLine, lines_told}
 use Rattle.explorer.specs.Workers.{name_at}
 use Rattle.explorer.specs.World.{IsFaultless, World, WriteFails, world}
@@ -330,6 +330,35 @@ stored-longer front journal (f ∷ fs) (r ∷ rs) p all = (
   stored-longer front journal fs rs p all.1,
 )
 
+full-by-longer : (ending : ImportEnding) (front journal : List Batch) (file : Stream) (run : FileRun) → IsPrefix front journal
+    → IsFullBy ending front file run → IsFullBy ending journal file run
+full-by-longer endings.Whole front journal file run p f = tt
+full-by-longer (endings.ReadFault before after) front journal file run p f = tt
+full-by-longer (endings.DiskFault before after) front journal file run p f = tt
+full-by-longer (endings.Closed before after) front journal file run p f = tt
+full-by-longer (endings.Full games bytes) front journal file run p f = record {
+  stream = f.stream;
+  reads = f.reads;
+  batches = f.batches;
+  left = f.left;
+  breaks = f.breaks;
+  no_room = record {
+    front = f.no_room.front;
+    is_front = prefix-trans f.no_room.front front journal f.no_room.is_front p;
+    no_room = f.no_room.no_room;
+  };
+}
+full-by-longer (endings.TooMuch bytes) front journal file run p f = tt
+full-by-longer endings.OutOfMemory front journal file run p f = tt
+
+full-longer : (front journal : List Batch) (files : List Stream) (runs : List FileRun) → IsPrefix front journal
+    → AllZip (FindsFull front) files runs → AllZip (FindsFull journal) files runs
+full-longer front journal [] [] p all = tt
+full-longer front journal [] (r ∷ rs) p all = absurd all
+full-longer front journal (f ∷ fs) [] p all = absurd all
+full-longer front journal (f ∷ fs) (r ∷ rs) p all =
+    (full-by-longer r.ending front journal f r p all.0, full-longer front journal fs rs p all.1)
+
 seen-longer : (opening front journal : List Batch) (doors : List Connections) (runs : List DoorRun) → IsPrefix front journal
     → AllZip (IsServedIn opening front) doors runs → AllZip (IsServedIn opening journal) doors runs
 seen-longer opening front journal [] [] p all = tt
@@ -428,6 +457,12 @@ pub record SeesAll (service : Service) (before after : HostState) (worked : IsWo
   pub stored : AllZip (IsStoredIn journal) (map (file_at before) service.files) worked.files
   pub seen : AllZip (IsServedIn worked.opening journal) worked.handed worked.doors
 
+-- where a file found no room, the journal that the disk tells has none
+pub record SeesFull (service : Service) (before after : HostState) (worked : IsWorked service before after) : Type 0 where
+  pub journal : List Batch
+  pub tells : IfSome (after.disks service.store) (HasJournal journal)
+  pub full : AllZip (FindsFull journal) (map (file_at before) service.files) worked.files
+
 reported-by : (lines : List ℕ) (old new : Stream) → Wrote lines old new → Writes (lines ∷ []) old new
 reported-by lines old new (inl takes) = writes-takes lines old new takes
 reported-by lines old new (inr fails) = writes-fails lines old new fails
@@ -439,27 +474,49 @@ listens-by line (Err failed) old new wrote = writes-fails line old new wrote
 
 module _ (service : Service) (before after : World) (worked : IsWorked service before.host after.host)
     (same_input : after.input ≡ before.input) (reports : Reports service worked.files before after) where
-  -- a worker had a fault
-  by-worker : (fault : Fault) → IsWorkers fault → IsWorkedTo service (Some fault) before after
-      → AreCounted (Some fault) before.host after.host → ServesBy service before after (Stopped fault)
-  by-worker faults.ReadFault is to counted = (to, counted.files refl)
-  by-worker (faults.Full games bytes) is to counted = to
-  by-worker faults.TooMuchInput is to counted = to
-  by-worker faults.CannotAccept is to counted = (to, counted.doors refl)
-  by-worker faults.OutOfMemory is to counted = inr (worked, reports.listens, inr reports)
-  by-worker faults.Usage is to counted = absurd is
-  by-worker (faults.BadParameter p) is to counted = absurd is
-  by-worker faults.WriteFault is to counted = absurd is
-  by-worker faults.DiskFault is to counted = absurd is
-  by-worker (faults.NotEmpty n) is to counted = absurd is
-  by-worker faults.NotAStore is to counted = absurd is
-  by-worker (faults.OtherFormat n) is to counted = absurd is
-  by-worker (faults.Damaged n) is to counted = absurd is
-  by-worker (faults.CannotOpen name) is to counted = absurd is
-
   to-first : (first : Option Fault) → first ≡ first_fault worked.files worked.doors
       → after.host.disk_faults ≡ before.host.disk_faults → IsWorkedTo service first before after
   to-first first is disk = record { worked = worked; reports = reports; first = is; disk = disk }
+
+  -- memory was wanting
+  starved : ServesBy service before after (Stopped faults.OutOfMemory)
+  starved = inr (worked, reports.listens, inr reports)
+
+  is-full : (games bytes : ℕ) → Some (faults.Full games bytes) ≡ first_fault worked.files worked.doors
+      → after.host.disk_faults ≡ before.host.disk_faults → SeesFull service before.host after.host worked
+      → IsFull service games bytes before after
+  unfolding to-first
+  is-full games bytes is disk sees = record {
+    to = to-first (Some (faults.Full games bytes)) is disk;
+    journal = sees.journal;
+    tells = sees.tells;
+    full = sees.full;
+  }
+
+  -- a worker had a fault
+  by-worker : (fault : Fault) (told : Bool) → IsWorkers fault → Some fault ≡ first_fault worked.files worked.doors
+      → after.host.disk_faults ≡ before.host.disk_faults → AreCounted (Some fault) before.host after.host
+      → (told ≡ true → SeesFull service before.host after.host worked)
+      → ServesBy service before after (Stopped (fault_told told fault))
+  by-worker faults.ReadFault true is first disk counted full = (to-first (Some faults.ReadFault) first disk, counted.files refl)
+  by-worker faults.ReadFault false is first disk counted full = (to-first (Some faults.ReadFault) first disk, counted.files refl)
+  by-worker (faults.Full games bytes) true is first disk counted full = is-full games bytes first disk (full refl)
+  by-worker (faults.Full games bytes) false is first disk counted full = starved
+  by-worker faults.TooMuchInput true is first disk counted full = to-first (Some faults.TooMuchInput) first disk
+  by-worker faults.TooMuchInput false is first disk counted full = to-first (Some faults.TooMuchInput) first disk
+  by-worker faults.CannotAccept true is first disk counted full = (to-first (Some faults.CannotAccept) first disk, counted.doors refl)
+  by-worker faults.CannotAccept false is first disk counted full = (to-first (Some faults.CannotAccept) first disk, counted.doors refl)
+  by-worker faults.OutOfMemory true is first disk counted full = starved
+  by-worker faults.OutOfMemory false is first disk counted full = starved
+  by-worker faults.Usage told is first disk counted full = absurd is
+  by-worker (faults.BadParameter p) told is first disk counted full = absurd is
+  by-worker faults.WriteFault told is first disk counted full = absurd is
+  by-worker faults.DiskFault told is first disk counted full = absurd is
+  by-worker (faults.NotEmpty n) told is first disk counted full = absurd is
+  by-worker faults.NotAStore told is first disk counted full = absurd is
+  by-worker (faults.OtherFormat n) told is first disk counted full = absurd is
+  by-worker (faults.Damaged n) told is first disk counted full = absurd is
+  by-worker (faults.CannotOpen name) told is first disk counted full = absurd is
 
   is-served : None ≡ first_fault worked.files worked.doors → after.host.disk_faults ≡ before.host.disk_faults
       → SeesAll service before.host after.host worked → IsServed service before after
@@ -502,17 +559,18 @@ module _ (service : Service) (before after : World) (worked : IsWorked service b
       → first ≡ first_fault worked.files worked.doors
       → AreCounted first before.host after.host
       → (first ≡ None → told ≡ true → SeesAll service before.host after.host worked)
+      → (told ≡ true → SeesFull service before.host after.host worked)
       → (ending : Ending) → EndsBy failed first told listens lines before.errors after.errors ending
       → ServesBy service before after ending
-  ends-by true first told listens lines wrote rises stays is counted sees ending by =
+  ends-by true first told listens lines wrote rises stays is counted sees full ending by =
       subst (λ (e : Ending). ServesBy service before after e) (sym by) (rises refl, inr (worked, reports))
-  ends-by false (Some fault) told listens lines wrote rises stays is counted sees ending by =
+  ends-by false (Some fault) told listens lines wrote rises stays is counted sees full ending by =
       subst (λ (e : Ending). ServesBy service before after e) (sym by)
-      (by-worker fault (subst (λ (o : Option Fault). IfSome o IsWorkers) (sym is) (of-workers worked.files worked.doors))
-      (to-first (Some fault) is (stays refl)) counted)
-  ends-by false None false listens lines wrote rises stays is counted sees ending by =
-      subst (λ (e : Ending). ServesBy service before after e) (sym by) (inr (worked, reports.listens, inr reports))
-  ends-by false None true listens lines wrote rises stays is counted sees ending by =
+      (by-worker fault told (subst (λ (o : Option Fault). IfSome o IsWorkers) (sym is) (of-workers worked.files worked.doors))
+      is (stays refl) counted full)
+  ends-by false None false listens lines wrote rises stays is counted sees full ending by =
+      subst (λ (e : Ending). ServesBy service before after e) (sym by) starved
+  ends-by false None true listens lines wrote rises stays is counted sees full ending by =
       by-sinks listens lines wrote (is-served is (stays refl) (sees refl refl)) ending by
 
 module _ {A E : Type 0} (service : Service) (before after : World) (worked : IsWorked service before.host after.host)
@@ -522,7 +580,8 @@ module _ {A E : Type 0} (service : Service) (before after : World) (worked : IsW
     (stays : failed ≡ false → after.host.disk_faults ≡ before.host.disk_faults)
     (first_is : first ≡ first_fault worked.files worked.doors)
     (counted : AreCounted first before.host after.host)
-    (sees : first ≡ None → told ≡ true → SeesAll service before.host after.host worked) where
+    (sees : first ≡ None → told ≡ true → SeesAll service before.host after.host worked)
+    (full : told ≡ true → SeesFull service before.host after.host worked) where
   listened : Listens service before after
   listened = record {
     input = same_input;
@@ -539,7 +598,7 @@ module _ {A E : Type 0} (service : Service) (before after : World) (worked : IsW
         listens = listened;
         errors = subst (λ (l : List ℕ). Writes (l ∷ []) before.errors after.errors) are (reported-by lines before.errors after.errors by.0);
       } in
-      ends-by service before after worked same_input reports failed first told listens lines wrote rises stays first_is counted sees ending by.1
+      ends-by service before after worked same_input reports failed first told listens lines wrote rises stays first_is counted sees full ending by.1
 
 module _ (service : Service) (before lent used after : HostState) (given returns : DiskState)
     (hands : HandsDisk service.store given before lent) (takes : TakesDisk service.store returns used after)
@@ -560,6 +619,19 @@ module _ (service : Service) (before lent used after : HostState) (given returns
             (subst (λ (at : List ℕ → Option (List ℕ)). AllZip (IsStoredIn journal) (map (λ (name : List ℕ). source_alone (at name) 0 0) service.files) w.over.files)
             files (w.over.stored none is));
         seen = seen-longer opening journal l.longer w.handed w.over.doors l.extends seen;
+      }
+
+  pub sees-full : TellsLonger journal returns.content → told ≡ true
+      → SeesFull service before after (is-worked service before lent used after given returns hands takes opening journal first lines told w read)
+  unfolding is-worked
+  sees-full l is =
+      let files : w.middle.files ≡ before.files = w.files ∙ ap (λ (h : HostState). h.files) hands.rest in
+      record {
+        journal = l.longer;
+        tells = subst (λ (c : Option (List ℕ)). IfSome c (HasJournal l.longer)) (sym (content-back service.store returns used after takes)) l.tells;
+        full = full-longer journal l.longer (map (file_at before) service.files) w.over.files l.extends
+            (subst (λ (at : List ℕ → Option (List ℕ)). AllZip (FindsFull journal) (map (λ (name : List ℕ). source_alone (at name) 0 0) service.files) w.over.files)
+            files (w.over.full is));
       }
 
   -- a count that rose over the workers rose in the run
@@ -678,6 +750,7 @@ served-so service before lent used after given returns hands takes opening journ
           w.over.first_is
           (worked-counted service before lent used after given returns hands takes opening journal first lines told w read)
           (sees-all service before lent used after given returns hands takes opening journal first lines told w read some l)
+          (sees-full service before lent used after given returns hands takes opening journal first lines told w read l)
           lines w.over.lines_are ending by;
       gives_back = rounds service before lent used after given returns hands takes g;
     }

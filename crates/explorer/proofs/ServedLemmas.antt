@@ -30,6 +30,7 @@ use Rattle.session.specs.declared.doors.DoorEnd.{DoorEnd}
 use Rattle.session.specs.declared.doors.DoorEnd.TheVariants as door_ends
 use Rattle.session.specs.Doors.{AreServed, DoorServed, EndsDoor}
 use Rattle.session.specs.Exchanges.{Backend, backend}
+use Rattle.session.specs.Steps.{KnowsEnd}
 use Rattle.session.proofs.StoredLemmas.{has-stored-body}
 use Rattle.explorer.proofs.HostCalls.{if_some}
 use Rattle.explorer.proofs.WorkerLists.{zip-length}
@@ -39,7 +40,7 @@ use Rattle.explorer.specs.declared.workers.FileWork.{FileWork}
 use Rattle.explorer.specs.declared.workers.ReaderWork.{ReaderWork}
 use Rattle.explorer.specs.declared.workers.Worker.{Worker}
 use Rattle.explorer.specs.declared.workers.Worker.TheVariants.{File, Reader, Merger}
-use Rattle.explorer.specs.Served.{AccountsSo, DoorRun, FileRun, IsImported, IsServedFrom, IsServedIn, IsStoredIn, ReadsSo, fault_of_door, fault_of_doors, fault_of_import, file_at, file_lines, files_back, first_fault, new_importer, serve_report}
+use Rattle.explorer.specs.Served.{AccountsSo, DoorRun, FileRun, FindsFull, IsFullBy, IsImported, IsServedFrom, IsServedIn, IsStoredIn, ReadsSo, fault_of_door, fault_of_doors, fault_of_import, file_at, file_lines, files_back, first_fault, new_importer, serve_report}
 use Rattle.explorer.specs.Serving.{AreOut, WorksOver, due, lines_told}
 use Rattle.explorer.specs.Workers.{AreNamed, CanReturn, GivenBack, HasReaders, TakesWorker, HasReport, ImportsFile, IsFileOf, IsReaderOf, IsTold, ServesDoor, Works, call_of, calls_of, fault_in, fault_of, lines_in, lines_of, name_at}
 
@@ -116,6 +117,30 @@ stored-in {J} journal before after report i has none =
       stored = has-stored-body i.stream report journal i.comes.reports accounts has.0 has.1;
     }
 
+-- where an import found no room, a journal that has all that was told has none
+full-by : {J : Type 0} (end : End J) (journal : List Batch) (file : Stream) (run : FileRun) (stream : List ℕ) (batches : List Batch)
+    → Reads stream file run.file → KnowsEnd end journal → AccountsTo end (groups (cuts stream)) batches run.refused
+    → IsFullBy (ending_of end) journal file run
+full-by ends.Whole journal file run stream batches reads knows a = tt
+full-by (ends.ReadFault before after) journal file run stream batches reads knows a = tt
+full-by (ends.DiskFault before after mark) journal file run stream batches reads knows a = tt
+full-by (ends.Closed before after mark) journal file run stream batches reads knows a = tt
+full-by (ends.Full games bytes note) journal file run stream batches reads knows a = record {
+  stream = stream;
+  reads = reads;
+  batches = batches;
+  left = a.0;
+  breaks = a.1;
+  no_room = record { front = note; is_front = knows; no_room = a.2 };
+}
+full-by (ends.TooMuch bytes) journal file run stream batches reads knows a = tt
+full-by ends.OutOfMemory journal file run stream batches reads knows a = tt
+
+full-in : {J : Type 0} (journal : List Batch) (before after : Stream) (report : Report J) → ImportsBeside before after report
+    → HasReport journal (Some report) → FindsFull journal before (run_of after report)
+full-in journal before after report i has =
+    full-by report.end journal before (run_of after report) i.stream i.comes.reports.batches i.reads has.2 i.comes.reports.accounts
+
 -- ---- the files
 
 or-none : {A : Type 0} (o p : Option A) → option_or o p ≡ None → (o ≡ None) × (p ≡ None)
@@ -145,6 +170,8 @@ module _ {F G J : Type 0} (source : F → Stream) (door : G → Connections) (al
         → fault_in (files ++ others) ≡ first_fault runs doors
     pub stored : (journal : List Batch) → AllByRecursion (IsTold journal journal) files → fault_in (files ++ others) ≡ None
         → AllZip (IsStoredIn journal) (map (file_at host) names) runs
+    pub full : (journal : List Batch) → AllByRecursion (IsTold journal journal) files
+        → AllZip (FindsFull journal) (map (file_at host) names) runs
 
   no-files : (at : ℕ) (others : List (Worker F G J)) → FileRuns [] at [] others
   no-files at others =
@@ -155,6 +182,7 @@ module _ {F G J : Type 0} (source : F → Stream) (door : G → Connections) (al
         lines = no-lines others;
         first = λ doors is. is;
         stored = λ journal told none. tt;
+        full = λ journal told. tt;
       }
 
   one-file : (name : List ℕ) (names : List (List ℕ)) (at : ℕ) (file file' : FileWork F J) (files others : List (Worker F G J))
@@ -182,6 +210,11 @@ module _ {F G J : Type 0} (source : F → Stream) (door : G → Connections) (al
                   (subst (λ (r : Option (Report J)). HasReport journal r) i.report_is told.0) (sym fault ∙ both.0),
               rest.stored journal told.1 both.1,
             );
+        full = λ journal told. (
+          full-in journal (file_at host name) (source file'.source) i.report imports
+              (subst (λ (r : Option (Report J)). HasReport journal r) i.report_is told.0),
+          rest.full journal told.1,
+        );
       }
 
   pub file-runs : (front names : List (List ℕ)) (at : ℕ) (files files' others : List (Worker F G J))
@@ -663,4 +696,5 @@ module _ {F G J : Type 0} (source : F → Stream) (door : G → Connections) (na
         stored = λ n t. r.file_runs.stored journal (known t).0 (none n);
         seen = λ n t. r.door_runs.seen journal (all-both (IsTold journal journal) r.readers (Merger ∷ []) (known t).1).0
             (or-all r.files (r.readers ++ Merger ∷ []) (none n));
+        full = λ t. r.file_runs.full journal (known t).0;
       }

@@ -12,8 +12,10 @@ use Rattle.explorer_model.specs.declared.archive.Batch.{Batch}
 use Rattle.explorer_model.specs.Timeline.{IsPrefix}
 use Rattle.explorer_model.proofs.Timelines.{prefix-trans}
 use Rattle.ingest_desk.specs.declared.receipt.Receipt.{Receipt}
+use Rattle.ingest_desk.specs.declared.report.End.{End}
+use Rattle.ingest_desk.specs.declared.report.End.TheVariants as ends
 use Rattle.ingest_desk.specs.declared.report.Report.{Report}
-use Rattle.session.specs.Steps.{KnowsNotes, KnowsReceipts}
+use Rattle.session.specs.Steps.{KnowsEnd, KnowsNotes, KnowsReceipts}
 use Rattle.explorer.specs.declared.workers.FileWork.{FileWork}
 use Rattle.explorer.specs.declared.workers.ReaderWork.{ReaderWork}
 use Rattle.explorer.specs.declared.workers.Worker.{Worker}
@@ -42,7 +44,7 @@ take-whole n xs ys is = grind (arith, common_steps)
 
 -- ---- what was told
 
-notes-grow : (notes : List (List Batch)) (old new : List Batch) → IsPrefix old new → KnowsNotes notes old
+pub notes-grow : (notes : List (List Batch)) (old new : List Batch) → IsPrefix old new → KnowsNotes notes old
     → KnowsNotes notes new
 notes-grow [] old new p k = tt
 notes-grow (n ∷ ns) old new p k = (prefix-trans n old new k.0 p, notes-grow ns old new p k.1)
@@ -52,11 +54,20 @@ pub receipts-grow : {J : Type 0} (receipts : List (Receipt J)) (old new : List B
 receipts-grow [] old new p k = tt
 receipts-grow (r ∷ rs) old new p k = (prefix-trans r.note old new k.0 p, receipts-grow rs old new p k.1)
 
+pub end-grows : {J : Type 0} (end : End J) (old new : List Batch) → IsPrefix old new → KnowsEnd end old → KnowsEnd end new
+end-grows ends.Whole old new p h = tt
+end-grows (ends.ReadFault before after) old new p h = tt
+end-grows (ends.DiskFault before after mark) old new p h = tt
+end-grows (ends.Closed before after mark) old new p h = tt
+end-grows (ends.Full games bytes note) old new p h = prefix-trans note old new h p
+end-grows (ends.TooMuch bytes) old new p h = tt
+end-grows ends.OutOfMemory old new p h = tt
+
 pub report-grows : {J : Type 0} (report : Option (Report J)) (old new : List Batch) → IsPrefix old new
     → HasReport old report → HasReport new report
 report-grows None old new p h = tt
 report-grows (Some report) old new p h =
-    (receipts-grow report.receipts.items old new p h.0, notes-grow report.clashes.items old new p h.1)
+    (receipts-grow report.receipts.items old new p h.0, notes-grow report.clashes.items old new p h.1, end-grows report.end old new p h.2)
 
 told-grows : {F G J : Type 0} (worker : Worker F G J) (old new journal : List Batch) → IsPrefix old new
     → IsTold old journal worker → IsTold new journal worker

@@ -5,15 +5,21 @@ use Rattle.explorer_model.specs.declared.archive.Batch.{Batch}
 use Rattle.explorer_model.specs.Timeline.{IsPrefix}
 use Rattle.manifest.specs.Manifest.{HasJournal}
 use Rattle.explorer.specs.declared.fault.Fault.{Fault}
-use Rattle.explorer.specs.declared.fault.Fault.TheVariants.{DiskFault, OutOfMemory, WriteFault}
+use Rattle.explorer.specs.declared.fault.Fault.TheVariants.{DiskFault, Full, OutOfMemory, WriteFault}
 use Rattle.explorer.specs.Lines.{Ending, Done, Stopped}
+
+-- the fault that a run tells: that the store is full only where the journal is known
+abbrev pub fault_told : Bool → Fault → Fault
+fault_told false (Full games bytes) = OutOfMemory
+fault_told told fault = fault
 
 -- The ending of a run whose lines had memory: by a fault of the disk, else by the first fault of a
 -- worker, else for want of memory, else by a fault of a sink.
 abbrev pub EndsBy : {A E : Type 0} → Bool → Option Fault → Bool → Result A E → List ℕ
     → Stream → Stream → Ending → Type 0
 EndsBy true first told listens lines old new ending = ending ≡ Stopped DiskFault
-EndsBy false (Some fault) told listens lines old new ending = ending ≡ Stopped fault
+EndsBy false (Some fault) told listens lines old new ending =
+    ending ≡ Stopped (fault_told told fault)
 EndsBy false None false listens lines old new ending = ending ≡ Stopped OutOfMemory
 EndsBy false None true (Err failed) lines old new ending = ending ≡ Stopped WriteFault
 EndsBy false None true (Ok listening) lines old new ending =

@@ -12,7 +12,7 @@ use Rattle.ingest_desk.specs.Openings.{IsWrong}
 use Rattle.explorer.specs.declared.fault.Fault.{Fault}
 use Rattle.explorer.specs.declared.fault.Fault.TheVariants.{CannotAccept, CannotOpen, Damaged, DiskFault, Full, NotAStore, OtherFormat, OutOfMemory, ReadFault, TooMuchInput, WriteFault}
 use Rattle.explorer.specs.Lines.{Ending, Done, Stopped}
-use Rattle.explorer.specs.Served.{FileRun, IsGivenUp, IsServedIn, IsStoredIn, IsWorked, Service, file_at, first_fault, serve_report}
+use Rattle.explorer.specs.Served.{FileRun, FindsFull, IsGivenUp, IsServedIn, IsStoredIn, IsWorked, Service, file_at, first_fault, serve_report}
 use Rattle.explorer.specs.World.{World, IsFaultless, WriteFails}
 
 -- ---- what is written
@@ -43,6 +43,14 @@ pub record IsWorkedTo (service : Service) (fault : Option Fault) (before after :
   pub reports : Reports service worked.files before after
   pub first : fault ≡ first_fault worked.files worked.doors
   pub disk : after.host.disk_faults ≡ before.host.disk_faults
+
+-- A file found no room, and that was the first fault. There is none in the journal of the disk given
+-- back.
+pub record IsFull (service : Service) (games bytes : ℕ) (before after : World) : Type 0 where
+  pub to : IsWorkedTo service (Some (Full games bytes)) before after
+  pub journal : List Batch
+  pub tells : IfSome (after.host.disks service.store) (HasJournal journal)
+  pub full : AllZip (FindsFull journal) (map (file_at before.host) service.files) to.worked.files
 
 -- No worker had a fault. The disk given back has a journal that begins with the one that it had;
 -- each file is stored in it, and all that any reader saw is a front of it.
@@ -121,7 +129,7 @@ ServesBy service before after (Stopped ReadFault) =
     IsWorkedTo service (Some ReadFault) before after
     × Rises before.host.file_faults after.host.file_faults
 ServesBy service before after (Stopped (Full games bytes)) =
-    IsWorkedTo service (Some (Full games bytes)) before after
+    IsFull service games bytes before after
 ServesBy service before after (Stopped TooMuchInput) =
     IsWorkedTo service (Some TooMuchInput) before after
 ServesBy service before after (Stopped CannotAccept) =

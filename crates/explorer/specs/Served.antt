@@ -22,7 +22,7 @@ use Rattle.session.specs.declared.doors.DoorEnd.{DoorEnd}
 use Rattle.session.specs.declared.doors.DoorEnd.TheVariants as ends
 use Rattle.session.specs.Doors.{DoorServed, EndsDoor}
 use Rattle.session.specs.Exchanges.{Backend, backend}
-use Rattle.session.specs.Imports.{HasStoredBody}
+use Rattle.session.specs.Imports.{HasNoRoom, HasStoredBody}
 use Rattle.explorer.specs.declared.fault.Fault.{Fault}
 use Rattle.explorer.specs.declared.fault.Fault.TheVariants.{CannotAccept, Full, OutOfMemory, ReadFault, TooMuchInput}
 use Rattle.explorer.specs.Report.{report_line}
@@ -91,6 +91,25 @@ pub record IsStoredIn (journal : List Batch) (file : Stream) (run : FileRun) : T
   pub below : length stream < input_limit
   pub games : ℕ
   pub stored : HasStoredBody journal stream games run.refused
+
+-- The import of the file found no room in the journal: some front of it has so many games and bytes,
+-- and with what was left to be stored of a group of the file a limit would be passed.
+pub record IsFullIn (journal : List Batch) (games bytes : ℕ) (file : Stream) (run : FileRun)
+    : Type 0 where
+  pub stream : List ℕ
+  pub reads : Reads stream file run.file
+  pub batches : List Batch
+  pub left : List Candidate
+  pub breaks : BreaksAt (groups (cuts stream)) batches run.refused left
+  pub no_room : HasNoRoom journal games bytes left
+
+abbrev pub IsFullBy : ImportEnding → List Batch → Stream → FileRun → Type 0
+IsFullBy (endings.Full games bytes) journal file run = IsFullIn journal games bytes file run
+IsFullBy _ journal file run = ⊤
+
+-- where the import of the file found no room, the journal has none for it
+abbrev pub FindsFull : List Batch → Stream → FileRun → Type 0
+FindsFull journal file run = IsFullBy run.ending journal file run
 
 -- a file as it is handed out under a name
 abbrev pub file_at : HostState → List ℕ → Stream

@@ -15,7 +15,7 @@ use Rattle.explorer.specs.declared.serving.Outcome.TheVariants.{GivenUp, Worked}
 use Rattle.explorer.specs.declared.serving.Unserved.{Unserved}
 use Rattle.explorer.specs.declared.serving.Unserved.TheVariants.{NoFile, NoAddress, NoMemory}
 use Rattle.explorer.specs.Serve.{IsMaybe}
-use Rattle.explorer.specs.Served.{DoorRun, FileRun, IsImported, IsServedFrom, IsServedIn, IsStoredIn, Service, file_at, files_back, files_out, first_fault, serve_report}
+use Rattle.explorer.specs.Served.{DoorRun, FileRun, FindsFull, IsImported, IsServedFrom, IsServedIn, IsStoredIn, Service, file_at, files_back, files_out, first_fault, serve_report}
 use Rattle.explorer.specs.Workers.{name_at}
 
 abbrev pub service_of : Order → Service
@@ -71,6 +71,7 @@ pub record WorksOver (names : List (List ℕ)) (opening journal : List Batch)
   pub stored : first ≡ None → told ≡ true
       → AllZip (IsStoredIn journal) (map (file_at before) names) files
   pub seen : first ≡ None → told ≡ true → AllZip (IsServedIn opening journal) handed doors
+  pub full : told ≡ true → AllZip (FindsFull journal) (map (file_at before) names) files
 
 -- ---- files and doors are asked for, and come back
 

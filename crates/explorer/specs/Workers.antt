@@ -13,7 +13,7 @@ use Rattle.ingest_desk.specs.Importers.{ImporterState, ending_of}
 use Rattle.import_run.specs.EndingBeside.{ImportsBeside}
 use Rattle.session.specs.Doors.{DoorServed, EndsDoor}
 use Rattle.session.specs.Exchanges.{backend}
-use Rattle.session.specs.Steps.{KnowsNotes, KnowsReceipts}
+use Rattle.session.specs.Steps.{KnowsEnd, KnowsNotes, KnowsReceipts}
 use Rattle.explorer.specs.declared.fault.Fault.{Fault}
 use Rattle.explorer.specs.declared.fault.Fault.TheVariants.{OutOfMemory}
 use Rattle.explorer.specs.declared.workers.FileWork.{FileWork}
@@ -87,6 +87,7 @@ abbrev pub HasReport : {J : Type 0} → List Batch → Option (Report J) → Typ
 HasReport seen None = ⊤
 HasReport seen (Some report) =
     KnowsReceipts report.receipts.items seen × KnowsNotes report.clashes.items seen
+    × KnowsEnd report.end seen
 
 -- what a pass has seen, if there is one
 abbrev pub seen_by : Option Watching → List Batch

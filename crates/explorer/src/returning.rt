@@ -3,12 +3,13 @@ ghost use Rattle.std.specs.Prelude.{◌≡◌, ◌<◌, ◌∷◌, [], map, leng
 ghost use Rattle.std.specs.List.{AllByRecursion};
 ghost use Rattle.explorer_model.specs.Timeline.{IsPrefix};
 ghost use Rattle.ingest_desk.specs.Stored.{journal};
+ghost use Rattle.session.specs.Steps.{KnowsEnd};
 ghost use Rattle.explorer.specs.Workers.{AreNamed, CanReturn, GivenBack, HasReport, IsTold, TakesWorker, call_of, calls_of, name_at, seen_by};
 
 use crate::workers::{FileWork, ReaderWork, Worker};
 use disk_model::Disk;
 use host::Host;
-use ingest_desk::{Ingest, Report};
+use ingest_desk::{End, Ingest, Report};
 use published_index::{Index, Pass};
 use session::{learn_notes, learn_receipts};
 
@@ -106,11 +107,22 @@ fn learn_report<J: Index>(
         receipts,
         refused: _,
         clashes,
-        end: _,
+        end,
     } = report;
     learn_receipts(&mut pass, receipts);
     learn_notes(&mut pass, clashes);
+    learn_end(&mut pass, end);
     (Some(pass), true)
+}
+
+/// The pass learns the note of an end, where it has one.
+fn learn_end<J: Index>(pass: &mut Pass<J>, end: End<J>)
+    ensures knows { KnowsEnd end pass.new.seen }
+    ensures grew { IsPrefix pass.old.seen pass.new.seen }
+{
+    if let End::Full { note, .. } = end {
+        pass.learn(note);
+    }
 }
 
 /// The pass learns what is published. Says whether that is as much as is stored.
