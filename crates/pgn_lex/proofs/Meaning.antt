@@ -10,7 +10,7 @@ use Rattle.explorer_model.specs.Parts.{Section, Heading, Moves, Variation, Ended
 use Rattle.explorer_model.specs.Stop.{◌>>=◌}
 use Rattle.pgn_lex.specs.Items.{begins_line, item_at}
 use Rattle.pgn_lex.specs.Reading.{depth_of, Front, token_of, added_kind, added, onto, with_front, finished, IsReadUpTo}
-use Rattle.pgn_lex.proofs.Steps.{items_from-step, white_item, white_item-at}
+use Rattle.pgn_lex.proofs.Steps.{items_from-step, white_item, white_item-at, period_item, period_item-at}
 
 with_kind-behind : (kind : Kind) (item : Item) (front : Front) (found : Parts) → onto front (with_kind kind item found) ≡ onto (added_kind kind item front) found
 with_kind-behind (Pair tag) item front found =
@@ -108,3 +108,14 @@ white_passed text at section front so_far lt white =
     let P : Front → Type 0 = λ f. IsReadUpTo text (at + length item.text) section f in
     let Q : ℕ → Type 0 = λ n. IsReadUpTo text (at + n) section front in
     subst Q one (subst P (blank_adds section item front refl) next)
+
+-- a period among the moves says nothing
+pub period_passed : (text : List ℕ) (at : ℕ) (front : Front) → IsReadUpTo text at Moves front → at < length text
+    → get_or text at 0 ≡ 46 → IsReadUpTo text (at + 1) Moves front
+period_passed text at front so_far lt period =
+    let item : Item = period_item text at in
+    let one : length item.text ≡ 1 = omega (arith, lt, length-drop at text, length-take 1 (drop at text)) in
+    let most : at + length item.text ≤ length text = omega (arith, lt, one) in
+    let next : IsReadUpTo text (at + length item.text) Moves front =
+    goes_on text at Moves front so_far item Moves lt (period_item-at text at lt period) refl (omega arith) (omega (arith, one)) most in
+    subst (λ n. IsReadUpTo text (at + n) Moves front) one next

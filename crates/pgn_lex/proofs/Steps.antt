@@ -1,7 +1,7 @@
 -- The items of a text, one after another.
 use Rattle.std.proofs.Common.{◌≡◌, ℕ, zero, suc, ◌+◌, ◌<◌, ◌≤◌, Bool, true, List, [], ◌∷◌, length, get_or, take, drop, ◌-◌, ◌==◌, refl, sym, ap, ◌∙◌, add-zero, add-one, arith}
 use Rattle.std.proofs.lemmas.List.{get_or-drop, drop-drop, length-drop, length-take, take_rest}
-use Rattle.explorer_model.specs.Items.{Item, Shape, Blank, Lead, White, lead_of, is_white, one_byte, shape_by, shape_of, items_from}
+use Rattle.explorer_model.specs.Items.{Item, Shape, Blank, Dropped, Lead, White, lead_of, is_white, one_byte, shape_by, shape_of, items_from}
 use Rattle.pgn_lex.specs.Items.{begins_line, shape_at, item_at}
 use Rattle.pgn_lex.proofs.Shapes.{shape_within, shape_at-within}
 
@@ -89,3 +89,19 @@ white_item-at text at lt white =
     let here : get_or (drop at text) 0 0 ≡ get_or text at 0 = get_or-drop at text 0 0 ∙ ap (λ (n : ℕ). get_or text n 0) (add-zero at) in
     let first : is_white (get_or (drop at text) 0 0) ≡ true = ap is_white here ∙ white in
     sym (ap (λ (s : Shape). item s at (take (s.more + 1) (drop at text))) (white_shape (begins_line at text) (drop at text) some first))
+
+-- the item that a period is
+abbrev pub period_item : List ℕ → ℕ → Item
+period_item text at = record { kind = Dropped; place = at; text = take 1 (drop at text) }
+
+period_shape : (fresh : Bool) (bytes : List ℕ) → 0 < length bytes → get_or bytes 0 0 ≡ 46 → shape_at fresh bytes ≡ one_byte Dropped
+unfolding lead_of
+period_shape fresh [] some e = absurd (omega (arith, some))
+period_shape fresh (b ∷ bytes) some e = ap (λ (c : ℕ). shape_by (lead_of fresh c) c bytes) e
+
+pub period_item-at : (text : List ℕ) (at : ℕ) → at < length text → get_or text at 0 ≡ 46 → period_item text at ≡ item_at at text
+unfolding item_at
+period_item-at text at lt period =
+    let some : 0 < length (drop at text) = omega (arith, lt, length-drop at text) in
+    let here : get_or (drop at text) 0 0 ≡ get_or text at 0 = get_or-drop at text 0 0 ∙ ap (λ (n : ℕ). get_or text n 0) (add-zero at) in
+    sym (ap (λ (s : Shape). item s at (take (s.more + 1) (drop at text))) (period_shape (begins_line at text) (drop at text) some (here ∙ period)))

@@ -1,16 +1,17 @@
 -- Bytes as the code names them, and as the definition does.
 use Rattle.std.specs.Prelude.{ℕ, Bool}
 use Rattle.std.specs.Char.{is_ascii_digit}
-use Rattle.explorer_model.specs.Items.{is_white, is_of_name, continues_symbol}
+use Rattle.explorer_model.specs.Items.{is_white, is_of_name, begins_symbol, continues_symbol}
 use Rattle.explorer_model.specs.Items as items
 use Rattle.pgn_lex.specs.declared.bytes.Class.{Class}
-use Rattle.pgn_lex.specs.declared.bytes.Class.TheVariants.{White, Name, Symbol, Digit}
+use Rattle.pgn_lex.specs.declared.bytes.Class.TheVariants.{White, Name, SymbolStart, Symbol, Digit}
 use Rattle.pgn_lex.specs.declared.bytes.Lead.{Lead}
 use Rattle.pgn_lex.specs.declared.bytes.Lead.TheVariants as leads
 
 abbrev pub is_of : Class → ℕ → Bool
 is_of White b = is_white b
 is_of Name b = is_of_name b
+is_of SymbolStart b = begins_symbol b
 is_of Symbol b = continues_symbol b
 is_of Digit b = is_ascii_digit b
 

@@ -1,9 +1,9 @@
 ghost use Rattle.std.specs.Prelude.{◌≡◌, ◌==◌, ◌<◌, ◌≤◌, length, position, IfSome};
 ghost use Rattle.std.specs.List.{prefix_len};
-ghost use Rattle.explorer_model.specs.Items.{is_white, is_of_name, continues_symbol, lead_of, lead_of_comment, lead_of_bracket, lead_of_sign};
+ghost use Rattle.explorer_model.specs.Items.{is_white, is_of_name, begins_symbol, continues_symbol, lead_of, lead_of_comment, lead_of_bracket, lead_of_sign};
 ghost use Rattle.pgn_lex.specs.Bytes.{is_of, lead_as};
 
-use crate::byte_table::{NAMES, SYMBOLS};
+use crate::byte_table::{NAMES, SYMBOL_STARTS, SYMBOLS, WHITES};
 use memchr::memchr;
 
 /// A set of bytes of which the grammar takes runs.
@@ -13,7 +13,9 @@ pub enum Class {
     White,
     /// The letters, digits and `_` of a tag's name (PGN 8.1.1).
     Name,
-    /// What follows the first byte of a symbol (PGN 7).
+    /// The first byte of a symbol (PGN 7).
+    SymbolStart,
+    /// What follows the first byte of a symbol.
     Symbol,
     Digit,
 }
@@ -25,6 +27,7 @@ impl Class {
         match self {
             Class::White => is_white(byte),
             Class::Name => is_of_name(byte),
+            Class::SymbolStart => begins_symbol(byte),
             Class::Symbol => continues_symbol(byte),
             Class::Digit => byte.is_ascii_digit(),
         }
@@ -34,13 +37,21 @@ impl Class {
 pub fn is_white(byte: u8) -> bool
     ensures { result ≡ is_white byte }
 {
-    (9..=13).contains(&byte) || byte == b' '
+    let table = &WHITES;
+    table.has(byte)
 }
 
 fn is_of_name(byte: u8) -> bool
     ensures { result ≡ is_of_name byte }
 {
     let table = &NAMES;
+    table.has(byte)
+}
+
+fn begins_symbol(byte: u8) -> bool
+    ensures { result ≡ begins_symbol byte }
+{
+    let table = &SYMBOL_STARTS;
     table.has(byte)
 }
 
@@ -103,7 +114,7 @@ pub fn lead_of(byte: u8, fresh: bool) -> Lead
     if is_white(byte) {
         return Lead::White;
     }
-    if byte.is_ascii_alphanumeric() || byte == b'-' {
+    if begins_symbol(byte) {
         return Lead::Symbol;
     }
     if matches!(byte, b'.' | b'!' | b'?') {

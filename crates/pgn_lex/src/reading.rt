@@ -1,4 +1,4 @@
-ghost use Rattle.std.specs.Prelude.{◌≡◌, ◌+◌, ◌<◌, ◌≤◌, ◌^◌, ℕ, List, length, map, option_map, IfSome, IfOk, OnOk};
+ghost use Rattle.std.specs.Prelude.{◌≡◌, ◌+◌, ◌<◌, ◌≤◌, ◌^◌, ℕ, List, [], length, map, option_map, IfSome, IfOk, OnOk};
 ghost use Rattle.std.specs.List.{All};
 ghost use Rattle.explorer_model.specs.Parts.{Section as ASection, after, after_in_heading, after_in_moves, after_in_variation, at_end, parts};
 ghost use Rattle.explorer_model.specs.Stop.{Gives, GivesBy};
@@ -55,10 +55,7 @@ pub fn spanned_parts(alloc: Global, text: &[u8]) -> Result<SpannedParts, Stop<Le
     ensures within { IfOk result
         (λ spanned. All (IsWithin (length text.now)) spanned.spans.items) }
 {
-    let mut found = Found {
-        tags: Vec::new(alloc),
-        spans: Vec::new(alloc),
-    };
+    let mut found = Found::empty(alloc)?;
     let mut section = Section::Heading;
     let mut at = 0;
     while at < text.len() {
@@ -68,9 +65,26 @@ pub fn spanned_parts(alloc: Global, text: &[u8]) -> Result<SpannedParts, Stop<Le
         };
         found.add(alloc, section, item)?;
         section = next;
-        at = past_white(text, at + item.text.len());
+        let behind = past_period(text, section, at + item.text.len());
+        at = past_white(text, behind);
     }
     finish(section, found)
+}
+
+/// The place behind a period that stands there among the moves, else the place itself: most move numbers have one behind them.
+fn past_period(text: &[u8], section: Section, at: usize) -> usize
+    requires { length text.now ≤ 65536 }
+    ensures on { at ≤ result }
+    ensures read { (front : Front) → IsReadUpTo text.now at (section_as section) front
+        → IsReadUpTo text.now result (section_as section) front }
+{
+    let Section::Moves = section else {
+        return at;
+    };
+    if at < text.len() && text[at] == b'.' {
+        return at + 1;
+    }
+    at
 }
 
 /// The place behind a white byte that stands there, else the place itself: most items have one behind them.
@@ -169,6 +183,17 @@ fn after_in_variation(inner: u32, outer: u32, kind: Kind<'_>) -> Option<Section>
 }
 
 impl Found {
+    /// Nothing yet, with room for most games.
+    fn empty(alloc: Global) -> Result<Found, AllocError>
+        ensures tags { IfOk result (λ found. found.tags.items ≡ []) }
+        ensures spans { IfOk result (λ found. found.spans.items ≡ []) }
+    {
+        Ok(Found {
+            tags: Vec::with_capacity(alloc, 16)?,
+            spans: Vec::with_capacity(alloc, 128)?,
+        })
+    }
+
     /// Adds what an item says; what stands in a variation says nothing.
     fn add(&mut self, alloc: Global, section: Section, item: Item<'_>) -> Result<(), AllocError>
         requires small { item.place + length item.text.now < 2 ^ 32 }

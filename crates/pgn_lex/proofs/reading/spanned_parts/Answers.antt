@@ -11,8 +11,8 @@ use Rattle.pgn_lex.proofs.reading.spanned_parts.Goals as goal
 
 pub loop-at-init : goal.loop-at-init
 loop-at-init c = (
-  starts c.args.text.now (front_of c.args.text.now (record { tags = c.new.result; spans = c.new-2.result })) c.new.ensures.items (ap (map (token_in c.args.text.now)) c.new-2.ensures.items),
-  subst (All (IsWithin (length c.args.text.now))) (sym c.new-2.ensures.items) (All-nil (IsWithin (length c.args.text.now))),
+  starts c.args.text.now (front_of c.args.text.now c.in_ok-found.found) c.in_ok-found.ensures.tags (ap (map (token_in c.args.text.now)) c.in_ok-found.ensures.spans),
+  subst (All (IsWithin (length c.args.text.now))) (sym c.in_ok-found.ensures.spans) (All-nil (IsWithin (length c.args.text.now))),
 )
 
 pub returns-in_default-clause-parts : goal.returns-in_default-clause-parts
@@ -23,8 +23,9 @@ pub loop-at-preserved : goal.loop-at-preserved
 loop-at-preserved c = (
   rw (c.in_ok-add.ensures.front c.args.text.now c.item_at-item.ensures.stands)
       (c.past_white-at.ensures.read _ _
+      (c.past_period-behind.ensures.read _
       (goes_on c.args.text.now c.loop-at.at (section_as c.loop-at.section) (front_of c.args.text.now c.loop-at.found) c.loop-at.invariant.0 (item_as c.item_at-item.result) (section_as c.in-Some.next) c.loop-at-test.true c.item_at-item.ensures.item
-      c.in-Some.ensures.next c.in-Some.ensures.depth c.item_at-item.ensures.some c.item_at-item.ensures.within)),
+      c.in-Some.ensures.next c.in-Some.ensures.depth c.item_at-item.ensures.some c.item_at-item.ensures.within))),
   c.in_ok-add.ensures.within (length c.args.text.now) (omega (arith, c.item_at-item.ensures.place, c.item_at-item.ensures.within)) c.loop-at.invariant.1,
 )
 
