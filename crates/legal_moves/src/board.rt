@@ -179,6 +179,7 @@ impl Board {
     }
 
     /// Plays a legal move on this board.
+    #[inline(always)]
     pub fn play_on(&mut self, step: Move)
         requires { Legal self.old step }
         ensures { self.new ≡ after self.old step }

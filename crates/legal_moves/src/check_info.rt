@@ -145,6 +145,7 @@ impl CheckInfo {
     }
 
     /// Does a pseudo-legal move leave the own king safe?
+    #[inline(always)]
     fn is_safe(&self, position: &Position, m: Move) -> bool
         requires informed { IsInfoOf position.now self.now }
         requires pseudo_legal { PseudoLegal position.now m }

@@ -9,6 +9,7 @@ use explorer_model::chess::{Color, Move, Piece, Position, Rights, Role, Side, ar
 use explorer_model::square::{Square, halfway};
 
 /// Plays a move in place.
+#[inline(always)]
 pub fn play_on(position: &mut Position, sets: &mut PieceSets, m: Move)
     requires { IsKept position.old sets.old }
     ensures position { position.new ≡ after position.old m }
