@@ -1,8 +1,9 @@
 //! Which texts of a group are accepted, and why the others are refused.
-ghost use Rattle.std.specs.Prelude.{◌≡◌, [], map, find, option_map, IfOk};
+ghost use Rattle.std.specs.Prelude.{◌≡◌, ◌<◌, [], map, find, option_map, IfOk};
 ghost use Rattle.std.specs.List.{All};
 ghost use Rattle.explorer_model.specs.Imports.{has_id_of, verdicts, verdict_of, candidates, refusals};
 ghost use Rattle.batch_tally.specs.Accepting.{candidate_as, verdict_as, HasCountIfAccepted, IsCounted, id_word_of};
+ghost use Rattle.batch_tally.specs.Marks.{id_mark_of, AreIdsMarked};
 ghost use Rattle.tally_rows.specs.SortEntry.{spelled};
 ghost use Rattle.batch_tally.specs.Reading.{HasCount, examination_as};
 
@@ -48,11 +49,14 @@ pub fn accept(alloc: Global, readings: Vec<Reading>) -> Result<Accepting, AllocE
 {
     let mut accepted = Vec::with_capacity(alloc, readings.len())?;
     let mut words = Vec::with_capacity(alloc, readings.len())?;
+    let mut marks = [false; 4096];
     let mut refused = Vec::new(alloc);
     for reading in readings {
-        match judge(accepted.as_slice(), words.as_slice(), reading) {
+        match judge(accepted.as_slice(), words.as_slice(), &marks, reading) {
             Verdict::Accepted(candidate) => {
-                words.push(id_word(&candidate.game))?;
+                let word = id_word(&candidate.game);
+                marks[id_mark_of(word)] = true;
+                words.push(word)?;
                 accepted.push(candidate)?;
             }
             Verdict::Refused(refusal) => refused.push(refusal)?,
@@ -61,10 +65,11 @@ pub fn accept(alloc: Global, readings: Vec<Reading>) -> Result<Accepting, AllocE
     Ok(Accepting { accepted, refused })
 }
 
-/// What becomes of a text behind those that are accepted, whose ids these words are.
-fn judge(accepted: &[Accepted], words: &[u64], reading: Reading) -> Verdict
+/// What becomes of a text behind those that are accepted, whose ids these words are, and whose marks are set.
+fn judge(accepted: &[Accepted], words: &[u64], marks: &[bool; 4096], reading: Reading) -> Verdict
     requires counted { HasCount reading }
     requires words { words.now ≡ map id_word_of accepted.now }
+    requires marks { AreIdsMarked marks.now words.now }
     ensures verdict { verdict_as result
         ≡ verdict_of (map candidate_as accepted.now) (examination_as reading) }
     ensures counted { HasCountIfAccepted result }
@@ -84,7 +89,7 @@ fn judge(accepted: &[Accepted], words: &[u64], reading: Reading) -> Verdict
             });
         }
     };
-    match place_of_id(accepted, words, &game) {
+    match place_of_id(accepted, words, marks, &game) {
         Some(first) => Verdict::Refused(Refusal {
             place,
             why: Why::Twice { first },
@@ -98,14 +103,34 @@ fn judge(accepted: &[Accepted], words: &[u64], reading: Reading) -> Verdict
     }
 }
 
-/// The place of the first accepted text that has the id of the game.
-fn place_of_id(accepted: &[Accepted], words: &[u64], game: &Game) -> Option<u64>
-    requires { words.now ≡ map id_word_of accepted.now }
+/// The place of the first accepted text that has the id of the game. Of most there is none, as the mark of the id tells.
+fn place_of_id(
+    accepted: &[Accepted],
+    words: &[u64],
+    marks: &[bool; 4096],
+    game: &Game,
+) -> Option<u64>
+    requires words { words.now ≡ map id_word_of accepted.now }
+    requires marks { AreIdsMarked marks.now words.now }
     ensures { result
         ≡ option_map (λ candidate. candidate.place)
         (find (has_id_of game.now) (map candidate_as accepted.now)) }
 {
     let word = id_word(game);
+    if !marks[id_mark_of(word)] {
+        return None;
+    }
+    place_among(accepted, words, game, word)
+}
+
+/// The place of the first accepted text that has the id of the game, which this word is of.
+fn place_among(accepted: &[Accepted], words: &[u64], game: &Game, word: u64) -> Option<u64>
+    requires words { words.now ≡ map id_word_of accepted.now }
+    requires word { word ≡ spelled game.now.classes.id.bytes 0 8 }
+    ensures { result
+        ≡ option_map (λ candidate. candidate.place)
+        (find (has_id_of game.now) (map candidate_as accepted.now)) }
+{
     for place in 0..accepted.len() {
         let text = &accepted[place];
         if has_id(text, words[place], game, word) {
@@ -132,4 +157,12 @@ fn id_word(game: &Game) -> u64
     ensures { result ≡ spelled game.now.classes.id.bytes 0 8 }
 {
     word_at(&game.classes.id.bytes, 0)
+}
+
+/// The mark of an id by its word. The multiplier, 2 to the 64 by the golden ratio, spreads words.
+fn id_mark_of(word: u64) -> usize
+    ensures value { result ≡ id_mark_of word }
+    ensures small { result < 4096 }
+{
+    (word.wrapping_mul(0x9E37_79B9_7F4A_7C15) / 0x0010_0000_0000_0000) as usize
 }

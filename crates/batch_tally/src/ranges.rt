@@ -1,6 +1,6 @@
 //! The rows of accepted games, made in ranges of keys side by side.
 ghost use Rattle.std.specs.Prelude.{◌≡◌, ℕ, List, ◌++◌, ◌+◌, ◌*◌, ◌^◌, ◌≤◌, ◌<◌, Result, Vec, map, length, vec_len, slice_index_or, OnOk, IfOk};
-ghost use Rattle.std.specs.List.{All, filter};
+ghost use Rattle.std.specs.List.{All, filter, flat_map};
 ghost use Rattle.explorer_model.specs.Imports.{group_limit};
 ghost use Rattle.tally_rows.specs.Track.{Track};
 ghost use Rattle.tally_rows.specs.Within.{TalliedWithin, is_in_range, FollowFrom};
@@ -12,29 +12,28 @@ ghost use Rattle.std.specs.declared.alloc.AllocError.{AllocError};
 ghost use Rattle.std.specs.declared.alloc.Global.{Global};
 
 use crate::accepting::Accepted;
-use crate::leaves::{all_made, joined};
+use crate::leaves::all_made;
 use std::alloc::{AllocError, Global};
 use std::thread::{Threads, map_vec};
 use tally_rows::{KeyRange, Row, Single, first_word, rows_of};
 
-/// The rows of games, whose numbers are their places. Each leaf makes those of a range of keys, of which there are as many as
-/// workers, and the leaves work side by side.
-pub fn rows_of_games<R: Threads + Sync>(
+/// The rows of games, whose numbers are their places, in parts, one after another. Each leaf makes those of a range of keys, of which
+/// there are as many as workers, and the leaves work side by side.
+pub fn row_parts<R: Threads + Sync>(
     rt: &R,
     alloc: Global,
     games: &[Accepted],
     workers: usize,
-) -> Result<Vec<Row>, AllocError>
+) -> Result<Vec<Vec<Row>>, AllocError>
     requires some_workers { 1 ≤ workers }
     requires counted { All IsCounted games.now }
     requires few { length games.now ≤ group_limit }
-    ensures { IfOk result (λ rows. AreRowsOf games.now rows.items) }
+    ensures { IfOk result (λ parts. AreRowsOf games.now (flat_map (λ part. part.items) parts.items)) }
 {
     tally_rows::laws::ranges_are_tallied();
     let ranges = ranges_of(alloc, games, workers)?;
     let results = rows_of_ranges(rt, alloc, games, ranges)?;
-    let parts = all_made(alloc, results)?;
-    joined(alloc, parts)
+    all_made(alloc, results)
 }
 
 /// The rows in each range.

@@ -57,16 +57,17 @@ pub fn read_all<R: Threads + Sync, G: Gate>(
     joined(alloc, parts)
 }
 
-/// The texts in leaves, of which each has as many as the others or, at the end, fewer.
+/// The texts in leaves, of which each has about as many bytes as the others: a leaf's time goes with its bytes.
 fn leaves_of(alloc: Global, texts: Vec<Placed>, workers: usize) -> Result<Vec<Leaf>, AllocError>
     requires { 1 ≤ workers }
     ensures { IfOk result (λ leaves. texts_of leaves.items ≡ texts.items) }
 {
-    let share = texts.len().div_ceil(workers);
+    let share = count_bytes(texts.as_slice()).div_ceil(workers);
     let mut leaves = Vec::with_capacity(alloc, workers)?;
     let mut rest = texts;
     for number in 1..workers {
-        let behind = rest.split_off(share.min(rest.len()))?;
+        let count = count_within(rest.as_slice(), share);
+        let behind = rest.split_off(count.min(rest.len()))?;
         leaves.push(Leaf {
             number,
             texts: rest,
@@ -78,6 +79,27 @@ fn leaves_of(alloc: Global, texts: Vec<Placed>, workers: usize) -> Result<Vec<Le
         texts: rest,
     })?;
     Ok(leaves)
+}
+
+/// How many bytes all texts have.
+fn count_bytes(texts: &[Placed]) -> usize {
+    let mut bytes = 0usize;
+    for text in texts {
+        bytes = bytes.saturating_add(text.bytes.len());
+    }
+    bytes
+}
+
+/// How many of the first texts have so many bytes, or all of them.
+fn count_within(texts: &[Placed], bytes: usize) -> usize {
+    let mut taken = 0usize;
+    for place in 0..texts.len() {
+        if bytes <= taken {
+            return place;
+        }
+        taken = taken.saturating_add(texts[place].bytes.len());
+    }
+    texts.len()
 }
 
 /// What each leaf makes of its texts.

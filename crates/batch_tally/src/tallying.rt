@@ -7,7 +7,7 @@ ghost use Rattle.batch_tally.specs.Accepting.{candidate_as, AreCandidates, IsCou
 ghost use Rattle.batch_tally.specs.Tallying.{IsTallying, IsTallyMade};
 
 use crate::accepting::{Accepted, accept};
-use crate::ranges::rows_of_games;
+use crate::ranges::row_parts;
 use crate::reading::read_all;
 use explorer_model::archive::{Batch, Bytes, Classes, Game, Placed, Texts};
 use explorer_model::fault::Refusal;
@@ -81,14 +81,14 @@ fn tally_of<R: Threads + Sync>(
     if accepted.is_empty() {
         return Ok(None);
     }
-    let rows = rows_of_games(rt, alloc, accepted.as_slice(), workers)?;
+    let parts = row_parts(rt, alloc, accepted.as_slice(), workers)?;
     let (texts, classes) = texts_and_classes(alloc, accepted)?;
     Ok(Some(Tally::new(
         Batch {
             texts: Texts::from_vec(texts),
         },
         Items::from_vec(classes),
-        Items::from_vec(rows),
+        parts,
     )))
 }
 

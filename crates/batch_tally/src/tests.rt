@@ -9,6 +9,7 @@ use std::alloc::{AllocError, Global};
 use std::sync::atomic::{AtomicU64, Ordering};
 use std::test::Fail;
 use std::thread::{self, Threads};
+use tally_rows::Row;
 
 /// A worked game with this id, and this movetext, which ends with `1-0`.
 fn text(alloc: Global, place: u64, id: &str, movetext: &str) -> Result<Placed, AllocError> {
@@ -56,9 +57,17 @@ fn row_count(tallying: &Option<Tallying>) -> usize {
                 tally: Some(tally),
                 ..
             },
-        ) => tally.rows().len(),
+        ) => count_rows(tally.row_parts()),
         _ => 0,
     }
+}
+
+fn count_rows(parts: &[Vec<Row>]) -> usize {
+    let mut count = 0usize;
+    for part in parts {
+        count = count.saturating_add(part.len());
+    }
+    count
 }
 
 #[test]
@@ -142,11 +151,29 @@ fn are_same(first: &Tallying, second: &Tallying) -> bool {
     let (Some(tally), Some(other)) = (&first.tally, &second.tally) else {
         return false;
     };
-    tally.rows() == other.rows()
+    have_same_rows(tally.row_parts(), other.row_parts())
         && tally.batch() == other.batch()
         && tally.classes().len() == other.classes().len()
         && first.places.as_slice() == second.places.as_slice()
         && first.refused.as_slice() == second.refused.as_slice()
+}
+
+/// Have parts the same rows as the one part of a tally by one worker?
+fn have_same_rows(parts: &[Vec<Row>], one: &[Vec<Row>]) -> bool {
+    let mut rest = match one.first() {
+        Some(rows) => rows.as_slice(),
+        None => return parts.is_empty(),
+    };
+    for part in parts {
+        let Some((front, behind)) = rest.split_at_checked(part.len()) else {
+            return false;
+        };
+        if front != part.as_slice() {
+            return false;
+        }
+        rest = behind;
+    }
+    rest.is_empty()
 }
 
 #[test]

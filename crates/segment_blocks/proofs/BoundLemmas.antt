@@ -1,5 +1,5 @@
 -- Rows before a bound, and where a walk ends.
-use Rattle.std.proofs.Common.{◌≡◌, ℕ, ◌<◌, Bool, true, false, Option, None, Some, is_none, unwrap_or, List, [], ◌∷◌, ◌++◌, length, refl, sym, ap, subst, ◌∙◌, true≢false, arith}
+use Rattle.std.proofs.Common.{◌≡◌, ℕ, ◌<◌, true, false, None, Some, is_none, unwrap_or, List, [], ◌∷◌, ◌++◌, length, refl, sym, ap, ◌∙◌, true≢false, arith}
 use Rattle.std.specs.declared.cmp.Ordering.{Ordering}
 use Rattle.std.specs.declared.cmp.Ordering.TheVariants.{Less, Equal, Greater}
 use Rattle.std.specs.Ordering.{nat_cmp, is_lt, is_gt, ordering_reverse}
@@ -13,7 +13,7 @@ use Rattle.segment_blocks.specs.declared.bound.Bound.TheVariants as bounds
 use Rattle.segment_blocks.specs.declared.until.Until.{Until}
 use Rattle.segment_blocks.specs.declared.until.Until.TheVariants.{End, Key, Below, Done}
 use Rattle.segment_blocks.specs.Moving.{next_row_key, key_of_bound, is_before, AreBefore}
-use Rattle.segment_blocks.specs.Walk.{is_below, until_key, rows_until}
+use Rattle.segment_blocks.specs.Walk.{until_key, rows_until}
 use Rattle.segment_blocks.proofs.KeyLemmas.{key_order, first-less, below-chain, until_key-below, until_key-nil}
 use Rattle.segment_blocks.proofs.KeyOrderLemmas.{row_order-by-key}
 

@@ -10,3 +10,4 @@ pub mod MovingLemmas
 pub mod OrderLemmas
 pub mod PackedLemmas
 pub mod SegmentLemmas
+pub mod PartLemmas

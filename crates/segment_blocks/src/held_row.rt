@@ -1,6 +1,7 @@
 //! Rows as blocks hold them.
-ghost use Rattle.std.specs.Prelude.{◌≡◌, IfSome};
+ghost use Rattle.std.specs.Prelude.{◌≡◌, ◌<◌, ◌^◌, IfSome, IsSome};
 ghost use Rattle.segment_blocks.specs.HeldRow.{row_in};
+ghost use Rattle.tally_rows.specs.declared.single.Single.{Single};
 ghost use Rattle.tally_rows.specs.Row.{row_of, row_key_of};
 
 use crate::single_game::single_in;
@@ -49,9 +50,11 @@ impl<'a> HeldRow<'a> {
         }
     }
 
-    /// The row's one game, or None where the row has to stand whole.
+    /// The row's one game, or None where the row is of no one game.
     pub fn game(&self) -> Option<Single>
-        ensures { IfSome result (λ game. row_in self.now ≡ row_of game) }
+        ensures game { IfSome result (λ game. row_in self.now ≡ row_of game) }
+        ensures some { (game : Single) → game.rating < 2 ^ 16 → row_in self.now ≡ row_of game
+            → IsSome result }
     {
         match self {
             HeldRow::Game(game) => Some(*game),

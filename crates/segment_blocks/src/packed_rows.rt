@@ -1,5 +1,6 @@
 //! Rows in little room.
 ghost use Rattle.std.specs.Prelude.{◌≡◌, ℕ, List, ◌+◌, ◌≤◌, ◌<◌, ◌^◌, ◌++◌, ◌∷◌, [], filter, map, not, true, false, length, slice_get, slice_index_or, IfOk, OnOk, OnErr};
+ghost use Rattle.std.specs.List.{flat_map};
 ghost use Rattle.segment_blocks.specs.Block.{block_limit};
 ghost use Rattle.segment_blocks.specs.HeldRow.{row_in};
 ghost use Rattle.segment_blocks.specs.Moving.{HaveMoved, Tells};
@@ -49,16 +50,27 @@ impl PackedRows {
         }
     }
 
-    /// Rows that stand in their order.
-    pub(crate) fn of(alloc: Global, rows: &[Row]) -> Result<PackedRows, AllocError>
-        requires in_order { AreInOrder rows.now }
-        ensures { IfOk result (λ packed. packed.rows ≡ rows.now) }
+    /// Rows that stand in their order, in parts, one after another.
+    pub(crate) fn of(alloc: Global, parts: &[Vec<Row>]) -> Result<PackedRows, AllocError>
+        requires in_order { AreInOrder (flat_map (λ part. part.items) parts.now) }
+        ensures { IfOk result (λ packed. packed.rows ≡ flat_map (λ part. part.items) parts.now) }
     {
         let mut packed = PackedRows::new(alloc);
-        for row in rows {
-            packed.push(alloc, row)?;
+        for part in parts {
+            packed.push_all(alloc, part.as_slice())?;
         }
         Ok(packed)
+    }
+
+    /// Puts rows behind the others.
+    pub(crate) fn push_all(&mut self, alloc: Global, rows: &[Row]) -> Result<(), AllocError>
+        requires in_order { AreInOrder (self.old.rows ++ rows.now) }
+        ensures { OnOk result (self.new.rows ≡ self.old.rows ++ rows.now) }
+    {
+        for row in rows {
+            self.push(alloc, row)?;
+        }
+        Ok(())
     }
 
     /// The rows of parts, one part after another. Their blocks stay as they are.

@@ -56,8 +56,8 @@ impl Segment {
         ensures classes { IfOk result (λ segment. segment.classes ≡ tally.classes) }
         ensures rows { IfOk result (λ segment. segment.rows ≡ tally.rows) }
     {
-        let (batch, classes, rows) = tally.into_parts();
-        let rows = PackedRows::of(alloc, rows.as_slice())?;
+        let (batch, classes, parts) = tally.into_parts();
+        let rows = PackedRows::of(alloc, parts.as_slice())?;
         let games = classes.len() as u32;
         let mut batches = Vec::new(alloc);
         batches.push(HeldBatch::of(alloc, batch, classes)?)?;

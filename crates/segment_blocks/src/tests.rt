@@ -68,7 +68,9 @@ fn packed(alloc: Global, rows: &[Row]) -> Result<Option<PackedRows>, AllocError>
     if !are_in_order(rows) {
         return Ok(None);
     }
-    Ok(Some(PackedRows::of(alloc, rows)?))
+    let mut packed = PackedRows::new(alloc);
+    packed.push_all(alloc, rows)?;
+    Ok(Some(packed))
 }
 
 fn are_in_order(rows: &[Row]) -> bool

@@ -24,6 +24,7 @@ use Rattle.tally_rows.specs.Tallied.{is_black_to_move, mover_rating, rating_sum,
 use Rattle.tally_rows.specs.Tally.{IsTallyOf, IsTrackOf}
 use Rattle.tally_rows.specs.Track.{Track, has}
 use Rattle.tally_rows.proofs.AddsUp.{count-outcomes}
+use Rattle.tally_rows.proofs.TrackBounds.{ratings-bound, track-ratings, best-fit}
 use Rattle.tally_rows.proofs.Members.{IsIn, All-IsIn, recursion-from_IsIn}
 use Rattle.std.specs.List.Sorted.{IsStrictlySortedBy}
 use Rattle.segment_blocks.specs.PackedRows.{AreInOrder}
@@ -32,65 +33,6 @@ use Rattle.segment_merge.specs.Merged.{merged}
 use Rattle.segment_merge.specs.Merging.{rows_of_both}
 use Rattle.segment_merge.specs.Room.{HasRoom, IsSmall}
 use Rattle.segment_merge.proofs.MergedLemmas.{Tallied-merged}
-
--- ---- ratings
-
--- both ratings are at most 4000
-abbrev HasRatings : Track → Type 0
-HasRatings track = AreSoundClasses track.classes
-
-mover-bound : (key : List ℕ) (classes : Classes) → AreSoundClasses classes → mover_rating key classes ≤ 65535
-mover-bound key classes are = by (is_black_to_move key)
-  where
-    by : (b : Bool) → cond b classes.black.rating classes.white.rating ≤ 65535
-    by true = omega (arith, are.black)
-    by false = omega (arith, are.white)
-
-ratings-bound : (key : List ℕ) (row_key : RowKey) (tracks : List Track) → AllByRecursion HasRatings tracks
-    → sum_by (λ t. cond (has_move row_key t) (mover_rating key t.classes) 0) tracks ≤ 65535 * length tracks
-ratings-bound key row_key [] are = omega arith
-ratings-bound key row_key (t ∷ tracks) are =
-    omega (
-      arith,
-      sum_by-cons (λ s. cond (has_move row_key s) (mover_rating key s.classes) 0) t tracks,
-      one (has_move row_key t) (mover-bound key t.classes are.0),
-      ratings-bound key row_key tracks are.1,
-    )
-  where
-    one : (b : Bool) → mover_rating key t.classes ≤ 65535 → cond b (mover_rating key t.classes) 0 ≤ 65535
-    one true le = le
-    one false le = omega arith
-
-track-ratings : (texts : List (List ℕ)) (games : List Game) (tracks : List Track) → AllZip IsTextOf texts games → AllZip IsTrackOf games tracks
-    → AllByRecursion HasRatings tracks
-track-ratings [] [] [] of tracked = tt
-track-ratings [] [] (t ∷ tracks) of tracked = absurd tracked
-track-ratings [] (g ∷ games) tracks of tracked = absurd of
-track-ratings (x ∷ texts) [] tracks of tracked = absurd of
-track-ratings (x ∷ texts) (g ∷ games) [] of tracked = absurd tracked
-track-ratings (x ∷ texts) (g ∷ games) (t ∷ tracks) of tracked =
-    (subst AreSoundClasses (sym tracked.0.classes) (game-sound x g of.0), track-ratings texts games tracks of.1 tracked.1)
-
--- ---- numbers
-
-module _ (rank : Track → ℕ) (test : Track → Bool) where
-  entries-below : (n m : ℕ) (tracks : List Track) → n + length tracks ≤ m → All (λ entry. entry.number < m) (entries rank test n tracks)
-  unfolding entries
-  entries-below n m tracks le =
-      All-map (λ (entry : Entry). entry.number < m) (λ (p : ℕ × Track). record { rank = rank p.1; number = p.0 })
-      (filter (λ p. test p.1) (enumerate_from n tracks))
-      (All-filter (λ p. test p.1) (λ p. p.0 < m) (enumerate_from n tracks) (numbers n tracks le))
-    where
-      numbers : (n : ℕ) (ts : List Track) → n + length ts ≤ m → All (λ (p : ℕ × Track). p.0 < m) (enumerate_from n ts)
-      numbers n [] le = All-nil (λ (p : ℕ × Track). p.0 < m)
-      numbers n (t ∷ ts) le = All-cons (λ (p : ℕ × Track). p.0 < m) (n, t) (enumerate_from (n + 1) ts) (omega arith) (numbers (n + 1) ts (omega arith))
-
-  best-fit : (before : Entry → Entry → Bool) (by : ℕ) (tracks : List Track) → by + length tracks ≤ segment_limit
-      → All (λ entry. entry.number + by < 2 ^ 32) (best before 4 (entries rank test 0 tracks))
-  best-fit before by tracks le =
-      All-best before (λ (entry : Entry). entry.number + by < 2 ^ 32) 4 (entries rank test 0 tracks)
-      (All-weaker (λ (entry : Entry). entry.number < length tracks) (λ entry. entry.number + by < 2 ^ 32) (λ entry below. omega arith)
-      (entries rank test 0 tracks) (entries-below 0 (length tracks) tracks (omega arith)))
 
 -- ---- lists of the same length
 
@@ -129,10 +71,10 @@ module _ (texts : List (List ℕ)) (classes : List Classes) (rows : List Row) (t
               white = omega (arith, counts.white, outcomes, all, within);
               draws = omega (arith, counts.draws, outcomes, all, within);
               black = omega (arith, counts.black, outcomes, all, within);
-              ratings = omega (arith, within, counts.ratings, ratings-bound row.key (row_key_of row) tracks (track-ratings texts tally.games tracks tally.are_games tally.are_tracks));
+              ratings = omega (arith, within, counts.ratings, all, ratings-bound row.key (row_key_of row) tracks (track-ratings texts tally.games tracks tally.are_games tally.are_tracks));
             };
-            top = subst fits (sym counts.top) (best-fit rating_sum (has_move (row_key_of row)) before_by_rating by tracks within);
-            recent = subst fits (sym counts.recent) (best-fit track_month (has_move (row_key_of row)) before_by_month by tracks within);
+            top = subst fits (sym counts.top) (best-fit rating_sum (has_move (row_key_of row)) before_by_rating by tracks (omega (arith, within)));
+            recent = subst fits (sym counts.recent) (best-fit track_month (has_move (row_key_of row)) before_by_month by tracks (omega (arith, within)));
           }
 
 pub IsTallyOf-both : (left_texts right_texts : List (List ℕ)) (left_classes right_classes : List Classes) (ls rs : List Row)

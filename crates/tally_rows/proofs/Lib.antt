@@ -24,3 +24,4 @@ pub mod Joining
 pub mod Determined
 pub mod Ranges
 pub mod Turns
+pub mod TrackBounds

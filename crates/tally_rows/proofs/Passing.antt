@@ -1,7 +1,7 @@
 -- One pass over the entries of singles, those with the same numbers next to each other.
-use Rattle.std.proofs.Common.{◌≡◌, ℕ, ◌+◌, ◌-◌, ◌*◌, ◌^◌, ◌<◌, ◌≤◌, true, false, List, [], ◌∷◌, ◌++◌, map, length, drop, get_or, refl, sym, ap, subst, ◌∙◌, arith}
+use Rattle.std.proofs.Common.{◌≡◌, ℕ, ◌+◌, ◌-◌, ◌*◌, ◌^◌, ◌<◌, ◌≤◌, true, false, List, [], ◌∷◌, ◌++◌, map, length, drop, get_or, set, refl, sym, ap, subst, ◌∙◌, arith}
 use Rattle.std.specs.List.{All}
-use Rattle.std.proofs.lemmas.List.{get_or-map, get_or_read, length-map, drop_more, drop_all}
+use Rattle.std.proofs.lemmas.List.{get_or-map, get_or_read, get_or_at, length-append, length-map, set-append_right, drop_more, drop_all}
 use Rattle.tally_rows.specs.declared.row.Row.{Row}
 use Rattle.tally_rows.specs.declared.single.Single.{Single}
 use Rattle.tally_rows.specs.declared.sort_entry.SortEntry.{SortEntry}
@@ -122,3 +122,30 @@ module _ (singles : List Single) (entries : List SortEntry) (told : All (IsEntry
       pushed ∙ ap (λ l. rows ++ l) (sym (combined_from-nil last))
       ∙ ap (λ (l : List Single). rows ++ combined_from last (map row_of l)) (sym (drop_all place sorted (omega (arith, many, past))))
       ∙ passing.rows_of_all
+
+-- the rows so far, of which the last may still count more games
+pub record Filling (singles : List Single) (entries : List SortEntry) (rows : List Row) (place : ℕ) : Type 0 where
+  pub front : List Row
+  pub last : Row
+  pub made : rows ≡ front ++ last ∷ []
+  pub passing : Passing singles entries front last place
+
+module _ (singles : List Single) (entries : List SortEntry) (rows : List Row) (place end : ℕ) (filling : Filling singles entries rows place) (is : end ≡ length rows - 1) where
+  count : length rows ≡ length filling.front + 1
+  count = ap length filling.made ∙ length-append filling.front (filling.last ∷ [])
+
+  seam : length filling.front ≡ end
+  seam = omega (arith, count, is)
+
+  pub end-within : end < length rows
+  end-within = omega (arith, count, is)
+
+  pub end-is : (d : Row) → get_or rows end d ≡ filling.last
+  end-is d = ap (λ (l : List Row). get_or l end d) filling.made ∙ get_or_at filling.front filling.last [] d end seam
+
+  pub end-set : (next : Row) → set rows end next ≡ filling.front ++ next ∷ []
+  end-set next =
+      let here : end - end ≡ 0 = omega arith in
+      ap (λ (l : List Row). set l end next) filling.made
+      ∙ set-append_right filling.front (filling.last ∷ []) end end next seam (omega arith)
+      ∙ ap (λ (n : ℕ). filling.front ++ set (filling.last ∷ []) n next) here

@@ -54,6 +54,7 @@ impl Row {
     }
 
     /// The row of one game.
+    #[inline(always)]
     #[tactic(auto, unfolding(crate::specs::Row::row_of))]
     pub fn of(single: &Single) -> Row
         ensures row { result ≡ row_of single.now }

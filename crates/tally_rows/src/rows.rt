@@ -57,17 +57,16 @@ fn combine_sorted(
     if entries.is_empty() {
         return Ok(rows);
     }
-    let mut last = Row::of(&singles[entries[0].at as usize]);
+    rows.push(Row::of(&singles[entries[0].at as usize]))?;
     for place in 1..entries.len() {
         let entry = &entries[place];
         let single = &singles[entry.at as usize];
         if entry.has_numbers_of(&entries[place - 1]) {
-            last.add(single);
+            let end = rows.len() - 1;
+            rows[end].add(single);
         } else {
-            rows.push(last)?;
-            last = Row::of(single);
+            rows.push(Row::of(single))?;
         }
     }
-    rows.push(last)?;
     Ok(rows)
 }

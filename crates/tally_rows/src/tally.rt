@@ -1,5 +1,6 @@
 //! A batch that is counted.
 ghost use Rattle.std.specs.Prelude.{◌≡◌, ℕ, List};
+ghost use Rattle.std.specs.List.{flat_map};
 ghost use Rattle.tally_rows.specs.Tally.{IsCounted};
 
 use crate::Row;
@@ -13,24 +14,30 @@ use std::marker::Model;
 pub struct Tally {
     batch: Batch,
     classes: Items<Classes>,
-    rows: Items<Row>,
+    /// In parts, one after another.
+    rows: Vec<Vec<Row>>,
 }
 
 impl Model for Tally {
+    ghost use Rattle.std.specs.List.{flat_map};
     ghost use Rattle.tally_rows.specs.Tally.{Counted, IsCounted};
 
     ghost Value = { Counted };
 
-    ghost view = { λ t. record { batch = t.batch; classes = t.classes; rows = t.rows } };
+    ghost view = { λ t. record { batch = t.batch; classes = t.classes;
+        rows = flat_map (λ part. part.items) t.rows.items } };
 
-    ghost invariant = { λ t. IsCounted (record { batch = t.batch; classes = t.classes; rows = t.rows }) };
+    ghost invariant = { λ t. IsCounted (record { batch = t.batch; classes = t.classes;
+        rows = flat_map (λ part. part.items) t.rows.items }) };
 }
 
 impl Tally {
-    /// The tally of a batch whose games have these classes and these rows.
-    pub fn new(batch: Batch, classes: Items<Classes>, rows: Items<Row>) -> Tally
-        requires { IsCounted (record { batch = batch; classes = classes; rows = rows }) }
-        ensures { result ≡ record { batch = batch; classes = classes; rows = rows } }
+    /// The tally of a batch whose games have these classes and these rows, which may come in any parts.
+    pub fn new(batch: Batch, classes: Items<Classes>, rows: Vec<Vec<Row>>) -> Tally
+        requires { IsCounted (record { batch = batch; classes = classes;
+            rows = flat_map (λ part. part.items) rows.items }) }
+        ensures { result ≡ record { batch = batch; classes = classes;
+            rows = flat_map (λ part. part.items) rows.items } }
     {
         Tally {
             batch,
@@ -46,11 +53,11 @@ impl Tally {
         self.batch
     }
 
-    /// The batch, what the tags say of its games, and the rows that count them.
-    pub fn into_parts(self) -> (Batch, Items<Classes>, Items<Row>)
+    /// The batch, what the tags say of its games, and the rows that count them, in parts.
+    pub fn into_parts(self) -> (Batch, Items<Classes>, Vec<Vec<Row>>)
         ensures batch { result.0 ≡ self.batch }
         ensures classes { result.1 ≡ self.classes }
-        ensures rows { result.2 ≡ self.rows }
+        ensures rows { flat_map (λ part. part.items) result.2.items ≡ self.rows }
         ensures counted { IsCounted self }
     {
         (self.batch, self.classes, self.rows)
@@ -70,9 +77,9 @@ impl Tally {
         self.classes.as_slice()
     }
 
-    /// The rows in their order: by key, move, month, speed and group.
-    pub fn rows(&self) -> &[Row]
-        ensures { result.now ≡ self.now.rows }
+    /// The rows in their order, by key, move, month, speed and group, in parts, one after another.
+    pub fn row_parts(&self) -> &[Vec<Row>]
+        ensures { flat_map (λ part. part.items) result.now ≡ self.now.rows }
     {
         self.rows.as_slice()
     }

@@ -79,7 +79,11 @@ fn count_with_e4(rows: &[Row]) -> usize {
 fn segment_gives_what_a_plain_filter_of_the_tally_gives(rt: HostRuntime) -> Result<(), Fail> {
     let tally = tally_of_batch(&rt, rt.alloc())?;
     let segment = segment_of(rt.alloc(), 0, tally_of_batch(&rt, rt.alloc())?)?;
-    let rows = tally.rows();
+    // One worker makes one part.
+    let [part] = tally.row_parts() else {
+        return Err(Fail::from("more than one part"));
+    };
+    let rows = part.as_slice();
     // The start and e4 in 150 months, e5 and c5 in 75 each: three full blocks and one of 66 rows.
     assert_eq!(rt; (count_with_e4(rows), rows.len()), (150, 450));
     assert_eq!(rt; (segment.games(), segment.block_count()), (512, 4));

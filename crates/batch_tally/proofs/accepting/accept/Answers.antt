@@ -1,11 +1,13 @@
-use Rattle.std.proofs.Common.{sym, ap, subst, ◌∙◌, map, List}
+use Rattle.std.proofs.Common.{true, sym, ap, subst, ◌∙◌, map, List, arith}
 use Rattle.std.specs.List.{All}
+use Rattle.std.proofs.lemmas.List.{length-set}
 use Rattle.std.proofs.lemmas.List.Elements.{All-push}
 use Rattle.explorer_model.specs.Imports.{verdict_of}
 use Rattle.batch_tally.specs.declared.accepting.Accepted.{Accepted}
 use Rattle.batch_tally.specs.Accepting.{candidate_as, IsCounted}
 use Rattle.batch_tally.specs.Reading.{examination_as, HasCount}
 use Rattle.batch_tally.proofs.Completing.{nothing-left, first-left, short-rest}
+use Rattle.batch_tally.proofs.MarkLemmas.{id_marked_more}
 use Rattle.batch_tally.proofs.Verdicts.{one-accepted, one-refused, ends-accepted, ends-refused, words-more}
 use Rattle.batch_tally.proofs.accepting.accept.Goals as goal
 
@@ -19,7 +21,10 @@ loop-reading-preserved-in-Continue-branch-4 c = record {
       c.loop-reading.invariant.sorting;
   counted = subst (λ (l : List Accepted). All IsCounted l) (sym c.in_ok-push-in-Accepted-2.ensures.items)
       (All-push IsCounted c.loop-reading.accepted.items _ c.loop-reading.invariant.counted c.in-Accepted.ensures.counted);
-  words = words-more _ _ _ _ _ _ c.loop-reading.invariant.words c.in_ok-push-in-Accepted.ensures.items c.id_word.ensures c.in_ok-push-in-Accepted-2.ensures.items;
+  words = words-more _ _ _ _ _ _ c.loop-reading.invariant.words c.in_ok-push-in-Accepted.ensures.items c.id_word-word.ensures c.in_ok-push-in-Accepted-2.ensures.items;
+  marks = id_marked_more c.loop-reading.marks _ _ c.id_word-word.result c.id_mark_of.result c.in_ok-push-in-Accepted.ensures.items c.id_mark_of.ensures.value
+      (omega (arith, c.id_mark_of.ensures.small, c.loop-reading.invariant.wide)) c.loop-reading.invariant.marks;
+  wide = length-set c.loop-reading.marks c.id_mark_of.result true ∙ c.loop-reading.invariant.wide;
   counts = short-rest HasCount _ _ _ c.in-Some.ensures.steps.0 c.loop-reading.invariant.counts;
 }
 
@@ -30,6 +35,8 @@ loop-reading-preserved c = record {
       c.loop-reading.invariant.sorting;
   counted = c.loop-reading.invariant.counted;
   words = c.loop-reading.invariant.words;
+  marks = c.loop-reading.invariant.marks;
+  wide = c.loop-reading.invariant.wide;
   counts = short-rest HasCount _ _ _ c.in-Some.ensures.steps.0 c.loop-reading.invariant.counts;
 }
 

@@ -1,4 +1,4 @@
-use Rattle.std.proofs.Common.{rules, sym, subst, List, map}
+use Rattle.std.proofs.Common.{rules, refl, sym, subst, List, map}
 use Rattle.std.specs.List.{All}
 use Rattle.tally_rows.specs.Tally.{Counted}
 use Rattle.batch_tally.specs.declared.accepting.Accepted.{Accepted}
@@ -7,8 +7,8 @@ use Rattle.batch_tally.specs.Tallying.{Counts}
 use Rattle.batch_tally.proofs.Made.{made-of, made-counted, made-counts}
 use Rattle.batch_tally.proofs.tallying.tally_of.Goals as goal
 
-pub rows_of_games-requires-clause-counted : goal.rows_of_games-requires-clause-counted
-rows_of_games-requires-clause-counted g c = λ κs within.
+pub row_parts-requires-clause-counted : goal.row_parts-requires-clause-counted
+row_parts-requires-clause-counted g c = λ κs within.
     let P : List Accepted → Type 0 = λ l. All IsCounted l in
     subst P (sym c.as_slice.ensures.value) c.requires.counted
 
@@ -16,7 +16,7 @@ pub new-requires : goal.new-requires
 new-requires g c = made-counted c.args.accepted.items _ _ _
     (made-of c.args.accepted.items _ _ _ _ _ _ _ (search rules) c.requires.candidates c.as_slice.ensures.value
     c.from_vec.ensures c.in_ok-texts.ensures.texts c.from_vec-2.ensures c.in_ok-texts.ensures.classes
-    c.from_vec-3.ensures c.in_ok-rows.ensures)
+    refl c.in_ok-parts.ensures)
 
 pub returns : goal.returns
 returns g c =
@@ -24,4 +24,4 @@ returns g c =
     subst P (sym c.new.ensures) (made-counts c.args.accepted.items _ _ _
     (made-of c.args.accepted.items _ _ _ _ _ _ _ (search rules) c.requires.candidates c.as_slice.ensures.value
     c.from_vec.ensures c.in_ok-texts.ensures.texts c.from_vec-2.ensures c.in_ok-texts.ensures.classes
-    c.from_vec-3.ensures c.in_ok-rows.ensures))
+    refl c.in_ok-parts.ensures))

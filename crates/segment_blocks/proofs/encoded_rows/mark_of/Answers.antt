@@ -12,7 +12,7 @@ row_of-key s = refl
 pub returns : goal.returns
 returns c =
     let s = c.in_ok-single.single in
-    let is = c.in_ok-single.ensures in
+    let is = c.in_ok-single.ensures.game in
     let sum : s.sum ≡ c.in-Ok.sum = sym c.in-Ok.ensures.1 in
     let key : s.row_key.key ≡ (row_in c.args.held.now).key = sym (ap (λ (r : Row). r.key) is ∙ row_of-key s) in
     record {

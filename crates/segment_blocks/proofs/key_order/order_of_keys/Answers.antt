@@ -1,6 +1,5 @@
 use Rattle.std.proofs.Common.{◌≡◌, ◌+◌, ◌*◌, ◌≤◌, sym, ap, ◌∙◌, arith}
 use Rattle.std.specs.Ordering.{nat_cmp}
-use Rattle.tally_rows.specs.SortEntry.{spelled}
 use Rattle.segment_blocks.proofs.KeyOrderLemmas.{left, word-decides, word-same}
 use Rattle.segment_blocks.proofs.key_order.order_of_keys.Goals as goal
 

@@ -1,4 +1,4 @@
-use Rattle.std.proofs.Common.{◌≡◌, ◌+◌, ◌-◌, [], ◌∷◌, ◌++◌, take, drop, refl, sym, ap, subst, ◌∙◌, arith}
+use Rattle.std.proofs.Common.{◌≡◌, ◌+◌, ◌-◌, ◌∷◌, ◌++◌, take, drop, refl, sym, ap, subst, ◌∙◌, arith}
 use Rattle.tally_rows.specs.Row.{row_of, shifted_row}
 use Rattle.segment_blocks.specs.Encoded.{own_len, key_behind, single_of, rows_behind}
 use Rattle.segment_blocks.proofs.EncodedLemmas.{rows_behind-game, key-game}

@@ -1,6 +1,5 @@
-use Rattle.std.proofs.Common.{◌≡◌, [], ◌∷◌, ◌++◌, ◌-◌, Some, take, drop, sym, ap, ◌∙◌}
-use Rattle.tally_rows.specs.Row.{row_of}
-use Rattle.segment_blocks.specs.Encoded.{own_len, key_behind, row_key_at, single_of}
+use Rattle.std.proofs.Common.{◌≡◌, [], ◌++◌, ◌-◌, Some, take, sym, ap, ◌∙◌}
+use Rattle.segment_blocks.specs.Encoded.{key_behind, row_key_at}
 use Rattle.segment_blocks.specs.Moving.{next_row_key}
 use Rattle.segment_blocks.proofs.EncodedLemmas.{rows_behind-nil, rows_behind-game, rows_behind-whole}
 use Rattle.segment_blocks.proofs.MovingLemmas.{row_key-game}

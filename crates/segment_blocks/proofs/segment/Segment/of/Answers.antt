@@ -1,4 +1,5 @@
 use Rattle.std.proofs.Common.{◌≡◌, ◌++◌, [], ◌∷◌, length, ap, ◌∙◌, arith}
+use Rattle.std.specs.List.{flat_map}
 use Rattle.segment_blocks.proofs.SegmentLemmas.{texts-length, IsHeld-one}
 use Rattle.segment_blocks.proofs.segment.Segment.of.Goals as goal
 
@@ -21,6 +22,6 @@ invariant_of-result c =
     let items : c.push.new.self.items ≡ new.field-0 ∷ [] =
     c.in_ok-push.ensures.items ∙ ap (λ l. l ++ new.field-0 ∷ []) c.new-batches.ensures.items in
     let held = IsHeld-one c.args.first new.field-0 c.in_ok-rows.rows tally told.counted new.ensures.start (new.ensures.batch ∙ told.batch)
-    (new.ensures.classes ∙ told.classes) (c.in_ok-rows.ensures ∙ c.as_slice.ensures ∙ told.rows) c.requires c.len-games.result
+    (new.ensures.classes ∙ told.classes) (c.in_ok-rows.ensures ∙ ap (λ l. flat_map (λ p. p.items) l) c.as_slice.ensures.value ∙ told.rows) c.requires c.len-games.result
     (c.len-games.ensures ∙ ap length told.classes) in
     rw items held

@@ -1,7 +1,7 @@
 use Rattle.std.proofs.Common.{◌≡◌, map, find, drop}
 use Rattle.explorer_model.specs.Imports.{has_id_of}
 use Rattle.batch_tally.specs.Accepting.{candidate_as}
-use Rattle.batch_tally.proofs.accepting.place_of_id.Given as goal
+use Rattle.batch_tally.proofs.accepting.place_among.Given as goal
 
 abbrev pub invariant-loop-place : goal.invariant-loop-place
 invariant-loop-place l =
