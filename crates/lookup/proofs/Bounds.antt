@@ -25,6 +25,7 @@ use Rattle.tally_rows.specs.Track.{Track, has}
 use Rattle.tally_rows.proofs.AddsUp.{count-outcomes}
 use Rattle.tally_rows.proofs.Members.{IsIn, All-from_IsIn, All-IsIn}
 use Rattle.tally_rows.proofs.Sums.{sum_by-add}
+use Rattle.tally_rows.proofs.TrackBounds.{ratings-bound, track-ratings, best-fit}
 use Rattle.lookup.specs.Hits.{NumberedRow, rows_from, games_counted, games_of, IsSound, AreSound}
 use Rattle.lookup.specs.Sums.{sum_where}
 use Rattle.lookup.specs.Parts.{tracks_in}
@@ -78,65 +79,6 @@ module _ (key : List ℕ) (pick : RowKey → Bool) (parts : List Part) where
         all-games parts each,
       )
 
--- ---- ratings
-
-mover-bound : (key : List ℕ) (classes : Classes) → AreSoundClasses classes → mover_rating key classes ≤ 65535
-mover-bound key classes are = by (is_black_to_move key)
-  where
-    by : (b : Bool) → cond b classes.black.rating classes.white.rating ≤ 65535
-    by true = omega (arith, are.black)
-    by false = omega (arith, are.white)
-
-ratings-bound : (key : List ℕ) (row_key : RowKey) (tracks : List Track) → AllByRecursion (λ t. AreSoundClasses t.classes) tracks
-    → sum_by (λ t. cond (has_move row_key t) (mover_rating key t.classes) 0) tracks ≤ 65535 * count_by (has row_key) tracks
-ratings-bound key row_key [] are = omega arith
-ratings-bound key row_key (t ∷ tracks) are =
-    omega (
-      arith,
-      sum_by-cons (λ s. cond (has_move row_key s) (mover_rating key s.classes) 0) t tracks,
-      sum_by-cons (λ s. cond (has row_key s) 1 0) t tracks,
-      one (is_some row_key.next) (has row_key t) (mover-bound key t.classes are.0),
-      ratings-bound key row_key tracks are.1,
-    )
-  where
-    one : (a b : Bool) → mover_rating key t.classes ≤ 65535 → cond (a && b) (mover_rating key t.classes) 0 ≤ 65535 * cond {A = ℕ} b 1 0
-    one true true le = omega arith
-    one true false le = omega arith
-    one false true le = omega arith
-    one false false le = omega arith
-
--- the games of texts have their ratings
-track-ratings : (texts : List (List ℕ)) (games : List Game) (tracks : List Track) → AllZip IsTextOf texts games → AllZip IsTrackOf games tracks
-    → AllByRecursion (λ t. AreSoundClasses t.classes) tracks
-track-ratings [] [] [] of tracked = tt
-track-ratings [] [] (t ∷ tracks) of tracked = absurd tracked
-track-ratings [] (g ∷ games) tracks of tracked = absurd of
-track-ratings (x ∷ texts) [] tracks of tracked = absurd of
-track-ratings (x ∷ texts) (g ∷ games) [] of tracked = absurd tracked
-track-ratings (x ∷ texts) (g ∷ games) (t ∷ tracks) of tracked =
-    (subst AreSoundClasses (sym tracked.0.classes) (game-sound x g of.0), track-ratings texts games tracks of.1 tracked.1)
-
--- ---- numbers
-
-module _ (rank : Track → ℕ) (test : Track → Bool) where
-  entries-below : (n m : ℕ) (tracks : List Track) → n + length tracks ≤ m → All (λ entry. entry.number < m) (entries rank test n tracks)
-  unfolding entries
-  entries-below n m tracks le =
-      All-map (λ (entry : Entry). entry.number < m) (λ (p : ℕ × Track). record { rank = rank p.1; number = p.0 })
-      (filter (λ p. test p.1) (enumerate_from n tracks))
-      (All-filter (λ p. test p.1) (λ p. p.0 < m) (enumerate_from n tracks) (numbers n tracks le))
-    where
-      numbers : (n : ℕ) (ts : List Track) → n + length ts ≤ m → All (λ (p : ℕ × Track). p.0 < m) (enumerate_from n ts)
-      numbers n [] le = All-nil (λ (p : ℕ × Track). p.0 < m)
-      numbers n (t ∷ ts) le = All-cons (λ (p : ℕ × Track). p.0 < m) (n, t) (enumerate_from (n + 1) ts) (omega arith) (numbers (n + 1) ts (omega arith))
-
-  best-fit : (before : Entry → Entry → Bool) (first : ℕ) (tracks : List Track) → first + length tracks ≤ look_limit
-      → All (λ entry. entry.number + first < 2 ^ 32) (best before 4 (entries rank test 0 tracks))
-  best-fit before first tracks le =
-      All-best before (λ (entry : Entry). entry.number + first < 2 ^ 32) 4 (entries rank test 0 tracks)
-      (All-weaker (λ (entry : Entry). entry.number < length tracks) (λ entry. entry.number + first < 2 ^ 32) (λ entry below. omega arith)
-      (entries rank test 0 tracks) (entries-below 0 (length tracks) tracks (omega arith)))
-
 -- ---- each row
 
 row-sound : Laws → (part : Part) (counted : IsPart part) (first : ℕ) → first + length part.classes ≤ look_limit
@@ -163,8 +105,8 @@ row-sound laws part counted first le = All-from_IsIn (λ row. IsSound (numbered 
             ratings-bound row.key (row_key_of row) tracks
                 (track-ratings (texts_of part.batches) counted.tally.games tracks counted.tally.are_games counted.tally.are_tracks),
           );
-          top = subst fits (sym counts.top) (best-fit rating_sum (has_move (row_key_of row)) before_by_rating first tracks within);
-          recent = subst fits (sym counts.recent) (best-fit track_month (has_move (row_key_of row)) before_by_month first tracks within);
+          top = subst fits (sym counts.top) (best-fit rating_sum (has_move (row_key_of row)) before_by_rating first tracks (omega (arith, within)));
+          recent = subst fits (sym counts.recent) (best-fit track_month (has_move (row_key_of row)) before_by_month first tracks (omega (arith, within)));
         }
 
 rows-sound : Laws → (key : List ℕ) (pick : RowKey → Bool) (first : ℕ) (parts : List Part) → AllByRecursion IsPart parts

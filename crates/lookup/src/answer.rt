@@ -15,7 +15,7 @@ ghost use Rattle.lookup.specs.Sums.{history_in, moves_in};
 ghost use Rattle.segment_blocks.specs.Segment.{CountedSpan};
 ghost use Rattle.tally_rows.specs.Cover.{passes_row_key};
 
-use crate::best_games::{recent_of, top_of};
+use crate::best_games::best_of;
 use crate::history::history_of;
 use crate::hits::{Hit, picked_rows_are_sound};
 use crate::laws::{parts_recount, tracks_tell_legal_moves};
@@ -24,7 +24,7 @@ use crate::listing::{listed_by_month, listed_by_rating};
 use crate::moves::first_moves;
 use crate::segment_rows::rows_of_segments;
 use crate::totals::totals_of;
-use best_lists::Entry;
+use best_lists::{ByMonth, ByRating, Entry};
 use explorer_model::answer::{Found, MonthLine};
 use explorer_model::list::Items;
 use explorer_model::query::Query;
@@ -118,10 +118,10 @@ fn found_in(
 {
     let sums = first_moves(alloc, hits, query.moves)?;
     let moves = lines_of(alloc, board, segments, hits, sums.as_slice())?;
-    let (top, rows) = top_of(alloc, hits)?;
+    let (top, rows) = best_of::<ByRating>(alloc, hits)?;
     let entries = first(top.entries(), query.top);
     let top = listed_by_rating(alloc, segments, rows.as_slice(), entries)?;
-    let (recent, rows) = recent_of(alloc, hits)?;
+    let (recent, rows) = best_of::<ByMonth>(alloc, hits)?;
     let entries = first(recent.entries(), query.recent);
     let recent = listed_by_month(alloc, segments, rows.as_slice(), entries)?;
     Ok(Found {

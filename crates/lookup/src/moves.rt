@@ -11,11 +11,11 @@ ghost use Rattle.lookup.specs.Hits.{hit_as, AreSound, IsSound};
 ghost use Rattle.lookup.specs.MoveSums.{sum_as, before_as_sum};
 ghost use Rattle.lookup.specs.Sums.{moves_in, before_by_total};
 
-use crate::best_games::top_of_game;
+use crate::best_games::ListsGames;
 use crate::groups::Places;
 use crate::hits::Hit;
 use crate::totals::with_games;
-use best_lists::Entry;
+use best_lists::{ByRating, Entry};
 use explorer_model::answer::Totals;
 use explorer_model::chess::Move;
 use fen_uci::write_uci;
@@ -126,7 +126,11 @@ fn with_row(shown: Shown, hit: &Hit) -> Shown
 {
     match (shown, &hit.row) {
         (Shown::Several, _) => shown,
-        (_, HeldRow::Game(game)) => with_entries(shown, top_of_game(game).entries(), hit.first),
+        (_, HeldRow::Game(game)) => with_entries(
+            shown,
+            ByRating::of_game(game).entries(),
+            hit.first,
+        ),
         (_, HeldRow::Whole(row)) => with_entries(shown, row.top.entries(), hit.first),
     }
 }
