@@ -8,7 +8,7 @@ use Rattle.record_log.specs.Log.{Log, Adds, Breaks}
 use Rattle.tally_rows.specs.Tally.{Counted}
 use Rattle.published_index.specs.Changes.{Change}
 use Rattle.ingest_desk.specs.Answers.{IsAnswer, HadMemory}
-use Rattle.ingest_desk.specs.Causes.{Cause, HasIds, HasNoRoom, IsClosed, cause}
+use Rattle.ingest_desk.specs.Causes.{Cause, HasIds, HasNoRoom, IsClosed}
 use Rattle.ingest_desk.specs.declared.clashing.Clashing.{Clashing}
 use Rattle.ingest_desk.specs.declared.fault.CommitFault.{CommitFault}
 use Rattle.ingest_desk.specs.declared.fault.CommitFault.TheVariants as faults

@@ -1,8 +1,8 @@
 -- What an ingest keeps, step by step.
-use Rattle.std.proofs.Common.{◌≡◌, ◌≢◌, ◌<◌, ◌≤◌, ◌+◌, ◌*◌, ◌^◌, ◌⊎◌, inl, inr, ℕ, zero, suc, List, [], ◌∷◌, ◌++◌, length, map, get_or, flat_map, sum_by, Option, None, Some, Result, Ok, Err, refl, sym, ap, ◌∙◌, subst, arith, rules, length-append}
+use Rattle.std.proofs.Common.{◌≡◌, ◌<◌, ◌≤◌, ◌+◌, ◌*◌, inl, ℕ, zero, suc, List, [], ◌∷◌, length, map, get_or, flat_map, Option, None, Some, Result, Ok, Err, refl, sym, ap, ◌∙◌, subst, arith, length-append}
 use Rattle.std.proofs.lemmas.Grind.{flat_map-append}
 use Rattle.std.proofs.lemmas.List.Sums.{sum_by-append}
-use Rattle.std.specs.List.{All, AllZip}
+use Rattle.std.specs.List.{AllZip}
 use Rattle.std.specs.Prelude.{IsOk, OnOk}
 use Rattle.disk_model.specs.Disk.{DiskState, LeavesOnly, MayLeave}
 use Rattle.explorer_model.specs.declared.archive.Batch.{Batch}
@@ -12,11 +12,11 @@ use Rattle.explorer_model.specs.declared.fault.GameFault.TheVariants as faults
 use Rattle.explorer_model.specs.declared.fault.TagFault.TheVariants.{Missing}
 use Rattle.explorer_model.specs.declared.fault.TagName.TheVariants as names
 use Rattle.explorer_model.specs.Classes.{classes, is_standard, is_from_start}
-use Rattle.explorer_model.specs.Games.{Score, score, GameOf}
+use Rattle.explorer_model.specs.Games.{score, GameOf}
 use Rattle.explorer_model.specs.Items.{items, items_from}
 use Rattle.explorer_model.specs.Journal.{IsBatch, IsSound, byte_count, game_count}
 use Rattle.explorer_model.specs.Parts.{meaning, parts}
-use Rattle.explorer_model.specs.StoreFile.{IsStorable, gate_limit, header, payload_of, record_bytes, store_of}
+use Rattle.explorer_model.specs.StoreFile.{IsStorable, gate_limit, payload_of, record_bytes, store_of}
 use Rattle.explorer_model.specs.Visits.{IsTextOf, texts_of}
 use Rattle.manifest.proofs.PayloadLemmas.{length-texts}
 use Rattle.manifest.specs.Manifest.{IsManifestOf, IsWithOrWithoutBatch}
@@ -33,7 +33,7 @@ use Rattle.ingest_desk.specs.Registers.{IsRegisterOf, IsSame, text_bytes}
 use Rattle.ingest_desk.specs.Stored.{journal_by, with_held}
 use Rattle.ingest_desk.specs.declared.register.Register.{Register}
 use Rattle.ingest_desk.proofs.IdLemmas.{false_true}
-use Rattle.ingest_desk.proofs.RegisterLemmas.{bytes_more, fewer_batches, games_more, register_same}
+use Rattle.ingest_desk.proofs.RegisterLemmas.{fewer_batches, register_same}
 
 pub fault_none : (counts : ℕ × ℕ) → Some counts ≡ None → ⊥
 fault_none counts e = cc

@@ -6,3 +6,4 @@ pub mod PickingLemmas
 pub mod TallyingLemmas
 pub mod RecountLemmas
 pub mod SoundLemmas
+pub mod ListingLemmas

@@ -420,12 +420,20 @@ not_behind list at left right other stand due last = by (nat_lt other at) refl
     by true is = absurd (last at left right (grind (arith, nat_tests)) stand due)
     by false is = grind (arith, nat_tests)
 
+-- it stands at one place
+pub same_place : (list : List CountedSpan) (left right first second : CountedSpan)
+    → (a : IsPicked list left right) → (b : IsPicked list first second) → a.at ≡ b.at
+same_place list left right first second a b =
+    omega (
+      arith,
+      not_behind list a.at left right b.at a.stand a.due b.last,
+      not_behind list b.at first second a.at b.stand b.due a.last,
+    )
+
 pub one_picked : (list : List CountedSpan) (left right first second : CountedSpan)
     → IsPicked list left right → IsPicked list first second → (left ≡ first) × (right ≡ second)
 one_picked list left right first second a b =
-    let below = not_behind list a.at left right b.at a.stand a.due b.last in
-    let above = not_behind list b.at first second a.at b.stand b.due a.last in
-    let same : b.at ≡ a.at = omega (arith, below, above) in
+    let same = sym (same_place list left right first second a b) in
     let there : AreAt list a.at first second = subst (λ n. AreAt list n first second) same b.stand in
     at_one list a.at first second left right there a.stand.left_is a.stand.right_is
 

@@ -1,13 +1,12 @@
 -- Journals that are counted anew, and where they stop to be sound.
-use Rattle.std.proofs.Common.{◌≡◌, ◌≢◌, ◌<◌, ◌≤◌, ◌+◌, ◌^◌, ℕ, zero, suc, Bool, true, false, cond, List, [], ◌∷◌, ◌++◌, length, map, flat_map, get_or, take, sum_by, Option, None, Some, refl, sym, ap, ◌∙◌, subst, arith, length-append, get_or-append-add}
+use Rattle.std.proofs.Common.{◌≡◌, ◌≢◌, ◌<◌, ◌≤◌, ◌+◌, ℕ, zero, suc, Bool, true, false, cond, List, [], ◌∷◌, ◌++◌, length, map, flat_map, get_or, take, sum_by, Option, None, Some, refl, sym, ap, ◌∙◌, subst, arith, length-append, get_or-append-add}
 use Rattle.std.proofs.lemmas.Bool.Decides.{Decides-eqb, nat_tests}
 use Rattle.std.proofs.Math.Seq.{get_or-append_seam, take-length}
-use Rattle.std.proofs.lemmas.List.{append-nil, append_assoc, get_or_append_left, get_or_default, length-map, map-append}
+use Rattle.std.proofs.lemmas.List.{append_assoc, get_or_append_left, get_or_default, length-map, map-append}
 use Rattle.std.proofs.lemmas.List.Elements.{recursion_from_All}
-use Rattle.std.proofs.lemmas.Slice.Eq.{bytes_eq-Decides}
 use Rattle.std.proofs.lemmas.List.Sums.{sum_by-cons}
 use Rattle.std.specs.List.{All, AllByRecursion, AllPairs, AllZip}
-use Rattle.std.specs.Prelude.{bytes_eq, nat_lt, ◌==◌}
+use Rattle.std.specs.Prelude.{nat_lt, ◌==◌}
 use Rattle.explorer_model.specs.declared.archive.Batch.{Batch}
 use Rattle.explorer_model.specs.declared.archive.Classes.{Classes}
 use Rattle.explorer_model.specs.declared.archive.Game.{Game}
@@ -23,13 +22,13 @@ use Rattle.explorer_model.specs.Journal.{AreWithin, HaveDifferentIds, IsBatch, I
 use Rattle.explorer_model.specs.StoreFile.{IsStorable, front_of, gate_limit, payload_of, record_bytes, store_format, store_of, text_field}
 use Rattle.explorer_model.specs.Visits.{IsTextOf, texts_of}
 use Rattle.explorer_model.proofs.Lists.{zip-append}
-use Rattle.manifest.proofs.JournalLemmas.{length-front, length-more, map-more}
+use Rattle.manifest.proofs.JournalLemmas.{length-front, length-more}
 use Rattle.segment_blocks.specs.Segment.{CountedSpan}
 use Rattle.tally_rows.specs.Tally.{Counted, IsCounted}
 use Rattle.published_index.specs.Cover.{IsList, journal_of}
 use Rattle.published_index.proofs.CoverLemmas.{journal-one, list-one}
 use Rattle.ingest_desk.specs.Causes.{Cause, HasNoRoom, Judges, cause_by, cause_of_new, has_no_room, is_over}
-use Rattle.ingest_desk.specs.Clashes.{clashes_from, clashes_of, and_clash, ids_of, number_among}
+use Rattle.ingest_desk.specs.Clashes.{clashes_from, clashes_of, and_clash, ids_of}
 use Rattle.ingest_desk.specs.Recounts.{HasOneMore, IsUnsoundAt}
 use Rattle.ingest_desk.specs.Registers.{IsRegisterOf}
 use Rattle.ingest_desk.specs.declared.register.Register.{Register}

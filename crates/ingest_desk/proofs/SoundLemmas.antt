@@ -1,5 +1,5 @@
 -- Fronts of sound journals, and the one place from which a journal is not sound.
-use Rattle.std.proofs.Common.{◌≡◌, ◌≢◌, ◌⊎◌, inl, inr, ◌<◌, ◌≤◌, ◌+◌, ℕ, List, [], ◌∷◌, ◌++◌, length, map, get_or, sum_by, Result, Ok, Err, refl, sym, ap, ◌∙◌, subst, arith, length-append}
+use Rattle.std.proofs.Common.{◌≡◌, ◌≢◌, ◌⊎◌, inl, inr, ℕ, List, [], ◌∷◌, ◌++◌, length, get_or, sum_by, Result, Ok, Err, refl, sym, ap, ◌∙◌, subst, arith, length-append}
 use Rattle.std.proofs.lemmas.Grind.{flat_map-append}
 use Rattle.std.proofs.lemmas.List.{append_assoc, get_or_append_left, map-append}
 use Rattle.std.proofs.lemmas.List.Sums.{sum_by-append}
@@ -10,10 +10,10 @@ use Rattle.explorer_model.specs.declared.archive.Game.{Game}
 use Rattle.explorer_model.specs.declared.store.LogFault.{LogFault}
 use Rattle.explorer_model.specs.declared.store.LogFault.TheVariants.{Damaged}
 use Rattle.explorer_model.specs.Journal.{HaveDifferentIds, IsBatch, IsSound}
-use Rattle.explorer_model.specs.StoreFile.{journal_of, store_of}
+use Rattle.explorer_model.specs.StoreFile.{store_of}
 use Rattle.explorer_model.specs.Visits.{IsTextOf, texts_of}
 use Rattle.manifest.specs.Manifest.{HasJournal}
-use Rattle.ingest_desk.specs.Openings.{IsUnsound, IsWrong}
+use Rattle.ingest_desk.specs.Openings.{IsWrong}
 use Rattle.ingest_desk.specs.Recounts.{IsUnsoundAt}
 use Rattle.ingest_desk.proofs.RecountLemmas.{classes_of}
 

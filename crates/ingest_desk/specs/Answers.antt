@@ -1,5 +1,5 @@
 -- Statement: all that a commit says of its answer.
-use Rattle.std.specs.Prelude.{⊤, List, Option, Result, Ok, Err, IfOk}
+use Rattle.std.specs.Prelude.{⊤, List, Option, Result, Err, IfOk}
 use Rattle.disk_model.specs.Disk.{DiskState}
 use Rattle.explorer_model.specs.declared.archive.Batch.{Batch}
 use Rattle.explorer_model.specs.declared.archive.Game.{Game}

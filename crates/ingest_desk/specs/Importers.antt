@@ -1,5 +1,5 @@
 -- Statement: what an importer has come to, and what its calls do to it.
-use Rattle.std.specs.Prelude.{◌≡◌, ⊤, ℕ, ◌<◌, Bool, true, false, List, [], ◌∷◌, ◌++◌, Option, None, Some}
+use Rattle.std.specs.Prelude.{◌≡◌, ⊤, ℕ, ◌<◌, Bool, true, false, List, ◌++◌, Option, None, Some}
 use Rattle.outside.specs.Stream.{NeverFalls, Rises}
 use Rattle.ingest_desk.specs.declared.report.End.{End}
 use Rattle.ingest_desk.specs.declared.report.End.TheVariants as ends

@@ -1,5 +1,5 @@
 -- Statement: what becomes of two neighbours that were merged apart from the list.
-use Rattle.std.specs.Prelude.{◌≡◌, ℕ, ◌+◌, List, length, map, Option, None, Some, Result, Ok, Err}
+use Rattle.std.specs.Prelude.{◌≡◌, ℕ, List, length, map, Option, None, Some, Result, Ok, Err}
 use Rattle.explorer_model.specs.declared.archive.Batch.{Batch}
 use Rattle.explorer_model.specs.Spans.{Span}
 use Rattle.segment_blocks.specs.Segment.{CountedSpan}

@@ -13,3 +13,4 @@ pub mod Importers
 pub mod Recounts
 pub mod Openings
 pub mod Installs
+pub mod Listing

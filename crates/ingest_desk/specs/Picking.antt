@@ -1,5 +1,5 @@
 -- Statement: which neighbours of a list are to become one.
-use Rattle.std.specs.Prelude.{◌≡◌, ℕ, ◌+◌, ◌*◌, ◌≤◌, ◌<◌, List, length, Option, None, Some, slice_get}
+use Rattle.std.specs.Prelude.{◌≡◌, ℕ, ◌+◌, ◌*◌, ◌≤◌, List, length, Option, None, Some, slice_get}
 use Rattle.segment_blocks.specs.Segment.{CanJoin, CountedSpan}
 
 -- the left one has at most twice as many games as the right one

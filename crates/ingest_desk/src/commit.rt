@@ -11,6 +11,7 @@ ghost use Rattle.manifest.specs.Manifest.{HasJournal, IsWithOrWithoutBatch};
 ghost use Rattle.published_index.specs.Cover.{list_limit};
 ghost use Rattle.ingest_desk.specs.Causes.{Judges, cause, cause_of_new};
 ghost use Rattle.ingest_desk.specs.Commits.{HoldsThen, IsFaultOf, IsMarked, IsReceiptOf, IsStoring, Leaves, Refuses, Stores, Tells};
+ghost use Rattle.ingest_desk.specs.Listing.{Lists, ListsStored};
 ghost use Rattle.ingest_desk.specs.Registers.{IsSegmentOf};
 ghost use Rattle.ingest_desk.specs.Stored.{journal};
 
@@ -48,6 +49,7 @@ impl<D: Disk, J: Index> Ingest<D, J> {
         ensures told { Tells result (journal self.new) self.new.index.held }
         ensures holds { HoldsThen result tally.batch self.new.index.held }
         ensures marked { IsMarked result }
+        ensures list { Lists result tally.batch self.old.index self.new.index.list }
         ensures few { length self.new.index.list ≤ list_limit }
 
         ensures crash { self.old.manifest.fault ≡ None → LeavesOnly D.disk D.left_since
@@ -137,6 +139,7 @@ impl<D: Disk, J: Index> Ingest<D, J> {
         ensures told { Tells result (journal self.new) self.new.index.held }
         ensures holds { HoldsThen result tally.batch self.new.index.held }
         ensures marked { IsMarked result }
+        ensures list { ListsStored result tally.batch self.old.index.list self.new.index.list }
         ensures few { length self.new.index.list ≤ list_limit }
         ensures crash { LeavesOnly D.disk D.left_since
             self.old.manifest.disk self.new.manifest.disk

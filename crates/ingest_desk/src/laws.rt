@@ -9,9 +9,11 @@ ghost use Rattle.record_log.specs.Log.{Log};
 ghost use Rattle.tally_rows.specs.Tally.{Counted};
 ghost use Rattle.segment_blocks.specs.Segment.{CountedSpan};
 ghost use Rattle.published_index.specs.Changes.{Change};
+ghost use Rattle.published_index.specs.Cover.{spans_of};
 ghost use Rattle.ingest_desk.specs.Answers.{HadMemory, IsAnswer};
 ghost use Rattle.ingest_desk.specs.declared.fault.CommitFault.{CommitFault};
 ghost use Rattle.ingest_desk.specs.declared.receipt.Receipt.{Receipt};
+ghost use Rattle.ingest_desk.specs.Listing.{MakesRoom};
 ghost use Rattle.ingest_desk.specs.Openings.{IsWrong};
 ghost use Rattle.ingest_desk.specs.Picking.{HasNoneDue, IsPicked};
 
@@ -28,13 +30,15 @@ pub fn commit_is_determined<D: Disk, J: Index>()
         → new.fault ≡ after.fault → HadMemory answer → HadMemory other → answer ≡ other }
 {}
 
-/// A list has one pair that is to become one, or none.
+/// A list has one pair that is to become one, or none. So there is one way to make room in it.
 pub fn picking_is_determined()
     ensures picked { (list : List CountedSpan) (left right first second : CountedSpan)
         → IsPicked list left right → IsPicked list first second
         → (left ≡ first) × (right ≡ second) }
     ensures either { (list : List CountedSpan) (left right : CountedSpan) → HasNoneDue list
         → IsPicked list left right → ⊥ }
+    ensures room { (list first second : List CountedSpan) → MakesRoom list first
+        → MakesRoom list second → spans_of first ≡ spans_of second }
 {}
 
 /// A file is opened with one answer, want of memory and faults of the disk aside: with this journal,

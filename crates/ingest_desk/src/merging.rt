@@ -5,6 +5,7 @@ ghost use Rattle.explorer_model.specs.Journal.{game_count, game_limit};
 ghost use Rattle.explorer_model.specs.Timeline.{both};
 ghost use Rattle.published_index.specs.Cover.{IsList, journal_of, list_limit};
 ghost use Rattle.ingest_desk.specs.Installs.{Installs};
+ghost use Rattle.ingest_desk.specs.Listing.{MakesRoom};
 ghost use Rattle.ingest_desk.specs.Picking.{HasNoneDue, IsPicked, rest_limit};
 ghost use Rattle.ingest_desk.specs.Stored.{journal};
 
@@ -100,6 +101,7 @@ impl<D: Disk, J: Index> Ingest<D, J> {
         alloc: Global,
     ) -> Result<(), AllocError>
         requires { self.old.index.held ≡ None }
+        ensures made { OnOk result (MakesRoom self.old.index.list self.new.index.list) }
         ensures room { OnOk result (length self.new.index.list < list_limit) }
         ensures none_held { OnOk result (self.new.index.held ≡ None) }
         ensures manifest { self.new.manifest ≡ self.old.manifest }

@@ -1,4 +1,4 @@
-use Rattle.std.proofs.Common.{◌≡◌, ◌≤◌, ◌<◌, ◌+◌, ◌-◌, ℕ, List, map, length, subst, arith}
+use Rattle.std.proofs.Common.{◌≡◌, ◌<◌, ◌+◌, ◌-◌, List, map, length, subst, arith}
 use Rattle.std.specs.Arc.{arc_value}
 use Rattle.segment_blocks.specs.Segment.{CountedSpan}
 use Rattle.ingest_desk.proofs.PickingLemmas.{AreSteepFrom, at_items, has_none_due, none_due, not_due, steep_more}

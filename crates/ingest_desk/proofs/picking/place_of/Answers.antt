@@ -1,7 +1,6 @@
-use Rattle.std.proofs.Common.{◌≡◌, ◌≤◌, ◌<◌, ◌+◌, ◌-◌, ℕ, List, map, length, true, false, sym, ◌∙◌, subst, arith}
+use Rattle.std.proofs.Common.{◌≡◌, ◌<◌, ◌+◌, ◌-◌, List, map, length, sym, ◌∙◌, subst, arith}
 use Rattle.std.specs.Arc.{arc_value}
 use Rattle.segment_blocks.specs.Segment.{CountedSpan}
-use Rattle.ingest_desk.specs.Installs.{HaveSpans}
 use Rattle.ingest_desk.proofs.IdLemmas.{false_true}
 use Rattle.ingest_desk.proofs.PickingLemmas.{AreNotFrom, at_items, not_from_more}
 use Rattle.ingest_desk.proofs.picking.place_of.Goals as goal

@@ -1,4 +1,4 @@
-use Rattle.std.proofs.Common.{◌≡◌, ◌+◌, ℕ, List, length, take, sum_by, sym, ap, ◌∙◌, arith}
+use Rattle.std.proofs.Common.{◌≡◌, ◌+◌, ℕ, List, length, take, sum_by, ap, ◌∙◌, arith}
 use Rattle.ingest_desk.proofs.RecountLemmas.{payload_sum}
 use Rattle.ingest_desk.proofs.recount.payload_size.Goals as goal
 

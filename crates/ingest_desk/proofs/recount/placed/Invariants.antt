@@ -1,4 +1,4 @@
-use Rattle.std.proofs.Common.{◌≡◌, map, List, ℕ}
+use Rattle.std.proofs.Common.{◌≡◌, map}
 use Rattle.explorer_model.specs.declared.archive.Placed.{Placed}
 use Rattle.ingest_desk.proofs.recount.placed.Given as goal
 

@@ -1,10 +1,9 @@
-use Rattle.std.proofs.Common.{◌≡◌, ◌≤◌, ◌<◌, ◌+◌, ℕ, List, map, length, sym, ap, ◌∙◌, subst, arith}
+use Rattle.std.proofs.Common.{◌≤◌, List, map, ap, ◌∙◌, subst, arith}
 use Rattle.std.specs.Arc.{arc_value}
 use Rattle.explorer_model.specs.Journal.{game_count, game_limit}
 use Rattle.segment_blocks.specs.Segment.{CountedSpan, IsSegment}
 use Rattle.published_index.specs.Cover.{journal_of}
 use Rattle.ingest_desk.specs.Picking.{IsPicked}
-use Rattle.ingest_desk.specs.Stored.{journal_by}
 use Rattle.ingest_desk.proofs.KeptLemmas.{listed_games}
 use Rattle.ingest_desk.proofs.PickingLemmas.{is_picked, picked}
 use Rattle.ingest_desk.proofs.ingest.Ingest.pick.Goals as goal

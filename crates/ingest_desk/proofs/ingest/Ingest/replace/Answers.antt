@@ -1,9 +1,8 @@
-use Rattle.std.proofs.Common.{◌≡◌, ◌≤◌, ◌<◌, ◌+◌, ℕ, List, None, map, length, sym, ap, ◌∙◌, subst, arith}
+use Rattle.std.proofs.Common.{◌≡◌, List, None, map, sym, ap, ◌∙◌, subst}
 use Rattle.std.specs.Arc.{arc_value}
 use Rattle.segment_blocks.specs.Segment.{CountedSpan}
-use Rattle.explorer_model.specs.Spans.{Span}
 use Rattle.published_index.specs.Changes.{JoinAt}
-use Rattle.ingest_desk.specs.Installs.{AreGone, StandAt, list_by, place_of}
+use Rattle.ingest_desk.specs.Installs.{AreGone, StandAt, place_of}
 use Rattle.ingest_desk.proofs.KeptLemmas.{kept_index, made, not_behind}
 use Rattle.ingest_desk.proofs.PickingLemmas.{may_install}
 use Rattle.ingest_desk.proofs.ingest.Ingest.replace.Goals as goal

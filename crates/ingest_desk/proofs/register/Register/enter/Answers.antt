@@ -1,4 +1,4 @@
-use Rattle.std.proofs.Common.{◌≡◌, ◌+◌, ℕ, List, ◌∷◌, ◌++◌, length, sum_by, sym, ap, ◌∙◌, subst, arith}
+use Rattle.std.proofs.Common.{◌+◌, ℕ, List, ◌++◌, length, sum_by, sym, ap, ◌∙◌, subst, arith}
 use Rattle.std.specs.Option.{option_or}
 use Rattle.explorer_model.specs.declared.archive.Batch.{Batch}
 use Rattle.ingest_desk.specs.Clashes.{ids_of, number_among}

@@ -1,4 +1,4 @@
-use Rattle.std.proofs.Common.{◌≡◌, ◌+◌, ℕ, Bool, true, false, List, length, sum_by, sym, ap, ◌∙◌, arith}
+use Rattle.std.proofs.Common.{◌≡◌, ◌+◌, ℕ, true, false, List, length, sum_by, sym, ap, ◌∙◌, arith}
 use Rattle.explorer_model.specs.declared.archive.Batch.{Batch}
 use Rattle.ingest_desk.specs.Causes.{is_over}
 use Rattle.ingest_desk.specs.Clashes.{clashes_of}
