@@ -1,5 +1,14 @@
 # Sourced by the scripts that measure by a program of their own over the crates. The program is written into a temporary copy of the
-# crates, and proved and built there by `rt run`; the one that PROGRAM names is taken, or kept there once it is built.
+# crates, and proved and built there by `rt run`; the one that PROGRAM names is taken, or kept there once it is built. With BUILD_ONLY
+# set, nothing is measured.
+
+# The comment at the script's head.
+usage() { sed -n '2,/^[^#]/s/^# //p' "$0"; }
+
+if [ "${1:-}" = --help ]; then
+  usage
+  exit 0
+fi
 top=$(cd "$(dirname "${BASH_SOURCE[0]}")/.." && pwd)
 rt=${RT:-rt}
 copy=$(mktemp -d)
@@ -40,23 +49,27 @@ ANTT
 }
 
 build_program() {
-  if [ -x "$program" ]; then return; fi
-  (cd "$folder" && $rt run >"$copy/log" 2>&1 </dev/null) || true
-  if [ ! -x "$folder/out/$name" ]; then
-    tail -n 40 "$copy/log" >&2
-    exit 1
+  if [ ! -x "$program" ]; then
+    (cd "$folder" && $rt run >"$copy/log" 2>&1 </dev/null) || true
+    if [ ! -x "$folder/out/$name" ]; then
+      tail -n 40 "$copy/log" >&2
+      exit 1
+    fi
+    [ "$program" = "$folder/out/$name" ] || cp "$folder/out/$name" "$program"
   fi
-  [ "$program" = "$folder/out/$name" ] || cp "$folder/out/$name" "$program"
+  if [ -n "${BUILD_ONLY:-}" ]; then exit 0; fi
 }
 
-# needs_files COUNT WORD..: ends with the comment at the script's head, unless so many words name files.
+# needs_files COUNT WORD..: puts the files that so many words name into `files`, or ends with the usage.
 needs_files() {
   count=$1
   shift
-  if [ $# -eq "$count" ]; then
-    for word; do [ -f "$word" ] || count=none; done
-    if [ "$count" != none ]; then return; fi
-  fi
-  sed -n '2,/^[^#]/s/^# //p' "$0" >&2
+  files=()
+  if [ -n "${BUILD_ONLY:-}" ]; then return; fi
+  for word; do
+    if [ -f "$word" ]; then files+=("$(readlink -f "$word")"); fi
+  done
+  if [ $# -eq "$count" ] && [ ${#files[@]} -eq "$count" ]; then return; fi
+  usage >&2
   exit 2
 }

@@ -1,6 +1,7 @@
 """The measures: each takes the options and answers tables of figures of one run."""
 import contextlib
 import http.client
+import json
 import os
 import pathlib
 import re
@@ -29,6 +30,8 @@ while {[gets $file fen] >= 0} {
 }
 exit
 """
+# How many games callgrind reads, and how many positions are asked for.
+INSTRUCTED, POSITIONS = 500, 1000
 START = "rnbqkbnr/pppppppp/8/8/8/8/PPPPPPPP/RNBQKBNR w KQkq -"
 
 
@@ -120,12 +123,40 @@ def imports(options):
 def instructions(options):
     """Instructions of `explorer count` for a game, by valgrind."""
     measuring.need("valgrind", "valgrind")
-    pgn = measuring.games(options.archive, 500)
+    pgn = measuring.games(options.archive, INSTRUCTED)
     words = ["valgrind", "--tool=callgrind", "--callgrind-out-file=/dev/null", measuring.explorer(), "count", "",
              "--workers", "1"]
     counted = [int(re.search(r"Collected : (\d+)", Ran(words, stdin=stdin).output)[1]) for stdin in (pgn, None)]
-    return [table("Instructions of `explorer count` for a game of 500, without those of an empty input",
-                  ["instructions a game"], [[f"{(counted[0] - counted[1]) / 500:,.0f}"]])]
+    return [table(f"Instructions of `explorer count` for a game of {INSTRUCTED}, without those of an empty input",
+                  ["instructions a game"], [[f"{(counted[0] - counted[1]) / INSTRUCTED:,.0f}"]])]
+
+
+SHARES = {
+    "cutting the stream into texts": "pgn_cut::cutter::Cutter::feed",
+    "tallying groups of texts": "batch_tally::tallying::tally",
+    "of that, replaying": "game_replay::replaying::replay",
+    "packing the rows of batches": "ingest_desk::commit::share_of",
+    "merging": "import_run::merging::merge_due",
+    "answering": "lookup::answer::look_segments",
+}
+
+
+def shares(options):
+    """The shares of `explorer count` that go to some functions and all that they call, by valgrind."""
+    measuring.need("valgrind", "valgrind")
+    pgn = measuring.games(options.archive, options.few)
+    noted = measuring.work_folder() / "callgrind.out"
+    Ran(["valgrind", "--tool=callgrind", f"--callgrind-out-file={noted}", measuring.explorer(), "count", "", "--workers",
+         "1"], stdin=pgn)
+    listed = Ran(["callgrind_annotate", "--inclusive=yes", "--threshold=100", noted]).output
+    found = re.findall(r"^ *([\d,]+) \(.*?\)  [^:\s]*:(\S+)", listed, re.MULTILINE)
+    # A function that is generic has a name for each of its forms; one that calls itself, a second one with a mark.
+    counts = {name: sum(int(count.replace(",", "")) for count, at in found if re.fullmatch(rf"{name}(::<[^>]*>)?", at))
+              for name in SHARES.values()}
+    whole = int(re.search(r"([\d,]+) .*PROGRAM TOTALS", listed)[1].replace(",", ""))
+    rows = [[what, f"{counts[name] / whole:.1%}", f"`{name}`"] for what, name in SHARES.items() if counts[name]]
+    title = f"Shares of the {whole / options.few:,.0f} instructions a game of `explorer count`, {options.few:,} games, 1 worker"
+    return [table(title, ["", "share", "the function, with all that it calls"], rows)]
 
 
 def query(options):
@@ -176,10 +207,14 @@ def times_of(port, targets, rounds):
     return times, bodies
 
 
+def mean(seconds):
+    return sum(seconds) / len(seconds)
+
+
 def spread(seconds):
     """Mean and 99th percentile, in milliseconds."""
     ordered = sorted(seconds)
-    return [f"{1000 * sum(ordered) / len(ordered):.3f}", f"{1000 * ordered[len(ordered) * 99 // 100]:.3f}"]
+    return [f"{1000 * mean(ordered):.3f}", f"{1000 * ordered[len(ordered) * 99 // 100]:.3f}"]
 
 
 def resident_of(process):
@@ -190,36 +225,37 @@ def resident_of(process):
 
 
 def scid_times(fens):
-    """Milliseconds of Scid's tree for each position, in a base that an import has left."""
+    """Seconds of Scid's tree for each position, in a base that an import has left."""
     place = script("tree.fen", "".join(f"{fen} 0 1\n" for fen in fens))
     base = measuring.work_folder() / "scid-base"
-    return [int(word) / 1000 for word in Ran(["tkscid", script("tree.tcl", SCID_TREE), base, place]).output.split()]
+    return [int(word) / 1e6 for word in Ran(["tkscid", script("tree.tcl", SCID_TREE), base, place]).output.split()]
 
 
 def lookups(options):
     """Replies at single positions, one after another, beside Scid's tree."""
     pgn = measuring.games(options.archive, options.many)
-    fens = measuring.positions(pgn, 1000)
-    rows = []
+    fens = measuring.positions(pgn, POSITIONS)
+    asked = {"start": target(), "start, with history": target(history="true"), "after 1. e4 c5": target(play="e2e4,c7c5")}
+    asked |= {f"position {at + 1}": target(fen) for at, fen in enumerate(fens[::100][:10])}
     with serving(options, 2) as (port, process):
-        asked = [("start", [target()]), ("start, with history", [target(history="true")]),
-                 ("after 1. e4 c5", [target(play="e2e4,c7c5")])]
-        asked += [(f"position {at + 1}", [target(fen)]) for at, fen in enumerate(fens[::100][:10])]
-        for name, targets in asked:
-            times, _ = times_of(port, targets, options.replies)
-            rows.append([name, *spread(times[targets[0]])])
+        taken = {name: times_of(port, [at], options.replies)[0][at] for name, at in asked.items()}
         times, _ = times_of(port, [target(fen) for fen in fens], 3)
-        rows.append([f"{len(fens)} positions", *spread([min(taken) for taken in times.values()])])
+        taken[f"{len(fens)} positions"] = [min(found) for found in times.values()]
         resident = resident_of(process.pid)
     notes = ["A reply is taken from the request that is sent to the last byte that is read, by a client in Python.",
              f"The server holds {resident}."]
+    beside = {}
     if measuring.has("tkscid"):
         scid_imported(pgn)
-        taken = scid_times([START, *fens])
-        rows += [["Scid's tree: start", f"{taken[0]:.3f}", ""],
-                 [f"Scid's tree: {len(fens)} positions", *spread([one / 1000 for one in taken[1:]])]]
+        start, *others_of = scid_times([START, *fens])
+        beside = {"start": [start], f"{len(fens)} positions": others_of}
         notes.append("Scid was asked for each position once.")
-    head = ["asked", "mean ms", "99th percentile ms"]
+    rows = [[name, *spread(found), ratio(mean(beside[name]), mean(found)) if name in beside else ""]
+            for name, found in taken.items()]
+    for name, found in beside.items():
+        middle, last = spread(found)
+        rows.append([f"Scid's tree: {name}", middle, last if len(found) > 1 else "", "1.00"])
+    head = ["asked", "mean ms", "99th percentile ms", "ratio to Scid"]
     return [table(f"GET /lichess over {options.many:,} games", head, rows, *notes)]
 
 
@@ -291,18 +327,23 @@ def bodies_of(pgn):
 
 
 class Poster(threading.Thread):
-    """Posts bodies until it is told to stop, and counts those that were answered 200."""
+    """Posts bodies one at a time, spread over some seconds, until it is told to stop, and counts the games that were stored."""
 
-    def __init__(self, port, bodies):
+    def __init__(self, port, bodies, seconds):
         super().__init__()
-        self.port, self.bodies, self.is_stopped, self.stored = port, bodies, False, 0
+        self.port, self.bodies, self.pause = port, bodies, seconds / max(1, len(bodies))
+        self.is_stopped, self.stored = False, 0
 
     def run(self):
-        while self.bodies and not self.is_stopped:
+        begin = time.monotonic()
+        for at, body in enumerate(self.bodies):
+            time.sleep(max(0, begin + at * self.pause - time.monotonic()))
+            if self.is_stopped:
+                return
             with contextlib.suppress(OSError, http.client.HTTPException):
                 connection = http.client.HTTPConnection("127.0.0.1", self.port, timeout=60)
-                connection.request("POST", "/import", self.bodies.pop(), {"Connection": "close"})
-                self.stored += connection.getresponse().status == 200
+                connection.request("POST", "/import", body, {"Connection": "close"})
+                self.stored += json.loads(connection.getresponse().read()).get("stored", 0)
                 connection.close()
 
 
@@ -313,14 +354,13 @@ def loaded(options, connections, paths):
     with serving(options, connections + 1) as (port, _):
         for what, listed in kinds:
             found.append((f"explorer, idle, {what}", what, load(port, listed, connections, options.seconds)))
-        for what, listed in kinds:
-            poster = Poster(port, bodies)
+        for at, (what, listed) in enumerate(kinds):
+            poster = Poster(port, bodies[at::len(kinds)], options.seconds)
             poster.start()
             got = load(port, listed, connections, options.seconds)
-            is_short, poster.is_stopped = not bodies, True
+            poster.is_stopped = True
             poster.join()
-            state = f"while {512 * poster.stored:,} games are posted{' (and then idle)' if is_short else ''}"
-            found.append((f"explorer, {state}, {what}", what, got))
+            found.append((f"explorer, while {poster.stored:,} games are posted, {what}", what, got))
     return found
 
 
@@ -337,7 +377,7 @@ def replies(options):
     """Replies a second by wrk, beside nginx serving the same bodies."""
     measuring.need("wrk", "wrk")
     pgn = measuring.games(options.archive, options.many)
-    paths = [target(), *(target(fen) for fen in measuring.positions(pgn, 1000))]
+    paths = [target(), *(target(fen) for fen in measuring.positions(pgn, POSITIONS))]
     with serving(options, 2) as (port, _):
         bodies = times_of(port, paths, 1)[1]
     rows = []
@@ -355,12 +395,13 @@ def replies(options):
             rows.append([name, connections, f"{got['rate']:,.0f}", *latencies, beside, got["bad"]])
     head = ["server", "connections", "a second", "median ms", "99th percentile ms", "ratio to nginx", "faults"]
     title = f"Replies a second over {options.many:,} games, by wrk over open connections, a reader each"
-    return [table(title, head, rows)]
+    note = f"Games are posted 512 at a time, over the {options.seconds} seconds of the measure."
+    return [table(title, head, rows, note)]
 
 
 def perft(options):
     """Leaves of the tree of legal moves a second, beside stockfish."""
-    lines = measuring.build("perft", f"{START} 0 1", str(options.depth))
+    lines = measuring.measured("perft", f"{START} 0 1", str(options.depth))
     found = re.search(r": (\d+) in ([\d.]+) s", lines)
     if not found:
         raise Trouble(f"bench/perft says {lines[-200:]}")
@@ -389,13 +430,18 @@ def gate(options):
 
 def printed(name, *words):
     """What a script of this folder prints, a figure a line."""
-    lines = measuring.build(name, *words).strip().splitlines()
+    lines = measuring.measured(name, *words).strip().splitlines()
     return [table(f"`bench/{name}`", ["figure"], [[line.strip()] for line in lines if line.strip()])]
 
 
 def wire(_):
     """Replies of the wire alone, beside nginx."""
     return printed("wire")
+
+
+def store(_):
+    """A journal of some 100 MB, written and opened, without games."""
+    return printed("store")
 
 
 def tally(options):
@@ -421,7 +467,7 @@ def steps(options):
 def lookup(options):
     """Answers alone, without a server."""
     pgn = measuring.games(options.archive, options.many)
-    fens = measuring.positions(pgn, 1000)
+    fens = measuring.positions(pgn, POSITIONS)
     strings = ["", "history=true", "play=e2e4,c7c5", *(urllib.parse.urlencode({"fen": fen}) for fen in fens)]
     # The default of `moves` stands for the empty string, which would be no line.
     queries = script("queries", "\n".join(string or "moves=12" for string in strings) + "\n")
@@ -434,6 +480,31 @@ def lookup(options):
 
 
 MEASURES = {
-    "count": count, "instructions": instructions, "import": imports, "query": query, "tally": tally, "segments": segments,
-    "steps": steps, "lookup": lookup, "lookups": lookups, "replies": replies, "perft": perft, "wire": wire, "gate": gate,
+    "count": count, "instructions": instructions, "shares": shares, "import": imports, "query": query, "tally": tally,
+    "segments": segments, "steps": steps, "store": store, "lookup": lookup, "lookups": lookups, "replies": replies,
+    "perft": perft, "wire": wire, "gate": gate,
 }
+# Those that are taken by a script with a program of its own, that ask for positions, and that read a store.
+SCRIPTS = ("tally", "segments", "steps", "store", "lookup", "perft", "wire")
+ASKING = ("lookup", "lookups", "replies")
+READING = ("query", *ASKING)
+
+
+def file_sizes(name, options):
+    """How many games the files have that a measure reads."""
+    few, many, more = options.few, options.many, options.many + options.more
+    sizes = {"count": (few, many), "import": (few, many), "instructions": (INSTRUCTED,), "shares": (few,), "tally": (many,),
+             "segments": (few, options.most), "steps": (many, more), "replies": (many, more)}
+    return sizes.get(name, (many,) if name in READING else ())
+
+
+def prepare(name, options):
+    """Makes what a measure needs beside the explorer: games, positions, a store, and the program of its script."""
+    for size in file_sizes(name, options):
+        measuring.games(options.archive, size)
+    if name in SCRIPTS:
+        measuring.built(name)
+    if name in ASKING:
+        measuring.positions(measuring.games(options.archive, options.many), POSITIONS)
+    if name in READING:
+        measuring.store_of(measuring.games(options.archive, options.many))

@@ -165,13 +165,23 @@ def wait_for_port(port):
     raise Trouble(f"no server came up at port {port}")
 
 
-def build(script, *words):
-    """Runs a script of this folder, and answers what it printed. Its program is proved and built once for a text of the crates."""
+def built(script):
+    """The program of a script of this folder, which is proved and built once for a text of the crates."""
     program = work_folder() / f"{script}-{sum_of_sources(script)}"
     if not program.exists():
         told(f"{script}: its program is proved and built, which takes long")
+        output_of(script, PROGRAM=str(program), BUILD_ONLY="1")
+    return program
+
+
+def measured(script, *words):
+    """What a script of this folder prints."""
+    return output_of(script, *words, PROGRAM=str(built(script)))
+
+
+def output_of(script, *words, **variables):
     ran = subprocess.run([TOP / "bench" / script, *map(str, words)], capture_output=True, text=True, check=False,
-                         cwd=work_folder(), env={**os.environ, "PROGRAM": str(program)})
+                         cwd=work_folder(), env={**os.environ, **variables})
     if ran.returncode:
         raise Trouble(f"bench/{script} ended with status {ran.returncode}: {ran.stderr[-400:].strip()}")
     return ran.stdout
