@@ -32,6 +32,16 @@ class Run(unittest.TestCase):
         for words in ("## count", "| explorer count, 2 workers | ", "## query", "| 1 workers | "):
             self.assertIn(words, text)
 
+    def test_what_measures_need_is_made_before(self):
+        few = ["--few", "4", "--many", "5", "--workers", "1"]
+        status, output, errors = self.run_tool("--archive", str(support.GAMES), "--prepare", "--only", "count,query", *few)
+        self.assertEqual((status, output, errors), (0, "", "bench: giving the games the nine tags\n"))
+        made = [path.name for path in (self.folder / "kept").glob("**/games-*")]
+        size = support.GAMES.stat().st_size
+        wanted = [f"games-{size}-4.pgn", f"games-{size}-5.pgn", f"games-{size}-5.store", f"games-{size}.tagged"]
+        self.assertEqual(sorted(made), wanted)
+        self.assertFalse(self.output.exists())
+
     def test_too_few_games_are_told(self):
         status, _, errors = self.run_tool("--archive", str(support.GAMES), "--only", "count")
         self.assertEqual(status, 1)
@@ -51,6 +61,16 @@ class Run(unittest.TestCase):
             status, _, errors = self.run_tool(*words, program="x")
             self.assertEqual(status, 2)
             self.assertIn("bench/run: error:", errors)
+
+    def test_each_script_tells_its_usage(self):
+        for name in ("kill", "legal", "lookup", "memory", "perft", "segments", "steps", "store", "tally", "wire"):
+            status, output, _ = support.run_tool(str(support.TOP / "bench" / name), "--help")
+            self.assertEqual(status, 0)
+            self.assertIn(f"usage: bench/{name}", output)
+        for name in ("lookup", "segments", "steps", "tally"):
+            status, output, errors = support.run_tool(str(support.TOP / "bench" / name), "/nowhere")
+            self.assertEqual((status, output), (2, ""))
+            self.assertIn(f"usage: bench/{name}", errors)
 
 
 class RightBodies(unittest.TestCase):

@@ -154,10 +154,12 @@ class Browser:
         self.call("DOM.setFileInputFiles", nodeId=node, files=[os.path.abspath(path)])
 
     def picture(self, path, selector="body"):
-        """Writes a picture of an element."""
+        """Writes a picture of an element, with a margin of the page above it and beside it."""
         box = self.on(selector, """
-            const { left, top, width, height } = node.getBoundingClientRect();
-            return { x: left + scrollX, y: top + scrollY, width, height, scale: 1 };""")
+            const { left, top, right, bottom } = node.getBoundingClientRect();
+            const [x, y] = [Math.max(0, left + scrollX - 12), Math.max(0, top + scrollY - 12)];
+            const width = Math.min(right + scrollX + 12, document.documentElement.scrollWidth) - x;
+            return { x, y, width, height: bottom + scrollY - y, scale: 1 };""")
         taken = self.call("Page.captureScreenshot", format="png", captureBeyondViewport=True, clip=box)
         with open(path, "wb") as file:
             file.write(base64.b64decode(taken["data"]))

@@ -242,6 +242,7 @@ class Imports(Page):
             self.file(data)
             self.browser.click("#send")
             self.see(place, words)
+            self.assertTrue(self.browser.evaluate("document.querySelector('#progress').hidden"))
         self.assertEqual([asked for asked in stand_in.asked if asked[0] == "POST"], [])
 
 
@@ -256,6 +257,7 @@ class Faults(Page):
         address = f"127.0.0.1:{support.free_port()}"
         self.open(address)
         self.see("#error", f"No explorer answers at {address}.")
+        self.assertEqual(self.browser.evaluate("document.querySelector('.games').clientHeight"), 0)
         self.file(game(1).encode())
         self.browser.click("#send")
         self.see("#import-error", f"No explorer answers at {address}.")

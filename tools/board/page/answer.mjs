@@ -8,7 +8,11 @@ const CHART = { height: 150, left: 44, right: 16, bottom: 20, top: 8 };
 
 const totalOf = ({ white, draws, black }) => white + draws + black;
 
-const percent = (part, whole) => `${Math.round((100 * part) / whole)}%`;
+function percent(part, whole) {
+  const rounded = Math.round((100 * part) / whole);
+  if (rounded === 0 && part > 0) return "<1%";
+  return rounded === 100 && part < whole ? ">99%" : `${rounded}%`;
+}
 
 export function totalsInWords(answer) {
   const total = totalOf(answer);

@@ -87,6 +87,7 @@ export async function importFile(file, signal) {
     showProgress(file, sent, report, "Done");
   } catch (error) {
     showText(byId("import-error"), faultInWords(error));
+    byId("progress").hidden = error instanceof NotGames;
     byId("imported").textContent = `Not all was imported: ${counted(report.stored, "game", "games")} stored before.`;
   }
   report.show(byId("report"));

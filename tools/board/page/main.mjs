@@ -42,6 +42,7 @@ function parameters() {
 
 function showAnswer({ body, batches }) {
   showText(byId("error"), null);
+  byId("answer").classList.remove("faulty");
   byId("batches").textContent = counted(batches, "batch of games", "batches of games");
   byId("totals").textContent = totalsInWords(body);
   const actions = { onPlay: playUci, onPoint: (uci) => board.hint(uci && chess.moveOfUci(here(), uci)) };
@@ -57,7 +58,8 @@ function showAnswer({ body, batches }) {
 
 function showFault(error) {
   showText(byId("error"), error.message);
-  byId("totals").textContent = "";
+  byId("answer").classList.add("faulty");
+  byId("batches").textContent = byId("totals").textContent = "";
   for (const id of ["moves", "history", "top-games", "recent-games"]) byId(id).replaceChildren();
 }
 
