@@ -188,11 +188,27 @@ def output_of(script, *words, **variables):
 
 
 def sum_of_sources(script):
-    """A checksum of the crates' code and of a script."""
-    found = hashlib.sha256((TOP / "bench" / script).read_bytes())
-    for place in sorted(TOP.glob("crates/*/src/**/*.rt")):
-        found.update(place.read_bytes())
+    """A checksum of a script and of the code of the crates that its program stands on, but for their tests."""
+    text = (TOP / "bench" / script).read_bytes()
+    found = hashlib.sha256(text)
+    for crate in sorted(crates_below(re.search(rb"^new_program \S+((?:.*\\\n)*.*)", text, re.MULTILINE)[1].decode().split())):
+        for place in sorted((TOP / "crates" / crate / "src").glob("**/*.rt")):
+            if "tests" not in (place.stem, place.parent.name):
+                found.update(place.read_bytes())
     return found.hexdigest()[:12]
+
+
+def crates_below(names):
+    """Those of the names that are crates of this repository, and the crates that they stand on."""
+    lines = (TOP / "crates.txt").read_text(encoding="utf-8").splitlines()
+    stands_on = {line.partition(":")[0].split()[0]: line.partition(":")[2].split() for line in lines if re.match(r"\w", line)}
+    found, rest = set(), list(names)
+    while rest:
+        name = rest.pop()
+        if name in stands_on and name not in found:
+            found.add(name)
+            rest += stands_on[name]
+    return found
 
 
 def told(line):

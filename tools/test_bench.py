@@ -5,6 +5,7 @@ import importlib.machinery
 import importlib.util
 import os
 import pathlib
+import sys
 import tempfile
 import unittest
 
@@ -71,6 +72,16 @@ class Run(unittest.TestCase):
             status, output, errors = support.run_tool(str(support.TOP / "bench" / name), "/nowhere")
             self.assertEqual((status, output), (2, ""))
             self.assertIn(f"usage: bench/{name}", errors)
+
+
+class Programs(unittest.TestCase):
+    def test_a_program_stands_on_the_crates_below(self):
+        sys.path.insert(0, str(support.TOP / "bench"))
+        import measuring
+        found = measuring.crates_below(["fen_uci", "clap"])
+        self.assertEqual(found, {"fen_uci", "explorer_model", "legal_moves", "step_tables"})
+        sums = [measuring.sum_of_sources(name) for name in ("lookup", "perft", "segments", "steps", "store", "tally", "wire")]
+        self.assertEqual(len(set(sums)), len(sums))
 
 
 class RightBodies(unittest.TestCase):
