@@ -24,20 +24,32 @@ impl Model for Tally {
 
     ghost Value = { Counted };
 
-    ghost view = { λ t. record { batch = t.batch; classes = t.classes;
-        rows = flat_map (λ part. part.items) t.rows.items } };
+    ghost view = { λ t. record {
+      batch = t.batch;
+      classes = t.classes;
+      rows = flat_map (λ part. part.items) t.rows.items;
+    } };
 
-    ghost invariant = { λ t. IsCounted (record { batch = t.batch; classes = t.classes;
-        rows = flat_map (λ part. part.items) t.rows.items }) };
+    ghost invariant = { λ t. IsCounted (record {
+      batch = t.batch;
+      classes = t.classes;
+      rows = flat_map (λ part. part.items) t.rows.items;
+    }) };
 }
 
 impl Tally {
     /// The tally of a batch whose games have these classes and these rows, which may come in any parts.
     pub fn new(batch: Batch, classes: Items<Classes>, rows: Vec<Vec<Row>>) -> Tally
-        requires { IsCounted (record { batch = batch; classes = classes;
-            rows = flat_map (λ part. part.items) rows.items }) }
-        ensures { result ≡ record { batch = batch; classes = classes;
-            rows = flat_map (λ part. part.items) rows.items } }
+        requires { IsCounted (record {
+          batch = batch;
+          classes = classes;
+          rows = flat_map (λ part. part.items) rows.items;
+        }) }
+        ensures { result ≡ record {
+          batch = batch;
+          classes = classes;
+          rows = flat_map (λ part. part.items) rows.items;
+        } }
     {
         Tally {
             batch,
