@@ -41,7 +41,7 @@ fn tally_of<R: Threads + Sync>(rt: &R, alloc: Global, texts: Vec<Placed>) -> Res
     if 512 < texts.len() || !are_short(texts.as_slice()) {
         return Err(Fail::from("many texts, or a long one"));
     }
-    let tally = tally(rt, alloc, texts, 4, &FreeGate)?.tally;
+    let tally = tally(rt, alloc, texts, 1, &FreeGate)?.tally;
     Ok(tally.ok_or("no game")?)
 }
 
