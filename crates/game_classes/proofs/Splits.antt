@@ -1,5 +1,5 @@
 -- The first and the last place of a byte, and what stands around them.
-use Rattle.std.proofs.Common.{arith, ◌≡◌, ◌∙◌, sym, ap, subst, ℕ, ◌+◌, ◌-◌, ◌<◌, ◌≤◌, List, length, take, drop, true, false, Bool, not, ◌==◌}
+use Rattle.std.proofs.Common.{arith, ◌≡◌, ◌∙◌, sym, ap, subst, ℕ, ◌+◌, ◌-◌, ◌<◌, List, length, take, drop, true, false, not, ◌==◌}
 use Rattle.std.specs.List.{list_any, position_or_len, before_first, after_first, after_last, suffix_len, slice_index}
 use Rattle.std.proofs.lemmas.Bool.{false_from_ne_true, not_from_false}
 use Rattle.std.proofs.lemmas.List.{take_rest, get_or_default}

@@ -1,5 +1,5 @@
 -- How the code holds a time control.
-use Rattle.std.specs.Prelude.{ℕ, ◌<◌, ◌^◌}
+use Rattle.std.specs.Prelude.{◌<◌, ◌^◌}
 use Rattle.explorer_model.specs.Classes.{Clock}
 use Rattle.game_classes.specs.declared.time.TimeControl.{TimeControl}
 

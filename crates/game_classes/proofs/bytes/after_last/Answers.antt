@@ -1,4 +1,3 @@
-use Rattle.std.proofs.Common.{rules}
 use Rattle.game_classes.proofs.Splits.{nowhere_any, first_any, last_after}
 use Rattle.game_classes.proofs.bytes.after_last.Goals as goal
 

@@ -1,4 +1,3 @@
-use Rattle.std.proofs.Common.{rules}
 use Rattle.game_classes.proofs.Splits.{nowhere_any, nowhere_before, first_any, first_before, first_after}
 use Rattle.game_classes.proofs.bytes.split_once.Goals as goal
 

@@ -1,5 +1,5 @@
 use Rattle.std.proofs.Common.{◌≡◌, drop}
-use Rattle.explorer_model.specs.Classes.{floor_of, floors}
+use Rattle.explorer_model.specs.Classes.{floor_of}
 use Rattle.game_classes.proofs.rating.group_of.Given as goal
 
 abbrev pub invariant-loop-floor : goal.invariant-loop-floor

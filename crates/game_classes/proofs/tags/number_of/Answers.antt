@@ -1,4 +1,4 @@
-use Rattle.std.proofs.Common.{rules, arith}
+use Rattle.std.proofs.Common.{arith}
 use Rattle.game_classes.proofs.Numbers.{within}
 use Rattle.game_classes.proofs.tags.number_of.Goals as goal
 
