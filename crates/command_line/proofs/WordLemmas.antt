@@ -1,5 +1,5 @@
 -- What is read of the arguments of a command, and what its words ask for.
-use Rattle.std.proofs.Common.{◌≡◌, ◌∙◌, ℕ, ◌≤◌, ◌<◌, ◌^◌, Bool, true, false, cond, List, [], ◌∷◌, Option, None, Some, Result, Ok, Err, refl, sym, ap, subst, unwrap_or, option_map, Bor, inl, inr, arith, map}
+use Rattle.std.proofs.Common.{◌≡◌, ◌∙◌, ℕ, ◌≤◌, Bool, true, false, cond, List, [], ◌∷◌, Option, None, Some, Result, Ok, Err, refl, sym, ap, subst, unwrap_or, option_map, Bor, inl, inr, arith, map}
 use Rattle.std.specs.Prelude.{◌≢◌, IfOk}
 use Rattle.std.specs.Str.Parse.{ParsesUnsigned, digits_value, without_leading_plus}
 use Rattle.clap.specs.Faults.{fault_of}
@@ -7,7 +7,7 @@ use Rattle.clap.specs.Kinds.{HasKind, Kinds}
 use Rattle.clap.specs.Matches.{ReadsOne}
 use Rattle.clap.specs.Simple.{subcommand_of}
 use Rattle.clap.specs.Values.{Accepts, kind_of}
-use Rattle.clap.specs.ValueTests.{accepts, is_unsigned_in}
+use Rattle.clap.specs.ValueTests.{is_unsigned_in}
 use Rattle.clap.specs.Walk.{Row, Text}
 use Rattle.clap.proofs.ValueTestLemmas.{accepts-Accepts, Accepts-accepts}
 use Rattle.clap.specs.declared.builder.value_parser.ValueParser.TheVariants as parser
@@ -16,7 +16,7 @@ use Rattle.clap.specs.declared.error.kind.ErrorKind.TheVariants as ErrorKind
 use Rattle.explorer_model.specs.declared.fault.Stop.{Stop}
 use Rattle.explorer_model.specs.declared.fault.Stop.TheVariants as stops
 use Rattle.command_line.specs.declared.words.UsageError.{UsageError}
-use Rattle.command_line.specs.Task.{Bounds, Task, explorer_app, number_of, task_named, task_of, task_said, task_unless}
+use Rattle.command_line.specs.Task.{Bounds, Task, explorer_app, number_of, task_of, task_said, task_unless}
 use Rattle.command_line.specs.Words.{IsTaken, IsTold, Refuses}
 use Rattle.command_line.proofs.TakenLemmas.{taken}
 

@@ -1,4 +1,4 @@
-use Rattle.std.proofs.Common.{◌∙◌, ℕ, List, ap, Bor, refl, Result, Ok, Err}
+use Rattle.std.proofs.Common.{◌∙◌, ℕ, List, ap, Bor, refl}
 use Rattle.clap.specs.Words.{found_of, rows_of}
 use Rattle.clap.specs.Walk.{first_of}
 use Rattle.clap.proofs.WalkLemmas.{first_value-rows}
