@@ -1,9 +1,7 @@
 -- What is found in a journal is plain: SAN is written in ASCII, and an id is letters and digits.
-use Rattle.std.proofs.Common.{◌≡◌, ℕ, zero, suc, ◌+◌, ◌<◌, ◌==◌, Bool, true, false, ◌&&◌, if◌then◌else◌, List, [], ◌∷◌, ◌++◌, length, nat_le, map, filter, filter_map, Option, Some, None, Result, Ok, Err, IfOk, IfSome, refl, sym, subst, inl, inr, arith}
-use Rattle.std.specs.Prelude.{ok_or}
-use Rattle.std.specs.List.{All, AllByRecursion, AllZip, enumerate_from, list_all, list_any, after_last, cons_option}
-use Rattle.std.proofs.lemmas.Bool.Decides.{nat_tests}
-use Rattle.std.specs.Str.{byte, IsAscii}
+use Rattle.std.proofs.Common.{◌≡◌, ℕ, zero, suc, ◌+◌, ◌<◌, Bool, true, false, if◌then◌else◌, List, [], ◌∷◌, ◌++◌, map, filter_map, Option, Some, None, IfSome, sym, subst, inl, inr, arith}
+use Rattle.std.specs.List.{All, AllByRecursion, AllZip, enumerate_from, cons_option}
+use Rattle.std.specs.Str.{IsAscii}
 use Rattle.std.proofs.lemmas.List.Elements.{All-from_recursion}
 use Rattle.std.proofs.lemmas.Str.{IsAscii-append}
 use Rattle.std.proofs.lemmas.Str.Ascii.{IsAscii-nil}

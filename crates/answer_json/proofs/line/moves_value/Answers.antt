@@ -1,4 +1,4 @@
-use Rattle.std.proofs.Common.{◌∙◌, ap, arith, None}
+use Rattle.std.proofs.Common.{◌∙◌, ap, arith}
 use Rattle.serde_json.specs.Data.{array}
 use Rattle.answer_json.proofs.Values.{all_valued, plain_move, moves-unnamed}
 use Rattle.answer_json.proofs.line.moves_value.Goals as goal
