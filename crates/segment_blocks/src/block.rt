@@ -131,11 +131,20 @@ impl Block {
         place.move_game(&mut self.rows, &mut self.last, by, bound)
     }
 
-    /// Gives back the room that no row takes.
-    pub fn shrink_to_fit(&mut self)
-        ensures { self.new ≡ self.old }
+    /// A block with the first row behind this one, in the room that this one had, which then takes
+    /// no more than its rows do.
+    pub fn next_block(&mut self, alloc: Global, held: &HeldRow<'_>) -> Result<Block, AllocError>
+        ensures same { self.new ≡ self.old }
+        ensures next { IfOk result (λ block. block ≡ row_in held.now ∷ []) }
     {
-        self.rows.shrink_to_fit();
+        let key = held.key();
+        let mut rows = self.rows.pass_room_on(alloc)?;
+        rows.push(key, held)?;
+        Ok(Block {
+            first: *key,
+            last: *key,
+            rows,
+        })
     }
 
     /// The place before the first row.

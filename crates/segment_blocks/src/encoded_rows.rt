@@ -10,6 +10,7 @@ use crate::mark::Mark;
 use explorer_model::archive::{Group, Month, Speed};
 use std::alloc::{AllocError, Global};
 use std::marker::Model;
+use std::mem::replace;
 use tally_rows::Row;
 
 /// How many marks a block has at most.
@@ -97,13 +98,24 @@ impl EncodedRows {
         Ok(())
     }
 
-    /// Gives back the room that no row takes.
-    pub fn shrink_to_fit(&mut self)
-        ensures { self.new ≡ self.old }
+    /// Keeps the rows in exactly the room that they take, and gives the room that they had to no row,
+    /// for the rows behind them. After a refusal they are as before.
+    pub fn pass_room_on(&mut self, alloc: Global) -> Result<EncodedRows, AllocError>
+        ensures same { self.new ≡ self.old }
+        ensures none { IfOk result (λ rows. (first : List ℕ) → rows_of rows first ≡ []) }
     {
-        self.marks.shrink_to_fit();
-        self.tails.shrink_to_fit();
         self.whole.shrink_to_fit();
+        let exact_marks = Vec::from_slice(alloc, self.marks.as_slice())?;
+        let exact_tails = Vec::from_slice(alloc, self.tails.as_slice())?;
+        let mut marks = replace(&mut self.marks, exact_marks);
+        let mut tails = replace(&mut self.tails, exact_tails);
+        marks.clear();
+        tails.clear();
+        Ok(EncodedRows {
+            marks,
+            tails,
+            whole: Vec::new(alloc),
+        })
     }
 
     /// The place before the first row, which stands behind the key `before`.

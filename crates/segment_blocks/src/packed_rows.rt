@@ -103,14 +103,16 @@ impl PackedRows {
         ensures err { OnErr result (self.new ≡ self.old) }
     {
         let count = self.blocks.as_slice().len();
-        if count > 0 && self.blocks[count - 1].len() < BLOCK_LIMIT {
+        if count == 0 {
+            let block = Block::of(alloc, held)?;
+            self.blocks.push(block)?;
+            return Ok(());
+        }
+        if self.blocks[count - 1].len() < BLOCK_LIMIT {
             return self.blocks[count - 1].push(held);
         }
-        let block = Block::of(alloc, held)?;
+        let block = self.blocks[count - 1].next_block(alloc, held)?;
         self.blocks.push(block)?;
-        if count > 0 {
-            self.blocks[count - 1].shrink_to_fit();
-        }
         Ok(())
     }
 

@@ -8,32 +8,34 @@ use Rattle.segment_blocks.specs.PackedRows.{Packed, AreInOrder, ArePacked}
 use Rattle.segment_blocks.proofs.PackedLemmas.{pushed_or_not, ArePacked-after, ArePacked-push, rows_in-after}
 use Rattle.segment_blocks.proofs.packed_rows.PackedRows.push_held.Goals as goal
 
-pub invariant_of-self : goal.invariant_of-self
-invariant_of-self c =
+pub invariant_of-self-then-len-lt-BLOCK_LIMIT : goal.invariant_of-self-then-len-lt-BLOCK_LIMIT
+invariant_of-self-then-len-lt-BLOCK_LIMIT c =
     let blocks : List (List Row) = c.self.inside.blocks.items in
     let n = length c.as_slice-count.result.now - 1 in
-    let e : suc n ≡ length blocks = omega (arith, ap length c.as_slice-count.ensures.value, c.if-count-gt0.true) in
+    let e : suc n ≡ length blocks = omega (arith, ap length c.as_slice-count.ensures.value, c.if-count-eq0.false) in
     let ordered : AreInOrder (rows_in blocks ++ (row_in c.args.held.now) ∷ []) =
     rw (ap (λ (p : Packed). p.rows) c.self.view_is) c.requires.in_order in
-    ArePacked-after blocks (row_in c.args.held.now) n e c.index_mut.result.now c.push.new.self c.index_mut.ensures.value c.self.invariant ordered
-    (pushed_or_not c.push.result c.index_mut.result.now c.push.new.self (row_in c.args.held.now) c.push.ensures.ok c.push.ensures.err)
+    ArePacked-after blocks (row_in c.args.held.now) n e c.index_mut.result.now c.push-then-len-lt-BLOCK_LIMIT.new.self c.index_mut.ensures.value c.self.invariant ordered
+    (pushed_or_not c.push-then-len-lt-BLOCK_LIMIT.result c.index_mut.result.now c.push-then-len-lt-BLOCK_LIMIT.new.self (row_in c.args.held.now) c.push-then-len-lt-BLOCK_LIMIT.ensures.ok c.push-then-len-lt-BLOCK_LIMIT.ensures.err)
 
 pub returns-then-len-lt-BLOCK_LIMIT-clause-ok : goal.returns-then-len-lt-BLOCK_LIMIT-clause-ok
 returns-then-len-lt-BLOCK_LIMIT-clause-ok c =
     let blocks : List (List Row) = c.self.inside.blocks.items in
     let n = length c.as_slice-count.result.now - 1 in
-    let e : suc n ≡ length blocks = omega (arith, ap length c.as_slice-count.ensures.value, c.if-count-gt0.true) in
-    on_ok_weaker c.push.result (λ pushed. rows_in-after blocks (row_in c.args.held.now) n e c.index_mut.result.now c.push.new.self c.index_mut.ensures.value pushed
-    ∙ ap (λ (p : Packed). p.rows ++ (row_in c.args.held.now) ∷ []) c.self.view_is) c.push.ensures.ok
+    let e : suc n ≡ length blocks = omega (arith, ap length c.as_slice-count.ensures.value, c.if-count-eq0.false) in
+    on_ok_weaker c.push-then-len-lt-BLOCK_LIMIT.result (λ pushed. rows_in-after blocks (row_in c.args.held.now) n e c.index_mut.result.now c.push-then-len-lt-BLOCK_LIMIT.new.self c.index_mut.ensures.value pushed
+    ∙ ap (λ (p : Packed). p.rows ++ (row_in c.args.held.now) ∷ []) c.self.view_is) c.push-then-len-lt-BLOCK_LIMIT.ensures.ok
 
-pub invariant_of-self-then-count-gt0-2 : goal.invariant_of-self-then-count-gt0-2
-invariant_of-self-then-count-gt0-2 c =
+pub invariant_of-self-2 : goal.invariant_of-self-2
+invariant_of-self-2 c =
     let blocks : List (List Row) = c.self.inside.blocks.items in
     let n = length c.as_slice-count.result.now - 1 in
-    let same : set c.push-2.new.self.items n c.shrink_to_fit.new.self ≡ c.push-2.new.self.items =
-    ap (set c.push-2.new.self.items n) (c.shrink_to_fit.ensures ∙ c.index_mut-then-count-gt0-2.ensures.value) ∙ set-get_or c.push-2.new.self.items n c.index_mut-then-count-gt0-2.result.now in
-    let items : c.push-2.new.self.items ≡ blocks ++ ((row_in c.args.held.now) ∷ []) ∷ [] =
-    c.in_ok-push.ensures.items ∙ ap (λ b. blocks ++ b ∷ []) c.in_ok-block.ensures in
-    let ordered : AreInOrder (rows_in blocks ++ (row_in c.args.held.now) ∷ []) =
+    let row = row_in c.args.held.now in
+    let same : set blocks n c.next_block.new.self ≡ blocks =
+    ap (set blocks n) (c.next_block.ensures.same ∙ c.index_mut-2.ensures.value) ∙ set-get_or blocks n c.index_mut-2.result.now in
+    let items : c.push-2.new.self.items ≡ blocks ++ (row ∷ []) ∷ [] =
+    c.in_ok-push-2.ensures.items ∙ ap (λ b. set blocks n c.next_block.new.self ++ b ∷ []) c.in_ok-block-2.ensures.next
+    ∙ ap (λ bs. bs ++ (row ∷ []) ∷ []) same in
+    let ordered : AreInOrder (rows_in blocks ++ row ∷ []) =
     rw (ap (λ (p : Packed). p.rows) c.self.view_is) c.requires.in_order in
-    subst ArePacked (sym (same ∙ items)) (ArePacked-push blocks (row_in c.args.held.now) c.self.invariant ordered)
+    subst ArePacked (sym items) (ArePacked-push blocks row c.self.invariant ordered)
