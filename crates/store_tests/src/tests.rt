@@ -1,6 +1,7 @@
 //! Segments of worked games.
 mod commits;
 mod desk;
+mod held;
 mod merges;
 mod published;
 mod segments;

@@ -40,7 +40,7 @@ fn stores_three<J: Index, R: Threads + Wait + Abort + Sync>(
 ) -> Result<MemDisk, Fail>
     requires { unnamed.index.name ≡ J.name }
 {
-    let (mut ingest, _passes) = named::<J, R>(rt, alloc, unnamed)?;
+    let (mut ingest, _passes) = named::<J, _, R>(rt, alloc, unnamed)?;
     let outcome = store_three(rt, alloc, &mut ingest);
     let disk = ingest.into_disk(rt);
     outcome?;
@@ -106,7 +106,7 @@ fn batches_of<J: Index, R: Wait + Abort>(
 ) -> Result<(u32, MemDisk), Fail>
     requires { unnamed.index.name ≡ J.name }
 {
-    let (mut ingest, mut passes) = named::<J, R>(rt, alloc, unnamed)?;
+    let (mut ingest, mut passes) = named::<J, _, R>(rt, alloc, unnamed)?;
     let stored = ingest.batches();
     let note = ingest.tell();
     let disk = ingest.into_disk(rt);
@@ -151,7 +151,7 @@ fn breaks<J: Index, R: Threads + Wait + Abort + Sync>(
 ) -> Result<MemDisk, Fail>
     requires { unnamed.index.name ≡ J.name }
 {
-    let (mut ingest, passes) = named::<J, R>(rt, alloc, unnamed)?;
+    let (mut ingest, passes) = named::<J, _, R>(rt, alloc, unnamed)?;
     let outcome = go_on_behind_a_fault(rt, alloc, &mut ingest, passes);
     let disk = ingest.into_disk(rt);
     outcome?;

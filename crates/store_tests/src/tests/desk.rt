@@ -1,4 +1,4 @@
-//! A desk at its limit, beside another worker, and with changes that are held.
+//! A desk at its limit, and beside another worker.
 ghost use Rattle.std.specs.Prelude.{◌≡◌};
 
 use super::stores::{games, join_twice, named, new_store};
@@ -6,10 +6,8 @@ use super::text;
 use disk_model::{Disk, MemDisk};
 use explorer_model::store::LogFault;
 use ingest_desk::{CommitFault, Ingest, Receipt, Standing, Unnamed, open};
-use outside::FreeGate;
 use published_index::Index;
 use record_log::OpenFault;
-use segment_merge::merge;
 use std::alloc::{AllocError, Global};
 use std::marker::Brand;
 use std::process::Abort;
@@ -20,14 +18,15 @@ use std::thread::Threads;
 /// How many games a store may have.
 const LIMIT: u32 = 131_072;
 
-/// The file of a store: batches of games without a move, with ids by their numbers. It has at most
-/// one batch more than a store may have.
-fn store_file(alloc: Global, games: u32) -> Result<Vec<u8>, AllocError> {
+/// The file of a store: batches of so many games without a move, with ids by their numbers. It has
+/// at most one batch more than a store of whole batches may have.
+pub(super) fn store_file(alloc: Global, games: u32, size: u32) -> Result<Vec<u8>, AllocError> {
     let mut file = b"OPENEXP1\x01\0\0\0".to_vec(alloc)?;
+    let size = size.min(512);
     for batch in 0..257u32 {
-        let first = batch * 512;
+        let first = batch * size;
         if first < games {
-            push_record(alloc, &mut file, first, (games - first).min(512))?;
+            push_record(alloc, &mut file, first, (games - first).min(size))?;
         }
     }
     file.push(0)?;
@@ -54,7 +53,7 @@ fn push_record(
 }
 
 /// A disk with a file, and room for some batches more.
-fn disk_with(alloc: Global, file: &[u8]) -> Result<MemDisk, Fail> {
+pub(super) fn disk_with(alloc: Global, file: &[u8]) -> Result<MemDisk, Fail> {
     if file.len() > 100_000_000 {
         return Err(Fail::from("a large file"));
     }
@@ -70,7 +69,7 @@ fn disk_with(alloc: Global, file: &[u8]) -> Result<MemDisk, Fail> {
 #[test]
 fn store_below_its_limit_takes_one_game(rt: HostRuntime) -> Result<(), Fail> {
     let alloc: Global = rt.alloc();
-    let file = store_file(alloc, LIMIT - 1)?;
+    let file = store_file(alloc, LIMIT - 1, 512)?;
     let Ok(unnamed) = open(&rt, alloc, disk_with(alloc, file.as_slice())?, 4, 1) else {
         return Err(Fail::from("not opened"));
     };
@@ -84,7 +83,7 @@ fn fills<J: Index, R: Threads + Wait + Abort + Sync>(
 ) -> Result<(), Fail>
     requires { unnamed.index.name ≡ J.name }
 {
-    let (mut ingest, _passes) = named::<J, R>(rt, alloc, unnamed)?;
+    let (mut ingest, _passes) = named::<J, _, R>(rt, alloc, unnamed)?;
     let outcome = fill(rt, alloc, &mut ingest);
     let _disk = ingest.into_disk(rt);
     outcome
@@ -125,7 +124,7 @@ fn room_of<J: Index>(answer: Result<Receipt<J>, CommitFault<J>>) -> Option<(u64,
 #[test]
 fn store_beyond_its_limit_is_damaged_at_the_last_record(rt: HostRuntime) -> Result<(), Fail> {
     let alloc: Global = rt.alloc();
-    let file = store_file(alloc, LIMIT + 1)?;
+    let file = store_file(alloc, LIMIT + 1, 512)?;
     match open(&rt, alloc, disk_with(alloc, file.as_slice())?, 4, 1) {
         Ok(unnamed) => {
             let _disk = unnamed.into_disk(&rt);
@@ -158,7 +157,7 @@ fn joins<J: Index, R: Threads + Wait + Abort + Sync>(
 ) -> Result<(), Fail>
     requires { unnamed.index.name ≡ J.name }
 {
-    let (mut ingest, _passes) = named::<J, R>(rt, alloc, unnamed)?;
+    let (mut ingest, _passes) = named::<J, _, R>(rt, alloc, unnamed)?;
     let outcome = join_first_two(rt, alloc, &mut ingest);
     let _disk = ingest.into_disk(rt);
     outcome
@@ -183,58 +182,4 @@ fn join_first_two<J: Index, R: Threads + Wait + Abort + Sync>(
     ];
     assert!(rt; spans.as_slice() == wanted.as_slice());
     Ok(())
-}
-
-// ---- held changes
-
-/// Without memory for its publication a change is held, and the next commit publishes it. An
-/// allocation that fails here makes it so.
-#[test]
-fn held_changes_are_published_by_the_next_commit(rt: HostRuntime) -> Result<(), Fail> {
-    let alloc: Global = rt.alloc();
-    let unnamed = new_store(&rt, alloc, Vec::new(alloc))?;
-    holds::<Brand, _>(&rt, alloc, unnamed)
-}
-
-fn holds<J: Index, R: Threads + Wait + Abort + Sync>(
-    rt: &R,
-    alloc: Global,
-    unnamed: Unnamed<MemDisk>,
-) -> Result<(), Fail>
-    requires { unnamed.index.name ≡ J.name }
-{
-    let (mut ingest, _passes) = named::<J, R>(rt, alloc, unnamed)?;
-    let outcome = hold(rt, alloc, &mut ingest);
-    let _disk = ingest.into_disk(rt);
-    outcome
-}
-
-/// Commits two batches and joins them, and commits a third.
-fn hold<J: Index, R: Threads + Wait + Abort + Sync>(
-    rt: &R,
-    alloc: Global,
-    ingest: &mut Ingest<MemDisk, J>,
-) -> Result<(), Fail> {
-    for number in 0..2 {
-        let tally = games(rt, alloc, number, 1)?;
-        assert!(rt; is_stored(&ingest.commit(rt, alloc, tally)));
-    }
-    let last = games(rt, alloc, 2, 1)?;
-    ingest.catch_up(rt)?;
-    let job = ingest.pick()?.ok_or("two are due")?;
-    let merged = merge(rt, alloc, &job.left, &job.right, 1, &FreeGate)?;
-    let installed = ingest.install(rt, alloc, job, merged).is_ok();
-    assert!(rt; ingest.commit(rt, alloc, last).is_ok());
-    let list = ingest.publisher().list();
-    assert_eq!(rt; list.batches(), 3);
-    assert!(rt; !installed || list.segments().len() == 2);
-    Ok(())
-}
-
-/// Whether a batch is stored, be it published or held.
-fn is_stored<J: Index>(answer: &Result<Receipt<J>, CommitFault<J>>) -> bool {
-    matches!(
-        answer,
-        Ok(_) | Err(CommitFault::OutOfMemory { stored: true })
-    )
 }

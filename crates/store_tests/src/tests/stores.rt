@@ -2,7 +2,7 @@
 ghost use Rattle.std.specs.Prelude.{◌≡◌};
 
 use super::{tally_of, text};
-use disk_model::MemDisk;
+use disk_model::{Disk, MemDisk};
 use ingest_desk::{Ingest, InstallFault, Standing, Unnamed, fresh};
 use manifest::create;
 use outside::FreeGate;
@@ -15,13 +15,22 @@ use std::test::Fail;
 use std::thread::Threads;
 use tally_rows::Tally;
 
-/// An ingest of a new store on a disk, of whose calls these fail.
+/// An ingest of a new store on a disk in memory, of whose calls these fail.
 pub(super) fn new_store<R: Wait>(
     rt: &R,
     alloc: Global,
     failing: Vec<u64>,
 ) -> Result<Unnamed<MemDisk>, Fail> {
-    let Ok(manifest) = create(MemDisk::new(alloc, 1_000_000, failing)?) else {
+    store_on(rt, alloc, MemDisk::new(alloc, 1_000_000, failing)?)
+}
+
+/// An ingest of a new store on an empty disk.
+pub(super) fn store_on<D: Disk + Drop, R: Wait>(
+    rt: &R,
+    alloc: Global,
+    disk: D,
+) -> Result<Unnamed<D>, Fail> {
+    let Ok(manifest) = create(disk) else {
         return Err(Fail::from("not created"));
     };
     match fresh(rt, alloc, manifest, 1) {
@@ -31,11 +40,11 @@ pub(super) fn new_store<R: Wait>(
 }
 
 /// The ingest and its passes.
-pub(super) fn named<J: Index, R: Wait>(
+pub(super) fn named<J: Index, D: Disk + Drop, R: Wait>(
     rt: &R,
     alloc: Global,
-    unnamed: Unnamed<MemDisk>,
-) -> Result<(Ingest<MemDisk, J>, Vec<Pass<J>>), Fail>
+    unnamed: Unnamed<D>,
+) -> Result<(Ingest<D, J>, Vec<Pass<J>>), Fail>
     requires { unnamed.index.name ≡ J.name }
 {
     match unnamed.named::<J>(alloc) {
