@@ -16,7 +16,7 @@ use Rattle.session.specs.declared.serving.Ended.TheVariants as ends
 use Rattle.session.specs.Exchanges.{Backend, Exchange, Grants, Moment, AreExchanges, asked_in, moment_of}
 use Rattle.session.specs.Laws.{IsAllAnswered, LastLacksMemory}
 use Rattle.session.specs.Replies.{closes, route_of}
-use Rattle.session.specs.Serving.{AreOpen, AsksIn, ComesNext, HasCause, LastCloses, Served}
+use Rattle.session.specs.Serving.{AreOpen, AsksIn, HasCause, LastCloses, Served}
 
 never : {A : Type 0} (b : Bool) → b ≡ false → b ≡ true → A
 never b p q = absurd (cc)

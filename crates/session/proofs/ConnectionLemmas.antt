@@ -1,5 +1,5 @@
 -- A connection that is served goes on by one exchange, or ends.
-use Rattle.std.proofs.Common.{◌≡◌, ◌≢◌, ◌⊎◌, ℕ, ◌+◌, ◌-◌, ◌≤◌, ◌<◌, Bool, true, false, List, [], ◌∷◌, ◌++◌, Option, length, take, refl, sym, ◌∙◌, ap, subst, append-nil, length-append, add_assoc, inl, inr, arith}
+use Rattle.std.proofs.Common.{◌≡◌, ◌≢◌, ℕ, ◌+◌, ◌-◌, ◌≤◌, ◌<◌, true, false, List, [], ◌∷◌, ◌++◌, Option, length, take, refl, sym, ◌∙◌, ap, subst, append-nil, length-append, inl, arith}
 use Rattle.std.proofs.KnownBytes.{Appends-nil, Appends-trans, Consumes-nil, Consumes-trans}
 use Rattle.std.proofs.lemmas.List.Concat.{flat_map-append}
 use Rattle.std.proofs.lemmas.List.Elements.{filter_map-append}
@@ -13,16 +13,16 @@ use Rattle.explorer_model.specs.Replies.{reply_text}
 use Rattle.explorer_model.specs.Timeline.{IsPrefix}
 use Rattle.explorer_model.specs.Wire.{First, request_limit}
 use Rattle.explorer_model.proofs.Timelines.{prefix-self, prefix-trans}
-use Rattle.http_wire.specs.Asking.{Asks, Buffer, FaultsBy, more_behind}
+use Rattle.http_wire.specs.Asking.{Asks, Buffer, FaultsBy}
 use Rattle.ingest_desk.specs.declared.report.ImportCall.{ImportCall}
 use Rattle.ingest_desk.specs.Importers.{TellsAll}
 use Rattle.session.specs.declared.serving.Ended.{Ended}
 use Rattle.session.specs.declared.serving.Ended.TheVariants as ends
 use Rattle.session.specs.Exchanges.{Backend, Exchange, Grants, AreExchanges, asked_in, calls_in, moment_of, reply_texts}
 use Rattle.session.specs.Replies.{closes, route_of}
-use Rattle.session.specs.Serving.{AreOpen, AsksIn, ComesNext, FailsBy, HasCause, LastCloses, Served, Wrote}
+use Rattle.session.specs.Serving.{AreOpen, AsksIn, ComesNext, FailsBy, HasCause, Served, Wrote}
 use Rattle.session.specs.Steps.{IsServing, Replied}
-use Rattle.session.proofs.ExchangeLemmas.{asks-behind, asks-more, last-closes, more-left, open-more, exchanges-grow, exchanges-more, tells-none, tells-trans}
+use Rattle.session.proofs.ExchangeLemmas.{asks-behind, asks-more, last-closes, open-more, exchanges-grow, exchanges-more, tells-none, tells-trans}
 use Rattle.session.proofs.FrontLemmas.{prefix-length, take-all, take-behind}
 
 appends-front : (a b c : Option (List ℕ)) (xs ys : List ℕ) → Appends a b xs → AppendsFront b c ys

@@ -1,6 +1,6 @@
 -- Connections of a door, one after another.
 use Rattle.std.proofs.Common.{◌≡◌, List, [], ◌∷◌, ◌++◌, refl, subst, ap, ◌∙◌, append-nil}
-use Rattle.outside.specs.Doors.{Accepts, Connections, FailsToAccept, GivesNone, TakesBack}
+use Rattle.outside.specs.Doors.{Accepts, Connections, FailsToAccept, TakesBack}
 use Rattle.outside.specs.Stream.{Stream}
 use Rattle.outside.proofs.DoorLemmas.{serves-fails, serves-none, serves-one, serves-trans}
 use Rattle.session.specs.declared.serving.Ended.{Ended}

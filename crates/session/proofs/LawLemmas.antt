@@ -1,5 +1,5 @@
 -- What follows of exchanges.
-use Rattle.std.proofs.Common.{◌≡◌, ℕ, ◌+◌, ◌≤◌, ◌<◌, Bool, true, false, List, [], ◌∷◌, Option, Some, None, Result, Ok, Err, length, take, refl, sym, ◌∙◌, ap, subst, inl, inr, arith}
+use Rattle.std.proofs.Common.{◌≡◌, ℕ, ◌+◌, ◌≤◌, List, [], ◌∷◌, Option, Some, None, Result, Ok, Err, length, take, refl, sym, ◌∙◌, ap, subst, inl, inr, arith}
 use Rattle.std.specs.List.{AllByRecursion, cons_option}
 use Rattle.std.proofs.lemmas.List.{length-take}
 use Rattle.explorer_model.specs.declared.answer.Found.{Found}
@@ -26,7 +26,7 @@ use Rattle.ingest_desk.specs.declared.report.ImportEnding.TheVariants as endings
 use Rattle.session.specs.Exchanges.{Exchange, Grants, Moment, AreExchanges}
 use Rattle.session.specs.Imports.{TellsEnding}
 use Rattle.session.specs.Laws.{AscendFrom, IsOverFront, IsTold, number_of, numbers, unread_in, unread_one}
-use Rattle.session.specs.Replies.{AnswersQuery, Answer, Fixed, Import, MayEnter, Readings, Route, Silence, route_by, route_of}
+use Rattle.session.specs.Replies.{AnswersQuery, Answer, Fixed, Import, Readings, Route, Silence, route_by, route_of}
 
 length-front : (n : ℕ) (xs : List Batch) → n ≤ length xs → length (take n xs) ≡ n
 length-front n xs few = omega (arith, length-take n xs)

@@ -2,15 +2,13 @@
 use Rattle.std.proofs.Common.{◌≡◌, ◌==◌, ℕ, true, List, [], ◌∷◌, length, refl, sym, subst, arith}
 use Rattle.std.proofs.lemmas.Bool.Decides.{nat_tests}
 use Rattle.std.proofs.lemmas.List.Elements.{All-nil}
-use Rattle.explorer_model.specs.declared.archive.Batch.{Batch}
 use Rattle.explorer_model.specs.declared.fault.Refusal.{Refusal}
 use Rattle.explorer_model.specs.Cuts.{Cut, cuts, cuts_from, cuts_of, parted, preamble}
 use Rattle.explorer_model.specs.Imports.{AccountedBeside, groups}
-use Rattle.ingest_desk.specs.declared.receipt.Receipt.{Receipt}
 use Rattle.ingest_desk.specs.declared.report.End.{End}
 use Rattle.ingest_desk.specs.declared.report.End.TheVariants as ends
 use Rattle.ingest_desk.specs.declared.report.Report.{Report}
-use Rattle.ingest_desk.specs.Reporting.{AccountsTo, AreReceipts, RepeatsBy, Reports, games_of}
+use Rattle.ingest_desk.specs.Reporting.{AccountsTo, RepeatsBy, Reports}
 
 none-beside : AccountedBeside [] [] []
 none-beside = record {

@@ -1,4 +1,4 @@
-use Rattle.std.proofs.Common.{◌≡◌, refl, ◌∙◌}
+use Rattle.std.proofs.Common.{refl, ◌∙◌}
 use Rattle.session.specs.Exchanges.{backend}
 use Rattle.session.proofs.DoorLemmas.{faults-stay, served-more, served-none}
 use Rattle.session.proofs.doors.serve_door.Goals as goal

@@ -1,6 +1,4 @@
-use Rattle.std.proofs.Common.{◌≡◌}
 use Rattle.explorer_model.proofs.Timelines.{prefix-trans}
-use Rattle.session.specs.Replies.{readings_of}
 use Rattle.session.proofs.KnownNotes.{knows-more}
 use Rattle.session.proofs.importing.learn_notes.Goals as goal
 

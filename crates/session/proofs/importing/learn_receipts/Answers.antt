@@ -1,8 +1,7 @@
-use Rattle.std.proofs.Common.{◌≡◌, List, subst}
+use Rattle.std.proofs.Common.{List, subst}
 use Rattle.explorer_model.specs.declared.archive.Batch.{Batch}
 use Rattle.explorer_model.specs.Timeline.{IsPrefix}
 use Rattle.explorer_model.proofs.Timelines.{prefix-trans}
-use Rattle.session.specs.Replies.{readings_of}
 use Rattle.session.proofs.KnownNotes.{knows-more}
 use Rattle.session.proofs.importing.learn_receipts.Goals as goal
 

@@ -1,4 +1,4 @@
-use Rattle.std.proofs.Common.{◌≡◌, ℕ, List, subst}
+use Rattle.std.proofs.Common.{ℕ, List, subst}
 use Rattle.session.specs.Exchanges.{backend}
 use Rattle.session.specs.Steps.{ImportReplied}
 use Rattle.session.proofs.ReplyLemmas.{replied-import}

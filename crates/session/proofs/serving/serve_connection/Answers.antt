@@ -1,4 +1,4 @@
-use Rattle.std.proofs.Common.{◌≡◌, arith, lit<}
+use Rattle.std.proofs.Common.{lit<}
 use Rattle.session.specs.Exchanges.{backend}
 use Rattle.session.proofs.ConnectionLemmas.{serving-none}
 use Rattle.session.proofs.serving.serve_connection.Goals as goal

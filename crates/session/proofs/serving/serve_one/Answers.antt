@@ -1,4 +1,4 @@
-use Rattle.std.proofs.Common.{◌≡◌, ◌<◌, ◌+◌, ℕ, Bool, arith, List, subst, sym, refl, ap, ◌∙◌, inr}
+use Rattle.std.proofs.Common.{◌+◌, ℕ, Bool, arith, subst, sym, ap, ◌∙◌, inr}
 use Rattle.outside.specs.Stream.{FailsToTake, Rises, Takes}
 use Rattle.explorer_model.specs.declared.wire.Asked.TheVariants.{Done, Cut, ReadFault}
 use Rattle.explorer_model.specs.Replies.{reply_text}
