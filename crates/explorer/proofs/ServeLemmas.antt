@@ -45,10 +45,10 @@ use Rattle.session.specs.Imports.{HasStoredBody, IsRepeatOf, StandFrom}
 use Rattle.session.proofs.FrontLemmas.{get-prefix}
 use Rattle.explorer.specs.declared.fault.Fault.{Fault}
 use Rattle.explorer.specs.declared.fault.Fault.TheVariants as faults
-use Rattle.explorer.specs.Concluding.{Concludes, EndsBy, TellsLonger, fault_told}
+use Rattle.explorer.specs.Concluding.{Concludes, EndsBy, TellsLonger}
 use Rattle.explorer.specs.Lines.{Done, Ending, Stopped}
-use Rattle.explorer.specs.Serve.{HasNoStore, HasStore, IsFull, IsServed, IsWorkedTo, Listens, RefusesAddress, RefusesOneFile, Reports, Serves, ServesBy, listening_line}
-use Rattle.explorer.specs.Served.{DoorRun, FileRun, FindsFull, IsFullBy, IsGivenUp, IsImported, IsServedFrom, IsServedIn, IsStoredIn, IsWorked, Service, fault_of_door, fault_of_doors, fault_of_import, file_at, files_back, files_out, first_fault, serve_report}
+use Rattle.explorer.specs.Serve.{GoesOn, HasNoStore, HasStore, IsFull, IsServed, IsWorkedTo, Listens, RefusesAddress, RefusesOneFile, Reports, Serves, ServesBy, listening_line}
+use Rattle.explorer.specs.Served.{DoorRun, FileRun, FindsFull, IsFullBy, IsGivenUp, IsImported, IsSeenIn, IsServedFrom, IsServedIn, IsStoredIn, IsWorked, Service, fault_of_door, fault_of_doors, fault_of_import, file_at, files_back, files_out, first_fault, serve_report}
 use Rattle.explorer.specs.Serving.{AreCounted, FilesServed, HasGivenUp, HasWorked, IsGivenUpSo, IsToldBy, ListensSo, WroteLine, lines_told}
 use Rattle.explorer.specs.Workers.{name_at}
 use Rattle.explorer.specs.World.{IsFaultless, World, WriteFails, world}
@@ -187,7 +187,7 @@ module _ (service : Service) (before lent used after : HostState) (given returns
 
   has-store : (opening : List Batch) → IfSome given.content (HasJournal opening) → HasStore service before
   has-store opening read = record {
-    opening = opening;
+    journal = opening;
     told = subst (λ (c : Option (List ℕ)). IfSome c (HasJournal opening)) hands.content read;
   }
 
@@ -359,24 +359,34 @@ full-longer front journal (f ∷ fs) [] p all = absurd all
 full-longer front journal (f ∷ fs) (r ∷ rs) p all =
     (full-by-longer r.ending front journal f r p all.0, full-longer front journal fs rs p all.1)
 
-seen-longer : (opening front journal : List Batch) (doors : List Connections) (runs : List DoorRun) → IsPrefix front journal
+served-longer : (opening front journal : List Batch) (doors : List Connections) (runs : List DoorRun) → IsPrefix front journal
     → AllZip (IsServedIn opening front) doors runs → AllZip (IsServedIn opening journal) doors runs
-seen-longer opening front journal [] [] p all = tt
-seen-longer opening front journal [] (r ∷ rs) p all = absurd all
-seen-longer opening front journal (d ∷ ds) [] p all = absurd all
-seen-longer opening front journal (d ∷ ds) (r ∷ rs) p all = (
+served-longer opening front journal [] [] p all = tt
+served-longer opening front journal [] (r ∷ rs) p all = absurd all
+served-longer opening front journal (d ∷ ds) [] p all = absurd all
+served-longer opening front journal (d ∷ ds) (r ∷ rs) p all = (
   record {
     from = all.0.from;
     whole = all.0.whole;
     none_left = all.0.none_left;
     front = prefix-trans all.0.from.last.pass.seen front journal all.0.front p;
   },
+  served-longer opening front journal ds rs p all.1,
+)
+
+seen-longer : (opening front journal : List Batch) (doors : List Connections) (runs : List DoorRun) → IsPrefix front journal
+    → AllZip (IsSeenIn opening front) doors runs → AllZip (IsSeenIn opening journal) doors runs
+seen-longer opening front journal [] [] p all = tt
+seen-longer opening front journal [] (r ∷ rs) p all = absurd all
+seen-longer opening front journal (d ∷ ds) [] p all = absurd all
+seen-longer opening front journal (d ∷ ds) (r ∷ rs) p all = (
+  record { from = all.0.from; front = prefix-trans all.0.from.last.pass.seen front journal all.0.front p },
   seen-longer opening front journal ds rs p all.1,
 )
 
 -- what any reader saw begins with the opening
 begins-with : (opening journal : List Batch) (doors : List Connections) (runs : List DoorRun) → 1 ≤ length doors
-    → AllZip (IsServedIn opening journal) doors runs → IsPrefix opening journal
+    → AllZip (IsSeenIn opening journal) doors runs → IsPrefix opening journal
 begins-with opening journal [] runs some all = absurd (omega (arith, some))
 begins-with opening journal (d ∷ ds) [] some all = absurd all
 begins-with opening journal (d ∷ ds) (r ∷ rs) some all =
@@ -449,19 +459,12 @@ of-workers (run ∷ runs) doors =
 
 -- ---- how a run ends whose doors were served
 
--- all was stored, and all that was seen is a front of what is stored
-pub record SeesAll (service : Service) (before after : HostState) (worked : IsWorked service before after) : Type 0 where
-  pub journal : List Batch
-  pub tells : IfSome (after.disks service.store) (HasJournal journal)
-  pub extends : IsPrefix worked.opening journal
-  pub stored : AllZip (IsStoredIn journal) (map (file_at before) service.files) worked.files
-  pub seen : AllZip (IsServedIn worked.opening journal) worked.handed worked.doors
-
--- where a file found no room, the journal that the disk tells has none
-pub record SeesFull (service : Service) (before after : HostState) (worked : IsWorked service before after) : Type 0 where
-  pub journal : List Batch
-  pub tells : IfSome (after.disks service.store) (HasJournal journal)
-  pub full : AllZip (FindsFull journal) (map (file_at before) service.files) worked.files
+-- all that was told and seen is a front of the journal that the disk tells
+pub record SeesAll (service : Service) (before after : HostState) (worked : IsWorked service before after) (first : Option Fault) : Type 0 where
+  pub goes_on : GoesOn service before after worked
+  pub stored : first ≡ None → AllZip (IsStoredIn goes_on.journal) (map (file_at before) service.files) worked.files
+  pub served : first ≡ None → AllZip (IsServedIn worked.opening goes_on.journal) worked.handed worked.doors
+  pub full : AllZip (FindsFull goes_on.journal) (map (file_at before) service.files) worked.files
 
 reported-by : (lines : List ℕ) (old new : Stream) → Wrote lines old new → Writes (lines ∷ []) old new
 reported-by lines old new (inl takes) = writes-takes lines old new takes
@@ -473,68 +476,58 @@ listens-by line (Ok written) old new wrote = writes-takes line old new wrote
 listens-by line (Err failed) old new wrote = writes-fails line old new wrote
 
 module _ (service : Service) (before after : World) (worked : IsWorked service before.host after.host)
-    (same_input : after.input ≡ before.input) (reports : Reports service worked.files before after) where
-  to-first : (first : Option Fault) → first ≡ first_fault worked.files worked.doors
+    (store : HasStore service after.host) (same_input : after.input ≡ before.input) (reports : Reports service worked.files before after) where
+  to-first : (first : Option Fault) → first ≡ first_fault worked.files worked.doors → GoesOn service before.host after.host worked
       → after.host.disk_faults ≡ before.host.disk_faults → IsWorkedTo service first before after
-  to-first first is disk = record { worked = worked; reports = reports; first = is; disk = disk }
+  to-first first is goes_on disk = record { worked = worked; goes_on = goes_on; reports = reports; first = is; disk = disk }
 
   -- memory was wanting
   starved : ServesBy service before after (Stopped faults.OutOfMemory)
-  starved = inr (worked, reports.listens, inr reports)
+  starved = inr (worked, store, reports.listens, inr reports)
 
   is-full : (games bytes : ℕ) → Some (faults.Full games bytes) ≡ first_fault worked.files worked.doors
-      → after.host.disk_faults ≡ before.host.disk_faults → SeesFull service before.host after.host worked
+      → after.host.disk_faults ≡ before.host.disk_faults → SeesAll service before.host after.host worked (Some (faults.Full games bytes))
       → IsFull service games bytes before after
   unfolding to-first
   is-full games bytes is disk sees = record {
-    to = to-first (Some (faults.Full games bytes)) is disk;
-    journal = sees.journal;
-    tells = sees.tells;
+    to = to-first (Some (faults.Full games bytes)) is sees.goes_on disk;
     full = sees.full;
   }
 
   -- a worker had a fault
-  by-worker : (fault : Fault) (told : Bool) → IsWorkers fault → Some fault ≡ first_fault worked.files worked.doors
+  by-worker : (fault : Fault) → IsWorkers fault → Some fault ≡ first_fault worked.files worked.doors
       → after.host.disk_faults ≡ before.host.disk_faults → AreCounted (Some fault) before.host after.host
-      → (told ≡ true → SeesFull service before.host after.host worked)
-      → ServesBy service before after (Stopped (fault_told told fault))
-  by-worker faults.ReadFault true is first disk counted full = (to-first (Some faults.ReadFault) first disk, counted.files refl)
-  by-worker faults.ReadFault false is first disk counted full = (to-first (Some faults.ReadFault) first disk, counted.files refl)
-  by-worker (faults.Full games bytes) true is first disk counted full = is-full games bytes first disk (full refl)
-  by-worker (faults.Full games bytes) false is first disk counted full = starved
-  by-worker faults.TooMuchInput true is first disk counted full = to-first (Some faults.TooMuchInput) first disk
-  by-worker faults.TooMuchInput false is first disk counted full = to-first (Some faults.TooMuchInput) first disk
-  by-worker faults.CannotAccept true is first disk counted full = (to-first (Some faults.CannotAccept) first disk, counted.doors refl)
-  by-worker faults.CannotAccept false is first disk counted full = (to-first (Some faults.CannotAccept) first disk, counted.doors refl)
-  by-worker faults.OutOfMemory true is first disk counted full = starved
-  by-worker faults.OutOfMemory false is first disk counted full = starved
-  by-worker faults.Usage told is first disk counted full = absurd is
-  by-worker (faults.BadParameter p) told is first disk counted full = absurd is
-  by-worker faults.WriteFault told is first disk counted full = absurd is
-  by-worker faults.DiskFault told is first disk counted full = absurd is
-  by-worker (faults.NotEmpty n) told is first disk counted full = absurd is
-  by-worker faults.NotAStore told is first disk counted full = absurd is
-  by-worker (faults.OtherFormat n) told is first disk counted full = absurd is
-  by-worker (faults.Damaged n) told is first disk counted full = absurd is
-  by-worker (faults.CannotOpen name) told is first disk counted full = absurd is
+      → SeesAll service before.host after.host worked (Some fault)
+      → ServesBy service before after (Stopped fault)
+  by-worker faults.ReadFault is first disk counted sees = (to-first (Some faults.ReadFault) first sees.goes_on disk, counted.files refl)
+  by-worker (faults.Full games bytes) is first disk counted sees = is-full games bytes first disk sees
+  by-worker faults.TooMuchInput is first disk counted sees = to-first (Some faults.TooMuchInput) first sees.goes_on disk
+  by-worker faults.CannotAccept is first disk counted sees = (to-first (Some faults.CannotAccept) first sees.goes_on disk, counted.doors refl)
+  by-worker faults.OutOfMemory is first disk counted sees = starved
+  by-worker faults.Usage is first disk counted sees = absurd is
+  by-worker (faults.BadParameter p) is first disk counted sees = absurd is
+  by-worker faults.WriteFault is first disk counted sees = absurd is
+  by-worker faults.DiskFault is first disk counted sees = absurd is
+  by-worker (faults.NotEmpty n) is first disk counted sees = absurd is
+  by-worker faults.NotAStore is first disk counted sees = absurd is
+  by-worker (faults.OtherFormat n) is first disk counted sees = absurd is
+  by-worker (faults.Damaged n) is first disk counted sees = absurd is
+  by-worker (faults.CannotOpen name) is first disk counted sees = absurd is
 
   is-served : None ≡ first_fault worked.files worked.doors → after.host.disk_faults ≡ before.host.disk_faults
-      → SeesAll service before.host after.host worked → IsServed service before after
+      → SeesAll service before.host after.host worked None → IsServed service before after
   unfolding to-first
   is-served is disk sees = record {
-    to = to-first None is disk;
-    journal = sees.journal;
-    tells = sees.tells;
-    extends = sees.extends;
-    stored = sees.stored;
-    seen = sees.seen;
+    to = to-first None is sees.goes_on disk;
+    stored = sees.stored refl;
+    served = sees.served refl;
   }
 
   same_reads : after.input.read_faults ≡ before.input.read_faults
   same_reads = ap (λ (s : Stream). s.read_faults) same_input
 
   by-sinks : {A E : Type 0} (listens : Result A E) (lines : List ℕ) → WroteLine (listening_line service.address) listens before.output after.output
-      → IsServed service before after → (ending : Ending) → EndsBy false None true listens lines before.errors after.errors ending
+      → IsServed service before after → (ending : Ending) → EndsBy true false None listens lines before.errors after.errors ending
       → ServesBy service before after ending
   by-sinks (Err failed) lines wrote served ending is =
       subst (λ (e : Ending). ServesBy service before after e) (sym is)
@@ -552,36 +545,34 @@ module _ (service : Service) (before after : World) (worked : IsWorked service b
       subst (λ (e : Ending). ServesBy service before after e) (sym fails.1)
       (served, record { reads = same_reads; rises = inr fails.0.rises })
 
-  ends-by : {A E : Type 0} (failed : Bool) (first : Option Fault) (told : Bool) (listens : Result A E) (lines : List ℕ)
+  ends-by : {A E : Type 0} (told failed : Bool) (first : Option Fault) (listens : Result A E) (lines : List ℕ)
       → WroteLine (listening_line service.address) listens before.output after.output
       → (failed ≡ true → Rises before.host.disk_faults after.host.disk_faults)
       → (failed ≡ false → after.host.disk_faults ≡ before.host.disk_faults)
       → first ≡ first_fault worked.files worked.doors
       → AreCounted first before.host after.host
-      → (first ≡ None → told ≡ true → SeesAll service before.host after.host worked)
-      → (told ≡ true → SeesFull service before.host after.host worked)
-      → (ending : Ending) → EndsBy failed first told listens lines before.errors after.errors ending
+      → (told ≡ true → SeesAll service before.host after.host worked first)
+      → (ending : Ending) → EndsBy told failed first listens lines before.errors after.errors ending
       → ServesBy service before after ending
-  ends-by true first told listens lines wrote rises stays is counted sees full ending by =
-      subst (λ (e : Ending). ServesBy service before after e) (sym by) (rises refl, inr (worked, reports))
-  ends-by false (Some fault) told listens lines wrote rises stays is counted sees full ending by =
-      subst (λ (e : Ending). ServesBy service before after e) (sym by)
-      (by-worker fault told (subst (λ (o : Option Fault). IfSome o IsWorkers) (sym is) (of-workers worked.files worked.doors))
-      is (stays refl) counted full)
-  ends-by false None false listens lines wrote rises stays is counted sees full ending by =
+  ends-by false failed first listens lines wrote rises stays is counted sees ending by =
       subst (λ (e : Ending). ServesBy service before after e) (sym by) starved
-  ends-by false None true listens lines wrote rises stays is counted sees full ending by =
-      by-sinks listens lines wrote (is-served is (stays refl) (sees refl refl)) ending by
+  ends-by true true first listens lines wrote rises stays is counted sees ending by =
+      subst (λ (e : Ending). ServesBy service before after e) (sym by) (rises refl, inr (worked, reports, (sees refl).goes_on))
+  ends-by true false (Some fault) listens lines wrote rises stays is counted sees ending by =
+      subst (λ (e : Ending). ServesBy service before after e) (sym by)
+      (by-worker fault (subst (λ (o : Option Fault). IfSome o IsWorkers) (sym is) (of-workers worked.files worked.doors))
+      is (stays refl) counted (sees refl))
+  ends-by true false None listens lines wrote rises stays is counted sees ending by =
+      by-sinks listens lines wrote (is-served is (stays refl) (sees refl)) ending by
 
 module _ {A E : Type 0} (service : Service) (before after : World) (worked : IsWorked service before.host after.host)
-    (same_input : after.input ≡ before.input) (failed : Bool) (first : Option Fault) (told : Bool) (listens : Result A E)
+    (store : HasStore service after.host) (same_input : after.input ≡ before.input) (told failed : Bool) (first : Option Fault) (listens : Result A E)
     (wrote : WroteLine (listening_line service.address) listens before.output after.output)
     (rises : failed ≡ true → Rises before.host.disk_faults after.host.disk_faults)
     (stays : failed ≡ false → after.host.disk_faults ≡ before.host.disk_faults)
     (first_is : first ≡ first_fault worked.files worked.doors)
     (counted : AreCounted first before.host after.host)
-    (sees : first ≡ None → told ≡ true → SeesAll service before.host after.host worked)
-    (full : told ≡ true → SeesFull service before.host after.host worked) where
+    (sees : told ≡ true → SeesAll service before.host after.host worked first) where
   listened : Listens service before after
   listened = record {
     input = same_input;
@@ -589,50 +580,50 @@ module _ {A E : Type 0} (service : Service) (before after : World) (worked : IsW
   }
 
   pub concludes : (lines : Option (List ℕ)) → IfSome lines (λ told. told ≡ serve_report service.files worked.files)
-      → (ending : Ending) → Concludes lines failed first told listens before.errors after.errors ending
+      → (ending : Ending) → Concludes lines told failed first listens before.errors after.errors ending
       → ServesBy service before after ending
   concludes None are ending by =
-      subst (λ (e : Ending). ServesBy service before after e) (sym by.1) (inr (worked, listened, inl by.0))
+      subst (λ (e : Ending). ServesBy service before after e) (sym by.1) (inr (worked, store, listened, inl by.0))
   concludes (Some lines) are ending by =
       let reports : Reports service worked.files before after = record {
         listens = listened;
         errors = subst (λ (l : List ℕ). Writes (l ∷ []) before.errors after.errors) are (reported-by lines before.errors after.errors by.0);
       } in
-      ends-by service before after worked same_input reports failed first told listens lines wrote rises stays first_is counted sees full ending by.1
+      ends-by service before after worked store same_input reports told failed first listens lines wrote rises stays first_is counted sees ending by.1
 
 module _ (service : Service) (before lent used after : HostState) (given returns : DiskState)
     (hands : HandsDisk service.store given before lent) (takes : TakesDisk service.store returns used after)
     (opening journal : List Batch) (first : Option Fault) (lines : Option (List ℕ)) (told : Bool)
     (w : HasWorked service opening journal first lines told lent used) (read : IfSome given.content (HasJournal opening)) where
-  pub sees-all : 1 ≤ service.readers → TellsLonger journal returns.content → first ≡ None → told ≡ true
-      → SeesAll service before after (is-worked service before lent used after given returns hands takes opening journal first lines told w read)
+  pub sees-all : 1 ≤ service.readers → TellsLonger journal returns.content → told ≡ true
+      → SeesAll service before after (is-worked service before lent used after given returns hands takes opening journal first lines told w read) first
   unfolding is-worked
-  sees-all some l none is =
+  sees-all some l is =
       let files : w.middle.files ≡ before.files = w.files ∙ ap (λ (h : HostState). h.files) hands.rest in
-      let seen : AllZip (IsServedIn opening journal) w.handed w.over.doors = w.over.seen none is in
+      let seen : AllZip (IsSeenIn opening journal) w.handed w.over.doors = w.over.seen is in
       let count : 1 ≤ length w.handed = omega (arith, some, w.are_fresh.number) in
       record {
-        journal = l.longer;
-        tells = subst (λ (c : Option (List ℕ)). IfSome c (HasJournal l.longer)) (sym (content-back service.store returns used after takes)) l.tells;
-        extends = prefix-trans opening journal l.longer (begins-with opening journal w.handed w.over.doors count seen) l.extends;
-        stored = stored-longer journal l.longer (map (file_at before) service.files) w.over.files l.extends
+        goes_on = record {
+          journal = l.longer;
+          tells = subst (λ (c : Option (List ℕ)). IfSome c (HasJournal l.longer)) (sym (content-back service.store returns used after takes)) l.tells;
+          extends = prefix-trans opening journal l.longer (begins-with opening journal w.handed w.over.doors count seen) l.extends;
+          seen = seen-longer opening journal l.longer w.handed w.over.doors l.extends seen;
+        };
+        stored = λ none. stored-longer journal l.longer (map (file_at before) service.files) w.over.files l.extends
             (subst (λ (at : List ℕ → Option (List ℕ)). AllZip (IsStoredIn journal) (map (λ (name : List ℕ). source_alone (at name) 0 0) service.files) w.over.files)
             files (w.over.stored none is));
-        seen = seen-longer opening journal l.longer w.handed w.over.doors l.extends seen;
-      }
-
-  pub sees-full : TellsLonger journal returns.content → told ≡ true
-      → SeesFull service before after (is-worked service before lent used after given returns hands takes opening journal first lines told w read)
-  unfolding is-worked
-  sees-full l is =
-      let files : w.middle.files ≡ before.files = w.files ∙ ap (λ (h : HostState). h.files) hands.rest in
-      record {
-        journal = l.longer;
-        tells = subst (λ (c : Option (List ℕ)). IfSome c (HasJournal l.longer)) (sym (content-back service.store returns used after takes)) l.tells;
+        served = λ none. served-longer opening journal l.longer w.handed w.over.doors l.extends (w.over.served_in none is);
         full = full-longer journal l.longer (map (file_at before) service.files) w.over.files l.extends
             (subst (λ (at : List ℕ → Option (List ℕ)). AllZip (FindsFull journal) (map (λ (name : List ℕ). source_alone (at name) 0 0) service.files) w.over.files)
             files (w.over.full is));
       }
+
+  -- what comes back is a store
+  pub still-store : TellsLonger journal returns.content → HasStore service after
+  still-store l = record {
+    journal = l.longer;
+    told = subst (λ (c : Option (List ℕ)). IfSome c (HasJournal l.longer)) (sym (content-back service.store returns used after takes)) l.tells;
+  }
 
   -- a count that rose over the workers rose in the run
   pub worked-counted : AreCounted first before after
@@ -735,7 +726,7 @@ pub served-so : {A E : Type 0} (service : Service) (before lent used after : Hos
     → (failed : Bool) → (failed ≡ true → 0 < returns.faults) → (failed ≡ false → returns.faults ≡ 0)
     → (input output written errors reported : Stream) (listens : Result A E)
     → WroteLine (listening_line service.address) listens output written
-    → (ending : Ending) → Concludes lines failed first told listens errors reported ending
+    → (ending : Ending) → Concludes lines told failed first listens errors reported ending
     → Serves service (world input output errors before) (world input written reported after) ending
 unfolding is-worked
 served-so service before lent used after given returns hands takes opening journal first lines told w read some l g failed some_faults no_faults
@@ -744,13 +735,13 @@ served-so service before lent used after given returns hands takes opening journ
     record {
       by = concludes service (world input output errors before) (world input written reported after)
           (is-worked service before lent used after given returns hands takes opening journal first lines told w read)
-          refl failed first told listens wrote
+          (still-store service before lent used after given returns hands takes opening journal first lines told w read l)
+          refl told failed first listens wrote
           (λ is. disk-rises service before lent used after given returns hands takes disk (some_faults is))
           (λ is. disk-stays service before lent used after given returns hands takes disk (no_faults is))
           w.over.first_is
           (worked-counted service before lent used after given returns hands takes opening journal first lines told w read)
           (sees-all service before lent used after given returns hands takes opening journal first lines told w read some l)
-          (sees-full service before lent used after given returns hands takes opening journal first lines told w read l)
           lines w.over.lines_are ending by;
       gives_back = rounds service before lent used after given returns hands takes g;
     }

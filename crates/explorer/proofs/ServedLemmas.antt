@@ -40,7 +40,7 @@ use Rattle.explorer.specs.declared.workers.FileWork.{FileWork}
 use Rattle.explorer.specs.declared.workers.ReaderWork.{ReaderWork}
 use Rattle.explorer.specs.declared.workers.Worker.{Worker}
 use Rattle.explorer.specs.declared.workers.Worker.TheVariants.{File, Reader, Merger}
-use Rattle.explorer.specs.Served.{AccountsSo, DoorRun, FileRun, FindsFull, IsFullBy, IsImported, IsServedFrom, IsServedIn, IsStoredIn, ReadsSo, fault_of_door, fault_of_doors, fault_of_import, file_at, file_lines, files_back, first_fault, new_importer, serve_report}
+use Rattle.explorer.specs.Served.{AccountsSo, DoorRun, FileRun, FindsFull, IsFullBy, IsImported, IsSeenIn, IsServedFrom, IsServedIn, IsStoredIn, ReadsSo, fault_of_door, fault_of_doors, fault_of_import, file_at, file_lines, files_back, first_fault, new_importer, serve_report}
 use Rattle.explorer.specs.Serving.{AreOut, WorksOver, due, lines_told}
 use Rattle.explorer.specs.Workers.{AreNamed, CanReturn, GivenBack, HasReaders, TakesWorker, HasReport, ImportsFile, IsFileOf, IsReaderOf, IsTold, ServesDoor, Works, call_of, calls_of, fault_in, fault_of, lines_in, lines_of, name_at}
 
@@ -258,8 +258,9 @@ module _ {F G J : Type 0} (source : F → Stream) (door : G → Connections) (al
     pub served : AllZip (IsServedFrom opening) handed runs
     pub calls : calls_of source door all at (readers ++ Merger ∷ []) ≡ map (λ run. DoorBack run.connections) runs
     pub first : fault_in (readers ++ Merger ∷ []) ≡ fault_of_doors runs
-    pub seen : (journal : List Batch) → AllByRecursion (IsTold journal journal) readers
+    pub served_in : (journal : List Batch) → AllByRecursion (IsTold journal journal) readers
         → fault_in (readers ++ Merger ∷ []) ≡ None → AllZip (IsServedIn opening journal) handed runs
+    pub seen : (journal : List Batch) → AllByRecursion (IsTold journal journal) readers → AllZip (IsSeenIn opening journal) handed runs
 
   one-door : (handed : Connections) (others : List Connections) (at : ℕ) (reader reader' : ReaderWork G J) (readers : List (Worker F G J))
       → door reader.door ≡ handed → reader.pass ≡ watching opening → ServesDoor door reader reader'
@@ -280,7 +281,7 @@ module _ {F G J : Type 0} (source : F → Stream) (door : G → Connections) (al
         served = (from, rest.served);
         calls = ap (λ (cs : List HostCall). DoorBack (door reader'.door) ∷ cs) rest.calls;
         first = ap (λ (o : Option Fault). option_or (fault_of_door reader'.end) o) rest.first;
-        seen = λ journal told none.
+        served_in = λ journal told none.
             let both = or-none (fault_of_door reader'.end) (fault_in (readers ++ Merger ∷ [])) none in
             let whole = whole-door reader'.end both.0 in (
               record {
@@ -289,14 +290,15 @@ module _ {F G J : Type 0} (source : F → Stream) (door : G → Connections) (al
                 none_left = (subst (λ (end : DoorEnd). EndsDoor end handed (door reader'.door)) whole ended).0;
                 front = told.0;
               },
-              rest.seen journal told.1 both.1,
+              rest.served_in journal told.1 both.1,
             );
+        seen = λ journal told. (record { from = from; front = told.0 }, rest.seen journal told.1);
       }
 
   pub door-runs : (handed : List Connections) (at : ℕ) (readers readers' : List (Worker F G J))
       → AllZip (IsReaderOf door opening) handed readers → AllZip (Works source door) readers readers'
       → DoorRuns handed at readers'
-  door-runs [] at [] [] are works = record { runs = []; served = tt; calls = refl; first = refl; seen = λ journal told none. tt }
+  door-runs [] at [] [] are works = record { runs = []; served = tt; calls = refl; first = refl; served_in = λ journal told none. tt; seen = λ journal told. tt }
   door-runs [] at [] (w ∷ ws) are works = absurd works
   door-runs [] at (w ∷ ws) readers' are works = absurd are
   door-runs (d ∷ ds) at [] readers' are works = absurd are
@@ -694,7 +696,8 @@ module _ {F G J : Type 0} (source : F → Stream) (door : G → Connections) (na
         };
         lines_are = if_some lines _ _ (λ l is. is ∙ (ap (λ (ws : List (Worker F G J)). lines_in names ws) r.are ∙ r.file_runs.lines)) lines_are;
         stored = λ n t. r.file_runs.stored journal (known t).0 (none n);
-        seen = λ n t. r.door_runs.seen journal (all-both (IsTold journal journal) r.readers (Merger ∷ []) (known t).1).0
+        served_in = λ n t. r.door_runs.served_in journal (all-both (IsTold journal journal) r.readers (Merger ∷ []) (known t).1).0
             (or-all r.files (r.readers ++ Merger ∷ []) (none n));
+        seen = λ t. r.door_runs.seen journal (all-both (IsTold journal journal) r.readers (Merger ∷ []) (known t).1).0;
         full = λ t. r.file_runs.full journal (known t).0;
       }

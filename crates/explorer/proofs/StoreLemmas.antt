@@ -4,10 +4,12 @@ use Rattle.std.specs.Prelude.{IfSome}
 use Rattle.outside.specs.Stream.{Rises}
 use Rattle.disk_model.specs.Disk.{DiskState, MayLeave}
 use Rattle.explorer_model.specs.StoreFile.{store_format}
-use Rattle.record_log.specs.Log.{IsCreated, Log, empty_file}
+use Rattle.record_log.specs.Log.{IsCreated, IsNotCreated, Log, empty_file}
+use Rattle.record_log.specs.declared.fault.CreateFault.{CreateFault}
+use Rattle.record_log.specs.declared.fault.CreateFault.TheVariants as creation
 use Rattle.manifest.specs.Manifest.{batch_format}
 use Rattle.host.specs.Hosts.{HandsDisk, HostState, TakesDisk}
-use Rattle.explorer.specs.Create.{Makes}
+use Rattle.explorer.specs.Create.{IsNotMade, Makes}
 use Rattle.explorer.specs.Stores.{IsSized, UsesDisk}
 
 -- what is told has P
@@ -52,6 +54,16 @@ made_by {D} disk left_since told before after log created no_fault is =
           (λ bytes tells. created.file bytes (told log.disk bytes tells));
       no_fault = no_fault;
     })
+
+-- and one that was not
+pub not_made : {D : Type 0} (disk : D → DiskState) (fault : CreateFault) (before after : D) → IsNotCreated disk fault before after
+    → IsNotMade fault (disk before) (disk after)
+not_made disk (creation.NotEmpty size) before after n =
+    record { some = n.0; size_is = n.1; same = ap (λ (d : DiskState). d.content) n.2 }
+not_made disk (creation.DiskFault from to) before after n = record {
+  rises = subst (λ (k : ℕ). Rises (disk before).faults k) n.counts.after_is (subst (λ (k : ℕ). Rises k to) n.counts.before_is n.counts.rises);
+  kept = n.kept;
+}
 
 pub is_sized : {D : Type 0} (disk : D → DiskState)
     → ((it : D) (file : List ℕ) → (disk it).content ≡ Some file → length file ≡ (disk it).size) → (it : D) → IsSized (disk it)

@@ -4,6 +4,7 @@ use Rattle.std.proofs.lemmas.Grind.{common_steps}
 use Rattle.std.specs.Prelude.{sum_by}
 use Rattle.std.specs.List.{AllByRecursion, AllZip}
 use Rattle.std.specs.Option.{option_map}
+use Rattle.std.proofs.lemmas.List.{length-append, nil_from_length}
 use Rattle.std.proofs.lemmas.List.Sums.{sum_by-append}
 use Rattle.outside.specs.Doors.{Connections}
 use Rattle.outside.specs.Stream.{Stream}
@@ -11,6 +12,8 @@ use Rattle.host.specs.Hosts.{ADisk, ADoor, AFile, DoorBack, FileBack, HostCall, 
 use Rattle.explorer_model.specs.declared.archive.Batch.{Batch}
 use Rattle.explorer_model.specs.Timeline.{IsPrefix}
 use Rattle.explorer_model.proofs.Timelines.{prefix-trans}
+use Rattle.published_index.specs.Changes.{AddOf, Change, JoinAt, with_put}
+use Rattle.ingest_desk.specs.Stored.{with_held}
 use Rattle.ingest_desk.specs.declared.receipt.Receipt.{Receipt}
 use Rattle.ingest_desk.specs.declared.report.End.{End}
 use Rattle.ingest_desk.specs.declared.report.End.TheVariants as ends
@@ -104,6 +107,23 @@ known-more all rest less worker told told' old new journal e p both k = record {
 pub known-all : {F G J : Type 0} (all rest : List (Worker F G J)) (told : Type 0) (seen journal : List Batch)
     → rest ≡ [] → HasKnown all rest told seen journal → told → AllByRecursion (IsTold seen journal) all
 known-all all rest told seen journal e k t = rw (k.all_are ∙ ap (λ l. l ++ k.done) e) (k.known t)
+
+put-grows : (published : List Batch) (change : Change) → IsPrefix published (with_put published change)
+put-grows published (AddOf segment) = record { rest = segment.span.batches; is = refl }
+put-grows published (JoinAt at segment) = record { rest = []; is = sym (append-nil published) }
+
+held-grows : (published : List Batch) (held : Option Change) → IsPrefix published (with_held published held)
+held-grows published None = record { rest = []; is = sym (append-nil published) }
+held-grows published (Some change) = put-grows published change
+
+-- what is as long as what is published, and begins with it, is a front of what is stored
+pub as_published : (published seen : List Batch) (held : Option Change) → IsPrefix published seen → length seen ≡ length published
+    → IsPrefix seen (with_held published held)
+as_published published seen held p even =
+    let none : p.rest ≡ [] = nil_from_length p.rest
+    (omega (arith, even, ap (λ (l : List Batch). length l) p.is, length-append published p.rest)) in
+    let same : seen ≡ published = p.is ∙ (ap (λ (l : List Batch). published ++ l) none ∙ append-nil published) in
+    subst (λ (l : List Batch). IsPrefix l (with_held published held)) (sym same) (held-grows published held)
 
 -- ---- what goes back
 

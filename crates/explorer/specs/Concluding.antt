@@ -5,34 +5,29 @@ use Rattle.explorer_model.specs.declared.archive.Batch.{Batch}
 use Rattle.explorer_model.specs.Timeline.{IsPrefix}
 use Rattle.manifest.specs.Manifest.{HasJournal}
 use Rattle.explorer.specs.declared.fault.Fault.{Fault}
-use Rattle.explorer.specs.declared.fault.Fault.TheVariants.{DiskFault, Full, OutOfMemory, WriteFault}
+use Rattle.explorer.specs.declared.fault.Fault.TheVariants.{DiskFault, OutOfMemory, WriteFault}
 use Rattle.explorer.specs.Lines.{Ending, Done, Stopped}
 
--- the fault that a run tells: that the store is full only where the journal is known
-abbrev pub fault_told : Bool → Fault → Fault
-fault_told false (Full games bytes) = OutOfMemory
-fault_told told fault = fault
-
--- The ending of a run whose lines had memory: by a fault of the disk, else by the first fault of a
--- worker, else for want of memory, else by a fault of a sink.
-abbrev pub EndsBy : {A E : Type 0} → Bool → Option Fault → Bool → Result A E → List ℕ
+-- The ending of a run whose lines had memory: for want of memory where the journal is not known to
+-- have all that was told and seen, else by a fault of the disk, else by the first fault of a
+-- worker, else by a fault of a sink.
+abbrev pub EndsBy : {A E : Type 0} → Bool → Bool → Option Fault → Result A E → List ℕ
     → Stream → Stream → Ending → Type 0
-EndsBy true first told listens lines old new ending = ending ≡ Stopped DiskFault
-EndsBy false (Some fault) told listens lines old new ending =
-    ending ≡ Stopped (fault_told told fault)
-EndsBy false None false listens lines old new ending = ending ≡ Stopped OutOfMemory
-EndsBy false None true (Err failed) lines old new ending = ending ≡ Stopped WriteFault
-EndsBy false None true (Ok listening) lines old new ending =
+EndsBy false failed first listens lines old new ending = ending ≡ Stopped OutOfMemory
+EndsBy true true first listens lines old new ending = ending ≡ Stopped DiskFault
+EndsBy true false (Some fault) listens lines old new ending = ending ≡ Stopped fault
+EndsBy true false None (Err failed) lines old new ending = ending ≡ Stopped WriteFault
+EndsBy true false None (Ok listening) lines old new ending =
     (Takes lines old new × (ending ≡ Done))
     ⊎ (FailsToTake lines old new × (ending ≡ Stopped WriteFault))
 
 -- the lines were written, or their write failed, and the run ended; or memory was wanting for them
-abbrev pub Concludes : {A E : Type 0} → Option (List ℕ) → Bool → Option Fault → Bool → Result A E
+abbrev pub Concludes : {A E : Type 0} → Option (List ℕ) → Bool → Bool → Option Fault → Result A E
     → Stream → Stream → Ending → Type 0
-Concludes None failed first told listens old new ending =
+Concludes None told failed first listens old new ending =
     (new ≡ old) × (ending ≡ Stopped OutOfMemory)
-Concludes (Some lines) failed first told listens old new ending =
-    Wrote lines old new × EndsBy failed first told listens lines old new ending
+Concludes (Some lines) told failed first listens old new ending =
+    Wrote lines old new × EndsBy told failed first listens lines old new ending
 
 -- what is told of a disk is a journal that begins with this one
 pub record TellsLonger (journal : List Batch) (content : Option (List ℕ)) : Type 0 where

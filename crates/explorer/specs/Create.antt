@@ -24,9 +24,10 @@ pub record IsNotEmpty (size : ℕ) (handed returned : DiskState) : Type 0 where
   pub size_is : size ≡ handed.size
   pub same : returned.content ≡ handed.content
 
--- a call of the disk failed
-abbrev pub Faults : DiskState → DiskState → Type 0
-Faults handed returned = Rises handed.faults returned.faults
+-- a call of the disk failed, and what stood there stands there still
+pub record Faults (handed returned : DiskState) : Type 0 where
+  pub rises : Rises handed.faults returned.faults
+  pub kept : handed.size ≢ 0 → returned.content ≡ handed.content
 
 -- the store was made, and a line was written
 pub record Creates (Wrote : List ℕ → Type 0) (store : List ℕ) (before after : World) : Type 0 where

@@ -12,7 +12,7 @@ use Rattle.ingest_desk.specs.Openings.{IsWrong}
 use Rattle.explorer.specs.declared.fault.Fault.{Fault}
 use Rattle.explorer.specs.declared.fault.Fault.TheVariants.{CannotAccept, CannotOpen, Damaged, DiskFault, Full, NotAStore, OtherFormat, OutOfMemory, ReadFault, TooMuchInput, WriteFault}
 use Rattle.explorer.specs.Lines.{Ending, Done, Stopped}
-use Rattle.explorer.specs.Served.{FileRun, FindsFull, IsGivenUp, IsServedIn, IsStoredIn, IsWorked, Service, file_at, first_fault, serve_report}
+use Rattle.explorer.specs.Served.{FileRun, FindsFull, IsGivenUp, IsSeenIn, IsServedIn, IsStoredIn, IsWorked, Service, file_at, first_fault, serve_report}
 use Rattle.explorer.specs.World.{World, IsFaultless, WriteFails}
 
 -- ---- what is written
@@ -36,10 +36,20 @@ pub record Reports (service : Service) (files : List FileRun) (before after : Wo
 
 -- ---- the endings
 
+-- The disk given back has a journal that begins with the one that it had, and all that any reader
+-- saw is a front of it.
+pub record GoesOn (service : Service) (before after : HostState)
+    (worked : IsWorked service before after) : Type 0 where
+  pub journal : List Batch
+  pub tells : IfSome (after.disks service.store) (HasJournal journal)
+  pub extends : IsPrefix worked.opening journal
+  pub seen : AllZip (IsSeenIn worked.opening journal) worked.handed worked.doors
+
 -- doors were served, and this was the first fault of the workers
 pub record IsWorkedTo (service : Service) (fault : Option Fault) (before after : World)
     : Type 0 where
   pub worked : IsWorked service before.host after.host
+  pub goes_on : GoesOn service before.host after.host worked
   pub reports : Reports service worked.files before after
   pub first : fault ≡ first_fault worked.files worked.doors
   pub disk : after.host.disk_faults ≡ before.host.disk_faults
@@ -48,28 +58,26 @@ pub record IsWorkedTo (service : Service) (fault : Option Fault) (before after :
 -- back.
 pub record IsFull (service : Service) (games bytes : ℕ) (before after : World) : Type 0 where
   pub to : IsWorkedTo service (Some (Full games bytes)) before after
-  pub journal : List Batch
-  pub tells : IfSome (after.host.disks service.store) (HasJournal journal)
-  pub full : AllZip (FindsFull journal) (map (file_at before.host) service.files) to.worked.files
+  pub full : AllZip (FindsFull to.goes_on.journal) (map (file_at before.host) service.files)
+      to.worked.files
 
--- No worker had a fault. The disk given back has a journal that begins with the one that it had;
--- each file is stored in it, and all that any reader saw is a front of it.
+-- No worker had a fault. Each file is stored in the journal of the disk given back, and no door has
+-- a connection left.
 pub record IsServed (service : Service) (before after : World) : Type 0 where
   pub to : IsWorkedTo service None before after
-  pub journal : List Batch
-  pub tells : IfSome (after.host.disks service.store) (HasJournal journal)
-  pub extends : IsPrefix to.worked.opening journal
-  pub stored : AllZip (IsStoredIn journal) (map (file_at before.host) service.files) to.worked.files
-  pub seen : AllZip (IsServedIn to.worked.opening journal) to.worked.handed to.worked.doors
+  pub stored : AllZip (IsStoredIn to.goes_on.journal) (map (file_at before.host) service.files)
+      to.worked.files
+  pub served : AllZip (IsServedIn to.worked.opening to.goes_on.journal) to.worked.handed
+      to.worked.doors
 
 -- the call is noted, or it is not
 abbrev pub IsMaybe : HostCall → List HostCall → Type 0
 IsMaybe call calls = (calls ≡ []) ⊎ (calls ≡ call ∷ [])
 
--- the store is one, and was opened
-pub record HasStore (service : Service) (before : HostState) : Type 0 where
-  pub opening : List Batch
-  pub told : IfSome (before.disks service.store) (HasJournal opening)
+-- the store is one
+pub record HasStore (service : Service) (host : HostState) : Type 0 where
+  pub journal : List Batch
+  pub told : IfSome (host.disks service.store) (HasJournal journal)
 
 -- the file of this name was refused, behind those of these names
 pub record RefusesOneFile (service : Service) (name : List ℕ) (before after : HostState)
@@ -110,14 +118,16 @@ DiskFails service before after =
     Rises before.host.disk_faults after.host.disk_faults
     × ((IsGivenUp service [] [] before.host after.host × IsSilent before after)
     ⊎ ((worked : IsWorked service before.host after.host)
-    × Reports service worked.files before after))
+    × Reports service worked.files before after × GoesOn service before.host after.host worked))
 
--- memory was wanting: before doors were handed out, or for the lines, or for a worker
+-- Memory was wanting: before doors were handed out, or for the lines, or for a worker. The disk
+-- given back is a store.
 abbrev pub LacksMemory : Service → World → World → Type 0
 LacksMemory service before after =
     ((names : List (List ℕ)) × IsPrefix names service.files
     × IsGivenUp service names [] before.host after.host × IsSilent before after)
-    ⊎ ((worked : IsWorked service before.host after.host) × Listens service before after
+    ⊎ ((worked : IsWorked service before.host after.host) × HasStore service after.host
+    × Listens service before after
     × ((after.errors ≡ before.errors) ⊎ Reports service worked.files before after))
 
 -- a run of `serve`, by its ending; no other can be

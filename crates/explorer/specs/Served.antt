@@ -145,7 +145,13 @@ pub record IsServedFrom (opening : List Batch) (door : Connections) (run : DoorR
   pub ends : EndsDoor run.end door run.connections
   pub begins : IsPrefix opening last.pass.seen
 
--- and no connection is left, and what was seen is a front of the journal
+-- and what was seen is a front of the journal
+pub record IsSeenIn (opening journal : List Batch) (door : Connections) (run : DoorRun)
+    : Type 0 where
+  pub from : IsServedFrom opening door run
+  pub front : IsPrefix from.last.pass.seen journal
+
+-- and no connection is left
 pub record IsServedIn (opening journal : List Batch) (door : Connections) (run : DoorRun)
     : Type 0 where
   pub from : IsServedFrom opening door run

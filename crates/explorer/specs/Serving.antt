@@ -15,7 +15,7 @@ use Rattle.explorer.specs.declared.serving.Outcome.TheVariants.{GivenUp, Worked}
 use Rattle.explorer.specs.declared.serving.Unserved.{Unserved}
 use Rattle.explorer.specs.declared.serving.Unserved.TheVariants.{NoFile, NoAddress, NoMemory}
 use Rattle.explorer.specs.Serve.{IsMaybe}
-use Rattle.explorer.specs.Served.{DoorRun, FileRun, FindsFull, IsImported, IsServedFrom, IsServedIn, IsStoredIn, Service, file_at, files_back, files_out, first_fault, serve_report}
+use Rattle.explorer.specs.Served.{DoorRun, FileRun, FindsFull, IsImported, IsSeenIn, IsServedFrom, IsServedIn, IsStoredIn, Service, file_at, files_back, files_out, first_fault, serve_report}
 use Rattle.explorer.specs.Workers.{name_at}
 
 abbrev pub service_of : Order → Service
@@ -70,7 +70,8 @@ pub record WorksOver (names : List (List ℕ)) (opening journal : List Batch)
   pub lines_are : IfSome lines (λ lines. lines ≡ serve_report names files)
   pub stored : first ≡ None → told ≡ true
       → AllZip (IsStoredIn journal) (map (file_at before) names) files
-  pub seen : first ≡ None → told ≡ true → AllZip (IsServedIn opening journal) handed doors
+  pub served_in : first ≡ None → told ≡ true → AllZip (IsServedIn opening journal) handed doors
+  pub seen : told ≡ true → AllZip (IsSeenIn opening journal) handed doors
   pub full : told ≡ true → AllZip (FindsFull journal) (map (file_at before) names) files
 
 -- ---- files and doors are asked for, and come back

@@ -1,5 +1,5 @@
 //! What workers hold goes back once they have returned.
-ghost use Rattle.std.specs.Prelude.{◌≡◌, ◌<◌, ◌∷◌, [], map, length, string_bytes, true, None};
+ghost use Rattle.std.specs.Prelude.{◌≡◌, ◌<◌, ◌∷◌, [], map, length, string_bytes, true};
 ghost use Rattle.std.specs.List.{AllByRecursion};
 ghost use Rattle.explorer_model.specs.Timeline.{IsPrefix};
 ghost use Rattle.ingest_desk.specs.Stored.{journal};
@@ -14,7 +14,7 @@ use published_index::{Index, Pass};
 use session::{learn_notes, learn_receipts};
 
 /// Takes the workers off the list, the last first, and gives back what they hold. Says whether the
-/// published journal begins with all that they were told of it, and with all that they saw.
+/// stored journal begins with all that they were told of it, and with all that they saw.
 pub fn give_back<H: Host, J: Index>(
     host: &mut H,
     names: &[String],
@@ -27,7 +27,7 @@ pub fn give_back<H: Host, J: Index>(
     ensures back { GivenBack H.File.source H.Door.door (map string_bytes names.now) 0 list.items
         (H.host host.old) (H.host host.new) }
     ensures same { ingest.new ≡ ingest.old }
-    ensures told { result ≡ true → ingest.old.index.held ≡ None
+    ensures told { result ≡ true
         → AllByRecursion (IsTold (journal ingest.old) (journal ingest.old)) list.items }
 {
     let mut told = true;
@@ -65,8 +65,7 @@ fn take_back<H: Host, J: Index>(
         worker (H.host host.old) (H.host host.new) }
     ensures same { ingest.new ≡ ingest.old }
     ensures grew { IsPrefix (seen_by last) (seen_by result.0) }
-    ensures told { result.1 ≡ true → ingest.old.index.held ≡ None
-        → IsTold (seen_by result.0) (journal ingest.old) worker }
+    ensures told { result.1 ≡ true → IsTold (seen_by result.0) (journal ingest.old) worker }
 {
     match worker {
         Worker::File(file) => {
@@ -125,15 +124,15 @@ fn learn_end<J: Index>(pass: &mut Pass<J>, end: End<J>)
     }
 }
 
-/// The pass learns what is published. Says whether that is as much as is stored.
+/// The pass learns what is published. Says whether it has seen no more than that.
+#[tactic(auto, using(crate::proofs::WorkerLists::as_published))]
 fn catches_up<D: Disk, J: Index>(ingest: &mut Ingest<D, J>, pass: &mut Pass<J>) -> bool
     ensures same { ingest.new ≡ ingest.old }
     ensures grew { IsPrefix pass.old.seen pass.new.seen }
-    ensures told { result ≡ true → ingest.old.index.held ≡ None
-        → IsPrefix pass.new.seen (journal ingest.old) }
+    ensures told { result ≡ true → IsPrefix pass.new.seen (journal ingest.old) }
 {
     pass.learn(ingest.tell());
-    pass.front() == ingest.batches()
+    pass.front() == ingest.publisher().list().batches()
 }
 
 /// Whether both hold.

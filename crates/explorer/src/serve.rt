@@ -6,7 +6,7 @@ ghost use Rattle.host.specs.Hosts.{ADisk, HandsDisk, HostState, IsOut};
 ghost use Rattle.manifest.specs.Manifest.{HasJournal};
 ghost use Rattle.published_index.specs.Cover.{journal_of};
 ghost use Rattle.ingest_desk.specs.Stored.{journal};
-ghost use Rattle.explorer.specs.Concluding.{Concludes, TellsLonger, fault_told};
+ghost use Rattle.explorer.specs.Concluding.{Concludes, TellsLonger};
 ghost use Rattle.explorer.specs.Lines.{ending_of};
 ghost use Rattle.explorer.specs.Serve.{Serves, listening_line};
 ghost use Rattle.explorer.specs.Serving.{IsPlaced, IsToldBy, lines_told, service_of};
@@ -187,23 +187,10 @@ fn listening_line(alloc: Global, address: &str) -> Result<Vec<u8>, AllocError>
     Ok(line)
 }
 
-/// The fault that a run tells: that the store is full only where its journal is known.
-fn fault_told(fault: Fault, told: bool) -> Fault
-    ensures { result ≡ fault_told told fault }
-{
-    if told {
-        return fault;
-    }
-    match fault {
-        Fault::Full { .. } => Fault::OutOfMemory,
-        fault => fault,
-    }
-}
-
 /// Reports what is refused of the files, and says how the run ends: by a fault of the store's disk,
 /// else by the first fault of a worker, else by one of the sinks.
 fn conclude<E: Sink>(errors: &mut E, done: Done, failed: bool) -> Result<(), Fault>
-    ensures { Concludes (lines_told done.lines) failed done.first done.told done.listens
+    ensures { Concludes (lines_told done.lines) done.told failed done.first done.listens
         (E.sink errors.old) (E.sink errors.new) (ending_of result) }
 {
     let Done {
@@ -216,14 +203,14 @@ fn conclude<E: Sink>(errors: &mut E, done: Done, failed: bool) -> Result<(), Fau
         return Err(Fault::OutOfMemory);
     };
     let reported = write_lines(errors, lines.as_slice());
+    if !told {
+        return Err(Fault::OutOfMemory);
+    }
     if failed {
         return Err(Fault::DiskFault);
     }
     if let Some(fault) = first {
-        return Err(fault_told(fault, told));
-    }
-    if !told {
-        return Err(Fault::OutOfMemory);
+        return Err(fault);
     }
     if let Err(Failed) = listens {
         return Err(Fault::WriteFault);

@@ -11,7 +11,7 @@ ghost use Rattle.explorer.specs.Workers.{FilesOut, FilesRefused, HasReaders, IsF
 
 use crate::fault::Fault;
 use crate::order::Order;
-use crate::returning::{both, give_back};
+use crate::returning::give_back;
 use crate::workers::{FileWork, ReaderWork, Worker, first_fault, report_lines, work_all};
 use disk_model::Disk;
 use explorer_model::fault::Stop;
@@ -49,7 +49,7 @@ pub struct Done {
     pub first: Option<Fault>,
     /// The lines of what is refused.
     pub lines: Result<Vec<u8>, AllocError>,
-    /// Whether the published journal begins with all that the workers were told of it, and saw.
+    /// Whether the stored journal begins with all that the workers were told of it, and saw.
     pub told: bool,
     /// Whether the address could be told.
     pub listens: Result<(), Failed>,
@@ -200,7 +200,6 @@ fn serve_doors<R: Wait + Threads + Sync, O: Sink, H: Host, J: Index + Send + Syn
     let listens = output.write(line);
     let list = with_readers(doors, passes, list);
     let (mut ingest, list) = work_all(rt, alloc, ingest, list, order.workers);
-    let caught_up = publishes_all(rt, &mut ingest);
     let first = first_fault(list.as_slice());
     let names = order.files.as_slice();
     let lines = report_lines(alloc, names, list.as_slice());
@@ -208,15 +207,8 @@ fn serve_doors<R: Wait + Threads + Sync, O: Sink, H: Host, J: Index + Send + Syn
     let done = Done {
         first,
         lines,
-        told: both(caught_up, told),
+        told,
         listens,
     };
     (ingest, done)
-}
-
-/// Publishes the change that is held, if one is. Says whether none is held then.
-fn publishes_all<R: Wait, D: Disk, J: Index>(rt: &R, ingest: &mut Ingest<D, J>) -> bool
-    ensures { result ≡ true → ingest.new.index.held ≡ None }
-{
-    ingest.catch_up(rt).is_ok()
 }

@@ -108,12 +108,17 @@ pub record IsCreated {D : Type 0} (disk : D → DiskState) (left_since : D → �
   pub file : EachImage disk left_since log.disk (λ image. image ≡ empty_file format.number)
   pub holds_none : IsLogOf disk left_since [] log
 
+-- a call of the disk failed, and what stood there stands there still
+pub record FailsToCreate (before after : ℕ) (old new : DiskState) : Type 0 where
+  pub counts : IsFault before after old new
+  pub kept : old.size ≢ 0 → new.content ≡ old.content
+
 -- each fault of a creation, and what it says of the disk
 abbrev pub IsNotCreated : {D : Type 0} → (D → DiskState) → CreateFault → D → D → Type 0
 IsNotCreated disk (create.NotEmpty size) old new =
     (size ≢ 0) × (size ≡ (disk old).size) × Stays (disk old) (disk new)
 IsNotCreated disk (create.DiskFault before after) old new =
-    IsFault before after (disk old) (disk new)
+    FailsToCreate before after (disk old) (disk new)
 
 -- a log that was opened with these payloads, which are what is read of the disk where it tells
 pub record IsOpened {D : Type 0} (disk : D → DiskState) (left_since : D → ℕ → List ℕ → Type 0)

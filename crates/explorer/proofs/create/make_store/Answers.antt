@@ -1,4 +1,4 @@
-use Rattle.explorer.proofs.StoreLemmas.{is_sized, made_by}
+use Rattle.explorer.proofs.StoreLemmas.{is_sized, made_by, not_made}
 use Rattle.explorer.proofs.create.make_store.Goals as goal
 
 pub returns-in-Ok-clause-sized : goal.returns-in-Ok-clause-sized
@@ -10,3 +10,6 @@ returns-in-Ok-clause-made g c =
 
 pub returns-in-Err-clause-sized : goal.returns-in-Err-clause-sized
 returns-in-Err-clause-sized g c = is_sized g.D.Disk.disk g.met.D.Disk.told_size c.args.disk
+
+pub returns-in-Err-clause-made : goal.returns-in-Err-clause-made
+returns-in-Err-clause-made g c = not_made g.D.Disk.disk c.in-Err.back.fault c.args.disk c.in-Err.back.disk c.in-Err.ensures.refused

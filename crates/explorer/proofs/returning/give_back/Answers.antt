@@ -1,4 +1,4 @@
-use Rattle.std.proofs.Common.{rules, ◌≡◌, ◌+◌, ◌∷◌, ◌++◌, [], List, ℕ, true, None, map, string_bytes, length, refl, sym, ap, subst, ◌∙◌, arith}
+use Rattle.std.proofs.Common.{rules, ◌≡◌, ◌+◌, ◌∷◌, ◌++◌, [], List, ℕ, true, map, string_bytes, length, refl, sym, ap, subst, ◌∙◌, arith}
 use Rattle.host.specs.Hosts.{HostCall, HostState}
 use Rattle.explorer_model.specs.declared.archive.Batch.{Batch}
 use Rattle.explorer_model.specs.Timeline.{IsPrefix}
@@ -78,32 +78,31 @@ loop-worker-preserved g c =
       known = known-more c.args.list.items c.loop-worker.list.items rest c.in-Some.worker _ _
           (seen_by c.loop-worker.last) (seen_by c.take_back-pass.result.0) (journal c.args.ingest.now)
           c.in-Some.ensures.items c.take_back-pass.ensures.grew
-          (λ t. let b = c.both-told.ensures t.0 in (
-            (b.0, t.1),
+          (λ t. let b = c.both-told.ensures t in (
+            b.0,
             subst (λ (i : Stored g.row.H-Disk.Denot). IsTold (seen_by c.take_back-pass.result.0) (journal i) c.in-Some.worker) c.loop-worker.invariant.same
-                (c.take_back-pass.ensures.told b.1 (ap (λ (i : Stored g.row.H-Disk.Denot). i.index.held) c.loop-worker.invariant.same ∙ t.1)),
+                (c.take_back-pass.ensures.told b.1),
           ))
           c.loop-worker.invariant.known;
     }
 
 pub returns-in-Some-last-clause-told : goal.returns-in-Some-last-clause-told
-returns-in-Some-last-clause-told g c = λ told none.
+returns-in-Some-last-clause-told g c = λ told.
     let b = c.both.ensures told in
     let J = journal c.args.ingest.now in
     let known = known-all c.args.list.items c.loop-worker.list.items _ (seen_by c.loop-worker.last) J (left-none g (goal.at.returns-in-Some-last-clause-told g c).In_default)
-    c.loop-worker.invariant.known (b.0, none) in
-    let same : c.loop-worker.ingest.index.held ≡ None = ap (λ (i : Stored g.row.H-Disk.Denot). i.index.held) c.loop-worker.invariant.same ∙ none in
+    c.loop-worker.invariant.known b.0 in
     let has : IsPrefix c.catches_up-has.new.pass.seen J =
     subst (λ (i : Stored g.row.H-Disk.Denot). IsPrefix c.catches_up-has.new.pass.seen (journal i)) c.loop-worker.invariant.same
-    (c.catches_up-has.ensures.told b.1 same) in
+    (c.catches_up-has.ensures.told b.1) in
     let all : IsPrefix (seen_by c.loop-worker.last) J =
     rw c.in-Some-last.is (prefix-trans c.in-Some-last.pass.seen c.catches_up-has.new.pass.seen J c.catches_up-has.ensures.grew has) in
     all-told-grow c.args.list.items (seen_by c.loop-worker.last) J J all known
 
 pub returns-in-None-clause-told : goal.returns-in-None-clause-told
-returns-in-None-clause-told g c = λ told none.
+returns-in-None-clause-told g c = λ told.
     let J = journal c.args.ingest.now in
     let known = known-all c.args.list.items c.loop-worker.list.items _ (seen_by c.loop-worker.last) J (left-none g (goal.at.returns-in-None-clause-told g c).In_default)
-    c.loop-worker.invariant.known (told, none) in
+    c.loop-worker.invariant.known told in
     let nothing : IsPrefix (seen_by c.loop-worker.last) J = rw c.in-None.is (record { rest = J; is = refl }) in
     all-told-grow c.args.list.items (seen_by c.loop-worker.last) J J nothing known

@@ -32,12 +32,12 @@ pub returns-in-Some-clause-grew : goal.returns-in-Some-clause-grew
 returns-in-Some-clause-grew g c = rw c.in-Some.is (prefix-self c.in-Some.last.seen)
 
 pub returns-in-Some-clause-told : goal.returns-in-Some-clause-told
-returns-in-Some-clause-told g c = λ has none. rw c.in-Reader.is
-    (prefix-trans c.in-Reader.reader.pass.seen c.catches_up-has.new.pass.seen (journal c.args.ingest.now) c.catches_up-has.ensures.grew (c.catches_up-has.ensures.told has none))
+returns-in-Some-clause-told g c = λ has. rw c.in-Reader.is
+    (prefix-trans c.in-Reader.reader.pass.seen c.catches_up-has.new.pass.seen (journal c.args.ingest.now) c.catches_up-has.ensures.grew (c.catches_up-has.ensures.told has))
 
 pub returns-in-None-clause-grew : goal.returns-in-None-clause-grew
 returns-in-None-clause-grew g c = rw c.in-None.is (record { rest = c.catches_up-has.new.pass.seen; is = refl })
 
 pub returns-in-None-clause-told : goal.returns-in-None-clause-told
-returns-in-None-clause-told g c = λ has none. rw c.in-Reader.is
-    (prefix-trans c.in-Reader.reader.pass.seen c.catches_up-has.new.pass.seen (journal c.args.ingest.now) c.catches_up-has.ensures.grew (c.catches_up-has.ensures.told has none))
+returns-in-None-clause-told g c = λ has. rw c.in-Reader.is
+    (prefix-trans c.in-Reader.reader.pass.seen c.catches_up-has.new.pass.seen (journal c.args.ingest.now) c.catches_up-has.ensures.grew (c.catches_up-has.ensures.told has))

@@ -52,10 +52,9 @@ returns-clause-over g c =
     (subst (λ (ws : List (Worker g.row.H-File.Denot g.row.H-Door.Denot g.row.J.Denot)). IfOk c.report_lines-lines.result (λ l. l.items ≡ lines_in told-names ws)) c.as_slice-2.ensures.value c.report_lines-lines.ensures)) in
     works-over g.H.File.Source.source g.H.Door.Door.door names (g.H.Host.host c.args.host.now) (journal c.args.ingest)
     (map g.H.Door.Door.door c.args.doors.items) list r (journal c.give_back-told.new.ingest) (g.H.Host.host c.give_back-told.new.host)
-    c.first_fault-first.result (lines_told c.report_lines-lines.result) c.both.result first lines
+    c.first_fault-first.result (lines_told c.report_lines-lines.result) c.give_back-told.result first lines
     (λ all.
-    let b = c.both.ensures all in
     subst (λ (i : Stored g.row.H-Disk.Denot). AllByRecursion (IsTold (journal i) (journal i)) list) (sym c.give_back-told.ensures.same)
-    (c.give_back-told.ensures.told b.1 (c.publishes_all-caught_up.ensures b.0)))
+    (c.give_back-told.ensures.told all))
     (subst (λ (ns : List (List ℕ)). GivenBack g.H.File.Source.source g.H.Door.Door.door ns 0 list (g.H.Host.host c.args.host.now) (g.H.Host.host c.give_back-told.new.host)) same
     c.give_back-told.ensures.back)
