@@ -1,13 +1,15 @@
 //! Segments of worked games.
 mod commits;
+mod cuts;
 mod desk;
 mod held;
 mod merges;
 mod published;
+mod samples;
 mod segments;
 mod stores;
 
-ghost use Rattle.std.specs.Prelude.{◌≡◌, ◌≤◌, length, IsTrue, IfOk};
+ghost use Rattle.std.specs.Prelude.{◌≡◌, ◌≤◌, ◌<◌, length, IsTrue, IfOk};
 ghost use Rattle.std.specs.List.{All};
 ghost use Rattle.segment_blocks.specs.Segment.{span_of_both};
 
@@ -57,9 +59,11 @@ fn are_short(texts: &[Placed]) -> bool
     true
 }
 
-/// The tally of a whole batch. All its games begin with e4, in 150 months, and each second one goes
-/// on with e5, the others with c5.
-fn tally_of_batch<R: Threads + Sync>(rt: &R, alloc: Global) -> Result<Tally, Fail> {
+/// The tally of a whole batch. All its games begin with e4, in so many months, and each second one
+/// goes on with e5, the others with c5.
+fn tally_of_batch<R: Threads + Sync>(rt: &R, alloc: Global, months: u32) -> Result<Tally, Fail>
+    requires { 0 < months }
+{
     let mut texts = Vec::new(alloc);
     for number in 0..BATCH {
         let moves = if number % 2 == 0 {
@@ -67,7 +71,7 @@ fn tally_of_batch<R: Threads + Sync>(rt: &R, alloc: Global) -> Result<Tally, Fai
         } else {
             "1. e4 c5"
         };
-        texts.push(text(alloc, number, number % 150, moves)?)?;
+        texts.push(text(alloc, number, number % months, moves)?)?;
     }
     tally_of(rt, alloc, texts)
 }

@@ -1,10 +1,12 @@
 //! Two segments as one.
-use super::{merged, one_game, segment_of, tally_of_batch};
+use super::{BATCH, merged, one_game, segment_of, tally_of_batch};
 use outside::{FreeGate, Gate};
 use segment_blocks::Segment;
 use std::alloc::{AllocError, Global};
+use std::process::Abort;
 use std::sync::atomic::{AtomicU64, Ordering};
 use std::test::Fail;
+use std::thread::Threads;
 use tally_rows::Row;
 
 /// A gate that marks each leaf and counts how often it is passed. It holds leaf 1 until leaf 2 has
@@ -109,19 +111,31 @@ fn have_same_rows(a: &Segment, b: &Segment) -> bool {
     others.advance().is_none()
 }
 
-#[test]
-fn merges_are_equal_for_every_number_of_workers(rt: HostRuntime) -> Result<(), Fail> {
-    let left = segment_of(rt.alloc(), 0, tally_of_batch(&rt, rt.alloc())?)?;
-    let right = segment_of(rt.alloc(), 1, tally_of_batch(&rt, rt.alloc())?)?;
-    let alone = merged(&rt, rt.alloc(), &left, &right, 1, &FreeGate)?;
+/// Asserts that the rows of both are the same for every number of workers, each of which is a leaf.
+pub(super) fn assert_equal_merges<R: Threads + Abort + Sync>(
+    rt: &R,
+    alloc: Global,
+    left: &Segment,
+    right: &Segment,
+) -> Result<(), Fail> {
+    let alone = merged(rt, alloc, left, right, 1, &FreeGate)?;
     assert_eq!(rt; alone.games(), 1024);
-    // Four keys in 16 ranges: most of the ranges are empty.
     for (workers, leaves) in [(1, 0x2), (2, 0x6), (8, 0x1fe), (16, 0x1fffe)] {
         let gate = HoldingGate::new();
-        let both = merged(&rt, rt.alloc(), &left, &right, workers, &gate)?;
+        let both = merged(rt, alloc, left, right, workers, &gate)?;
         assert_eq!(rt; gate.passes.load(Ordering::SeqCst), workers as u64);
         assert_eq!(rt; gate.leaves.load(Ordering::SeqCst) & !1, leaves);
         assert!(rt; have_same_rows(&both, &alone), "with {workers} workers");
     }
     Ok(())
+}
+
+#[test]
+fn merges_are_equal_where_a_key_fills_many_blocks(rt: HostRuntime) -> Result<(), Fail> {
+    // Each game has a month of its own, so the start fills four blocks.
+    let left = segment_of(rt.alloc(), 0, tally_of_batch(&rt, rt.alloc(), BATCH)?)?;
+    let right = segment_of(rt.alloc(), 1, tally_of_batch(&rt, rt.alloc(), BATCH)?)?;
+    assert_eq!(rt; (left.block_count(), right.block_count()), (12, 12));
+    // Four keys in 16 ranges: most of the ranges are empty.
+    assert_equal_merges(&rt, rt.alloc(), &left, &right)
 }

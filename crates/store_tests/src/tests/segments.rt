@@ -56,7 +56,7 @@ fn is_absent_by<L: Ledger>(segment: &Segment, key: &[u8; 34], blank: Blank) -> b
 }
 
 /// Whether a walk at the key gives what a plain filter of the rows gives.
-fn is_walked(segment: &Segment, rows: &[Row], key: &[u8; 34]) -> bool {
+pub(super) fn is_walked(segment: &Segment, rows: &[Row], key: &[u8; 34]) -> bool {
     is_filtered::<Brand>(segment, rows, key, Blank::new(1))
 }
 
@@ -77,8 +77,8 @@ fn count_with_e4(rows: &[Row]) -> usize {
 
 #[test]
 fn segment_gives_what_a_plain_filter_of_the_tally_gives(rt: HostRuntime) -> Result<(), Fail> {
-    let tally = tally_of_batch(&rt, rt.alloc())?;
-    let segment = segment_of(rt.alloc(), 0, tally_of_batch(&rt, rt.alloc())?)?;
+    let tally = tally_of_batch(&rt, rt.alloc(), 150)?;
+    let segment = segment_of(rt.alloc(), 0, tally_of_batch(&rt, rt.alloc(), 150)?)?;
     // One worker makes one part.
     let [part] = tally.row_parts() else {
         return Err(Fail::from("more than one part"));
