@@ -13,8 +13,9 @@ ghost use Rattle.std.specs.declared.alloc.Global.{Global};
 
 use crate::accepting::Accepted;
 use crate::leaves::all_made;
+use side_by_side::map_jobs;
 use std::alloc::{AllocError, Global};
-use std::thread::{Threads, map_vec};
+use std::thread::Threads;
 use tally_rows::{KeyRange, Row, Single, first_word, rows_of};
 
 /// The rows of games, whose numbers are their places, in parts, one after another. Each leaf makes those of a range of keys, of which
@@ -57,7 +58,7 @@ fn rows_of_ranges<R: Threads + Sync>(
         ensures { IfOk result (λ rows. (tracks : List Track) → AreTracksOf games.entry.now tracks
             → TalliedWithin (is_in_range range) tracks rows.items) }
     { rows_within(alloc, games, range) };
-    let results = map_vec(rt, ranges, &within)?;
+    let results = map_jobs(rt, alloc, ranges, &within)?;
     let _count = results.as_slice().len();
     Ok(results)
 }

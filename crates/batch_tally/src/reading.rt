@@ -15,8 +15,9 @@ use explorer_model::archive::{Bytes, Game, Placed};
 use explorer_model::fault::{GameFault, Stop};
 use game_replay::replay;
 use outside::Gate;
+use side_by_side::map_jobs;
 use std::alloc::{AllocError, Global};
-use std::thread::{Threads, map_vec};
+use std::thread::Threads;
 use tally_rows::Single;
 
 /// A text with its game, or the first of its faults.
@@ -121,7 +122,7 @@ fn read_leaves<R: Threads + Sync, G: Gate>(
         requires { All (λ text. length text.bytes ≤ text_limit) leaf.texts.items }
         ensures { IfOk result (λ readings. AllZip IsReadingOf leaf.texts.items readings.items) }
     { read_leaf(alloc, leaf, gate) };
-    let results = map_vec(rt, leaves, &read_one)?;
+    let results = map_jobs(rt, alloc, leaves, &read_one)?;
     let _count = results.as_slice().len();
     Ok(results)
 }

@@ -10,8 +10,9 @@ use crate::merging::merge_rows;
 use crate::side::Side;
 use outside::Gate;
 use segment_blocks::{PackedRows, Segment};
+use side_by_side::map_indices;
 use std::alloc::{AllocError, Global};
-use std::thread::{Threads, map_indices};
+use std::thread::Threads;
 
 /// How many rows a full block has.
 const ROWS_OF_BLOCK: usize = 128;

@@ -1,0 +1,43 @@
+use super::*;
+use std::test::Fail;
+
+fn tenfold(number: usize) -> usize {
+    number.wrapping_mul(10)
+}
+
+#[test]
+fn calls_each_index_once_in_order(rt: HostRuntime) -> Result<(), Fail> {
+    let table: [(usize, &[usize]); 5] = [
+        (0, &[]),
+        (1, &[0]),
+        (2, &[0, 10]),
+        (3, &[0, 10, 20]),
+        (
+            16,
+            &[
+                0, 10, 20, 30, 40, 50, 60, 70, 80, 90, 100, 110, 120, 130, 140, 150,
+            ],
+        ),
+    ];
+    for (count, wanted) in table {
+        let made = map_indices(&rt, rt.alloc(), count, &tenfold)?;
+        assert!(rt; made.as_slice() == wanted);
+    }
+    Ok(())
+}
+
+#[test]
+fn does_each_job_once_in_order(rt: HostRuntime) -> Result<(), Fail> {
+    let table: [(&[usize], &[usize]); 4] = [
+        (&[], &[]),
+        (&[7], &[70]),
+        (&[7, 2], &[70, 20]),
+        (&[5, 5, 1, 9], &[50, 50, 10, 90]),
+    ];
+    for (jobs, wanted) in table {
+        let jobs = Vec::from_slice(rt.alloc(), jobs)?;
+        let made = map_jobs(&rt, rt.alloc(), jobs, &tenfold)?;
+        assert!(rt; made.as_slice() == wanted);
+    }
+    Ok(())
+}
