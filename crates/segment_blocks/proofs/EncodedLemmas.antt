@@ -1,13 +1,13 @@
 -- Rows of marks, one mark at a time.
-use Rattle.std.proofs.Common.{◌≡◌, ℕ, ◌≤◌, List, [], ◌∷◌, ◌++◌, Option, Some, None, length, take, drop, cond, refl, sym, ap, ◌∙◌, arith}
+use Rattle.std.proofs.Common.{◌≡◌, ℕ, ◌≤◌, List, [], ◌∷◌, ◌++◌, Option, Some, None, length, take, drop, cond, refl, sym, ap, subst, ◌∙◌, arith}
 use Rattle.std.specs.List.{sum_by}
-use Rattle.std.proofs.lemmas.List.{length-drop, take-append-le, drop-append-le}
+use Rattle.std.proofs.lemmas.List.{length-drop, length-take-le, take_all, take-append-le, drop-append-le}
 use Rattle.std.proofs.lemmas.List.Sums.{sum_by-cons}
 use Rattle.explorer_model.specs.declared.archive.Outcome.{Outcome}
 use Rattle.tally_rows.specs.declared.row.Row.{Row}
 use Rattle.tally_rows.specs.Row.{row_of}
 use Rattle.segment_blocks.specs.declared.mark.Mark.{Mark}
-use Rattle.segment_blocks.specs.Encoded.{own_len, key_behind, single_of, rows_by, rows_behind, key_after, IsFilled}
+use Rattle.segment_blocks.specs.Encoded.{own_len, key_behind, single_of, rows_by, rows_behind, key_after, IsFilled, HasOwnKey}
 use Rattle.std.specs.Option.{is_none}
 
 pub rows_behind-nil : (marks : List Mark) (before tails : List ℕ) (whole : List Row) → length marks ≡ 0 → rows_behind marks before tails whole ≡ []
@@ -36,6 +36,30 @@ module _ (mark : Mark) (marks rest : List Mark) (before tails : List ℕ) (whole
       ap (λ m. rows_behind m before tails whole) is ∙ rows_behind-cons mark rest before tails whole
       ∙ ap (λ o. rows_by o mark before tails whole (rows_behind rest)) e
       ∙ ap (λ w. rows_by None mark before tails w (rows_behind rest)) whole_is
+
+-- ---- a key that is the next row's own already
+
+module _ (key : List ℕ) (mark : Mark) (tails : List ℕ) where
+  pub own-first : (n : ℕ) → n ≤ length key → (ys : List ℕ) → take n (take n key ++ ys) ≡ take n key
+  own-first n fits ys =
+      take-append-le n (take n key) ys (omega (arith, length-take-le n key fits)) ∙ take_all n (take n key) (omega (arith, length-take-le n key fits))
+
+  pub key_behind-again : length key ≡ 34 → mark.shared ≤ 34 → key_behind (key_behind key mark tails) mark tails ≡ key_behind key mark tails
+  key_behind-again long within = ap (λ l. l ++ take (own_len mark) tails) (own-first mark.shared (omega (arith, long, within)) (take (own_len mark) tails))
+
+  module _ (marks rest : List Mark) (is : marks ≡ mark ∷ rest) where
+    pub own-known : HasOwnKey key marks tails → key_behind key mark tails ≡ key
+    own-known h = subst (λ m. HasOwnKey key m tails) is h
+
+    pub own-behind : length key ≡ 34 → mark.shared ≤ 34 → HasOwnKey (key_behind key mark tails) marks tails
+    own-behind long within = subst (λ m. HasOwnKey (key_behind key mark tails) m tails) (sym is) (key_behind-again long within)
+
+    pub rows_behind-own : (whole : List Row) (outcome : Outcome) → mark.outcome ≡ Some outcome → length key ≡ 34 → mark.shared ≤ 34
+        → rows_behind marks (key_behind key mark tails) tails whole ≡ rows_behind marks key tails whole
+    rows_behind-own whole outcome e long within =
+        rows_behind-game mark marks rest (key_behind key mark tails) tails whole is outcome e
+        ∙ ap (λ k. row_of (single_of k mark outcome) ∷ rows_behind rest k (drop (own_len mark) tails) whole) (key_behind-again long within)
+        ∙ sym (rows_behind-game mark marks rest key tails whole is outcome e)
 
 -- ---- what is filled
 

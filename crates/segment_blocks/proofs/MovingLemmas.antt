@@ -1,5 +1,5 @@
 -- Rows moved behind others, one after another.
-use Rattle.std.proofs.Common.{◌≡◌, ℕ, zero, suc, ◌+◌, ◌<◌, Bool, true, false, cond, is_some, Result, Ok, Err, List, [], ◌∷◌, ◌++◌, map, length, get_or, set, refl, sym, ap, subst, ◌∙◌, append_assoc, append-nil, arith, true≢false}
+use Rattle.std.proofs.Common.{◌≡◌, ℕ, zero, suc, ◌+◌, ◌<◌, Bool, true, false, cond, is_some, IsErr, Result, Ok, Err, List, [], ◌∷◌, ◌++◌, map, length, get_or, set, refl, sym, ap, subst, ◌∙◌, append_assoc, append-nil, arith, true≢false}
 use Rattle.std.specs.declared.alloc.AllocError.{AllocError}
 use Rattle.std.proofs.lemmas.List.{map-append, length-append, get_or_default}
 use Rattle.best_lists.specs.declared.entry.Entry.{Entry}
@@ -155,3 +155,8 @@ fewer-after by bound walk mid rest rows new newer h one =
 -- fewer rows are left where those behind them are the same
 pub fewer-behind : (xs ys more : List Row) → length xs < length ys → length (xs ++ more) < length (ys ++ more)
 fewer-behind xs ys more h = omega (arith, h, length-append xs more, length-append ys more)
+
+-- after a refusal nothing has moved
+pub unmoved-err : {Q : Type 0} (P : Type 0) (result : Result Bool AllocError) → IsErr result → Q → IfMoved result P Q
+unmoved-err P (Ok said) refused q = absurd (true≢false (sym refused))
+unmoved-err P (Err e) refused q = q

@@ -1,5 +1,5 @@
 -- Rows as marks, the ends of keys, and whole rows.
-use Rattle.std.specs.Prelude.{◌≡◌, ℕ, ◌-◌, List, [], ◌∷◌, ◌++◌, length, take, drop, Option, Some, None, is_none}
+use Rattle.std.specs.Prelude.{◌≡◌, ℕ, Bool, IsTrue, ◌-◌, List, [], ◌∷◌, ◌++◌, length, take, drop, Option, Some, None, is_none}
 use Rattle.std.specs.List.{sum_by, count_by}
 use Rattle.explorer_model.specs.declared.archive.Outcome.{Outcome}
 use Rattle.tally_rows.specs.declared.row.Row.{Row}
@@ -65,6 +65,17 @@ rows_of encoded before = rows_behind encoded.marks before encoded.tails encoded.
 pub record IsFilled (marks : List Mark) (tails : List ℕ) (whole : List Row) : Type 0 where
   pub ends : length tails ≡ sum_by own_len marks
   pub rows : length whole ≡ count_by (λ mark. is_none mark.outcome) marks
+
+-- the key before the first mark is the key of its row already
+abbrev pub HasOwnKey : List ℕ → List Mark → List ℕ → Type 0
+HasOwnKey key [] tails = ⊥
+HasOwnKey key (mark ∷ marks) tails = key_behind key mark tails ≡ key
+
+-- a place in filled rows, where the key may be known to be that of the first row
+pub record IsPlace (is_own : Bool) (key : List ℕ) (marks : List Mark) (tails : List ℕ)
+    (whole : List Row) : Type 0 where
+  pub filled : IsFilled marks tails whole
+  pub own : IsTrue is_own → HasOwnKey key marks tails
 
 -- the key of the last row, or the one before where there is none
 unfoldable pub key_after : List ℕ → List Row → List ℕ

@@ -1,5 +1,5 @@
 //! A place in a block.
-ghost use Rattle.std.specs.Prelude.{◌≡◌, ◌≤◌, ℕ, List, [], ◌∷◌, ◌++◌, take, drop, length, MatchOption};
+ghost use Rattle.std.specs.Prelude.{◌≡◌, ◌≤◌, ℕ, List, [], ◌∷◌, ◌++◌, take, drop, length, IsTrue, MatchOption};
 ghost use Rattle.explorer_model.specs.declared.archive.Outcome.{Outcome};
 ghost use Rattle.segment_blocks.specs.Encoded.{own_len, key_behind, row_key_at, single_of};
 ghost use Rattle.segment_blocks.specs.HeldRow.{row_in};
@@ -20,7 +20,10 @@ use tally_rows::{Row, RowKey, Single};
 /// What is left of a block: its rows from a place on.
 #[derive(Drop)]
 pub struct BlockCursor<'a> {
+    /// The key before the next row, or the key of the next row itself, which serves as well.
     pub before: [u8; 34],
+    /// Whether it is known to be the key of the next row.
+    pub is_own: bool,
     pub marks: &'a [Mark],
     pub tails: &'a [u8],
     pub whole: &'a [Row],
@@ -32,11 +35,11 @@ impl<'a> Model for BlockCursor<'a> {
 
     ghost Value = { List Row };
 
-    ghost use Rattle.segment_blocks.specs.Encoded.{rows_behind, IsFilled};
+    ghost use Rattle.segment_blocks.specs.Encoded.{rows_behind, IsPlace};
 
     ghost view = { λ p. rows_behind p.marks.now p.before p.tails.now p.whole.now };
 
-    ghost invariant = { λ p. IsFilled p.marks.now p.tails.now p.whole.now };
+    ghost invariant = { λ p. IsPlace p.is_own p.before p.marks.now p.tails.now p.whole.now };
 }
 
 impl<'a> BlockCursor<'a> {
@@ -46,6 +49,7 @@ impl<'a> BlockCursor<'a> {
     {
         BlockCursor {
             before: [0; 34],
+            is_own: false,
             marks: &[],
             tails: &[],
             whole: &[],
@@ -60,14 +64,15 @@ impl<'a> BlockCursor<'a> {
         let (mark, marks) = self.marks.split_first()?;
         let (own, tails) = self.tails.split_at(34 - usize::from(mark.shared));
         if let Some(outcome) = mark.outcome {
-            let key = key_of(&self.before, mark, own);
-            self.before = key;
+            complete(&mut self.before, self.is_own, mark, own);
+            self.is_own = false;
             self.marks = marks;
             self.tails = tails;
-            Some(HeldRow::Game(single_of(key, mark, outcome)))
+            Some(HeldRow::Game(single_of(self.before, mark, outcome)))
         } else {
             let (row, whole) = self.whole.split_first()?;
             self.before = row.key;
+            self.is_own = false;
             self.marks = marks;
             self.tails = tails;
             self.whole = whole;
@@ -82,7 +87,9 @@ impl<'a> BlockCursor<'a> {
         let (mark, _marks) = self.marks.split_first()?;
         if let Some(_outcome) = mark.outcome {
             let (own, _tails) = self.tails.split_at(34 - usize::from(mark.shared));
-            return Some(row_key_at(key_of(&self.before, mark, own), mark));
+            let mut key = self.before;
+            complete(&mut key, self.is_own, mark, own);
+            return Some(row_key_at(key, mark));
         }
         let (row, _whole) = self.whole.split_first()?;
         Some(row.row_key())
@@ -112,14 +119,16 @@ impl<'a> BlockCursor<'a> {
             return Ok(false);
         };
         let (own, tails) = self.tails.split_at(34 - usize::from(mark.shared));
-        let key = key_of(&self.before, mark, own);
-        if !stands_before(bound, &key, mark) {
+        let follows = is_last(last, &self.before, self.is_own);
+        complete(&mut self.before, self.is_own, mark, own);
+        self.is_own = true;
+        if !stands_before(bound, &self.before, mark) {
             return Ok(false);
         }
-        let shared = shared_with(last, &self.before, &key, mark.shared);
-        rows.push_game(renumbered(mark, number, shared), &key)?;
-        *last = key;
-        self.before = key;
+        let shared = shared_with(last, &self.before, follows, mark.shared);
+        rows.push_game(renumbered(mark, number, shared), &self.before)?;
+        *last = self.before;
+        self.is_own = false;
         self.marks = marks;
         self.tails = tails;
         Ok(true)
@@ -166,29 +175,42 @@ fn renumbered(mark: &Mark, number: u32, shared: u8) -> Mark
     moved
 }
 
-/// How many bytes the key has in common with the last one. With the key before it it has so many.
-fn shared_with(last: &[u8; 34], before: &[u8; 34], key: &[u8; 34], shared: u8) -> u8
+/// Whether the key before a place is the last one. One that is the next row's own is not tried.
+fn is_last(last: &[u8; 34], before: &[u8; 34], is_own: bool) -> bool
+    ensures { IsTrue result → last.now ≡ before.now }
+{
+    if is_own {
+        return false;
+    }
+    order_of_keys(last, before).is_eq()
+}
+
+/// How many bytes the key has in common with the last one: so many, if it follows it.
+fn shared_with(last: &[u8; 34], key: &[u8; 34], follows: bool, shared: u8) -> u8
     requires within { shared ≤ 34 }
-    requires same { take shared before.now ≡ take shared key.now }
+    requires same { IsTrue follows → take shared last.now ≡ take shared key.now }
     ensures within { result ≤ 34 }
     ensures same { take result last.now ≡ take result key.now }
     ensures long { length key.now ≡ 34 }
 {
-    if order_of_keys(last, before).is_eq() {
+    if follows {
         shared
     } else {
         shared_len(last, key)
     }
 }
 
-/// The key of a mark, from the key before it and the bytes of its own.
-fn key_of(before: &[u8; 34], mark: &Mark, own: &[u8]) -> [u8; 34]
-    requires { length own.now ≡ own_len mark.now }
-    ensures { result ≡ take mark.now.shared before.now ++ own.now }
+/// Makes the key of a mark from the key before it and the bytes of its own, where it is not yet its
+/// own key.
+fn complete(key: &mut [u8; 34], is_own: bool, mark: &Mark, own: &[u8])
+    requires own { length own.now ≡ own_len mark.now }
+    requires is_own { IsTrue is_own → take mark.now.shared key.old ++ own.now ≡ key.old }
+    ensures key { key.new ≡ take mark.now.shared key.old ++ own.now }
+    ensures long { length key.old ≡ 34 }
 {
-    let mut key = *before;
-    key[usize::from(mark.shared)..].copy_from_slice(own);
-    key
+    if !is_own {
+        key[usize::from(mark.shared)..].copy_from_slice(own);
+    }
 }
 
 /// The game of a mark in the position of a key.

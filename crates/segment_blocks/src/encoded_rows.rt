@@ -124,6 +124,7 @@ impl EncodedRows {
     {
         BlockCursor {
             before,
+            is_own: false,
             marks: self.marks.as_slice(),
             tails: self.tails.as_slice(),
             whole: self.whole.as_slice(),

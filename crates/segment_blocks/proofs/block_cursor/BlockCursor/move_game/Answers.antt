@@ -1,8 +1,8 @@
-use Rattle.std.proofs.Common.{◌≡◌, ◌+◌, ◌-◌, ◌∷◌, ◌++◌, take, drop, refl, sym, ap, subst, ◌∙◌, arith}
+use Rattle.std.proofs.Common.{◌≡◌, ◌≤◌, ◌+◌, ◌-◌, ◌∷◌, ◌++◌, take, drop, length, refl, sym, ap, subst, ◌∙◌, arith}
 use Rattle.tally_rows.specs.Row.{row_of, shifted_row}
 use Rattle.segment_blocks.specs.Encoded.{own_len, key_behind, single_of, rows_behind}
-use Rattle.segment_blocks.proofs.EncodedLemmas.{rows_behind-game, key-game}
-use Rattle.segment_blocks.proofs.MovingLemmas.{game-shifted, shifted-key}
+use Rattle.segment_blocks.proofs.EncodedLemmas.{rows_behind-game, rows_behind-own, own-first, key-game}
+use Rattle.segment_blocks.proofs.MovingLemmas.{game-shifted, shifted-key, unmoved-err}
 use Rattle.segment_blocks.proofs.block_cursor.BlockCursor.move_game.Goals as goal
 
 pub returns : goal.returns
@@ -14,11 +14,11 @@ returns c =
     let marks = c.in-Some.marks.now in
     let tails = c.split_at.result.1.now in
     let outcome = c.in-Some-outcome._outcome in
-    let key = c.key_of-key.result in
+    let key = c.complete.new.key in
     let game = single_of key mark outcome in
     let row = row_of game in
     let key_is : key_behind p.before mark p.tails.now ≡ key =
-    sym (c.key_of-key.ensures ∙ ap (λ l. take mark.shared p.before ++ l) (c.split_at.ensures.front ∙ ap (λ n. take (34 - n) p.tails.now) c.from.ensures)) in
+    sym (c.complete.ensures.key ∙ ap (λ l. take mark.shared p.before ++ l) (c.split_at.ensures.front ∙ ap (λ n. take (34 - n) p.tails.now) c.from.ensures)) in
     let rest : drop (own_len mark) p.tails.now ≡ tails =
     sym (c.split_at.ensures.back ∙ ap (λ n. drop (34 - n) p.tails.now) c.from.ensures) in
     let number : c.in-Some-checked_add.number ≡ mark.number + by = omega (arith, c.in-Some-checked_add.ensures) in
@@ -41,3 +41,39 @@ returns c =
       ends = sym (key-game key mark outcome);
       before = sym (c.stands_before.ensures outcome) ∙ c.if-not-stands_before.false;
     }
+
+pub shared_with-shared-requires-clause-same : goal.shared_with-shared-requires-clause-same
+shared_with-shared-requires-clause-same c h =
+    let p = c.self.inside in
+    let mark = c.in-Some.mark.now in
+    let own = c.split_at.result.0.now in
+    let fits : mark.shared ≤ length p.before = omega (arith, mark.in_key, c.complete.ensures.long) in
+    ap (take mark.shared) (c.is_last-follows.ensures h)
+    ∙ sym (ap (take mark.shared) c.complete.ensures.key ∙ own-first p.before mark p.tails.now mark.shared fits own)
+
+pub returns-then-not-stands_before : goal.returns-then-not-stands_before
+returns-then-not-stands_before c =
+    let p = c.self.inside in
+    let mark = c.in-Some.mark.now in
+    let key_is : key_behind p.before mark p.tails.now ≡ c.complete.new.key =
+    sym (c.complete.ensures.key ∙ ap (λ l. take mark.shared p.before ++ l) (c.split_at.ensures.front ∙ ap (λ n. take (34 - n) p.tails.now) c.from.ensures)) in (
+      ap (λ k. rows_behind p.marks.now k p.tails.now p.whole.now) (sym key_is)
+          ∙ rows_behind-own p.before mark p.tails.now p.marks.now c.in-Some.marks.now c.in-Some.ensures.cases.0 p.whole.now c.in-Some-outcome._outcome
+          c.in-Some-outcome.is c.complete.ensures.long mark.in_key
+          ∙ c.self.view_is,
+      refl,
+      refl,
+    )
+
+pub returns-in_err-push_game : goal.returns-in_err-push_game
+returns-in_err-push_game c =
+    let p = c.self.inside in
+    let mark = c.in-Some.mark.now in
+    let key_is : key_behind p.before mark p.tails.now ≡ c.complete.new.key =
+    sym (c.complete.ensures.key ∙ ap (λ l. take mark.shared p.before ++ l) (c.split_at.ensures.front ∙ ap (λ n. take (34 - n) p.tails.now) c.from.ensures)) in
+    let same =
+    ap (λ k. rows_behind p.marks.now k p.tails.now p.whole.now) (sym key_is)
+    ∙ rows_behind-own p.before mark p.tails.now p.marks.now c.in-Some.marks.now c.in-Some.ensures.cases.0 p.whole.now c.in-Some-outcome._outcome
+    c.in-Some-outcome.is c.complete.ensures.long mark.in_key
+    ∙ c.self.view_is in
+    unmoved-err _ c.from_residual.result c.from_residual.ensures.0 (same, refl, c.in_err-push_game.ensures.err)

@@ -13,15 +13,15 @@ pub returns-in-Some : goal.returns-in-Some
 returns-in-Some c =
     let p = c.self.inside in
     let mark = c.in_ok-mark.mark.now in
-    let key : key_behind p.before mark p.tails.now ≡ c.key_of-key.result =
-    sym (c.key_of-key.ensures ∙ ap (λ l. take mark.shared p.before ++ l) (c.split_at.ensures.front ∙ ap (λ n. take (34 - n) p.tails.now) c.from.ensures)) in
+    let key : key_behind p.before mark p.tails.now ≡ c.complete.new.key =
+    sym (c.complete.ensures.key ∙ ap (λ l. take mark.shared p.before ++ l) (c.split_at.ensures.front ∙ ap (λ n. take (34 - n) p.tails.now) c.from.ensures)) in
     let rest : drop (own_len mark) p.tails.now ≡ c.split_at.result.1.now =
     sym (c.split_at.ensures.back ∙ ap (λ n. drop (34 - n) p.tails.now) c.from.ensures) in
     let row = ap row_of c.single_of.ensures in
     sym c.self.view_is
     ∙ rows_behind-game mark p.marks.now c.in_ok-mark.marks.now p.before p.tails.now p.whole.now c.in_ok-mark.ensures.cases.0 c.in-Some.outcome c.in-Some.is
     ∙ (λ i. row_of (single_of (key i) mark c.in-Some.outcome) ∷ rows_behind c.in_ok-mark.marks.now (key i) (rest i) p.whole.now)
-    ∙ ap (λ r. r ∷ rows_behind c.in_ok-mark.marks.now c.key_of-key.result c.split_at.result.1.now p.whole.now) (sym row)
+    ∙ ap (λ r. r ∷ rows_behind c.in_ok-mark.marks.now c.complete.new.key c.split_at.result.1.now p.whole.now) (sym row)
 
 pub returns-in_ok-row : goal.returns-in_ok-row
 returns-in_ok-row c =
