@@ -13,6 +13,7 @@ mod DeterminedLemmas
 mod DrainLemmas
 mod EarlyLemmas
 mod EndedLemmas
+mod FollowLemmas
 pub mod GroupLemmas
 mod HandLemmas
 mod HoldLemmas
@@ -34,4 +35,5 @@ mod StopLemmas
 mod StreamCutLemmas
 mod TakingLemmas
 pub mod TurnLemmas
+mod UpkeepLemmas
 pub mod VerdictLemmas

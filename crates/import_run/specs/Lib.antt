@@ -11,6 +11,8 @@ pub mod Importing
 pub mod Ending
 pub mod Since
 pub mod SinceLaws
+pub mod Upkeep
+pub mod UpkeepLaws
 pub mod Taking
 pub mod Alone
 pub mod Faultless

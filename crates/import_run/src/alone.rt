@@ -1,15 +1,17 @@
 //! One who stores alone: nobody else changes the store.
-ghost use Rattle.std.specs.Prelude.{◌≤◌, Some};
+ghost use Rattle.std.specs.Prelude.{◌≡◌, ◌≤◌, None, Some, false};
 ghost use Rattle.import_run.specs.Alone.{ImportsAlone, stored_in};
-ghost use Rattle.import_run.specs.Since.{IsSince};
+ghost use Rattle.import_run.specs.Upkeep.{Follows, IsSinceAlone, MergesBehind, StoresSame};
 
 use crate::committer::Committer;
+use crate::draining::Drained;
+use crate::merging::{Merger, Merging, merge_due};
 use crate::stream::import_stream;
 use disk_model::Disk;
 use game_replay::laws::game_is_determined;
-use ingest_desk::{CommitFault, Ingest, Job, Receipt, Report};
+use ingest_desk::{CommitFault, Ingest, InstallFault, Job, Receipt, Report};
 use outside::{Gate, Source};
-use published_index::Index;
+use published_index::{Index, Note};
 use segment_blocks::Segment;
 use std::alloc::{AllocError, Global};
 use std::sync::Wait;
@@ -30,48 +32,146 @@ pub fn import_alone<S: Source, D: Disk, J: Index, G: Gate, R: Wait + Threads + S
     ensures { ImportsAlone D.disk D.left_since (S.source source.old) ingest.old
         (S.source source.new) ingest.new result }
 {
-    let _before = ingest.batches();
-    let report = import_stream(rt, alloc, source, ingest, workers, gate);
-    let _after = ingest.batches();
+    let LoneImport {
+        report,
+        lacked: _lacked,
+    } = import_and_tell(rt, alloc, source, ingest, workers, gate);
     report
 }
 
-impl<D: Disk, J: Index> Committer<J> for Ingest<D, J> {
-    ghost use Rattle.import_run.specs.SinceLaws as laws;
+/// An import of one who stores alone.
+#[derive(Drop)]
+pub struct LoneImport<J: Index> {
+    pub report: Report<J>,
+    /// Whether memory was wanting for a batch, or behind one for neighbours that were due.
+    pub lacked: bool,
+}
 
-    ghost told = { λ ingest. Some (stored_in ingest) };
+/// The same, and whether the published list followed each batch.
+pub fn import_and_tell<S: Source, D: Disk, J: Index, G: Gate, R: Wait + Threads + Sync>(
+    rt: &R,
+    alloc: Global,
+    source: &mut S,
+    ingest: &mut Ingest<D, J>,
+    workers: usize,
+    gate: &G,
+) -> LoneImport<J>
+    requires some_workers { 1 ≤ workers }
+    requires few_workers { workers ≤ 16 }
+    ensures alone { ImportsAlone D.disk D.left_since (S.source source.old) ingest.old
+        (S.source source.new) ingest.new result.report }
+    ensures follows { result.lacked ≡ false → ingest.new.manifest.fault ≡ None
+        → Follows ingest.old ingest.new }
+{
+    let _before = ingest.batches();
+    let mut seat = LoneSeat {
+        ingest: &mut *ingest,
+        lacked: false,
+    };
+    let report = import_stream(rt, alloc, source, &mut seat, workers, gate);
+    let _after = seat.ingest.batches();
+    LoneImport {
+        report,
+        lacked: seat.lacked,
+    }
+}
 
-    ghost since = { λ old new. IsSince D.disk D.left_since old new };
+/// A seat of one who stores alone.
+#[derive(Drop)]
+pub(crate) struct LoneSeat<'a, D: Disk, J: Index> {
+    pub(crate) ingest: &'a mut Ingest<D, J>,
+    /// Whether memory was wanting for a batch, or behind one for neighbours that were due.
+    pub(crate) lacked: bool,
+}
+
+impl<'a, D: Disk, J: Index> Committer<J> for LoneSeat<'a, D, J> {
+    ghost use Rattle.import_run.specs.UpkeepLaws.{alone_before, alone_then};
+    ghost use Rattle.std.proofs.Common.{refl, ◌∙◌};
+
+    ghost told = { λ seat. Some (stored_in seat.ingest.now) };
+
+    ghost since = { λ old new. (new.ingest.ghost_name ≡ old.ingest.ghost_name)
+        × IsSinceAlone D.disk D.left_since old.ingest.now new.ingest.now old.lacked new.lacked };
 
     fn commit<R: Wait + Threads + Sync>(
         &mut self,
         rt: &R,
         alloc: Global,
         tally: Tally,
+        workers: usize,
     ) -> Result<Receipt<J>, CommitFault<J>> {
         game_is_determined();
-        let _before = self.batches();
-        let answer = Ingest::commit(self, rt, alloc, tally);
-        let _after = self.batches();
+        let _before = self.ingest.batches();
+        let answer = self.ingest.commit(rt, alloc, tally);
+        let _after = self.ingest.batches();
+        let lacks = merge_behind(rt, alloc, self.ingest, &answer, workers);
+        self.lacked = either(self.lacked, lacks);
         answer
     }
 
-    fn pick<R: Wait + Threads + Sync>(&mut self, _rt: &R) -> Result<Option<Job>, AllocError> {
-        Ingest::pick(self)
+    ghost since_then = { λ it. (refl, alone_then D.disk D.left_since it.ingest.now it.lacked) };
+
+    ghost since_before = { λ first second third earlier later. (
+      later.0 ∙ earlier.0,
+      alone_before D.disk D.left_since first.ingest.now second.ingest.now third.ingest.now
+          first.lacked second.lacked third.lacked earlier.1 later.1,
+    ) };
+}
+
+/// Behind a batch that was stored the last neighbours that are due become one. Says whether memory
+/// was wanting for the batch or for that.
+fn merge_behind<D: Disk, J: Index, R: Wait + Threads + Sync>(
+    rt: &R,
+    alloc: Global,
+    ingest: &mut Ingest<D, J>,
+    answer: &Result<Receipt<J>, CommitFault<J>>,
+    workers: usize,
+) -> bool
+    requires some_workers { 1 ≤ workers }
+    requires few_workers { workers ≤ 16 }
+    ensures merges { result ≡ false
+        → MergesBehind answer.now ingest.old.index ingest.new.index }
+    ensures same { StoresSame ingest.old ingest.new }
+{
+    match answer {
+        Ok(_) => match merge_due(rt, alloc, ingest, workers) {
+            Merging::Joined | Merging::Left(Drained::Idle | Drained::Gone) => false,
+            Merging::Left(Drained::OutOfMemory) => true,
+        },
+        Err(CommitFault::OutOfMemory { .. }) => true,
+        Err(_) => false,
+    }
+}
+
+fn either(one: bool, other: bool) -> bool
+    ensures { result ≡ false → (one ≡ false) × (other ≡ false) }
+{
+    one || other
+}
+
+impl<D: Disk, J: Index> Merger<J> for Ingest<D, J> {
+    ghost use Rattle.import_run.specs.UpkeepLaws as laws;
+
+    ghost index = { λ ingest. Some ingest.index };
+
+    ghost same = { λ old new. StoresSame old new };
+
+    fn next_job<R: Wait + Threads + Sync>(&mut self, rt: &R) -> Result<Option<Job>, AllocError> {
+        let _note = self.catch_up(rt)?;
+        let _batches = self.batches();
+        self.pick()
     }
 
-    fn install<R: Wait + Threads + Sync>(
+    fn put<R: Wait + Threads + Sync>(
         &mut self,
         rt: &R,
         alloc: Global,
         job: Job,
         merged: Segment,
-    ) {
-        let _note = Ingest::install(self, rt, alloc, job, merged);
+    ) -> Result<Note<J>, InstallFault> {
+        self.install(rt, alloc, job, merged)
     }
 
-    ghost since_then = { λ it. laws.since_then D.disk D.left_since it };
-
-    ghost since_before = { λ first second third earlier later.
-        laws.since_before D.disk D.left_since first second third earlier later };
+    ghost same_before = { λ first second third earlier later.
+        laws.same_before first second third earlier later };
 }

@@ -1,18 +1,32 @@
 //! One who stores at a desk that others use too.
-ghost use Rattle.std.specs.Prelude.{◌≡◌, ⊤, IfOk, IfSome, None};
-ghost use Rattle.std.specs.Arc.{arc_value};
-ghost use Rattle.segment_merge.specs.Merging.{IsMergeOf};
-ghost use Rattle.import_run.specs.Committing.{AdjoinIn};
+ghost use Rattle.std.specs.Prelude.{⊤, IfOk, None};
+ghost use Rattle.std.specs.Thread.{IsSync};
+ghost use Rattle.import_run.specs.Beside.{AnswersTo};
+ghost use Rattle.import_run.specs.Committing.{IsClash};
 
 use crate::committer::Committer;
+use crate::merging::{Merger, merge_due};
 use disk_model::Disk;
-use ingest_desk::{CommitFault, Desk, InstallFault, Job, Receipt};
+use ingest_desk::{CommitFault, Desk, Ingest, InstallFault, Job, Receipt};
 use published_index::{Index, Note};
 use segment_blocks::Segment;
 use std::alloc::{AllocError, Global};
 use std::sync::{MutexGuard, Wait};
 use std::thread::Threads;
 use tally_rows::Tally;
+
+/// Stores a batch and publishes it, beside all others that do. No segments become one behind it.
+pub fn store_beside<D: Disk, J: Index, R: Wait + Threads + Sync>(
+    rt: &R,
+    alloc: Global,
+    ingest: &mut Ingest<D, J>,
+    tally: Tally,
+) -> Result<Receipt<J>, CommitFault<J>>
+    ensures clash { IsClash result tally None }
+    ensures answers { AnswersTo result tally }
+{
+    ingest.commit(rt, alloc, tally)
+}
 
 /// A seat at a desk: it takes the lock for each of its steps, and waits for it.
 #[derive(Drop)]
@@ -25,28 +39,18 @@ impl<'a, D: Disk, J: Index> Seat<'a, D, J> {
         Seat { desk }
     }
 
-    /// The last neighbours of the published list that are to become one.
-    pub(crate) fn next_job<R: Wait>(&self, rt: &R) -> Result<Option<Job>, AllocError>
-        ensures { IfOk result (λ job. IfSome job AdjoinIn) }
-    {
-        let ingest = self.desk.lock(rt);
-        let found = ingest.pick();
-        MutexGuard::unlock(ingest);
-        found
-    }
-
-    /// Puts the merged segment of a job in the place of its two.
-    pub(crate) fn put<R: Wait>(
+    /// Stores a batch and publishes it.
+    fn store<R: Wait + Threads + Sync>(
         &self,
         rt: &R,
         alloc: Global,
-        job: Job,
-        merged: Segment,
-    ) -> Result<Note<J>, InstallFault>
-        requires { IsMergeOf (arc_value job.left) (arc_value job.right) merged }
+        tally: Tally,
+    ) -> Result<Receipt<J>, CommitFault<J>>
+        ensures clash { IsClash result tally None }
+        ensures answers { AnswersTo result tally }
     {
         let mut ingest = self.desk.lock(rt);
-        let answer = ingest.install(rt, alloc, job, merged);
+        let answer = store_beside(rt, alloc, &mut ingest, tally);
         MutexGuard::unlock(ingest);
         answer
     }
@@ -62,28 +66,44 @@ impl<'a, D: Disk, J: Index> Committer<J> for Seat<'a, D, J> {
         rt: &R,
         alloc: Global,
         tally: Tally,
+        workers: usize,
     ) -> Result<Receipt<J>, CommitFault<J>> {
-        let mut ingest = self.desk.lock(rt);
-        let answer = ingest.commit(rt, alloc, tally);
-        MutexGuard::unlock(ingest);
+        let answer = self.store(rt, alloc, tally);
+        if answer.is_ok() {
+            let _merging = merge_due(rt, alloc, self, workers);
+        }
         answer
-    }
-
-    fn pick<R: Wait + Threads + Sync>(&mut self, rt: &R) -> Result<Option<Job>, AllocError> {
-        self.next_job(rt)
-    }
-
-    fn install<R: Wait + Threads + Sync>(
-        &mut self,
-        rt: &R,
-        alloc: Global,
-        job: Job,
-        merged: Segment,
-    ) {
-        let _answer = self.put(rt, alloc, job, merged);
     }
 
     ghost since_then = { λ seat. tt };
 
     ghost since_before = { λ first second third from then. tt };
+}
+
+impl<'a, D: Disk, J: Index> Merger<J> for Seat<'a, D, J> {
+    ghost index = { λ seat. None };
+
+    ghost same = { λ old new. ⊤ };
+
+    fn next_job<R: Wait + Threads + Sync>(&mut self, rt: &R) -> Result<Option<Job>, AllocError> {
+        let mut ingest = self.desk.lock(rt);
+        let found = ingest.next_job(rt);
+        MutexGuard::unlock(ingest);
+        found
+    }
+
+    fn put<R: Wait + Threads + Sync>(
+        &mut self,
+        rt: &R,
+        alloc: Global,
+        job: Job,
+        merged: Segment,
+    ) -> Result<Note<J>, InstallFault> {
+        let mut ingest = self.desk.lock(rt);
+        let answer = ingest.put(rt, alloc, job, merged);
+        MutexGuard::unlock(ingest);
+        answer
+    }
+
+    ghost same_before = { λ first second third from then. tt };
 }

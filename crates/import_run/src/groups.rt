@@ -10,7 +10,6 @@ ghost use Rattle.import_run.specs.Importing.{IsEndOf, WhereLacking, WhereStopped
 ghost use Rattle.import_run.specs.Taking.{IsSettledSo, LacksBehind, StopsBehind};
 
 use crate::committer::Committer;
-use crate::merging::merge_due;
 use crate::settle::{Done, settle};
 use crate::text_group::TextGroup;
 use explorer_model::fault::{Refusal, Stop};
@@ -112,7 +111,6 @@ impl<J: Index> OpenImport<J> {
                 }
                 self.refused.extend_from_slice(refused.as_slice())?;
                 self.receipts.push_reserved(receipt);
-                merge_due(rt, alloc, committer, workers, gate);
                 return Ok(());
             }
             Err(fault) => fault,

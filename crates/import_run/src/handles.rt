@@ -1,5 +1,5 @@
 //! Importers of bodies: a handle on a desk, and an ingest of one's own.
-ghost use Rattle.std.specs.Prelude.{◌≡◌, ◌<◌, ◌≤◌, ◌^◌, ◌∷◌, [], None, Some, length, option_map};
+ghost use Rattle.std.specs.Prelude.{◌≡◌, ◌<◌, ◌≤◌, ◌^◌, ◌∷◌, [], None, Some, false, length, option_map};
 ghost use Rattle.std.specs.Thread.{IsSync};
 ghost use Rattle.explorer_model.specs.Cuts.{cuts};
 ghost use Rattle.explorer_model.specs.Wire.{body_limit};
@@ -7,7 +7,9 @@ ghost use Rattle.ingest_desk.specs.Importers.{CountsRose, EndsInMemory, TellsAll
 ghost use Rattle.ingest_desk.specs.Reporting.{Reports, games_of};
 ghost use Rattle.import_run.specs.Counting.{counts_of};
 ghost use Rattle.import_run.specs.Determined.{ImportsBody};
+ghost use Rattle.import_run.specs.Upkeep.{KeepsUp};
 
+use crate::alone::LoneSeat;
 use crate::desk::Seat;
 use crate::ends::{EndCounts, ending_of};
 use crate::stream::import_bytes;
@@ -68,6 +70,7 @@ pub struct OwnIngest<D: Disk, J: Index> {
     workers: usize,
     counts: EndCounts,
     calls: Option<Vec<ImportCall>>,
+    lacked: bool,
     ghost some_workers: { 1 ≤ workers },
     ghost few_workers: { workers ≤ 16 },
 }
@@ -81,12 +84,14 @@ impl<D: Disk, J: Index> OwnIngest<D, J> {
             ≡ record { disk_faults = 0; closed = 0; full = 0 } }
         ensures calls { option_map (λ calls. calls.items) result.calls ≡ Some [] }
         ensures ingest { result.ingest ≡ ingest }
+        ensures lacked { result.lacked ≡ false }
     {
         OwnIngest {
             ingest,
             workers,
             counts: EndCounts::new(),
             calls: Some(Vec::new(alloc)),
+            lacked: false,
         }
     }
 
@@ -101,6 +106,13 @@ impl<D: Disk, J: Index> OwnIngest<D, J> {
         }
     }
 
+    /// Whether memory was wanting for a batch, or behind one for neighbours that were due.
+    pub fn has_lacked(&self) -> bool
+        ensures { result ≡ self.now.lacked }
+    {
+        self.lacked
+    }
+
     pub fn into_ingest(self) -> Ingest<D, J>
         ensures { result ≡ self.ingest }
     {
@@ -109,6 +121,7 @@ impl<D: Disk, J: Index> OwnIngest<D, J> {
             workers: _workers,
             counts: _counts,
             calls: _calls,
+            lacked: _lacked,
         } = self;
         ingest
     }
@@ -133,10 +146,17 @@ impl<D: Disk, J: Index> Importer<J> for OwnIngest<D, J> {
 
         ensures alone { ImportsBody D.disk D.left_since body.now self.old.ingest self.new.ingest
             result }
+        ensures follows { self.new.lacked ≡ false → self.new.ingest.manifest.fault ≡ None
+            → KeepsUp self.old.lacked self.old.ingest self.new.ingest }
     {
         let _before = self.ingest.batches();
-        let report = import_bytes(rt, alloc, body, &mut self.ingest, self.workers, &FreeGate);
-        let _after = self.ingest.batches();
+        let mut seat = LoneSeat {
+            ingest: &mut self.ingest,
+            lacked: self.lacked,
+        };
+        let report = import_bytes(rt, alloc, body, &mut seat, self.workers, &FreeGate);
+        let _after = seat.ingest.batches();
+        self.lacked = seat.lacked;
         self.counts.add(&report.end);
         let calls = self.calls.take();
         self.calls = with_call(alloc, calls, body, &report);

@@ -17,12 +17,14 @@ mod settle;
 mod stream;
 mod text_group;
 
-pub use alone::import_alone;
+pub use alone::{LoneImport, import_alone, import_and_tell};
 pub use committer::Committer;
+pub use desk::store_beside;
 pub use draining::{Drained, drain, drain_alone};
 pub use ends::ending_of;
 pub use groups::{OpenImport, Stopped};
 pub use handles::{DeskHandle, OwnIngest};
 pub use importing::import;
+pub use merging::{Merger, Merging, merge_due};
 pub use stream::{INPUT_LIMIT, import_bytes, import_stream};
 pub use text_group::TextGroup;

@@ -132,7 +132,7 @@ fn commit_once<C: Committer<J>, J: Index, R: Wait + Threads + Sync, G: Gate>(
 {
     game_is_determined();
     clashes.reserve(1)?;
-    let fault = match committer.commit(rt, alloc, counted) {
+    let fault = match committer.commit(rt, alloc, counted, workers) {
         Ok(receipt) => {
             return Ok(Round::Ended(Done {
                 answer: Some(Ok(receipt)),

@@ -1,13 +1,13 @@
-use Rattle.std.proofs.Common.{◌≡◌, None, length}
+use Rattle.std.proofs.Common.{◌≡◌, length}
+use Rattle.ingest_desk.specs.Installs.{list_by}
 use Rattle.ingest_desk.specs.Stored.{journal}
 use Rattle.import_run.proofs.draining.drain_alone.Given as goal
 
 abbrev pub invariant-draining : goal.invariant-draining
 invariant-draining g l = record {
-  none_held : l.ingest.index.held ≡ None;
   same_journal : journal l.ingest ≡ journal l.fn.ingest;
   same_manifest : l.ingest.manifest ≡ l.fn.ingest.manifest;
 }
 
 abbrev pub decreases-draining : goal.decreases-draining
-decreases-draining g l = length l.ingest.index.list
+decreases-draining g l = length (list_by l.ingest.index)

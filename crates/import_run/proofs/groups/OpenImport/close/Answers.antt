@@ -101,10 +101,8 @@ returns-in-Ok-clause-closes g c = λ start closed hand ascend holds s.
       beside = one_beside closed old _ hand d.field-0 s.beside (d.ensures.beside hand ascend mine) c.settle.ensures.notes refused c.in-Ok.receipt answer above receipts;
       alone = λ known is.
           let p = s.alone known is in
-          let P : Option Store → Type 0 = λ told. Progress known (closed ++ hand ∷ []) c.push_reserved.new.self.items c.extend_from_slice-in-Ok.new.self.items told in
-          subst P (sym c.merge_due.ensures.told)
-          (one_batch known closed old.receipts.items c.push_reserved.new.self.items old.refused.items c.extend_from_slice-in-Ok.new.self.items told told' hand p
-          d.field-0 c.in-Ok.receipt (d.ensures.settles p.known hand ascend mine p.still) answer refused receipts);
+          one_batch known closed old.receipts.items c.push_reserved.new.self.items old.refused.items c.extend_from_slice-in-Ok.new.self.items told told' hand p
+          d.field-0 c.in-Ok.receipt (d.ensures.settles p.known hand ascend mine p.still) answer refused receipts;
     }
 
 pub returns-clause-stops : goal.returns-clause-stops

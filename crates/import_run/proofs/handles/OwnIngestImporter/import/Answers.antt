@@ -24,6 +24,10 @@ with_call-requires g c = few_games c.args.body.now c.import_bytes-report.result 
 
 pub returns-clause-alone : goal.returns-clause-alone
 returns-clause-alone g c =
-    imports_body g.D.Disk.disk g.D.Disk.left_since c.args.self.now.ingest c.import_bytes-report.new.committer c.import_bytes-report.ensures.since c.args.body.now c.import_bytes-report.result
+    let since = c.import_bytes-report.ensures.since.1.since in
+    imports_body g.D.Disk.disk g.D.Disk.left_since c.args.self.now.ingest c.import_bytes-report.new.committer.ingest.now since c.args.body.now c.import_bytes-report.result
     c.batches-before.ensures.sound c.batches-after.ensures.sound c.batches-after.ensures.keeps c.import_bytes-report.ensures.told
     c.import_bytes-report.ensures.beside
+
+pub returns-clause-follows : goal.returns-clause-follows
+returns-clause-follows g c = c.import_bytes-report.ensures.since.1.keeps_up

@@ -1,0 +1,165 @@
+-- What becomes of a published list as neighbours become one.
+use Rattle.std.proofs.Common.{◌≡◌, ℕ, zero, suc, ◌+◌, ◌<◌, ◌≤◌, List, [], ◌∷◌, ◌++◌, length, take, drop, Option, None, Some, Result, Ok, Err, inl, inr, refl, sym, ap, subst, ◌∙◌, arith}
+use Rattle.std.specs.Prelude.{IfOk, MatchOption, slice_get}
+use Rattle.std.specs.Arc.{arc_value}
+use Rattle.explorer_model.specs.declared.archive.Batch.{Batch}
+use Rattle.explorer_model.specs.Spans.{Adjoin, Span}
+use Rattle.segment_blocks.specs.Segment.{CountedSpan, IsSegment}
+use Rattle.segment_merge.specs.Merging.{IsMergeOf}
+use Rattle.published_index.specs.Changes.{Change, JoinAt, with_change}
+use Rattle.published_index.specs.Cover.{IsList, spans_of}
+use Rattle.published_index.specs.States.{Publishing, publishing}
+use Rattle.ingest_desk.specs.Installs.{Installs, IsGone, IsInstalled, StandAt, caught_up, list_by}
+use Rattle.ingest_desk.specs.Picking.{AreAt, HasNoneDue, IsPicked, NoneDueFrom}
+use Rattle.ingest_desk.specs.declared.job.Job.{Job}
+use Rattle.ingest_desk.specs.declared.job.Standing.{Standing}
+use Rattle.import_run.specs.declared.draining.Drained.TheVariants.{Gone}
+use Rattle.import_run.specs.declared.merging.Merging.TheVariants.{Joined, Left}
+use Rattle.import_run.specs.Upkeep.{Finds, IsMerged, JoinsDue, Merges, WhereTold}
+
+-- ---- what is told
+
+pub chain : (old mid new : Option Publishing) (P Q R : Publishing → Publishing → Type 0) → ((o m n : Publishing) → P o m → Q m n → R o n)
+    → WhereTold old mid P → WhereTold mid new Q → WhereTold old new R
+chain None mid new P Q R step p q = tt
+chain (Some o) None new P Q R step p q = absurd p
+chain (Some o) (Some m) None P Q R step p q = absurd q
+chain (Some o) (Some m) (Some n) P Q R step p q = step o m n p q
+
+pub weaken : (old new : Option Publishing) (P R : Publishing → Publishing → Type 0) → ((o n : Publishing) → P o n → R o n) → WhereTold old new P → WhereTold old new R
+weaken None new P R step p = tt
+weaken (Some o) None P R step p = absurd p
+weaken (Some o) (Some n) P R step p = step o n p
+
+-- ---- what is held
+
+-- where nothing is held, the list is what it comes to
+pub nothing_held : (index : Publishing) → index.held ≡ None → list_by index ≡ index.list
+nothing_held index none = ap (λ (h : Option Change). caught_up index.list h) none
+
+-- ---- places
+
+some_same : (a b : CountedSpan) → Some a ≡ Some b → a ≡ b
+some_same a b e = cc
+
+none_some : (a : CountedSpan) (P : Type 0) → (let o : Option CountedSpan = None in o) ≡ Some a → P
+none_some a P e = absurd (no a e)
+  where
+    no : (a : CountedSpan) → (let o : Option CountedSpan = None in o) ≡ Some a → ⊥
+    no a e = cc
+
+-- a segment begins no earlier than the first
+no_earlier : (first : ℕ) (list : List CountedSpan) (at : ℕ) (one : CountedSpan) → Adjoin first (spans_of list) → slice_get list at ≡ Some one → first ≤ one.span.first
+no_earlier first [] at one adjoin is = none_some one _ is
+no_earlier first (head ∷ list) zero one adjoin is =
+    let same = ap (λ (s : CountedSpan). s.span.first) (some_same head one is) in
+    omega (arith, same, adjoin.0)
+no_earlier first (head ∷ list) (suc at) one adjoin is =
+    let later = no_earlier (first + length head.span.batches) list at one adjoin.1 is in
+    omega (arith, later)
+
+-- a span with batches stands at one place
+one_place : (first : ℕ) (list : List CountedSpan) (at other : ℕ) (one two : CountedSpan) → Adjoin first (spans_of list) → slice_get list at ≡ Some one → slice_get list other ≡ Some two
+    → one.span ≡ two.span → 0 < length one.span.batches → at ≡ other
+one_place first [] at other one two adjoin is is' same some = none_some one _ is
+one_place first (head ∷ list) zero zero one two adjoin is is' same some = refl
+one_place first (head ∷ list) zero (suc other) one two adjoin is is' same some =
+    let at_head = ap (λ (s : CountedSpan). s.span.first) (some_same head one is) in
+    let as_head = ap (λ (s : CountedSpan). length s.span.batches) (some_same head one is) in
+    let firsts = ap (λ (s : Span). s.first) same in
+    let later = no_earlier (first + length head.span.batches) list other two adjoin.1 is' in
+    absurd (omega (arith, at_head, as_head, firsts, later, adjoin.0, some))
+one_place first (head ∷ list) (suc at) zero one two adjoin is is' same some =
+    let at_head = ap (λ (s : CountedSpan). s.span.first) (some_same head two is') in
+    let as_head = ap (λ (s : CountedSpan). length s.span.batches) (some_same head two is') in
+    let firsts = ap (λ (s : Span). s.first) same in
+    let sizes = ap (λ (s : Span). length s.batches) same in
+    let later = no_earlier (first + length head.span.batches) list at one adjoin.1 is in
+    absurd (omega (arith, at_head, as_head, firsts, sizes, later, adjoin.0, some))
+one_place first (head ∷ list) (suc at) (suc other) one two adjoin is is' same some =
+    ap suc (one_place (first + length head.span.batches) list at other one two adjoin.1 is is' same some)
+
+-- ---- one step
+
+module _ (old mid : Publishing) (job : Job) (finds : Finds (Some job) old mid) where
+  abbrev pub left : CountedSpan
+  left = arc_value job.left
+
+  abbrev pub right : CountedSpan
+  right = arc_value job.right
+
+  list_is : mid.list ≡ list_by old
+  list_is = ap (λ (p : Publishing). p.list) finds.caught_up
+
+  by_list : list_by mid ≡ mid.list
+  by_list = nothing_held mid (ap (λ (p : Publishing). p.held) finds.caught_up)
+
+  picked : IsPicked (list_by old) left right
+  picked =
+      let stand : AreAt mid.list finds.picks.at left right = finds.picks.stand in
+      let last : NoneDueFrom (finds.picks.at + 1) mid.list = finds.picks.last in
+      record {
+        at = finds.picks.at;
+        stand = subst (λ (l : List CountedSpan). AreAt l finds.picks.at left right) list_is stand;
+        due = finds.picks.due;
+        last = subst (λ (l : List CountedSpan). NoneDueFrom (finds.picks.at + 1) l) list_is last;
+        join = finds.picks.join;
+      }
+
+  pub not_gone : (new : Publishing) (spans : List Standing) → IsGone left.span right.span (list_by mid) new spans → ⊥
+  not_gone new spans is =
+      let stand : AreAt mid.list finds.picks.at left right = finds.picks.stand in
+      is.gone finds.picks.at (record {
+        first = left;
+        second = right;
+        stand = subst (λ (l : List CountedSpan). AreAt l finds.picks.at left right) (sym by_list) stand;
+        left_is = refl;
+        right_is = refl;
+      })
+
+  pub joins_due : (new : Publishing) (merged : CountedSpan) (note : List Batch) → IsMergeOf left right merged → IsSegment left
+      → IsInstalled left.span right.span merged (list_by mid) new note → JoinsDue (list_by old) new.list × (new.held ≡ None)
+  unfolding picked
+  joins_due new merged note merges segment is =
+      let stood = is.stood in
+      let there : slice_get (list_by mid) is.at ≡ Some stood.first = stood.stand.left_is in
+      let here : slice_get mid.list is.at ≡ Some stood.first = subst (λ (l : List CountedSpan). slice_get l is.at ≡ Some stood.first) by_list there in
+      let place : finds.picks.at ≡ is.at =
+      one_place 0 mid.list finds.picks.at is.at left stood.first finds.list.covers.adjoin finds.picks.stand.left_is here (sym stood.left_is) segment.some in (
+        record {
+          left = left;
+          right = right;
+          picked = picked;
+          joined = merged;
+          merged = merges;
+          list_is = is.list_is
+              ∙ ap (λ (l : List CountedSpan). with_change l (JoinAt is.at merged)) (by_list ∙ list_is)
+              ∙ ap (λ (n : ℕ). with_change (list_by old) (JoinAt n merged)) (sym place);
+        },
+        is.none_held,
+      )
+
+-- ---- the list afterwards
+
+pub merged_joined : (old new : Publishing) → JoinsDue (list_by old) new.list → new.held ≡ None → IsMerged (list_by old) (list_by new)
+merged_joined old new joins none =
+    inr (subst (λ (l : List CountedSpan). JoinsDue (list_by old) l) (sym (nothing_held new none)) joins)
+
+pub merged_idle : (old new : Publishing) → new ≡ publishing (list_by old) → HasNoneDue new.list → IsMerged (list_by old) (list_by new)
+merged_idle old new is none =
+    let list : new.list ≡ list_by old = ap (λ (p : Publishing). p.list) is in
+    let held : new.held ≡ None = ap (λ (p : Publishing). p.held) is in
+    inl (subst (λ (l : List CountedSpan). HasNoneDue l) list none, nothing_held new held ∙ list)
+
+-- ---- a step, where the list is told
+
+module _ (old mid new : Option Publishing) (job : Job) (merged : CountedSpan) (finds : WhereTold old mid (λ o m. Finds (Some job) o m)) where
+  pub joined_told : (note : List Batch) → IsMergeOf (arc_value job.left) (arc_value job.right) merged → IsSegment (arc_value job.left)
+      → WhereTold mid new (λ m n. Installs (arc_value job.left).span (arc_value job.right).span merged m n (Ok note)) → WhereTold old new (Merges Joined)
+  joined_told note merges segment installs =
+      chain old mid new (λ o m. Finds (Some job) o m) (λ m n. Installs (arc_value job.left).span (arc_value job.right).span merged m n (Ok note)) (Merges Joined)
+      (λ o m n f i. joins_due o m job f n merged note merges segment i) finds installs
+
+  pub gone_told : (spans : List Standing) → WhereTold mid new (λ m n. IsGone (arc_value job.left).span (arc_value job.right).span (list_by m) n spans) → WhereTold old new (Merges (Left Gone))
+  gone_told spans installs =
+      chain old mid new (λ o m. Finds (Some job) o m) (λ m n. IsGone (arc_value job.left).span (arc_value job.right).span (list_by m) n spans) (Merges (Left Gone)) (λ o m n f i. not_gone o m job f n spans i) finds installs

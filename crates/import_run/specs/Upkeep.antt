@@ -1,0 +1,109 @@
+-- Statement: what becomes of a published list as neighbours become one, and as batches are stored.
+use Rattle.std.specs.Prelude.{◌≡◌, ◌⊎◌, ⊤, ℕ, Bool, false, List, [], ◌∷◌, ◌++◌, Option, None, Some, Result, Ok, Err, MatchOption}
+use Rattle.std.specs.Arc.{arc_value}
+use Rattle.disk_model.specs.Disk.{DiskState}
+use Rattle.explorer_model.specs.declared.archive.Batch.{Batch}
+use Rattle.segment_blocks.specs.Segment.{CountedSpan}
+use Rattle.segment_merge.specs.Merging.{IsMergeOf}
+use Rattle.published_index.specs.Changes.{JoinAt, with_change}
+use Rattle.published_index.specs.Cover.{IsList}
+use Rattle.published_index.specs.States.{Publishing, publishing}
+use Rattle.ingest_desk.specs.Installs.{list_by}
+use Rattle.ingest_desk.specs.Listing.{MakesRoom, PutsBehind}
+use Rattle.ingest_desk.specs.Picking.{HasNoneDue, IsPicked}
+use Rattle.ingest_desk.specs.Stored.{Stored, journal}
+use Rattle.ingest_desk.specs.declared.fault.CommitFault.{CommitFault}
+use Rattle.ingest_desk.specs.declared.fault.CommitFault.TheVariants as faults
+use Rattle.ingest_desk.specs.declared.job.Job.{Job}
+use Rattle.ingest_desk.specs.declared.receipt.Receipt.{Receipt}
+use Rattle.import_run.specs.Since.{IsSince}
+use Rattle.import_run.specs.declared.draining.Drained.TheVariants.{Idle, Gone, OutOfMemory}
+use Rattle.import_run.specs.declared.merging.Merging.{Merging}
+use Rattle.import_run.specs.declared.merging.Merging.TheVariants.{Joined, Left}
+
+-- ---- one step of merging
+
+-- the fact holds of what was published before and after, where that is told; it stays told
+abbrev pub WhereTold : Option Publishing → Option Publishing → (Publishing → Publishing → Type 0)
+    → Type 0
+WhereTold None new P = ⊤
+WhereTold (Some old) None P = ⊥
+WhereTold (Some old) (Some new) P = P old new
+
+-- what was held is published, and this is the job of the list, or no neighbours are due
+pub record Finds (found : Option Job) (old new : Publishing) : Type 0 where
+  pub caught_up : new ≡ publishing (list_by old)
+  pub list : IsList new.list
+  pub picks : MatchOption found (HasNoneDue new.list)
+      (λ job. IsPicked new.list (arc_value job.left) (arc_value job.right))
+
+-- the last neighbours that are due have become one, and all others are as they were
+pub record JoinsDue (list new : List CountedSpan) : Type 0 where
+  pub left : CountedSpan
+  pub right : CountedSpan
+  pub picked : IsPicked list left right
+  pub joined : CountedSpan
+  pub merged : IsMergeOf left right joined
+  pub list_is : new ≡ with_change list (JoinAt picked.at joined)
+
+-- What a step of merging does: what was held is published, and no neighbours are due, or the last
+-- that are have become one; or memory was wanting.
+abbrev pub Merges : Merging → Publishing → Publishing → Type 0
+Merges Joined old new = JoinsDue (list_by old) new.list × (new.held ≡ None)
+Merges (Left Idle) old new = (new ≡ publishing (list_by old)) × HasNoneDue new.list
+Merges (Left Gone) old new = ⊥
+Merges (Left OutOfMemory) old new = ⊤
+
+-- the stored journal and the manifest are as they were
+pub record StoresSame {D : Type 0} (before after : Stored D) : Type 0 where
+  pub same_journal : journal after ≡ journal before
+  pub same_manifest : after.manifest ≡ before.manifest
+
+-- ---- behind batches
+
+-- the last neighbours that are due have become one; where none are due, the list is as it was
+abbrev pub IsMerged : List CountedSpan → List CountedSpan → Type 0
+IsMerged list new = (HasNoneDue list × (new ≡ list)) ⊎ JoinsDue list new
+
+-- what is published behind the answer to a commit, where memory was not wanting
+abbrev pub MergesBehind : {J : Type 0} → Result (Receipt J) (CommitFault J)
+    → Publishing → Publishing → Type 0
+MergesBehind (Ok receipt) old new = IsMerged (list_by old) (list_by new)
+MergesBehind (Err (faults.OutOfMemory stored)) old new = ⊥
+MergesBehind (Err _) old new = new ≡ old
+
+-- A batch stands behind the list, which got room for it where it was full, and then the last
+-- neighbours that are due have become one.
+pub record FollowsBatch (batch : Batch) (list new : List CountedSpan) : Type 0 where
+  pub roomy : List CountedSpan
+  pub room : MakesRoom list roomy
+  pub longer : List CountedSpan
+  pub puts : PutsBehind batch roomy longer
+  pub merged : IsMerged longer new
+
+-- the same of batches, one after another
+abbrev pub FollowsAll : List Batch → List CountedSpan → List CountedSpan → Type 0
+FollowsAll [] list new = new ≡ list
+FollowsAll (batch ∷ batches) list new =
+    (next : List CountedSpan) × FollowsBatch batch list next × FollowsAll batches next new
+
+-- batches were stored, and the list, with what is held, followed each of them
+pub record Follows {D : Type 0} (before after : Stored D) : Type 0 where
+  pub batches : List Batch
+  pub journal_is : journal after ≡ journal before ++ batches
+  pub lists : FollowsAll batches (list_by before.index) (list_by after.index)
+
+-- ---- one who stores alone
+
+-- no disk fault had closed the store, memory had not been wanting, and the list followed the batches
+pub record KeepsUp {D : Type 0} (lacked : Bool) (before after : Stored D) : Type 0 where
+  pub had_memory : lacked ≡ false
+  pub was_sound : before.manifest.fault ≡ None
+  pub follows : Follows before after
+
+-- What calls have done together, and whether memory was wanting before and after them.
+pub record IsSinceAlone {D : Type 0} (disk : D → DiskState)
+    (left_since : D → ℕ → List ℕ → Type 0) (before after : Stored D) (lacked lacks : Bool)
+    : Type 0 where
+  pub since : IsSince disk left_since before after
+  pub keeps_up : lacks ≡ false → after.manifest.fault ≡ None → KeepsUp lacked before after
