@@ -14,7 +14,6 @@ use Rattle.explorer_model.proofs.Lists.{zip-append}
 use Rattle.import_run.specs.Progress.{HasNoCandidate, and_games}
 use Rattle.import_run.specs.SoFar.{IsWhole}
 use Rattle.import_run.proofs.GroupLemmas.{texts_in, all_cuts, texts-append, texts-cons, texts_whole, some_cuts, groups_one, groups_first}
-use Rattle.import_run.proofs.TurnLemmas.{batch_in}
 
 -- ---- cuts without a text
 

@@ -1,8 +1,7 @@
 -- What is told of a store on a disk, where nobody else stores anything.
-use Rattle.std.proofs.Common.{◌≡◌, ◌≢◌, ℕ, Bool, true, false, if◌then◌else◌, List, [], ◌∷◌, ◌++◌, map, Option, None, Some, Result, Ok, Err, refl, sym, ap, subst, ◌∙◌}
+use Rattle.std.proofs.Common.{◌≡◌, ℕ, Bool, true, false, if◌then◌else◌, List, [], ◌∷◌, ◌++◌, Option, None, Some, Result, Ok, Err, refl, sym, ap, subst, ◌∙◌}
 use Rattle.std.specs.Prelude.{IfOk}
 use Rattle.std.specs.List.{AllZip}
-use Rattle.arrayvec.specs.ArrayVec.{ArrayVec}
 use Rattle.disk_model.specs.Disk.{DiskState}
 use Rattle.explorer_model.specs.declared.archive.Batch.{Batch}
 use Rattle.explorer_model.specs.declared.archive.Game.{Game}
@@ -10,13 +9,11 @@ use Rattle.explorer_model.specs.declared.fault.GameFault.{GameFault}
 use Rattle.explorer_model.specs.declared.fault.Refusal.{Refusal}
 use Rattle.explorer_model.specs.Imports.{numbers_of}
 use Rattle.explorer_model.specs.Journal.{IsSound, byte_count, game_count}
-use Rattle.explorer_model.specs.StoreFile.{payload_of}
 use Rattle.explorer_model.specs.Visits.{AreGamesOf, IsTextOf, texts_of}
 use Rattle.outside.specs.Stream.{Stream}
-use Rattle.published_index.specs.Changes.{Change}
 use Rattle.record_log.specs.Log.{IsFault, Log}
 use Rattle.tally_rows.specs.Tally.{Counted}
-use Rattle.ingest_desk.specs.Causes.{Cause, HasIds, HasNoRoom, IsClosed, cause, cause_by, has_no_room}
+use Rattle.ingest_desk.specs.Causes.{HasIds, HasNoRoom, cause, cause_by, has_no_room}
 use Rattle.ingest_desk.specs.Clashes.{clashes_of}
 use Rattle.ingest_desk.specs.Commits.{IsMarked, IsReceiptOf, Leaves, Refuses, Stores, Tells}
 use Rattle.ingest_desk.specs.Kept.{Keeps}

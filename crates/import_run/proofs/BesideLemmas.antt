@@ -1,35 +1,33 @@
 -- Groups that are settled, whoever else stores beside.
-use Rattle.std.proofs.Common.{◌≡◌, ◌≢◌, ◌∙◌, ◌+◌, ◌<◌, ◌≤◌, ◌||◌, ℕ, Bool, true, false, List, [], ◌∷◌, ◌++◌, length, map, filter_map, Option, None, Some, Result, Ok, Err, refl, sym, ap, subst, zero, suc, arith, nat_lt, length-append}
+use Rattle.std.proofs.Common.{◌≡◌, ◌≢◌, ◌∙◌, ◌+◌, ◌<◌, ◌≤◌, ◌||◌, ℕ, Bool, true, false, List, [], ◌∷◌, ◌++◌, length, map, filter_map, Option, None, Some, Result, Ok, Err, refl, sym, ap, subst, suc, arith, nat_lt, length-append}
 use Rattle.std.specs.Option.{option_or}
 use Rattle.std.specs.Prelude.{sum_by}
-use Rattle.std.specs.List.{All, AllByRecursion, AllZip, Contains, cons_option, flat_map}
+use Rattle.std.specs.List.{All, AllZip, Contains, cons_option, flat_map}
 use Rattle.std.proofs.lemmas.Bool.Decides.{nat_tests}
 use Rattle.std.proofs.lemmas.Grind.{flat_map-append}
 use Rattle.std.proofs.lemmas.List.{append-nil, length-map}
 use Rattle.std.proofs.lemmas.List.Elements.{All-append, All-from_recursion, Contains-append_left, Contains-append_right, filter_map-append}
 use Rattle.std.proofs.lemmas.List.Sums.{sum_by-append}
 use Rattle.explorer_model.specs.declared.archive.Batch.{Batch}
-use Rattle.explorer_model.specs.declared.archive.Game.{Game}
 use Rattle.explorer_model.specs.declared.archive.Placed.{Placed}
 use Rattle.explorer_model.specs.declared.fault.Refusal.{Refusal}
 use Rattle.explorer_model.specs.Cuts.{Cut}
-use Rattle.explorer_model.specs.Imports.{AccountedBeside, AreExaminations, Candidate, Examination, IsExaminationOf, Numbering, Verdict, batch_of, candidates, numbers_of, refusals, verdict_behind, verdicts, verdicts_behind, verdicts_by}
-use Rattle.explorer_model.specs.Journal.{AreWithin, byte_count, byte_limit, game_count, game_limit}
+use Rattle.explorer_model.specs.Imports.{AccountedBeside, AreExaminations, Candidate, Examination, IsExaminationOf, Numbering, Verdict, batch_of, candidates, numbers_of, refusals, verdicts, verdicts_behind, verdicts_by}
+use Rattle.explorer_model.specs.Journal.{AreWithin, byte_count, game_count}
 use Rattle.explorer_model.specs.Timeline.{IsPrefix}
 use Rattle.explorer_model.specs.Visits.{texts_of}
 use Rattle.explorer_model.proofs.Lists.{zip-append}
 use Rattle.tally_rows.specs.Tally.{Counted}
 use Rattle.tally_rows.proofs.Sums.{sum_by-map}
-use Rattle.batch_tally.specs.Tallying.{Counts, IsTallyMade, IsTallying}
+use Rattle.batch_tally.specs.Tallying.{Counts, IsTallying}
 use Rattle.batch_tally.specs.declared.tallying.Tallying.{Tallying}
-use Rattle.ingest_desk.specs.Causes.{has_no_room, is_over}
+use Rattle.ingest_desk.specs.Causes.{is_over}
 use Rattle.ingest_desk.specs.Clashes.{clashes_from}
 use Rattle.ingest_desk.specs.Reporting.{AreReceipts, FindsNoRoom, IsReceipt, RepeatsBy}
 use Rattle.ingest_desk.specs.declared.fault.CommitFault.{CommitFault}
 use Rattle.ingest_desk.specs.declared.fault.CommitFault.TheVariants as faults
 use Rattle.ingest_desk.specs.declared.receipt.Receipt.{Receipt}
 use Rattle.ingest_desk.specs.declared.report.End.{End}
-use Rattle.ingest_desk.specs.declared.report.End.TheVariants as ends
 use Rattle.import_run.specs.declared.groups.OpenImport.{OpenImport}
 use Rattle.import_run.specs.declared.groups.Stopped.{Stopped}
 use Rattle.import_run.specs.declared.settle.Done.{Done}
@@ -38,8 +36,8 @@ use Rattle.import_run.specs.Beside.{AnswersFor, AnswersTo, AreNamed, AreRepeats,
 use Rattle.import_run.specs.Committing.{Known, Store, store_of}
 use Rattle.import_run.specs.Grouping.{Ascend, IsTallied, merged}
 use Rattle.import_run.specs.Importing.{IsEndOf}
-use Rattle.import_run.specs.Rounds.{IsDecided, IsStill, Rounds, stored_by}
-use Rattle.import_run.specs.Settling.{id_of, kept, left_by, lost, named_by, placed}
+use Rattle.import_run.specs.Rounds.{IsDecided}
+use Rattle.import_run.specs.Settling.{kept, left_by, lost, named_by, placed}
 use Rattle.import_run.proofs.HandLemmas.{batch_texts, counted_ids, first, kept_none, more}
 use Rattle.import_run.proofs.RepeatLemmas.{all-repeats-grow, named-grow, repeats}
 use Rattle.import_run.proofs.TurnLemmas.{texts_more}

@@ -2,7 +2,7 @@
 use Rattle.std.proofs.Common.{◌≡◌, ◌+◌, ℕ, List, [], length, Some, refl, sym, ap, arith}
 use Rattle.std.proofs.lemmas.List.{append-nil}
 use Rattle.disk_model.specs.Disk.{DiskState}
-use Rattle.outside.specs.Stream.{Reads, Stream, source_alone}
+use Rattle.outside.specs.Stream.{Reads, source_alone}
 use Rattle.explorer_model.specs.Journal.{IsSound}
 use Rattle.ingest_desk.specs.Kept.{Keeps}
 use Rattle.ingest_desk.specs.Stored.{Stored, journal}

@@ -1,17 +1,15 @@
 -- A group in hand is closed, and what was settled before stays.
-use Rattle.std.proofs.Common.{◌≡◌, ◌∙◌, ◌+◌, ◌-◌, ◌<◌, ◌≤◌, ℕ, List, [], ◌∷◌, ◌++◌, length, map, filter_map, Option, None, Some, Result, Ok, Err, refl, sym, ap, subst, arith, zero, suc}
+use Rattle.std.proofs.Common.{◌≡◌, ◌∙◌, ◌+◌, ◌-◌, ◌<◌, ◌≤◌, ℕ, List, [], ◌∷◌, ◌++◌, length, map, filter_map, Option, None, Some, refl, sym, ap, subst, arith, zero, suc}
 use Rattle.std.specs.Prelude.{slice_get, vec_capacity, vec_len}
-use Rattle.std.specs.List.{All, AllZip, Contains}
+use Rattle.std.specs.List.{AllZip, Contains}
 use Rattle.std.proofs.lemmas.List.{append-nil}
 use Rattle.std.proofs.lemmas.List.Elements.{Contains-append_right}
 use Rattle.explorer_model.specs.declared.archive.Batch.{Batch}
 use Rattle.explorer_model.specs.declared.archive.Game.{Game}
 use Rattle.explorer_model.specs.declared.archive.Placed.{Placed}
 use Rattle.explorer_model.specs.declared.fault.Refusal.{Refusal}
-use Rattle.explorer_model.specs.declared.fault.Stop.{Stop}
-use Rattle.explorer_model.specs.declared.fault.Stop.TheVariants as stops
 use Rattle.explorer_model.specs.Cuts.{Cut, Text, TooLong, Preamble}
-use Rattle.explorer_model.specs.Imports.{AccountedBeside, Accepted, Candidate, Examination, IsExaminationOf, Numbering, Refused, Verdict, and_candidate, candidates, numbers_of, refusals, verdict_behind, verdict_if_stored, verdict_of, verdicts, verdicts_from}
+use Rattle.explorer_model.specs.Imports.{AccountedBeside, Accepted, Candidate, Examination, IsExaminationOf, Numbering, Refused, Verdict, and_candidate, numbers_of, refusals, verdict_behind, verdict_if_stored, verdict_of, verdicts, verdicts_from}
 use Rattle.explorer_model.specs.Timeline.{IsPrefix}
 use Rattle.explorer_model.specs.Visits.{AreGamesOf}
 use Rattle.ingest_desk.specs.Reporting.{AreReceipts}
@@ -22,10 +20,10 @@ use Rattle.import_run.specs.declared.text_group.TextGroup.{TextGroup}
 use Rattle.import_run.specs.Beside.{AreNamed, AreRepeats, ProgressBeside, StopsBeside, last_batches}
 use Rattle.import_run.specs.Committing.{Known, Store, store_of}
 use Rattle.import_run.specs.Grouping.{IsGroupOf, text_of, unread_of}
-use Rattle.import_run.specs.Importing.{StopsAt, WhereLacking}
+use Rattle.import_run.specs.Importing.{StopsAt}
 use Rattle.import_run.specs.Progress.{Progress}
 use Rattle.import_run.specs.Rounds.{MayHaveMore}
-use Rattle.import_run.specs.Settling.{kept, lost}
+use Rattle.import_run.specs.Settling.{lost}
 use Rattle.import_run.specs.Taking.{IsSettledSo, LacksBehind, StopsBehind}
 use Rattle.import_run.proofs.GroupLemmas.{all_cuts}
 use Rattle.import_run.proofs.RepeatLemmas.{all-repeats-grow}

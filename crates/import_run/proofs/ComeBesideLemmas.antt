@@ -1,7 +1,7 @@
 -- What an import comes to, whoever else stores beside it.
-use Rattle.std.proofs.Common.{◌≡◌, ◌≢◌, ◌∙◌, ◌⊎◌, inl, inr, ℕ, ◌+◌, ◌-◌, ◌^◌, ◌<◌, ◌≤◌, List, [], ◌∷◌, ◌++◌, length, take, Option, None, Some, refl, sym, ap, subst, append_assoc, length-append, arith}
+use Rattle.std.proofs.Common.{◌≡◌, ◌∙◌, ◌⊎◌, inl, inr, ℕ, ◌+◌, ◌-◌, ◌^◌, ◌<◌, ◌≤◌, List, [], ◌∷◌, ◌++◌, length, take, Option, None, Some, refl, sym, ap, subst, append_assoc, length-append, arith}
 use Rattle.std.specs.Io.KnownBytes.{IsAtEnd}
-use Rattle.std.specs.List.{All, AllByRecursion, Contains, flat_map}
+use Rattle.std.specs.List.{AllByRecursion, Contains}
 use Rattle.std.proofs.lemmas.List.{append-nil}
 use Rattle.std.proofs.lemmas.List.Elements.{All-append, Contains-append_left, Contains-append_right}
 use Rattle.outside.specs.Stream.{FailsToGive, Gives, Reads, Rises, Stream, source_alone}
@@ -25,14 +25,14 @@ use Rattle.import_run.specs.Beside.{AreRepeats, EndsBeside, ProgressBeside, Stop
 use Rattle.import_run.specs.Committing.{Store}
 use Rattle.import_run.specs.Ending.{ReadFaultsAre}
 use Rattle.import_run.specs.EndingBeside.{ComesBeside, ImportsBeside, IsCutBeside, StandsBeside}
-use Rattle.import_run.specs.SoFar.{AreAllGroups, IsWhole, ended_cuts}
+use Rattle.import_run.specs.SoFar.{IsWhole}
 use Rattle.import_run.specs.Taking.{ComesQuietlyBeside, CutSoFar, IsReady, IsWholeBeside, LacksAtEnd, LacksWithin, StopsAtEnd, StopsWithin, TakenAll}
 use Rattle.import_run.proofs.GroupLemmas.{all_cuts, texts_in}
 use Rattle.import_run.proofs.HoldLemmas.{holds_texts}
 use Rattle.import_run.proofs.ReadLemmas.{longer, no_fault, one_byte, read_failed, read_more}
 use Rattle.import_run.proofs.RepeatLemmas.{all-repeats-grow}
 use Rattle.import_run.proofs.ReportLemmas.{AccountedFront, NotPreamble, accounted_front, accounted_whole, all_cuts-last, breaks_last, breaks_within, front_of_all, games_within, some_whole}
-use Rattle.import_run.proofs.SoFarLemmas.{each-append, ended_taken}
+use Rattle.import_run.proofs.SoFarLemmas.{ended_taken}
 use Rattle.import_run.proofs.StreamCutLemmas.{cuts_few, no_preamble}
 
 -- ---- lists of groups

@@ -1,17 +1,13 @@
 -- What an import comes to, by its end, where the store is known.
-use Rattle.std.proofs.Common.{◌≡◌, ◌≢◌, ◌⊎◌, inl, inr, ℕ, ◌+◌, ◌-◌, ◌<◌, ◌≤◌, Bool, true, false, ◌||◌, nat_lt, if◌then◌else◌, List, [], ◌∷◌, ◌++◌, Option, None, Some, Result, Ok, Err, length, map, sum_by, take, refl, sym, ap, subst, ◌∙◌, append_assoc, length-append, arith}
+use Rattle.std.proofs.Common.{◌≡◌, ◌⊎◌, inl, inr, ℕ, ◌-◌, ◌<◌, ◌≤◌, List, [], ◌∷◌, ◌++◌, Option, Some, length, take, refl, sym, ap, subst, ◌∙◌, append_assoc, arith}
 use Rattle.std.specs.Io.KnownBytes.{IsAtEnd}
-use Rattle.std.specs.List.{All, AllByRecursion, AllZip}
-use Rattle.std.proofs.lemmas.List.{append-nil, length-map}
-use Rattle.outside.specs.Stream.{Stream, Rises}
+use Rattle.std.proofs.lemmas.List.{append-nil}
+use Rattle.outside.specs.Stream.{Stream}
 use Rattle.explorer_model.specs.declared.archive.Batch.{Batch}
-use Rattle.explorer_model.specs.declared.archive.Game.{Game}
 use Rattle.explorer_model.specs.declared.fault.Refusal.{Refusal}
 use Rattle.explorer_model.specs.Cuts.{Cut, cuts}
-use Rattle.explorer_model.specs.Imports.{Accounted, Candidate, Examination, groups, verdicts}
+use Rattle.explorer_model.specs.Imports.{groups}
 use Rattle.explorer_model.specs.Journal.{input_limit}
-use Rattle.ingest_desk.specs.declared.fault.CommitFault.{CommitFault}
-use Rattle.ingest_desk.specs.declared.fault.CommitFault.TheVariants as faults
 use Rattle.ingest_desk.specs.declared.receipt.Receipt.{Receipt}
 use Rattle.ingest_desk.specs.declared.report.End.{End}
 use Rattle.ingest_desk.specs.declared.report.End.TheVariants as ends
@@ -19,9 +15,8 @@ use Rattle.ingest_desk.specs.declared.report.Report.{Report}
 use Rattle.import_run.specs.declared.groups.OpenImport.{OpenImport}
 use Rattle.import_run.specs.declared.groups.Stopped.{Stopped}
 use Rattle.import_run.specs.Committing.{Known, Store, store_of}
-use Rattle.import_run.specs.Ending.{AreSettled, EndsAt, ReadFaultsAre, StandsAt, StoresBy}
+use Rattle.import_run.specs.Ending.{AreSettled, ReadFaultsAre, StandsAt, StoresBy}
 use Rattle.import_run.specs.Progress.{AreReceiptsOf, Progress}
-use Rattle.import_run.specs.Rounds.{MayHaveMore}
 use Rattle.import_run.specs.SoFar.{AreAllGroups, AreGroupsSoFar, AreInGroups, ended_cuts}
 use Rattle.import_run.specs.Taking.{ComesQuietly, ComesTo, CutSoFar, IsReady, IsWholeSettled, LacksAtEnd, LacksBehind, LacksWithin, StopsAtEnd, StopsBehind, StopsWithin, TakenAll}
 use Rattle.import_run.proofs.AccountLemmas.{alike}

@@ -1,5 +1,5 @@
 -- An import without faults of new games alone stores all of them.
-use Rattle.std.proofs.Common.{◌≡◌, ◌⊎◌, inl, inr, ℕ, ◌+◌, ◌<◌, ◌≤◌, List, [], ◌∷◌, ◌++◌, length, map, sum_by, Option, None, Some, refl, sym, ap, subst, ◌∙◌, append_assoc, length-append, arith}
+use Rattle.std.proofs.Common.{◌≡◌, ◌⊎◌, inl, inr, ℕ, ◌+◌, ◌<◌, List, [], ◌∷◌, ◌++◌, length, map, sum_by, None, refl, sym, ap, subst, ◌∙◌, append_assoc, length-append, arith}
 use Rattle.std.specs.List.{AllByRecursion, AllZip, cons_option}
 use Rattle.std.proofs.lemmas.Grind.{flat_map-append}
 use Rattle.std.proofs.lemmas.List.{append-nil, length-map}
@@ -7,25 +7,22 @@ use Rattle.std.proofs.lemmas.List.Sums.{sum_by-append, sum_by-cons}
 use Rattle.disk_model.specs.Disk.{DiskState}
 use Rattle.outside.specs.Stream.{Stream}
 use Rattle.explorer_model.specs.declared.archive.Batch.{Batch}
-use Rattle.explorer_model.specs.declared.archive.Classes.{Classes}
 use Rattle.explorer_model.specs.declared.archive.Game.{Game}
 use Rattle.explorer_model.specs.declared.archive.Placed.{Placed}
-use Rattle.explorer_model.specs.declared.fault.Refusal.{Refusal}
 use Rattle.explorer_model.specs.Cuts.{Cut, cuts}
-use Rattle.explorer_model.specs.Imports.{Accounted, AreExaminations, Candidate, Examination, IsExaminationOf, batch_of, candidates, groups, numbers_of, verdicts_behind, verdicts_in_turn}
+use Rattle.explorer_model.specs.Imports.{Candidate, IsExaminationOf, batch_of, groups, verdicts_in_turn}
 use Rattle.explorer_model.specs.Journal.{AreWithin, HaveDifferentIds, byte_count, game_count}
 use Rattle.explorer_model.specs.Visits.{AreGamesOf, texts_of}
 use Rattle.explorer_model.proofs.Lists.{zip-append}
 use Rattle.ingest_desk.proofs.RecountLemmas.{classes_of}
-use Rattle.ingest_desk.specs.Reporting.{FindsNoRoom}
 use Rattle.ingest_desk.specs.Stored.{Stored, journal}
 use Rattle.ingest_desk.specs.declared.report.End.{End}
 use Rattle.ingest_desk.specs.declared.report.End.TheVariants as ends
 use Rattle.ingest_desk.specs.declared.report.Report.{Report}
 use Rattle.import_run.specs.Alone.{ImportsAlone, stored_in}
-use Rattle.import_run.specs.Committing.{Known, Store}
-use Rattle.import_run.specs.Ending.{EndsAt, StandsAt, StoresBy}
-use Rattle.import_run.specs.Faultless.{CanEnd, EndsWithoutFault, FindRoom, HasGame, HasNewGames, IsFaultless, StoresAll}
+use Rattle.import_run.specs.Committing.{Store}
+use Rattle.import_run.specs.Ending.{StandsAt, StoresBy}
+use Rattle.import_run.specs.Faultless.{CanEnd, EndsWithoutFault, FindRoom, HasNewGames, IsFaultless, StoresAll}
 use Rattle.import_run.specs.Progress.{games_after}
 use Rattle.import_run.specs.SoFar.{IsWhole}
 use Rattle.import_run.proofs.AccountLemmas.{batches_behind, none_or_some}

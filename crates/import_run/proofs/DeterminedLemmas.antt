@@ -6,7 +6,7 @@ use Rattle.outside.specs.Stream.{Stream}
 use Rattle.explorer_model.specs.declared.archive.Batch.{Batch}
 use Rattle.explorer_model.specs.declared.archive.Game.{Game}
 use Rattle.explorer_model.specs.Cuts.{Cut, cuts}
-use Rattle.explorer_model.specs.Imports.{Accounted, AreExaminations, Candidate, groups}
+use Rattle.explorer_model.specs.Imports.{Accounted, AreExaminations, groups}
 use Rattle.explorer_model.specs.Journal.{IsSound, byte_count, game_count}
 use Rattle.explorer_model.specs.Visits.{AreGamesOf, texts_of}
 use Rattle.ingest_desk.specs.Commits.{IsReceiptOf}
@@ -19,7 +19,7 @@ use Rattle.ingest_desk.specs.declared.report.End.{End}
 use Rattle.ingest_desk.specs.declared.report.End.TheVariants as ends
 use Rattle.ingest_desk.specs.declared.report.Report.{Report}
 use Rattle.import_run.specs.Alone.{ImportsAlone, stored_in}
-use Rattle.import_run.specs.Committing.{Known, Store}
+use Rattle.import_run.specs.Committing.{Store}
 use Rattle.import_run.specs.Determined.{AreAlike, IsPlainEnd}
 use Rattle.import_run.specs.Ending.{AreSettled, EndsAt, StandsAt, StoresBy}
 use Rattle.import_run.specs.Progress.{AreReceiptsOf}

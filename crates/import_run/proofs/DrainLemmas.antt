@@ -1,5 +1,5 @@
 -- Neighbours that have become one make the list shorter.
-use Rattle.std.proofs.Common.{◌≡◌, ℕ, ◌+◌, ◌<◌, List, ◌∷◌, ◌++◌, None, length, take, drop, ap, ◌∙◌, length-append, length-drop, arith}
+use Rattle.std.proofs.Common.{ℕ, ◌+◌, ◌<◌, List, ◌∷◌, ◌++◌, length, take, drop, ap, ◌∙◌, length-append, length-drop, arith}
 use Rattle.std.proofs.lemmas.List.{length-take-le}
 use Rattle.std.proofs.lemmas.Option.{slice_get_within}
 use Rattle.published_index.specs.States.{Publishing}
@@ -7,7 +7,7 @@ use Rattle.segment_blocks.specs.Segment.{CountedSpan}
 use Rattle.ingest_desk.specs.Installs.{list_by}
 use Rattle.ingest_desk.specs.Stored.{Stored}
 use Rattle.import_run.specs.Alone.{AnswersDrained}
-use Rattle.import_run.specs.Upkeep.{JoinsDue, Merges}
+use Rattle.import_run.specs.Upkeep.{Merges}
 use Rattle.import_run.specs.declared.draining.Drained.{Drained}
 use Rattle.import_run.specs.declared.draining.Drained.TheVariants.{Idle, Gone, OutOfMemory}
 use Rattle.import_run.specs.declared.merging.Merging.TheVariants.{Joined, Left}

@@ -1,5 +1,5 @@
 -- Imports of one stream that ended early, at a group of it.
-use Rattle.std.proofs.Common.{◌≡◌, ◌⊎◌, inl, inr, ℕ, ◌+◌, ◌<◌, ◌≤◌, Result, List, [], ◌∷◌, ◌++◌, length, map, filter_map, sum_by, Option, None, Some, refl, sym, ap, subst, ◌∙◌, append_assoc, length-append, arith}
+use Rattle.std.proofs.Common.{◌≡◌, ℕ, ◌+◌, Result, List, [], ◌∷◌, ◌++◌, length, map, filter_map, sum_by, Option, None, Some, refl, sym, ap, subst, ◌∙◌, append_assoc, length-append, arith}
 use Rattle.std.specs.List.{AllByRecursion, AllZip, cons_option}
 use Rattle.std.specs.Prelude.{IsSome}
 use Rattle.std.proofs.lemmas.Grind.{flat_map-append}
@@ -12,7 +12,7 @@ use Rattle.explorer_model.specs.declared.fault.Refusal.{Refusal}
 use Rattle.explorer_model.specs.declared.fault.GameFault.{GameFault}
 use Rattle.explorer_model.specs.Cuts.{Cut, Preamble, Text, TooLong}
 use Rattle.explorer_model.specs.Imports.{Accounted, AreExaminations, Candidate, Examination, IsExaminationOf, Read, Verdict, batch_of, candidates, numbers_of, verdicts, verdicts_behind, verdicts_in_turn}
-use Rattle.explorer_model.specs.Journal.{AreWithin, IsSound, byte_count, game_count}
+use Rattle.explorer_model.specs.Journal.{IsSound, byte_count, game_count}
 use Rattle.explorer_model.specs.Visits.{AreGamesOf, texts_of}
 use Rattle.explorer_model.proofs.Lists.{one-zip}
 use Rattle.ingest_desk.specs.Reporting.{FindsNoRoom}

@@ -1,5 +1,5 @@
 -- What one commit does to the published list of one who stores alone.
-use Rattle.std.proofs.Common.{◌≡◌, ◌≢◌, ℕ, Bool, true, false, List, [], ◌∷◌, ◌++◌, Option, None, Some, Result, Ok, Err, if◌then◌else◌, refl, sym, ap, subst, ◌∙◌}
+use Rattle.std.proofs.Common.{◌≡◌, ℕ, Bool, true, false, List, [], ◌∷◌, Option, None, Some, Result, Ok, Err, if◌then◌else◌, refl, sym, ap, subst, ◌∙◌}
 use Rattle.std.proofs.lemmas.List.{append-nil}
 use Rattle.disk_model.specs.Disk.{DiskState}
 use Rattle.explorer_model.specs.declared.archive.Batch.{Batch}
@@ -8,8 +8,7 @@ use Rattle.explorer_model.specs.Journal.{IsSound, byte_count, game_count}
 use Rattle.record_log.specs.Log.{Log}
 use Rattle.segment_blocks.specs.Segment.{CountedSpan}
 use Rattle.tally_rows.specs.Tally.{Counted}
-use Rattle.published_index.specs.States.{Publishing}
-use Rattle.ingest_desk.specs.Causes.{Cause, HasIds, HasNoRoom, IsClosed, cause, cause_by, has_no_room}
+use Rattle.ingest_desk.specs.Causes.{HasIds, HasNoRoom, IsClosed, cause, cause_by, has_no_room}
 use Rattle.ingest_desk.specs.Clashes.{clashes_of}
 use Rattle.ingest_desk.specs.Commits.{Leaves, Refuses, Stores, Tells}
 use Rattle.ingest_desk.specs.Installs.{list_by}

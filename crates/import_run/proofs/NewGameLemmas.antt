@@ -1,17 +1,15 @@
 -- Streams of new games alone: all of them are stored.
-use Rattle.std.proofs.Common.{◌≡◌, ◌≢◌, ◌⊎◌, inl, inr, ℕ, ◌+◌, ◌<◌, ◌≤◌, Bool, true, false, cond, List, [], ◌∷◌, ◌++◌, length, map, filter_map, get_or, find, sum_by, bytes_eq, Option, None, Some, refl, sym, ap, subst, ◌∙◌, append_assoc, length-append, arith}
-use Rattle.std.specs.List.{All, AllByRecursion, AllPairs, AllZip, cons_option, flat_map}
+use Rattle.std.proofs.Common.{◌≡◌, ◌≢◌, ℕ, Bool, false, cond, List, [], ◌∷◌, ◌++◌, length, map, get_or, find, None, Some, refl, sym, ap, subst, ◌∙◌, append_assoc, length-append, arith}
+use Rattle.std.specs.List.{All, AllByRecursion, AllZip, cons_option}
 use Rattle.std.proofs.Math.Seq.{get_or-append_seam}
-use Rattle.std.proofs.lemmas.Grind.{flat_map-append}
-use Rattle.std.proofs.lemmas.List.{append-nil, get_or_append_left, map-append}
+use Rattle.std.proofs.lemmas.List.{get_or_append_left, map-append}
 use Rattle.std.proofs.lemmas.List.Elements.{recursion_from_All}
 use Rattle.explorer_model.specs.declared.archive.Batch.{Batch}
 use Rattle.explorer_model.specs.declared.archive.Classes.{Classes}
 use Rattle.explorer_model.specs.declared.archive.Game.{Game}
 use Rattle.explorer_model.specs.declared.archive.Placed.{Placed}
-use Rattle.explorer_model.specs.declared.fault.Refusal.{Refusal}
 use Rattle.explorer_model.specs.Cuts.{Cut, Text}
-use Rattle.explorer_model.specs.Imports.{AreExaminations, Candidate, Examination, IsExaminationOf, Numbering, Verdict, batch_of, candidates, has_id_of, numbers_of, refusals, verdicts, verdicts_behind, verdicts_in_turn}
+use Rattle.explorer_model.specs.Imports.{AreExaminations, Candidate, Examination, IsExaminationOf, Numbering, batch_of, candidates, has_id_of, numbers_of, refusals, verdicts, verdicts_behind, verdicts_in_turn}
 use Rattle.explorer_model.specs.Journal.{HaveDifferentIds}
 use Rattle.explorer_model.specs.Visits.{texts_of}
 use Rattle.batch_tally.specs.Tallying.{IsExaminationOfText}

@@ -1,12 +1,12 @@
 -- At which group of a stream an import ended.
-use Rattle.std.proofs.Common.{◌≡◌, ◌⊎◌, inl, inr, ℕ, ◌+◌, ◌<◌, List, [], ◌∷◌, ◌++◌, length, Option, None, Some, refl, sym, ap, subst, ◌∙◌, append_assoc, length-append, arith}
+use Rattle.std.proofs.Common.{◌≡◌, ◌⊎◌, inl, inr, ℕ, ◌<◌, List, [], ◌∷◌, ◌++◌, length, Option, None, Some, refl, sym, ap, subst, ◌∙◌, append_assoc, length-append, arith}
 use Rattle.std.specs.Io.KnownBytes.{Consumes, IsAtEnd}
 use Rattle.std.specs.List.{AllByRecursion}
 use Rattle.std.proofs.lemmas.Grind.{flat_map-append}
 use Rattle.std.proofs.lemmas.List.{append-nil}
 use Rattle.explorer_model.specs.Cuts.{Cut, cuts}
 use Rattle.explorer_model.specs.Imports.{groups}
-use Rattle.import_run.specs.SoFar.{AreAllGroups, AreGroupsSoFar, AreInGroups, IsWhole, ended_cuts}
+use Rattle.import_run.specs.SoFar.{AreGroupsSoFar, IsWhole}
 use Rattle.import_run.proofs.EndedLemmas.{ended_stand}
 use Rattle.import_run.proofs.AccountLemmas.{none_or_some}
 use Rattle.import_run.proofs.GroupLemmas.{all_cuts, groups_closed, groups_first, groups_one, some_cuts, texts-append, texts_in, texts_whole}

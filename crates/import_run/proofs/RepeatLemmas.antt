@@ -1,8 +1,8 @@
 -- What is refused as a repeat is one of a game in the journal of a clash.
-use Rattle.std.proofs.Common.{◌≡◌, ◌∙◌, ℕ, ◌+◌, Bool, true, false, cond, List, [], ◌∷◌, ◌++◌, map, Option, None, Some, Result, Ok, Err, refl, sym, ap, subst, zero, suc, arith, find}
+use Rattle.std.proofs.Common.{◌≡◌, ℕ, ◌+◌, Bool, true, false, cond, List, [], ◌∷◌, ◌++◌, map, Option, None, Some, Result, Ok, Err, refl, sym, subst, suc, arith, find}
 use Rattle.std.specs.Prelude.{slice_get, bytes_eq}
-use Rattle.std.specs.List.{All, AllByRecursion, AllZip, Contains, flat_map}
-use Rattle.std.proofs.lemmas.List.Elements.{All-append, All-from_recursion, All-weaker, Contains-append_left, Contains-append_right}
+use Rattle.std.specs.List.{AllByRecursion, AllZip, Contains}
+use Rattle.std.proofs.lemmas.List.Elements.{All-from_recursion, All-weaker, Contains-append_left, Contains-append_right}
 use Rattle.std.proofs.lemmas.Slice.Eq.{bytes_eq-Decides}
 use Rattle.explorer_model.specs.declared.archive.Batch.{Batch}
 use Rattle.explorer_model.specs.declared.archive.Game.{Game}
@@ -13,12 +13,12 @@ use Rattle.explorer_model.specs.declared.fault.Why.{Why}
 use Rattle.explorer_model.specs.declared.fault.Why.TheVariants as causes
 use Rattle.explorer_model.specs.Cuts.{Cut, Text, TooLong, Preamble}
 use Rattle.explorer_model.specs.Games.{GameOf}
-use Rattle.explorer_model.specs.Imports.{Candidate, Examination, Read, IsExaminationOf, Numbering, Verdict, Accepted, Refused, and_candidate, has_id_of, number_from, numbers_of, refusals, verdict_behind, verdict_by, verdict_if_stored, verdict_of, verdict_of_game, verdicts, verdicts_from}
+use Rattle.explorer_model.specs.Imports.{Candidate, Examination, IsExaminationOf, Numbering, Verdict, and_candidate, has_id_of, number_from, refusals, verdict_behind, verdict_by, verdict_if_stored, verdict_of, verdict_of_game, verdicts, verdicts_from}
 use Rattle.explorer_model.specs.Timeline.{IsPrefix}
-use Rattle.explorer_model.specs.Visits.{AreGamesOf, IsTextOf, texts_of}
-use Rattle.ingest_desk.specs.Reporting.{RepeatsBy, RepeatsGame}
+use Rattle.explorer_model.specs.Visits.{IsTextOf, texts_of}
+use Rattle.ingest_desk.specs.Reporting.{RepeatsBy}
 use Rattle.import_run.specs.Beside.{AreNamed, AreRepeats}
-use Rattle.import_run.specs.Settling.{id_of, lost}
+use Rattle.import_run.specs.Settling.{lost}
 
 -- ---- the game of a number
 

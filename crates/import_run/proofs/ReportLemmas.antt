@@ -1,26 +1,21 @@
 -- What was settled beside others is what the import reports of the groups of its stream.
-use Rattle.std.proofs.Common.{◌≡◌, ◌≢◌, ◌∙◌, ◌⊎◌, inl, inr, ℕ, ◌+◌, ◌<◌, ◌≤◌, List, [], ◌∷◌, ◌++◌, length, map, take, filter_map, Option, None, Some, refl, sym, ap, subst, append_assoc, length-append, arith, zero, suc}
+use Rattle.std.proofs.Common.{◌≡◌, ◌≢◌, ◌∙◌, ◌⊎◌, inl, inr, ℕ, ◌+◌, ◌<◌, ◌≤◌, List, [], ◌∷◌, ◌++◌, length, map, take, filter_map, Option, None, Some, refl, sym, ap, subst, append_assoc, length-append, arith, suc}
 use Rattle.std.specs.Prelude.{slice_get}
-use Rattle.std.specs.List.{All, AllByRecursion, AllZip, Contains, cons_option, flat_map}
+use Rattle.std.specs.List.{AllByRecursion, AllZip, cons_option, flat_map}
 use Rattle.std.proofs.lemmas.Grind.{flat_map-append}
 use Rattle.std.proofs.lemmas.List.{append-nil, length-map}
-use Rattle.std.proofs.lemmas.List.Elements.{All-append, Contains-append_left, Contains-append_right, filter_map-append}
 use Rattle.std.proofs.lemmas.List.Sums.{sum_by-cons}
 use Rattle.explorer_model.specs.declared.archive.Batch.{Batch}
-use Rattle.explorer_model.specs.declared.archive.Placed.{Placed}
 use Rattle.explorer_model.specs.declared.fault.Refusal.{Refusal}
 use Rattle.explorer_model.specs.declared.fault.Why.TheVariants as causes
 use Rattle.explorer_model.specs.Cuts.{Cut, Text, TooLong, Preamble}
 use Rattle.explorer_model.specs.Imports.{AccountedBeside, AreExaminations, Candidate, Examination, IsExaminationOf, Numbering, Refused, Unread, Verdict, Accepted, batch_of, candidates, groups, refusals, verdict_behind, verdict_if_stored, verdicts, verdicts_behind, verdicts_by, verdicts_from}
 use Rattle.explorer_model.specs.Journal.{game_count}
-use Rattle.explorer_model.specs.Timeline.{IsPrefix}
 use Rattle.explorer_model.specs.Visits.{texts_of}
 use Rattle.explorer_model.proofs.Lists.{zip-append}
-use Rattle.ingest_desk.specs.Reporting.{AccountsUpTo, AreReceipts, BreaksAt, IsJudged, IsTooLong, LeftUnread, LeftUnreadIn, RepeatsBy, games_of}
+use Rattle.ingest_desk.specs.Reporting.{AccountsUpTo, AreReceipts, BreaksAt, IsJudged, IsTooLong, LeftUnread, LeftUnreadIn, games_of}
 use Rattle.ingest_desk.specs.declared.receipt.Receipt.{Receipt}
-use Rattle.import_run.specs.Beside.{AreRepeats}
 use Rattle.import_run.specs.Grouping.{unread_of}
-use Rattle.import_run.specs.Settling.{kept}
 use Rattle.import_run.specs.SoFar.{IsWhole}
 use Rattle.import_run.proofs.AccountLemmas.{AreRefusedAs, all_refusals, alone_refused, behind_refused, candidates_more, no_candidates, no_text, none_or_some, refusals_more, unread_one}
 use Rattle.import_run.proofs.CloseLemmas.{examined_length, verdicts_length}

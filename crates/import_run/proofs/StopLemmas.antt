@@ -1,6 +1,6 @@
 -- A commit ended an import into a store that is known.
-use Rattle.std.proofs.Common.{◌≡◌, ◌≢◌, ◌⊎◌, inl, inr, ℕ, ◌+◌, ◌<◌, ◌≤◌, Bool, true, false, ◌||◌, nat_lt, if◌then◌else◌, List, [], ◌∷◌, ◌++◌, Option, None, Some, Result, Ok, Err, length, map, sum_by, refl, sym, ap, subst, ◌∙◌, length-append, arith}
-use Rattle.std.specs.List.{All, AllByRecursion, AllZip}
+use Rattle.std.proofs.Common.{◌≡◌, ℕ, ◌+◌, ◌<◌, Bool, true, false, ◌||◌, nat_lt, if◌then◌else◌, List, [], ◌∷◌, ◌++◌, Option, None, Some, Err, length, map, sum_by, refl, sym, ap, subst, ◌∙◌, length-append, arith}
+use Rattle.std.specs.List.{All, AllByRecursion}
 use Rattle.std.proofs.lemmas.Bool.{ltb-true, ltb-false}
 use Rattle.std.proofs.lemmas.List.{length-map}
 use Rattle.std.proofs.lemmas.List.Elements.{All-from_recursion}
@@ -10,13 +10,11 @@ use Rattle.explorer_model.specs.declared.archive.Batch.{Batch}
 use Rattle.explorer_model.specs.declared.archive.Game.{Game}
 use Rattle.explorer_model.specs.declared.fault.Refusal.{Refusal}
 use Rattle.explorer_model.specs.Cuts.{Cut}
-use Rattle.explorer_model.specs.Imports.{Candidate, Examination, batch_of, numbers_of, verdicts}
+use Rattle.explorer_model.specs.Imports.{Candidate, batch_of, numbers_of, verdicts}
 use Rattle.explorer_model.specs.Journal.{AreWithin, byte_count, byte_limit, game_count, game_limit, input_limit}
 use Rattle.explorer_model.specs.Visits.{texts_of}
-use Rattle.published_index.specs.Changes.{Change}
 use Rattle.tally_rows.specs.Tally.{Counted}
-use Rattle.batch_tally.specs.Tallying.{Counts}
-use Rattle.ingest_desk.specs.Causes.{Cause, HasIds, HasNoRoom, IsClosed, cause, cause_by, cause_of_new, has_no_room, is_over}
+use Rattle.ingest_desk.specs.Causes.{HasNoRoom, IsClosed, cause, cause_by, cause_of_new, has_no_room, is_over}
 use Rattle.ingest_desk.specs.Clashes.{clashes_from, clashes_of}
 use Rattle.ingest_desk.specs.Reporting.{FindsNoRoom}
 use Rattle.ingest_desk.specs.declared.clashing.Clashing.{Clashing}
@@ -24,14 +22,13 @@ use Rattle.ingest_desk.specs.declared.fault.CommitFault.{CommitFault}
 use Rattle.ingest_desk.specs.declared.fault.CommitFault.TheVariants as faults
 use Rattle.ingest_desk.specs.declared.receipt.Receipt.{Receipt}
 use Rattle.ingest_desk.specs.declared.report.End.{End}
-use Rattle.ingest_desk.specs.declared.report.End.TheVariants as ends
 use Rattle.import_run.specs.declared.groups.Stopped.{Stopped}
-use Rattle.import_run.specs.Committing.{Commits, Known, Store, store_of}
+use Rattle.import_run.specs.Committing.{Known, Store}
 use Rattle.import_run.specs.Ending.{EndsAt, HasRoomFor, ReadFaultsAre, StandsAt, StoresBy}
 use Rattle.import_run.specs.Importing.{IsEndOf, StopsAt}
 use Rattle.import_run.specs.Progress.{Progress}
 use Rattle.import_run.specs.Rounds.{IsDecided, Settles, stored_by}
-use Rattle.import_run.specs.Settling.{id_of, kept, lost}
+use Rattle.import_run.specs.Settling.{id_of, kept}
 use Rattle.import_run.specs.SoFar.{AreGroupsSoFar}
 use Rattle.import_run.proofs.HandLemmas.{batch_texts, counted_ids, kept_none}
 use Rattle.import_run.proofs.TurnLemmas.{texts_more}

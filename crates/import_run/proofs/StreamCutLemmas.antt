@@ -1,5 +1,5 @@
 -- The cuts of a stream: a preamble stands first, and they are no more than its bytes.
-use Rattle.std.proofs.Common.{◌≡◌, ◌∙◌, ℕ, ◌+◌, ◌<◌, ◌≤◌, ◌&&◌, ◌==◌, Bool, true, false, cond, List, [], ◌∷◌, ◌++◌, length, drop, nat_le, nat_eq, refl, sym, ap, subst, arith, length-append, codes}
+use Rattle.std.proofs.Common.{◌≡◌, ℕ, ◌+◌, ◌<◌, ◌≤◌, ◌&&◌, ◌==◌, Bool, true, false, cond, List, [], ◌∷◌, ◌++◌, length, drop, nat_le, nat_eq, refl, subst, arith, length-append}
 use Rattle.std.specs.List.{AllByRecursion, starts_with}
 use Rattle.std.proofs.lemmas.List.{length-drop}
 use Rattle.explorer_model.specs.Cuts.{Cut, Text, TooLong, Preamble, Parted, cut_at, cuts, cuts_from, cuts_of, event, is_white_space, mark, onto, parted, preamble, text_limit}

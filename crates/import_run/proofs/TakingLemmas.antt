@@ -1,5 +1,5 @@
 -- Cuts that are taken one after another, and what becomes of their groups.
-use Rattle.std.proofs.Common.{◌≡◌, ℕ, ◌<◌, ◌≤◌, List, [], ◌∷◌, ◌++◌, Option, Some, Result, Ok, Err, length, refl, sym, ap, subst, ◌∙◌, append_assoc, arith}
+use Rattle.std.proofs.Common.{◌≡◌, ◌<◌, ◌≤◌, List, [], ◌∷◌, ◌++◌, Option, Some, Result, Ok, Err, length, refl, sym, ap, subst, ◌∙◌, append_assoc, arith}
 use Rattle.std.specs.Prelude.{IfErr, OnOk}
 use Rattle.std.specs.List.{All, AllByRecursion}
 use Rattle.std.proofs.lemmas.List.{append-nil}
@@ -22,7 +22,7 @@ use Rattle.import_run.specs.Committing.{Known, Store, store_of}
 use Rattle.import_run.specs.Grouping.{Ascend, IsGroupOf}
 use Rattle.import_run.specs.Importing.{WhereLacking, WhereStopped}
 use Rattle.import_run.specs.Progress.{Progress}
-use Rattle.import_run.specs.SoFar.{AreInGroups, IsWhole}
+use Rattle.import_run.specs.SoFar.{IsWhole}
 use Rattle.import_run.specs.Taking.{IsReady, IsSettledSo, LacksAtEnd, LacksBehind, LacksSoFar, StopsAtEnd, StopsBehind, StopsSoFar, TakenAll, TakenSoFar}
 use Rattle.import_run.proofs.GroupLemmas.{all_cuts}
 use Rattle.import_run.proofs.HandLemmas.{lacks_still}

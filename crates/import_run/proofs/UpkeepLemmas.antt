@@ -1,15 +1,15 @@
 -- What becomes of a published list as neighbours become one.
-use Rattle.std.proofs.Common.{◌≡◌, ℕ, zero, suc, ◌+◌, ◌<◌, ◌≤◌, List, [], ◌∷◌, ◌++◌, length, take, drop, Option, None, Some, Result, Ok, Err, inl, inr, refl, sym, ap, subst, ◌∙◌, arith}
-use Rattle.std.specs.Prelude.{IfOk, MatchOption, slice_get}
+use Rattle.std.proofs.Common.{◌≡◌, ℕ, zero, suc, ◌+◌, ◌<◌, ◌≤◌, List, [], ◌∷◌, length, Option, None, Some, Ok, inl, inr, refl, sym, ap, subst, ◌∙◌, arith}
+use Rattle.std.specs.Prelude.{slice_get}
 use Rattle.std.specs.Arc.{arc_value}
 use Rattle.explorer_model.specs.declared.archive.Batch.{Batch}
 use Rattle.explorer_model.specs.Spans.{Adjoin, Span}
 use Rattle.segment_blocks.specs.Segment.{CountedSpan, IsSegment}
 use Rattle.segment_merge.specs.Merging.{IsMergeOf}
 use Rattle.published_index.specs.Changes.{Change, JoinAt, with_change}
-use Rattle.published_index.specs.Cover.{IsList, spans_of}
+use Rattle.published_index.specs.Cover.{spans_of}
 use Rattle.published_index.specs.States.{Publishing, publishing}
-use Rattle.ingest_desk.specs.Installs.{Installs, IsGone, IsInstalled, StandAt, caught_up, list_by}
+use Rattle.ingest_desk.specs.Installs.{Installs, IsGone, IsInstalled, caught_up, list_by}
 use Rattle.ingest_desk.specs.Picking.{AreAt, HasNoneDue, IsPicked, NoneDueFrom}
 use Rattle.ingest_desk.specs.declared.job.Job.{Job}
 use Rattle.ingest_desk.specs.declared.job.Standing.{Standing}

@@ -1,12 +1,12 @@
 -- Laws: what calls that store do to a store on a disk, one after another.
-use Rattle.std.proofs.Common.{◌≡◌, ◌⊎◌, inl, inr, ⊎_elim, ℕ, ◌≤◌, List, [], ◌∷◌, ◌++◌, Option, None, Some, refl, sym, ap, subst, ◌∙◌, append_assoc, arith}
+use Rattle.std.proofs.Common.{◌≡◌, inl, inr, ⊎_elim, ℕ, List, [], ◌∷◌, ◌++◌, Option, None, Some, refl, sym, ap, subst, ◌∙◌, append_assoc, arith}
 use Rattle.std.proofs.lemmas.List.{append-nil}
 use Rattle.disk_model.specs.Disk.{DiskState, LeavesOnly, MayLeave}
 use Rattle.explorer_model.specs.declared.archive.Batch.{Batch}
 use Rattle.record_log.specs.Log.{EachImage, Log}
 use Rattle.manifest.specs.Manifest.{HasJournal, IsWithOrWithoutBatch}
 use Rattle.ingest_desk.specs.Stored.{Stored, journal}
-use Rattle.import_run.specs.Since.{Closes, Goes, HasFrontOf, IsSince, KeepsAll, KeepsAllBut, StaysOpen}
+use Rattle.import_run.specs.Since.{Closes, Goes, HasFrontOf, IsSince, StaysOpen}
 
 -- ---- images
 

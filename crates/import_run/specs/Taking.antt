@@ -20,7 +20,7 @@ use Rattle.import_run.specs.Grouping.{IsGroupOf}
 use Rattle.import_run.specs.Importing.{StopsAt}
 use Rattle.import_run.specs.Progress.{AreReceiptsOf, Progress}
 use Rattle.import_run.specs.Rounds.{MayHaveMore}
-use Rattle.import_run.specs.SoFar.{AreAllGroups, AreGroupsSoFar, AreInGroups, IsWhole, ended_cuts}
+use Rattle.import_run.specs.SoFar.{AreAllGroups, AreInGroups, IsWhole, ended_cuts}
 
 -- the group in hand is not whole, and can be read
 pub record IsReady {J : Type 0} (import : OpenImport J) : Type 0 where

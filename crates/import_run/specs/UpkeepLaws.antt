@@ -1,5 +1,5 @@
 -- Laws: published lists behind batches, one after another.
-use Rattle.std.proofs.Common.{◌≡◌, Bool, ℕ, List, [], ◌∷◌, ◌++◌, refl, sym, ap, subst, ◌∙◌, append_assoc}
+use Rattle.std.proofs.Common.{Bool, ℕ, List, [], ◌∷◌, ◌++◌, refl, sym, ap, subst, ◌∙◌, append_assoc}
 use Rattle.std.proofs.lemmas.List.{append-nil}
 use Rattle.disk_model.specs.Disk.{DiskState}
 use Rattle.explorer_model.specs.declared.archive.Batch.{Batch}
@@ -7,7 +7,7 @@ use Rattle.segment_blocks.specs.Segment.{CountedSpan}
 use Rattle.ingest_desk.specs.Installs.{list_by}
 use Rattle.ingest_desk.specs.Stored.{Stored, journal}
 use Rattle.import_run.specs.SinceLaws.{since_before, since_then}
-use Rattle.import_run.specs.Upkeep.{Follows, FollowsAll, IsSinceAlone, KeepsUp, StoresSame}
+use Rattle.import_run.specs.Upkeep.{Follows, FollowsAll, IsSinceAlone, StoresSame}
 
 pub same_before : {D : Type 0} (first second third : Stored D) → StoresSame first second
     → StoresSame second third → StoresSame first third

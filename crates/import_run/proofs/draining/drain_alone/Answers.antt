@@ -1,2 +1,0 @@
-use Rattle.import_run.proofs.DrainLemmas.{joins_shorter}
-use Rattle.import_run.proofs.draining.drain_alone.Goals as goal

@@ -1,4 +1,4 @@
-use Rattle.std.proofs.Common.{◌≡◌, ◌∙◌}
+use Rattle.std.proofs.Common.{◌∙◌}
 use Rattle.import_run.proofs.CloseLemmas.{last_is}
 use Rattle.import_run.proofs.groups.last_batches.Goals as goal
 

@@ -1,5 +1,5 @@
-use Rattle.std.proofs.Common.{◌≡◌, ◌∙◌, Option, Some, sym, ap, subst, refl}
-use Rattle.ingest_desk.specs.Stored.{Stored, journal}
+use Rattle.std.proofs.Common.{◌≡◌, Option, Some, sym, subst, refl}
+use Rattle.ingest_desk.specs.Stored.{journal}
 use Rattle.import_run.specs.Alone.{stored_in}
 use Rattle.import_run.specs.Committing.{Commits, Store}
 use Rattle.import_run.proofs.AloneLemmas.{clash, commits}

@@ -1,4 +1,4 @@
-use Rattle.std.proofs.Common.{◌≡◌, ◌<◌, ◌^◌, refl, arith}
+use Rattle.std.proofs.Common.{refl, arith}
 use Rattle.import_run.proofs.CountLemmas.{adds_closed, adds_disk_fault}
 use Rattle.import_run.proofs.ends.EndCounts.add.Goals as goal
 

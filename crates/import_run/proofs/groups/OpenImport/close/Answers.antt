@@ -1,11 +1,9 @@
-use Rattle.std.proofs.Common.{◌≡◌, ◌++◌, ◌∷◌, [], ◌∙◌, ◌+◌, ◌<◌, ◌≤◌, ℕ, List, Option, Some, ap, sym, subst, refl, arith, length}
-use Rattle.std.specs.Prelude.{vec_capacity, vec_len}
+use Rattle.std.proofs.Common.{◌∷◌, [], ◌∙◌, ◌<◌, List, Option, Some, ap, sym, subst, refl, arith, length}
 use Rattle.explorer_model.specs.Cuts.{Cut}
 use Rattle.explorer_model.specs.declared.fault.Refusal.{Refusal}
 use Rattle.import_run.specs.Beside.{last_batches}
-use Rattle.import_run.specs.Committing.{Known, Store, store_of}
+use Rattle.import_run.specs.Committing.{Store}
 use Rattle.import_run.specs.Grouping.{Ascend, IsGroupOf}
-use Rattle.import_run.specs.Progress.{Progress}
 use Rattle.import_run.specs.Rounds.{AnswerDecided, Settles}
 use Rattle.import_run.specs.Taking.{IsSettledSo}
 use Rattle.import_run.proofs.BesideLemmas.{none_beside, one_beside, stops_beside}

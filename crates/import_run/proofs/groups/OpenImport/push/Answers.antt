@@ -1,4 +1,4 @@
-use Rattle.std.proofs.Common.{◌≡◌, ◌++◌, ◌∷◌, [], List, Option, refl, arith}
+use Rattle.std.proofs.Common.{◌++◌, ◌∷◌, [], List, Option, refl, arith}
 use Rattle.explorer_model.specs.Cuts.{Cut}
 use Rattle.pgn_cut.specs.Cut.{meaning}
 use Rattle.import_run.specs.Committing.{Store}

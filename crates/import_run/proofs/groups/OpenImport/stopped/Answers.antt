@@ -1,4 +1,4 @@
-use Rattle.std.proofs.Common.{◌≡◌, ◌++◌, List, ap, ◌∙◌, length, arith}
+use Rattle.std.proofs.Common.{◌++◌, List, ap, ◌∙◌, length, arith}
 use Rattle.explorer_model.specs.declared.fault.Refusal.{Refusal}
 use Rattle.explorer_model.specs.Cuts.{cuts}
 use Rattle.import_run.proofs.ComeBesideLemmas.{stopped_at_end_beside, stopped_within_beside}

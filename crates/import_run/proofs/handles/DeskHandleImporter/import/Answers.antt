@@ -1,4 +1,3 @@
-use Rattle.std.proofs.Common.{◌≡◌}
 use Rattle.explorer_model.specs.Imports.{groups}
 use Rattle.explorer_model.specs.Cuts.{cuts}
 use Rattle.import_run.proofs.ComeBesideLemmas.{ends_in_memory, few_games, marked_so}
