@@ -10,7 +10,6 @@ mod CompleteLemmas
 mod CountLemmas
 mod CutLemmas
 mod DeterminedLemmas
-mod DrainLemmas
 mod EarlyLemmas
 mod EndedLemmas
 mod FollowLemmas
