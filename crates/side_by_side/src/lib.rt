@@ -1,9 +1,8 @@
 //! Calls side by side, each in a thread of its own where one can be made.
 //!
-//! The calling thread makes all threads, one after another, and makes the last call itself. Where
-//! threads that were just made make threads in their turn, a system may give two of them one
-//! processor while another processor has nothing to do. Where no thread can be made, the calls are
-//! made in order. Results are moved for each call: this is for a few calls that take long.
+//! The calling thread makes all threads, one after another, and makes the last call itself: no
+//! thread waits for others to be made by one that was just made. Where no thread can be made, the
+//! calls are made in order. Results are moved for each call: this is for a few calls that take long.
 #![tactic(auto)]
 
 ghost use Rattle.std.specs.Prelude.{◌≡◌, ℕ, ◌+◌, ◌^◌, ◌<◌, ◌≤◌, IfOk, length};
