@@ -25,8 +25,9 @@ abbrev pub IsTallyMade : List Candidate → Option Counted → Type 0
 IsTallyMade candidates None = candidates ≡ []
 IsTallyMade candidates (Some counted) = Counts candidates counted
 
--- The texts that have a game are accepted, but for those whose id an accepted text before them has; they are one batch, which is
--- counted. The others are refused, each with its cause. Of how many workers there are, nothing depends.
+-- The texts that have a game are accepted, but for those whose id an accepted text before them has;
+-- they are one batch, which is counted. The others are refused, each with its cause. Of how many
+-- workers there are, nothing depends.
 pub record IsTallying (texts : List Placed) (tallying : Tallying) : Type 0 where
   pub examinations : List Examination
   pub are_examinations : AllZip IsExaminationOfText texts examinations

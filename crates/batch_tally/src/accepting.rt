@@ -103,7 +103,8 @@ fn judge(accepted: &[Accepted], words: &[u64], marks: &[bool; 4096], reading: Re
     }
 }
 
-/// The place of the first accepted text that has the id of the game. Of most there is none, as the mark of the id tells.
+/// The place of the first accepted text that has the id of the game. Of most there is none, as the
+/// mark of the id tells.
 fn place_of_id(
     accepted: &[Accepted],
     words: &[u64],

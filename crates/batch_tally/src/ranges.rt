@@ -18,8 +18,9 @@ use std::alloc::{AllocError, Global};
 use std::thread::Threads;
 use tally_rows::{KeyRange, Row, Single, first_word, rows_of};
 
-/// The rows of games, whose numbers are their places, in parts, one after another. Each leaf makes those of a range of keys, of which
-/// there are as many as workers, and the leaves work side by side.
+/// The rows of games, whose numbers are their places, in parts, one after another. Each leaf makes
+/// those of a range of keys, of which there are as many as workers, and the leaves work side by
+/// side.
 pub fn row_parts<R: Threads + Sync>(
     rt: &R,
     alloc: Global,
@@ -29,7 +30,8 @@ pub fn row_parts<R: Threads + Sync>(
     requires some_workers { 1 ≤ workers }
     requires counted { All IsCounted games.now }
     requires few { length games.now ≤ group_limit }
-    ensures { IfOk result (λ parts. AreRowsOf games.now (flat_map (λ part. part.items) parts.items)) }
+    ensures { IfOk result
+        (λ parts. AreRowsOf games.now (flat_map (λ part. part.items) parts.items)) }
 {
     tally_rows::laws::ranges_are_tallied();
     let ranges = ranges_of(alloc, games, workers)?;

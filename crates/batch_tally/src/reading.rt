@@ -39,8 +39,9 @@ pub struct Leaf {
     pub texts: Vec<Placed>,
 }
 
-/// Each text of at most 65,536 bytes, replayed and counted. The texts go to as many leaves as there are workers, in order. The leaves
-/// work side by side, and each goes through the gate before its first text.
+/// Each text of at most 65,536 bytes, replayed and counted. The texts go to as many leaves as there
+/// are workers, in order. The leaves work side by side, and each goes through the gate before its
+/// first text.
 pub fn read_all<R: Threads + Sync, G: Gate>(
     rt: &R,
     alloc: Global,

@@ -9,7 +9,8 @@ use crate::{Entry, Ranking};
 use arrayvec::ArrayVec;
 use std::marker::{Model, PhantomData};
 
-/// The best four of some entries, or all of them where they are fewer. They lie in the value itself, so no call takes memory.
+/// The best four of some entries, or all of them where they are fewer. They lie in the value
+/// itself, so no call takes memory.
 #[derive(Drop)]
 #[derive_where(Clone, Debug, PartialEq, Eq)]
 pub struct Best4<O: Ranking> {
@@ -25,7 +26,8 @@ impl<O: Ranking> Model for Best4<O> {
     // The entries are their own best four: best first, and no more than four.
     ghost invariant = { λ b. best O.before 4 b.entries.items ≡ b.entries.items };
 
-    ghost inverse = { λ entries. record { entries = record { items = entries }; ranking = record {} } };
+    ghost inverse = { λ entries.
+        record { entries = record { items = entries }; ranking = record {} } };
 }
 
 impl<O: Ranking> Best4<O> {

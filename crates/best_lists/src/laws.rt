@@ -13,7 +13,8 @@ pub fn best_of_both<O: Ranking>()
         ≡ best O.before 4 (best O.before 4 left ++ best O.before 4 right) }
 {}
 
-/// Entries whose numbers are moved alike have the same best four, moved. So `shifted` may come before a join or after it.
+/// Entries whose numbers are moved alike have the same best four, moved. So `shifted` may come
+/// before a join or after it.
 pub fn best_of_shifted<O: Ranking>()
     ensures { (by : ℕ) (entries : List Entry)
         → best O.before 4 (map (moved_by by) entries)

@@ -12,7 +12,8 @@ pub fn calls_are_determined()
         → Reads at buffer old new → Reads at other old after → (buffer ≡ other) × Stays after new }
     ensures writes { (at : ℕ) (piece : List ℕ) (old new after : DiskState)
         → Writes at piece old new → Writes at piece old after → Stays after new }
-    ensures rests { (old new after : DiskState) → Stays old new → Stays old after → Stays after new }
+    ensures rests { (old new after : DiskState)
+        → Stays old new → Stays old after → Stays after new }
 {}
 
 /// Behind a sync a crash leaves one file.

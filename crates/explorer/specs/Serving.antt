@@ -108,7 +108,8 @@ pub record HasGivenUp (service : Service) (why : Unserved) (before after : HostS
   pub names : List (List ℕ)
   pub files : List Stream
   pub refusal : List HostCall
-  pub calls : after.calls ≡ added (files_back names files ++ (refusal ++ files_out names)) before.calls
+  pub calls : after.calls
+      ≡ added (files_back names files ++ (refusal ++ files_out names)) before.calls
   pub disks : after.disks ≡ before.disks
   pub disk_faults : after.disk_faults ≡ before.disk_faults
   pub placed : IsPlaced service why
@@ -130,7 +131,8 @@ pub record HasWorked (service : Service) (opening journal : List Batch) (first :
   pub over : WorksOver service.files opening journal handed first lines told middle after
 
 -- what became of files and doors that were asked for
-abbrev pub FilesServed : Service → List Batch → List Batch → Outcome → HostState → HostState → Type 0
+abbrev pub FilesServed : Service → List Batch → List Batch → Outcome
+    → HostState → HostState → Type 0
 FilesServed service opening journal (GivenUp why) before after =
     HasGivenUp service why before after
 FilesServed service opening journal (Worked done) before after =

@@ -149,7 +149,8 @@ AreNamed names at (Merger ∷ workers) = AreNamed names (at + 1) workers
 -- as much of each thing is out as these calls give back
 abbrev pub CanReturn : List HostCall → HostState → Type 0
 CanReturn calls host =
-    (thing : Thing) → IfSome host.calls (λ earlier. sum_by (returned thing) calls ≤ out thing earlier)
+    (thing : Thing)
+    → IfSome host.calls (λ earlier. sum_by (returned thing) calls ≤ out thing earlier)
 
 -- ---- what is handed out
 

@@ -92,7 +92,8 @@ pub fn with_readers<F: Source, G: Door, J: Index>(
 ) -> Vec<Worker<F, G, J>>
     requires even { vec_len doors ≡ vec_len passes }
     requires room { vec_len list + vec_len doors + 1 ≤ vec_capacity list }
-    ensures { (opening : List ABatch) → AllByRecursion (λ pass. pass ≡ watching opening) passes.items
+    ensures { (opening : List ABatch)
+        → AllByRecursion (λ pass. pass ≡ watching opening) passes.items
         → HasReaders G.door opening (map G.door doors.items) list.items result.items }
 {
     let mut doors = doors;
@@ -187,7 +188,8 @@ fn serve_doors<R: Wait + Threads + Sync, O: Sink, H: Host, J: Index + Send + Syn
     requires room { vec_len list + vec_len doors + 1 ≤ vec_capacity list }
     requires files { AllZip (IsFileOf H.File.source (H.host host.old))
         (map string_bytes order.now.files.items) list.items }
-    requires out { AreOut (map string_bytes order.now.files.items) (vec_len doors) (H.host host.old) }
+    requires out { AreOut (map string_bytes order.now.files.items) (vec_len doors)
+        (H.host host.old) }
     requires opening { AllByRecursion (λ pass. pass ≡ watching (journal ingest)) passes.items }
     ensures over { WorksOver (map string_bytes order.now.files.items) (journal ingest)
         (journal result.0) (map H.Door.door doors.items) result.1.first

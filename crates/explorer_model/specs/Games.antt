@@ -60,7 +60,8 @@ move_fault san.Ambiguous ply place = faults.Ambiguous ply place
 abbrev pub onto_moves : Move → Result (List Move) GameFault → Result (List Move) GameFault
 onto_moves m rest = result_map_both (λ moves. m ∷ moves) (λ fault. fault) rest
 
--- the tokens are played in the position, the first at a ply: these are their moves, or the fault of the first that is none
+-- the tokens are played in the position, the first at a ply: these are their moves, or the fault of
+-- the first that is none
 abbrev pub Plays : Position → ℕ → List Token → Result (List Move) GameFault → Type 0
 Plays p ply [] played = played ≡ Ok []
 Plays p ply (token ∷ tokens) played =

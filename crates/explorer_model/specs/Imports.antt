@@ -26,8 +26,8 @@ numbered before [] = []
 numbered before (cut ∷ cuts) =
     (before, cut) ∷ numbered (if is_text cut then before + 1 else before) cuts
 
--- The group of a cut that has so many of all texts before it. A cut that is no text belongs to the group of the next text, or to the
--- last group where none follows.
+-- The group of a cut that has so many of all texts before it. A cut that is no text belongs to the
+-- group of the next text, or to the last group where none follows.
 abbrev pub group_number : ℕ → ℕ → ℕ
 group_number texts before = min before (texts - 1) / group_limit
 
@@ -163,8 +163,8 @@ abbrev pub batch_of : List Candidate → Option Batch
 batch_of [] = None
 batch_of (first ∷ rest) = Some (record { texts = map (λ candidate. candidate.text) (first ∷ rest) })
 
--- The accepted texts of each group are one batch, and the batches stand in the order of the groups; all else is refused, in the
--- order of the stream.
+-- The accepted texts of each group are one batch, and the batches stand in the order of the groups;
+-- all else is refused, in the order of the stream.
 pub record Yields (groups : List (List Verdict)) (batches : List Batch)
     (refused : List Refusal) : Type 0 where
   pub batches_are : batches ≡ filter_map (λ group. batch_of (candidates group)) groups
@@ -180,8 +180,9 @@ verdicts_in_turn stored (group ∷ groups) =
     let done = verdicts_behind (numbers_of stored) group in
     done ∷ verdicts_in_turn (stored ++ map (λ candidate. candidate.game) (candidates done)) groups
 
--- An import of groups of cuts behind stored games, by which nobody else stores: these batches are stored, and these texts refused. A
--- candidate is refused as Repeated exactly where a game that is stored when its group's turn comes has its id.
+-- An import of groups of cuts behind stored games, by which nobody else stores: these batches are
+-- stored, and these texts refused. A candidate is refused as Repeated exactly where a game that is
+-- stored when its group's turn comes has its id.
 pub record Accounted (stored : List Game) (groups : List (List Cut)) (batches : List Batch)
     (refused : List Refusal)
     : Type 0 where
@@ -195,7 +196,8 @@ verdicts_by (number ∷ numbers) (group ∷ groups) =
     verdicts_behind number group ∷ verdicts_by numbers groups
 verdicts_by _ _ = []
 
--- An import beside others: what is stored when a group's turn comes is not said, but one numbering of ids decides for the whole group.
+-- An import beside others: what is stored when a group's turn comes is not said, but one numbering
+-- of ids decides for the whole group.
 pub record AccountedBeside (groups : List (List Cut)) (batches : List Batch)
     (refused : List Refusal) : Type 0 where
   pub examinations : List (List Examination)

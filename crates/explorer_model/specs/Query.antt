@@ -196,7 +196,8 @@ QueryIn pairs query =
     × RootReads (value_in Fen pairs) root
     × LineReads root (value_in Play pairs) line
     × (query ≡
-    (asked standard_only true Variant pairs >>= λ standard. root >>= λ p. line >>= λ l. query_from pairs p l))
+    (asked standard_only true Variant pairs >>= λ standard.
+    root >>= λ p. line >>= λ l. query_from pairs p l))
 
 -- the query that the query string asks, or the first parameter that is malformed
 abbrev pub QueryReads : List ℕ → Result Query BadParameter → Type 0

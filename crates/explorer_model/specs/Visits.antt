@@ -1,4 +1,5 @@
--- Where the games of a journal stand: the positions of their plies, and the first of these that is the same as a given one.
+-- Where the games of a journal stand: the positions of their plies, and the first of these that is
+-- the same as a given one.
 use Rattle.std.specs.Prelude.{◌≡◌, ⊤, ℕ, ◌⊎◌, List, [], ◌∷◌, take, Option, Some, None, Ok}
 use Rattle.std.specs.List.{AllZip, flat_map}
 use Rattle.explorer_model.specs.declared.archive.Batch.{Batch}
@@ -56,7 +57,8 @@ AreLegal game = AreLegalFrom (root_of game) game.moves
 
 -- ---- visits
 
--- None: the position does not come. Some next: it comes, and next is played where it comes first, if the game goes on there.
+-- None: the position does not come. Some next: it comes, and next is played where it comes first,
+-- if the game goes on there.
 abbrev pub FirstVisit : Position → List Stage → Option (Option Move) → Type 0
 FirstVisit at [] visit = visit ≡ None
 FirstVisit at (stage ∷ stages) visit =

@@ -36,7 +36,8 @@ pub fn first_visit_is_determined()
         → FirstVisit at stages v → FirstVisit at stages w → v ≡ w }
 {}
 
-/// An answer counts at least as many games as its moves do: games that end in the position have no move, and moves may be left out.
+/// An answer counts at least as many games as its moves do: games that end in the position have no
+/// move, and moves may be left out.
 pub fn totals_cover_moves()
     ensures white { (query : Query) (games : List GameAt) (found : Found)
         → IsRecount query games found

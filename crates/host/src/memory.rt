@@ -94,8 +94,8 @@ pub enum MemCall {
 }
 
 /// A host over named disks, files and links in memory. It refuses a name that it doesn't know, a
-/// disk that is out or came back with faults, links that have come, and what it finds no memory for. When it hands a thing
-/// out it takes the room for noting its return.
+/// disk that is out or came back with faults, links that have come, and what it finds no memory
+/// for. When it hands a thing out it takes the room for noting its return.
 #[derive(Drop)]
 pub struct MemHost {
     alloc: Global,
@@ -187,7 +187,8 @@ impl MemHost {
         requires { self.old.calls ≡ [] }
         ensures calls { self.new.calls ≡ [] }
         ensures added { OnOk result ((slot : _) × (string_bytes slot.name ≡ address.now)
-            × (slot.it ≡ Some (record { doors = links })) × (self.new.stock ≡ record self.old.stock {
+            × (slot.it ≡ Some (record { doors = links }))
+            × (self.new.stock ≡ record self.old.stock {
               addresses = self.old.stock.addresses ++ slot ∷ [];
             })) }
     {

@@ -10,7 +10,8 @@ use Rattle.ingest_desk.specs.declared.report.Report.{Report}
 use Rattle.import_run.specs.Alone.{ImportsAlone}
 
 -- two imports stored the same batches, with the same receipts, and refused the same texts
-pub record AreAlike {J : Type 0} (stored others : List Batch) (report other : Report J) : Type 0 where
+pub record AreAlike {J : Type 0} (stored others : List Batch)
+    (report other : Report J) : Type 0 where
   pub batches : stored ≡ others
   pub receipts : report.receipts.items ≡ other.receipts.items
   pub refused : report.refused.items ≡ other.refused.items

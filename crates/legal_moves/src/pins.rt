@@ -57,7 +57,8 @@ pub fn evasions(position: &Position, info: &CheckInfo) -> Bitboard
 /// The squares that alone are occupied between a square and one of these.
 fn alone_between(occupied: Bitboard, sliders: Bitboard, square: u8) -> Bitboard
     requires { square < 64 }
-    ensures { (s : ℕ) → s < 64 → Holds result s ↔ HasSuch sliders (λ a. IsAlone occupied a s square) }
+    ensures { (s : ℕ) → s < 64
+        → Holds result s ↔ HasSuch sliders (λ a. IsAlone occupied a s square) }
 {
     let mut found = 0;
     let mut rest = sliders;

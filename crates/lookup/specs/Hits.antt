@@ -18,7 +18,8 @@ hit_as hit = record { row = row_in hit.row; first = hit.first }
 
 -- ---- which rows
 
--- the rows of a position that are picked by their parts, of parts whose games are numbered one after another from a first one on
+-- the rows of a position that are picked by their parts, of parts whose games are numbered one
+-- after another from a first one on
 unfoldable pub rows_from : List ℕ → (RowKey → Bool) → ℕ → List Part → List NumberedRow
 rows_from key pick first [] = []
 rows_from key pick first (part ∷ parts) =

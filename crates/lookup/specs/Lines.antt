@@ -44,7 +44,8 @@ IsLineMade at parts hits m line =
     → hits ≡ rows_from key (meets wanted any_next) 0 parts
     → IsLineIn at key parts each hits m line
 
--- what is put together of the rows that are counted: their totals, the first moves, the best and the latest games, and the months
+-- what is put together of the rows that are counted: their totals, the first moves, the best and
+-- the latest games, and the months
 pub record IsPutTogether (query : Query) (parts : List Part) (hits : List NumberedRow)
     (found : Found) : Type 0 where
   pub totals : found.totals ≡ totals_where hits any_row

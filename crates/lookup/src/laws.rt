@@ -28,8 +28,8 @@ use legal_moves::laws::{
 use packed_keys::laws::equal_keys_mean_equal_positions;
 use san_codec::laws::notation_is_determined;
 
-/// What a game's track tells at the key of a position is how the game stands to that position: the first of its counted positions
-/// that is the same, and the move that follows there.
+/// What a game's track tells at the key of a position is how the game stands to that position: the
+/// first of its counted positions that is the same, and the move that follows there.
 pub fn tracks_see_what_games_see()
     ensures { (at : Position) (bytes : List ℕ) (text : List ℕ) (game : Game) (track : Track)
         → length at.squares ≡ 64 → IsTidyKey at bytes → IsTextOf text game → IsTrackOf game track
@@ -55,8 +55,9 @@ pub fn tracks_tell_legal_moves()
     let _start = Board::start().position();
 }
 
-/// The law of covers: whatever spans of batches cover a journal, what is made of the rows that are tallied for the spans, filtered,
-/// summed and joined, is what is found by a recount of all games of the journal.
+/// The law of covers: whatever spans of batches cover a journal, what is made of the rows that are
+/// tallied for the spans, filtered, summed and joined, is what is found by a recount of all games
+/// of the journal.
 pub fn cover_recounts()
     ensures { (spans : List Span) (journal : List Batch)
         (games : List (List Game)) (cover : List (List Track)) (tallies : List (List Row))

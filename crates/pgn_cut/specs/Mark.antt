@@ -9,7 +9,8 @@ use Rattle.pgn_cut.specs.declared.mark.Marked.TheVariants.{Prefix, Past}
 abbrev pub cuts_of_mark : ℕ → List ℕ → List Cut
 cuts_of_mark count rest = cuts (take count mark ++ rest)
 
--- the bytes of the piece that were taken stand before those of the front, however many of the piece are read: all, or enough to tell a mark
+-- the bytes of the piece that were taken stand before those of the front, however many of the piece
+-- are read: all, or enough to tell a mark
 pub record Passes (count : ℕ) (piece : List ℕ) (front : Front) (taken : ℕ) : Type 0 where
   pub within : taken ≤ length piece
   pub came : front.came ≡ count + taken

@@ -19,4 +19,5 @@ pub record Call : Type 0 where
 -- calls of `feed`, one after another, and the cut that `end` gives behind them
 abbrev pub Runs : Cutter → List Call → Option Cut → Type 0
 Runs cutter [] last = cuts_in last ≡ cuts_of_rest cutter []
-Runs cutter (call ∷ calls) last = Gives cutter call.taken call.cut call.after × Runs call.after calls last
+Runs cutter (call ∷ calls) last =
+    Gives cutter call.taken call.cut call.after × Runs call.after calls last

@@ -49,7 +49,8 @@ impl Cutter {
         requires some { 0 < length piece.now }
         requires room { came self.old + length piece.now < 2 ^ 63 }
 
-        ensures cuts { IfOk result (λ fed. Gives self.old (take fed.taken piece.now) fed.cut self.new) }
+        ensures cuts { IfOk result
+            (λ fed. Gives self.old (take fed.taken piece.now) fed.cut self.new) }
 
         ensures some { IfOk result (λ fed. 0 < fed.taken) }
         ensures taken { IfOk result (λ fed. fed.taken ≤ length piece.now) }

@@ -37,9 +37,11 @@ impl Model for Text {
 
     ghost Value = { TextState };
 
-    ghost view = { λ t. record { place = t.place; count = t.count; matched = t.matched; kept = t.kept.items } };
+    ghost view = { λ t.
+        record { place = t.place; count = t.count; matched = t.matched; kept = t.kept.items } };
 
-    ghost invariant = { λ t. IsText (record { place = t.place; count = t.count; matched = t.matched; kept = t.kept.items }) };
+    ghost invariant = { λ t. IsText
+        (record { place = t.place; count = t.count; matched = t.matched; kept = t.kept.items }) };
 }
 
 impl Text {
@@ -60,7 +62,8 @@ impl Text {
         requires room { self.old.place + self.old.count + length piece.now < 2 ^ 63 }
 
         ensures cuts { IfOk result (λ fed. (rest : List ℕ) →
-            cuts_in fed.cut ++ cuts_of_text self.new rest ≡ cuts_of_text self.old (take fed.taken piece.now ++ rest)) }
+            cuts_in fed.cut ++ cuts_of_text self.new rest
+            ≡ cuts_of_text self.old (take fed.taken piece.now ++ rest)) }
         ensures taken { IfOk result (λ fed. fed.taken ≤ length piece.now) }
         ensures some { IfOk result (λ fed. 0 < length piece.now → 0 < fed.taken) }
         ensures whole { IfOk result (λ fed. IsNone fed.cut → fed.taken ≡ length piece.now) }

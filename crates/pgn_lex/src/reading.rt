@@ -71,7 +71,8 @@ pub fn spanned_parts(alloc: Global, text: &[u8]) -> Result<SpannedParts, Stop<Le
     finish(section, found)
 }
 
-/// The place behind a period that stands there among the moves, else the place itself: most move numbers have one behind them.
+/// The place behind a period that stands there among the moves, else the place itself: most move
+/// numbers have one behind them.
 fn past_period(text: &[u8], section: Section, at: usize) -> usize
     requires { length text.now ≤ 65536 }
     ensures on { at ≤ result }

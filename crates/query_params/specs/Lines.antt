@@ -41,7 +41,8 @@ pub record Playing (root : Position) (texts : List (List ℕ)) (board : Position
 abbrev pub query_by : List (List ℕ × List ℕ) → Result Position BadParameter
     → Result Line BadParameter → Result Query BadParameter
 query_by pairs root line =
-    asked standard_only true Variant pairs >>= λ standard. root >>= λ p. line >>= λ l. query_from pairs p l
+    asked standard_only true Variant pairs >>= λ standard.
+    root >>= λ p. line >>= λ l. query_from pairs p l
 
 -- the answer is the query of the text, or the first parameter that is malformed; want of memory is free
 abbrev pub GivesQuery : List ℕ → Result Query (Stop BadParameter) → Type 0

@@ -20,7 +20,13 @@ first_steps earlier (step ∷ steps) =
 
 abbrev pub row_key_in : Classes → Step → RowKey
 row_key_in classes step =
-    record { key = step.key; next = step.next; month = classes.month; speed = classes.speed; group = classes.group }
+    record {
+      key = step.key;
+      next = step.next;
+      month = classes.month;
+      speed = classes.speed;
+      group = classes.group;
+    }
 
 -- the single of a game, of this number, at one of its steps
 abbrev pub single_at : Classes → ℕ → Step → Single

@@ -37,7 +37,10 @@ pub record Fit (a b : Cell) : Type 0 where
 -- a row as a cell
 abbrev pub cell_of : Row → Cell
 cell_of row =
-    record { totals = record { white = row.white; draws = row.draws; black = row.black }; ratings = row.ratings }
+    record {
+      totals = record { white = row.white; draws = row.draws; black = row.black };
+      ratings = row.ratings;
+    }
 
 abbrev pub cell_at : List (List Cell) → ℕ → ℕ → Cell
 cell_at grid speed group = slice_index_or (slice_index_or grid speed []) group no_games

@@ -15,7 +15,13 @@ use Rattle.tally_rows.specs.declared.single.Single.{Single}
 -- what the games of a row have in common
 abbrev pub row_key_of : Row → RowKey
 row_key_of row =
-    record { key = row.key; next = row.next; month = row.month; speed = row.speed; group = row.group }
+    record {
+      key = row.key;
+      next = row.next;
+      month = row.month;
+      speed = row.speed;
+      group = row.group;
+    }
 
 abbrev pub is_white : Outcome → Bool
 is_white outcomes.White = true

@@ -55,7 +55,13 @@ same_numbers x y =
 -- any single
 unfoldable pub any_single : Single
 any_single = record {
-  row_key = record { key = []; next = None; month = record { year = 0; month = 0 }; speed = speeds.Blitz; group = record { value = 0 } };
+  row_key = record {
+    key = [];
+    next = None;
+    month = record { year = 0; month = 0 };
+    speed = speeds.Blitz;
+    group = record { value = 0 };
+  };
   number = 0;
   outcome = outcomes.Draw;
   rating = 0;

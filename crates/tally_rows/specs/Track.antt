@@ -23,7 +23,13 @@ visit key track = option_map (λ step. step.next) (find (λ step. bytes_eq step.
 -- the parts that the track has in a position
 unfoldable pub row_keys_at : List ℕ → Track → Option RowKey
 row_keys_at key track = option_map
-    (λ next. record { key = key; next = next; month = track.classes.month; speed = track.classes.speed; group = track.classes.group })
+    (λ next. record {
+      key = key;
+      next = next;
+      month = track.classes.month;
+      speed = track.classes.speed;
+      group = track.classes.group;
+    })
     (visit key track)
 
 -- whether there is a value, and it passes the test

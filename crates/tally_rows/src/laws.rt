@@ -75,8 +75,8 @@ pub fn singles_of_passing_keys()
         (filter (λ single. test single.row_key.key) (singles_from 0 tracks)) }
 {}
 
-/// Rows of ranges of keys that follow one another and leave no key out, those of one range after those of another, are tallied where
-/// those of each range are tallied within it.
+/// Rows of ranges of keys that follow one another and leave no key out, those of one range after
+/// those of another, are tallied where those of each range are tallied within it.
 pub fn ranges_are_tallied()
     ensures { (tracks : List Track) (ranges : List KeyRange) (parts : List (List Row))
         → FollowFrom 0 ranges

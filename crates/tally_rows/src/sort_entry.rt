@@ -5,8 +5,8 @@ ghost use Rattle.tally_rows.specs.SortEntry.{spelled, promotion_code, next_code,
 use crate::RowKey;
 use explorer_model::chess::{Move, Role};
 
-/// The parts of a single as numbers that compare as the parts do, in the order of their worth, and the single's place in a
-/// list. Machine words compare and move far faster than the bytes of a key.
+/// The parts of a single as numbers that compare as the parts do, in the order of their worth, and
+/// the single's place in a list. Machine words compare and move far faster than the bytes of a key.
 #[derive(Clone, Copy, Debug, PartialEq, Eq, PartialOrd, Ord)]
 pub struct SortEntry {
     /// Bytes 0 to 7 of the key; the next three words are those behind them.

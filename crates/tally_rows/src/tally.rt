@@ -8,8 +8,8 @@ use explorer_model::archive::{Batch, Classes};
 use explorer_model::list::Items;
 use std::marker::Model;
 
-/// A batch of 1 to 512 texts, each with a game and no two with one id, with the classes of its games in their order and the
-/// rows that count them.
+/// A batch of 1 to 512 texts, each with a game and no two with one id, with the classes of its
+/// games in their order and the rows that count them.
 #[derive(Debug, Drop)]
 pub struct Tally {
     batch: Batch,
