@@ -264,9 +264,13 @@ fn published<R: Wait>(
       held = waiting None (drop writer.behind writer.log.items);
     }) result.0.publishing (waiting None (drop writer.behind writer.log.items)) result.1 }
 {
+    let before = writer.published().list.segments().len();
     let (writer, answer) = writer.publish_as::<Sees, R>(rt);
     match answer {
         Ok(()) => {
+            if writer.published().list.segments().len() < before {
+                return (shown_by_both(rt, writer, history), Ok(true));
+            }
             let list = ListWriter {
                 writer,
                 history,
@@ -282,6 +286,23 @@ fn published<R: Wait>(
             };
             (list, Err(refused))
         }
+    }
+}
+
+/// Publishes what is published once more, so that both copies have it, and neither keeps what a join
+/// has replaced. Where that is refused, one copy keeps it until the next change.
+fn shown_by_both<R: Wait>(rt: &R, writer: Sides, history: History) -> ListWriter
+    requires written { IsWritten writer.desk.shown.value.list writer.desk.shown.value.front
+        (view_of writer.desk.place) history None (drop writer.behind writer.log.items) }
+    requires none_waits { drop writer.behind writer.log.items ≡ [] }
+    ensures book { result.book ≡ history.book }
+    ensures same { result.publishing ≡ publishing writer.desk.shown.value.list }
+{
+    let (writer, _refused) = writer.publish_as::<Sees, R>(rt);
+    ListWriter {
+        writer,
+        history,
+        held: None,
     }
 }
 

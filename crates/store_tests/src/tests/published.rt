@@ -238,3 +238,40 @@ fn snapshot_keeps_its_segments_when_they_are_joined(rt: HostRuntime) -> Result<(
     let unnamed = open_list(&rt, alloc, List::of(Vec::new(alloc)), 1)?;
     keeps_segments::<Brand, _>(&rt, alloc, unnamed)
 }
+
+/// How many shares there are of a segment before it is joined with another, and behind that, with
+/// the one that counts them.
+fn shares_of_joined<J: Index, R: Threads + Wait + Sync>(
+    rt: &R,
+    alloc: Global,
+    publisher: &mut Publisher<J>,
+) -> Result<(usize, usize), Fail> {
+    put(rt, alloc, publisher)?;
+    put(rt, alloc, publisher)?;
+    let first = publisher.list().segments().first().ok_or("a segment")?;
+    let share = Arc::try_clone(first)?;
+    let before = Arc::strong_count(&share);
+    join_both(rt, alloc, publisher)?;
+    Ok((before, Arc::strong_count(&share)))
+}
+
+fn lets_segments_go<J: Index, R: Threads + Wait + Abort + Sync>(
+    rt: &R,
+    alloc: Global,
+    unnamed: Unnamed,
+) -> Result<(), Fail>
+    requires { unnamed.name ≡ J.name }
+{
+    let (mut publisher, _passes) = named::<J, R>(rt, alloc, unnamed)?;
+    let shares = shares_of_joined(rt, alloc, &mut publisher);
+    publisher.close(rt);
+    assert_eq!(rt; shares?, (3, 1));
+    Ok(())
+}
+
+#[test]
+fn published_list_lets_joined_segments_go(rt: HostRuntime) -> Result<(), Fail> {
+    let alloc: Global = rt.alloc();
+    let unnamed = open_list(&rt, alloc, List::of(Vec::new(alloc)), 1)?;
+    lets_segments_go::<Brand, _>(&rt, alloc, unnamed)
+}
