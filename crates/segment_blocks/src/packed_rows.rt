@@ -22,6 +22,12 @@ use std::marker::{Brand, Model};
 use std::sync::ledger::{Blank, Ledger};
 use tally_rows::Row;
 
+/// For how many blocks room is prepared at once.
+const BLOCKS_AT_ONCE: usize = 16;
+
+/// As many bytes as so many full blocks take, about. Much larger room is no part of a thread's heap.
+const ROOM_AT_ONCE: usize = 96 * 1024;
+
 /// Rows in their order, in blocks of at most 128. The first keys of the blocks are their index.
 #[derive(Drop)]
 pub struct PackedRows {
@@ -111,6 +117,7 @@ impl PackedRows {
         if self.blocks[count - 1].len() < BLOCK_LIMIT {
             return self.blocks[count - 1].push(held);
         }
+        prepare_room(alloc, count);
         let block = self.blocks[count - 1].next_block(alloc, held)?;
         self.blocks.push(block)?;
         Ok(())
@@ -268,6 +275,15 @@ fn seek_uncounted<'a, L: Ledger>(
 {
     let mut steps = Steps::<L>::new(blank);
     seek(blocks, key, &mut steps)
+}
+
+/// Asks for the room of some blocks at once and gives it back, behind each 16th block. The heap of a
+/// thread grows by just what is asked for, by a call of the system for which the other threads have
+/// to wait. Where there is no such room, the blocks may still find theirs.
+fn prepare_room(alloc: Global, count: usize) {
+    if count % BLOCKS_AT_ONCE == 1 {
+        let _room: Result<Vec<u8>, AllocError> = Vec::with_capacity(alloc, ROOM_AT_ONCE);
+    }
 }
 
 /// All rows of the blocks.
