@@ -1,5 +1,5 @@
 -- A row more behind the rows of a block.
-use Rattle.std.proofs.Common.{◌≡◌, ℕ, ◌-◌, ◌≤◌, ◌<◌, List, [], ◌∷◌, ◌++◌, None, length, take, drop, cond, refl, sym, ap, ◌∙◌, arith, append-nil}
+use Rattle.std.proofs.Common.{◌≡◌, ℕ, ◌-◌, ◌≤◌, ◌<◌, List, [], ◌∷◌, ◌++◌, false, None, length, take, drop, cond, refl, sym, ap, ◌∙◌, arith, append-nil}
 use Rattle.std.proofs.lemmas.List.{length-drop, length-append, take_all, take-append-drop}
 use Rattle.std.proofs.lemmas.List.Sums.{sum_by_push}
 use Rattle.tally_rows.specs.declared.row.Row.{Row}
@@ -17,6 +17,16 @@ pub record Added (before : List ℕ) (row : Row) (old new : Encoded) : Type 0 wh
 
 abbrev pub encoded : List Mark → List ℕ → List Row → Encoded
 encoded marks tails whole = record { marks = marks; tails = tails; whole = whole }
+
+-- a mark of one game and the bytes of its own
+pub IsFilled-pushed : (marks : List Mark) (mark : Mark) (tails own : List ℕ) (whole : List Row) → IsFilled marks tails whole → length own ≡ own_len mark
+    → is_none mark.outcome ≡ false → IsFilled (marks ++ mark ∷ []) (tails ++ own) whole
+IsFilled-pushed marks mark tails own whole f long some =
+    let zero_here : none_count mark ≡ 0 = ap (λ b. cond b 1 0) some in
+    record {
+      ends = omega (arith, f.ends, sum_by_push own_len marks mark, length-append tails own, long);
+      rows = omega (arith, f.rows, sum_by_push none_count marks mark, zero_here);
+    }
 
 module _ (before : List ℕ) (row : Row) (marks : List Mark) (mark : Mark) (tails : List ℕ) (whole : List Row) (f : IsFilled marks tails whole) where
   pub Added-game : (shared : ℕ) → length row.key ≡ 34 → shared ≤ 34 → take shared before ≡ take shared row.key → IsMarkOf row shared mark

@@ -6,6 +6,7 @@ pub mod HalvingLemmas
 pub mod HeldLemmas
 pub mod KeyLemmas
 pub mod KeyOrderLemmas
+pub mod KeyRoomLemmas
 pub mod MovingLemmas
 pub mod OrderLemmas
 pub mod PackedLemmas

@@ -10,6 +10,7 @@ use crate::bound::Bound;
 use crate::encoded_rows::{EncodedRows, shared_len};
 use crate::held_row::HeldRow;
 use crate::key_order::order_of_keys;
+use crate::key_room::KeyRoom;
 use crate::mark::Mark;
 use explorer_model::archive::Outcome;
 use std::alloc::AllocError;
@@ -21,7 +22,7 @@ use tally_rows::{Row, RowKey, Single};
 #[derive(Drop)]
 pub struct BlockCursor<'a> {
     /// The key before the next row, or the key of the next row itself, which serves as well.
-    pub before: [u8; 34],
+    pub before: KeyRoom,
     /// Whether it is known to be the key of the next row.
     pub is_own: bool,
     pub marks: &'a [Mark],
@@ -48,7 +49,7 @@ impl<'a> BlockCursor<'a> {
         ensures { result ≡ [] }
     {
         BlockCursor {
-            before: [0; 34],
+            before: KeyRoom::of(&[0; 34]),
             is_own: false,
             marks: &[],
             tails: &[],
@@ -62,16 +63,16 @@ impl<'a> BlockCursor<'a> {
             (λ held. self.old ≡ row_in held ∷ self.new) }
     {
         let (mark, marks) = self.marks.split_first()?;
-        let (own, tails) = self.tails.split_at(34 - usize::from(mark.shared));
+        let (_own, tails) = self.tails.split_at(34 - usize::from(mark.shared));
         if let Some(outcome) = mark.outcome {
-            complete(&mut self.before, self.is_own, mark, own);
+            complete(&mut self.before, self.is_own, mark, self.tails);
             self.is_own = false;
             self.marks = marks;
             self.tails = tails;
-            Some(HeldRow::Game(single_of(self.before, mark, outcome)))
+            Some(HeldRow::Game(single_of(*self.before.key(), mark, outcome)))
         } else {
             let (row, whole) = self.whole.split_first()?;
-            self.before = row.key;
+            self.before = KeyRoom::of(&row.key);
             self.is_own = false;
             self.marks = marks;
             self.tails = tails;
@@ -86,10 +87,9 @@ impl<'a> BlockCursor<'a> {
     {
         let (mark, _marks) = self.marks.split_first()?;
         if let Some(_outcome) = mark.outcome {
-            let (own, _tails) = self.tails.split_at(34 - usize::from(mark.shared));
-            let mut key = self.before;
-            complete(&mut key, self.is_own, mark, own);
-            return Some(row_key_at(key, mark));
+            let mut key = KeyRoom::of(self.before.key());
+            complete(&mut key, self.is_own, mark, self.tails);
+            return Some(row_key_at(*key.key(), mark));
         }
         let (row, _whole) = self.whole.split_first()?;
         Some(row.row_key())
@@ -118,16 +118,16 @@ impl<'a> BlockCursor<'a> {
         let Some(number) = mark.number.checked_add(by) else {
             return Ok(false);
         };
-        let (own, tails) = self.tails.split_at(34 - usize::from(mark.shared));
-        let follows = is_last(last, &self.before, self.is_own);
-        complete(&mut self.before, self.is_own, mark, own);
+        let (_own, tails) = self.tails.split_at(34 - usize::from(mark.shared));
+        let follows = is_last(last, self.before.key(), self.is_own);
+        complete(&mut self.before, self.is_own, mark, self.tails);
         self.is_own = true;
-        if !stands_before(bound, &self.before, mark) {
+        if !stands_before(bound, self.before.key(), mark) {
             return Ok(false);
         }
-        let shared = shared_with(last, &self.before, follows, mark.shared);
+        let shared = shared_with(last, self.before.key(), follows, mark.shared);
         rows.push_game(renumbered(mark, number, shared), &self.before)?;
-        *last = self.before;
+        *last = *self.before.key();
         self.is_own = false;
         self.marks = marks;
         self.tails = tails;
@@ -200,16 +200,15 @@ fn shared_with(last: &[u8; 34], key: &[u8; 34], follows: bool, shared: u8) -> u8
     }
 }
 
-/// Makes the key of a mark from the key before it and the bytes of its own, where it is not yet its
-/// own key.
-fn complete(key: &mut [u8; 34], is_own: bool, mark: &Mark, own: &[u8])
-    requires own { length own.now ≡ own_len mark.now }
-    requires is_own { IsTrue is_own → take mark.now.shared key.old ++ own.now ≡ key.old }
-    ensures key { key.new ≡ take mark.now.shared key.old ++ own.now }
-    ensures long { length key.old ≡ 34 }
+/// Makes the key of a mark from the key before it and the bytes of its own, the first ones of
+/// `tails`, where it is not yet its own key.
+fn complete(key: &mut KeyRoom, is_own: bool, mark: &Mark, tails: &[u8])
+    requires own { own_len mark.now ≤ length tails.now }
+    requires is_own { IsTrue is_own → key_behind key.old mark.now tails.now ≡ key.old }
+    ensures { key.new ≡ key_behind key.old mark.now tails.now }
 {
     if !is_own {
-        key[usize::from(mark.shared)..].copy_from_slice(own);
+        key.complete(mark, tails);
     }
 }
 

@@ -6,6 +6,7 @@ ghost use Rattle.segment_blocks.specs.HeldRow.{row_in};
 
 use crate::block_cursor::BlockCursor;
 use crate::held_row::HeldRow;
+use crate::key_room::KeyRoom;
 use crate::mark::Mark;
 use explorer_model::archive::{Group, Month, Speed};
 use std::alloc::{AllocError, Global};
@@ -84,7 +85,7 @@ impl EncodedRows {
 
     /// Puts a row of one game behind the others, by its mark and its key. After a refusal they are as
     /// before.
-    pub fn push_game(&mut self, mark: Mark, key: &[u8; 34]) -> Result<(), AllocError>
+    pub fn push_game(&mut self, mark: Mark, key: &KeyRoom) -> Result<(), AllocError>
         requires { is_none mark.outcome ≡ false }
         ensures ok { OnOk result ((before : List ℕ) (row : Row) → row.key ≡ key.now
             → take mark.shared before ≡ take mark.shared key.now → IsMarkOf row mark.shared mark
@@ -92,8 +93,11 @@ impl EncodedRows {
         ensures err { OnErr result (self.new ≡ self.old) }
     {
         self.marks.reserve(1)?;
-        self.tails
-            .extend_from_slice(&key[usize::from(mark.shared)..])?;
+        let own = 34 - usize::from(mark.shared);
+        let len = self.tails.len();
+        // Each end of a key is copied as 34 bytes, and then cut.
+        self.tails.extend_from_slice(key.end(mark.shared))?;
+        self.tails.truncate(len + own);
         self.marks.push_reserved(mark);
         Ok(())
     }
@@ -123,7 +127,7 @@ impl EncodedRows {
         ensures { result ≡ rows_of self.now before }
     {
         BlockCursor {
-            before,
+            before: KeyRoom::of(&before),
             is_own: false,
             marks: self.marks.as_slice(),
             tails: self.tails.as_slice(),

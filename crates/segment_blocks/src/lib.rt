@@ -17,6 +17,7 @@ mod encoded_rows;
 mod held_batch;
 mod held_row;
 mod key_order;
+mod key_room;
 mod mark;
 mod packed_rows;
 mod row_walk;

@@ -1,7 +1,8 @@
-use Rattle.std.proofs.Common.{◌≡◌, ◌≤◌, ◌+◌, ◌-◌, ◌∷◌, ◌++◌, take, drop, length, refl, sym, ap, subst, ◌∙◌, arith}
+use Rattle.std.proofs.Common.{◌≡◌, ◌≤◌, ◌+◌, ◌-◌, ◌∷◌, take, drop, length, refl, sym, ap, subst, ◌∙◌, arith}
 use Rattle.tally_rows.specs.Row.{row_of, shifted_row}
-use Rattle.segment_blocks.specs.Encoded.{own_len, key_behind, single_of, rows_behind}
-use Rattle.segment_blocks.proofs.EncodedLemmas.{rows_behind-game, rows_behind-own, own-first, key-game}
+use Rattle.segment_blocks.specs.Encoded.{own_len, key_behind, single_of, rows_behind, HasOwnKey}
+use Rattle.segment_blocks.specs.Moving.{is_before}
+use Rattle.segment_blocks.proofs.EncodedLemmas.{rows_behind-game, rows_behind-own, own-first, own-behind, key-game}
 use Rattle.segment_blocks.proofs.MovingLemmas.{game-shifted, shifted-key, unmoved-err}
 use Rattle.segment_blocks.proofs.block_cursor.BlockCursor.move_game.Goals as goal
 
@@ -18,7 +19,7 @@ returns c =
     let game = single_of key mark outcome in
     let row = row_of game in
     let key_is : key_behind p.before mark p.tails.now ≡ key =
-    sym (c.complete.ensures.key ∙ ap (λ l. take mark.shared p.before ++ l) (c.split_at.ensures.front ∙ ap (λ n. take (34 - n) p.tails.now) c.from.ensures)) in
+    sym c.complete.ensures in
     let rest : drop (own_len mark) p.tails.now ≡ tails =
     sym (c.split_at.ensures.back ∙ ap (λ n. drop (34 - n) p.tails.now) c.from.ensures) in
     let number : c.in-Some-checked_add.number ≡ mark.number + by = omega (arith, c.in-Some-checked_add.ensures) in
@@ -31,35 +32,46 @@ returns c =
           ∙ rows_behind-game mark p.marks.now marks p.before p.tails.now p.whole.now c.in-Some.ensures.cases.0 outcome c.in-Some-outcome.is
           ∙ (λ i. row_of (single_of (key_is i) mark outcome) ∷ rows_behind marks (key_is i) (rest i) p.whole.now);
       appended = c.in_ok-push_game.ensures.ok c.args.last.now (shifted_row by row) row_key
-          (subst (λ n. take n c.args.last.now ≡ take n key) (sym c.renumbered.ensures.shared) c.shared_with-shared.ensures.same)
+          (subst (λ n. take n c.args.last.now ≡ take n key) (sym c.renumbered.ensures.shared) (c.shared_with-shared.ensures.same ∙ ap (take c.shared_with-shared.result) c.key-3.ensures.key))
           (record {
             at = refl;
             outcome = outcome;
             told = c.renumbered.ensures.outcome ∙ c.in-Some-outcome.is;
             is = ap (λ k. row_of (single_of k moved outcome)) row_key ∙ later;
           });
-      ends = sym (key-game key mark outcome);
-      before = sym (c.stands_before.ensures outcome) ∙ c.if-not-stands_before.false;
+      ends = c.key-4.ensures.key ∙ sym (key-game key mark outcome);
+      before = ap (λ k. is_before c.args.bound.now (row_of (single_of k mark outcome))) (sym c.key-2.ensures.key)
+          ∙ sym (c.stands_before.ensures outcome) ∙ c.if-not-stands_before.false;
     }
 
 pub shared_with-shared-requires-clause-same : goal.shared_with-shared-requires-clause-same
 shared_with-shared-requires-clause-same c h =
     let p = c.self.inside in
     let mark = c.in-Some.mark.now in
-    let own = c.split_at.result.0.now in
-    let fits : mark.shared ≤ length p.before = omega (arith, mark.in_key, c.complete.ensures.long) in
-    ap (take mark.shared) (c.is_last-follows.ensures h)
-    ∙ sym (ap (take mark.shared) c.complete.ensures.key ∙ own-first p.before mark p.tails.now mark.shared fits own)
+    let own = take (own_len mark) p.tails.now in
+    let fits : mark.shared ≤ length p.before = omega (arith, mark.in_key, c.key.ensures.long) in
+    ap (take mark.shared) (c.is_last-follows.ensures h ∙ c.key.ensures.key)
+    ∙ sym (ap (take mark.shared) (c.key-3.ensures.key ∙ c.complete.ensures) ∙ own-first p.before mark p.tails.now mark.shared fits own)
+
+pub invariant_of-self : goal.invariant_of-self
+invariant_of-self c =
+    let p = c.self.inside in
+    let mark = c.in-Some.mark.now in
+    record {
+      filled = c.self.invariant.filled;
+      own = λ h. subst (λ k. HasOwnKey k p.marks.now p.tails.now) (sym c.complete.ensures)
+          (own-behind p.before mark p.tails.now p.marks.now c.in-Some.marks.now c.in-Some.ensures.cases.0 c.key.ensures.long mark.in_key);
+    }
 
 pub returns-then-not-stands_before : goal.returns-then-not-stands_before
 returns-then-not-stands_before c =
     let p = c.self.inside in
     let mark = c.in-Some.mark.now in
     let key_is : key_behind p.before mark p.tails.now ≡ c.complete.new.key =
-    sym (c.complete.ensures.key ∙ ap (λ l. take mark.shared p.before ++ l) (c.split_at.ensures.front ∙ ap (λ n. take (34 - n) p.tails.now) c.from.ensures)) in (
+    sym c.complete.ensures in (
       ap (λ k. rows_behind p.marks.now k p.tails.now p.whole.now) (sym key_is)
           ∙ rows_behind-own p.before mark p.tails.now p.marks.now c.in-Some.marks.now c.in-Some.ensures.cases.0 p.whole.now c.in-Some-outcome._outcome
-          c.in-Some-outcome.is c.complete.ensures.long mark.in_key
+          c.in-Some-outcome.is c.key.ensures.long mark.in_key
           ∙ c.self.view_is,
       refl,
       refl,
@@ -70,10 +82,10 @@ returns-in_err-push_game c =
     let p = c.self.inside in
     let mark = c.in-Some.mark.now in
     let key_is : key_behind p.before mark p.tails.now ≡ c.complete.new.key =
-    sym (c.complete.ensures.key ∙ ap (λ l. take mark.shared p.before ++ l) (c.split_at.ensures.front ∙ ap (λ n. take (34 - n) p.tails.now) c.from.ensures)) in
+    sym c.complete.ensures in
     let same =
     ap (λ k. rows_behind p.marks.now k p.tails.now p.whole.now) (sym key_is)
     ∙ rows_behind-own p.before mark p.tails.now p.marks.now c.in-Some.marks.now c.in-Some.ensures.cases.0 p.whole.now c.in-Some-outcome._outcome
-    c.in-Some-outcome.is c.complete.ensures.long mark.in_key
+    c.in-Some-outcome.is c.key.ensures.long mark.in_key
     ∙ c.self.view_is in
     unmoved-err _ c.from_residual.result c.from_residual.ensures.0 (same, refl, c.in_err-push_game.ensures.err)

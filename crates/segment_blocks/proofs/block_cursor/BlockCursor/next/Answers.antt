@@ -1,4 +1,4 @@
-use Rattle.std.proofs.Common.{◌≡◌, [], ◌∷◌, ◌++◌, ◌-◌, take, drop, sym, ap, ◌∙◌}
+use Rattle.std.proofs.Common.{◌≡◌, [], ◌∷◌, ◌-◌, drop, sym, ap, ◌∙◌}
 use Rattle.tally_rows.specs.Row.{row_of}
 use Rattle.segment_blocks.specs.Encoded.{own_len, key_behind, single_of, rows_behind}
 use Rattle.segment_blocks.proofs.EncodedLemmas.{rows_behind-nil, rows_behind-game, rows_behind-whole}
@@ -13,11 +13,10 @@ pub returns-in-Some : goal.returns-in-Some
 returns-in-Some c =
     let p = c.self.inside in
     let mark = c.in_ok-mark.mark.now in
-    let key : key_behind p.before mark p.tails.now ≡ c.complete.new.key =
-    sym (c.complete.ensures.key ∙ ap (λ l. take mark.shared p.before ++ l) (c.split_at.ensures.front ∙ ap (λ n. take (34 - n) p.tails.now) c.from.ensures)) in
+    let key : key_behind p.before mark p.tails.now ≡ c.complete.new.key = sym c.complete.ensures in
     let rest : drop (own_len mark) p.tails.now ≡ c.split_at.result.1.now =
     sym (c.split_at.ensures.back ∙ ap (λ n. drop (34 - n) p.tails.now) c.from.ensures) in
-    let row = ap row_of c.single_of.ensures in
+    let row = ap row_of c.single_of.ensures ∙ ap (λ k. row_of (single_of k mark c.in-Some.outcome)) c.key.ensures.key in
     sym c.self.view_is
     ∙ rows_behind-game mark p.marks.now c.in_ok-mark.marks.now p.before p.tails.now p.whole.now c.in_ok-mark.ensures.cases.0 c.in-Some.outcome c.in-Some.is
     ∙ (λ i. row_of (single_of (key i) mark c.in-Some.outcome) ∷ rows_behind c.in_ok-mark.marks.now (key i) (rest i) p.whole.now)
@@ -32,4 +31,4 @@ returns-in_ok-row c =
     sym (c.split_at.ensures.back ∙ ap (λ n. drop (34 - n) p.tails.now) c.from.ensures) in
     sym c.self.view_is
     ∙ rows_behind-whole mark p.marks.now c.in_ok-mark.marks.now p.before p.tails.now p.whole.now c.in_ok-mark.ensures.cases.0 row c.in_ok-row.whole.now c.in_default.is c.in_ok-row.ensures.cases.0
-    ∙ (λ i. row ∷ rows_behind c.in_ok-mark.marks.now row.key (rest i) c.in_ok-row.whole.now)
+    ∙ (λ i. row ∷ rows_behind c.in_ok-mark.marks.now (sym c.of-self-inside.ensures i) (rest i) c.in_ok-row.whole.now)

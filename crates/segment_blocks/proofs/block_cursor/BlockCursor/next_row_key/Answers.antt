@@ -1,4 +1,4 @@
-use Rattle.std.proofs.Common.{◌≡◌, [], ◌++◌, ◌-◌, Some, take, sym, ap, ◌∙◌}
+use Rattle.std.proofs.Common.{◌≡◌, [], Some, sym, ap, ◌∙◌}
 use Rattle.segment_blocks.specs.Encoded.{key_behind, row_key_at}
 use Rattle.segment_blocks.specs.Moving.{next_row_key}
 use Rattle.segment_blocks.proofs.EncodedLemmas.{rows_behind-nil, rows_behind-game, rows_behind-whole}
@@ -15,8 +15,8 @@ returns-in-Some c =
     let p = c.self.inside in
     let mark = c.in_ok-mark.mark.now in
     let outcome = c.in-Some._outcome in
-    let key : c.complete.new.key ≡ key_behind p.before mark p.tails.now =
-    c.complete.ensures.key ∙ ap (λ l. take mark.shared p.before ++ l) (c.split_at.ensures.front ∙ ap (λ n. take (34 - n) p.tails.now) c.from.ensures) in
+    let key : c.key-in-Some.result.now ≡ key_behind p.before mark p.tails.now =
+    c.key-in-Some.ensures.key ∙ c.complete.ensures ∙ ap (λ k. key_behind k mark p.tails.now) (c.of-key.ensures ∙ c.key.ensures.key) in
     ap Some (c.row_key_at.ensures ∙ ap (λ k. row_key_at k mark) key ∙ sym (row_key-game (key_behind p.before mark p.tails.now) mark outcome))
     ∙ ap next_row_key (sym (rows_behind-game mark p.marks.now c.in_ok-mark._marks.now p.before p.tails.now p.whole.now c.in_ok-mark.ensures.cases.0 outcome c.in-Some.is) ∙ c.self.view_is)
 
