@@ -1,25 +1,18 @@
 -- Rows that are picked of counted parts are sound: they count some game each, and have room.
-use Rattle.std.proofs.Common.{◌≡◌, ℕ, ◌+◌, ◌*◌, ◌<◌, ◌≤◌, ◌^◌, Bool, true, false, ◌&&◌, cond, is_some, List, [], ◌∷◌, map, filter, length, length-append, refl, sym, ap, subst, ◌∙◌, arith}
-use Rattle.std.specs.List.{All, AllByRecursion, AllZip, sum_by, count_by, enumerate_from}
-use Rattle.std.proofs.lemmas.List.Elements.{All-nil, All-cons, All-append, All-map, All-filter, All-weaker}
+use Rattle.std.proofs.Common.{◌≡◌, ℕ, ◌+◌, ◌<◌, ◌≤◌, ◌^◌, Bool, true, false, ◌&&◌, List, [], ◌∷◌, map, filter, length, length-append, refl, sym, ap, subst, ◌∙◌, arith}
+use Rattle.std.specs.List.{All, AllByRecursion, AllZip, sum_by}
+use Rattle.std.proofs.lemmas.List.Elements.{All-nil, All-append, All-map, All-filter}
 use Rattle.std.proofs.lemmas.List.Sums.{sum_by-cons, count_by-le-length}
-use Rattle.best_lists.proofs.BestLaws.{All-best}
-use Rattle.explorer_model.specs.Best.{best}
 use Rattle.best_lists.specs.Ranking.{before_by_rating, before_by_month}
 use Rattle.best_lists.specs.declared.entry.Entry.{Entry}
-use Rattle.explorer_model.specs.declared.archive.Classes.{Classes}
-use Rattle.explorer_model.specs.declared.archive.Game.{Game}
 use Rattle.lookup.specs.Hits.{look_limit}
-use Rattle.explorer_model.specs.SoundClasses.{AreSoundClasses}
-use Rattle.explorer_model.specs.Visits.{IsTextOf, texts_of}
-use Rattle.explorer_model.proofs.SoundClasses.{game-sound}
+use Rattle.explorer_model.specs.Visits.{texts_of}
 use Rattle.tally_rows.specs.declared.row_key.RowKey.{RowKey}
 use Rattle.tally_rows.specs.declared.row.Row.{Row}
 use Rattle.tally_rows.specs.Adding as adding
 use Rattle.tally_rows.specs.Recount.{all_of, picks, picked_sum, is_counted, GivesPicked}
 use Rattle.tally_rows.specs.Row.{row_key_of}
-use Rattle.tally_rows.specs.Tallied.{is_black_to_move, mover_rating, rating_sum, track_month, entries, has_move, IsTally, Tallied}
-use Rattle.tally_rows.specs.Tally.{IsTrackOf}
+use Rattle.tally_rows.specs.Tallied.{rating_sum, track_month, has_move, IsTally, Tallied}
 use Rattle.lookup.specs.Parts.{Part, IsPart}
 use Rattle.tally_rows.specs.Track.{Track, has}
 use Rattle.tally_rows.proofs.AddsUp.{count-outcomes}

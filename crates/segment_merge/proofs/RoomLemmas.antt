@@ -1,28 +1,22 @@
 -- Rows of segments: their room, and what is merged of two of them.
-use Rattle.std.proofs.Common.{◌≡◌, ℕ, ◌+◌, ◌*◌, ◌<◌, ◌≤◌, ◌^◌, Bool, true, false, cond, List, [], ◌∷◌, ◌++◌, map, filter, length, refl, sym, ap, subst, ◌∙◌, add-zero, arith, Option, None, Some, MatchOption, is_some, true≢false}
-use Rattle.std.specs.List.{All, AllByRecursion, AllZip, sum_by, enumerate_from}
+use Rattle.std.proofs.Common.{◌≡◌, ℕ, ◌+◌, ◌<◌, ◌≤◌, ◌^◌, Bool, true, false, cond, List, [], ◌∷◌, ◌++◌, map, length, refl, sym, ap, subst, ◌∙◌, add-zero, arith, Option, None, Some, is_some, true≢false}
+use Rattle.std.specs.List.{All, AllByRecursion, AllZip}
 use Rattle.std.proofs.lemmas.List.{map-append, map-id, length-map}
 use Rattle.std.proofs.lemmas.List.Concat.{flat_map-append}
-use Rattle.std.proofs.lemmas.List.Elements.{recursion_from_All, All-nil, All-cons, All-map, All-filter, All-weaker}
-use Rattle.std.proofs.lemmas.List.Sums.{sum_by-cons, count_by-le-length}
-use Rattle.best_lists.proofs.BestLaws.{All-best}
-use Rattle.explorer_model.specs.Best.{best}
+use Rattle.std.proofs.lemmas.List.Elements.{recursion_from_All, All-nil, All-cons}
+use Rattle.std.proofs.lemmas.List.Sums.{count_by-le-length}
 use Rattle.best_lists.specs.Ranking.{before_by_rating, before_by_month}
 use Rattle.best_lists.specs.declared.entry.Entry.{Entry}
 use Rattle.best_lists.specs.Entry.{moved_by}
 use Rattle.explorer_model.specs.declared.archive.Classes.{Classes}
-use Rattle.explorer_model.specs.declared.archive.Game.{Game}
-use Rattle.explorer_model.specs.SoundClasses.{AreSoundClasses}
 use Rattle.explorer_model.specs.Visits.{IsTextOf, texts_of}
-use Rattle.explorer_model.proofs.SoundClasses.{game-sound}
-use Rattle.tally_rows.specs.declared.row_key.RowKey.{RowKey}
 use Rattle.tally_rows.specs.declared.row.Row.{Row}
 use Rattle.explorer_model.specs.declared.chess.Move.{Move}
 use Rattle.tally_rows.specs.declared.single.Single.{Single}
 use Rattle.tally_rows.specs.Row.{row_key_of, row_of, month_rank, is_white, is_draw, is_black, shifted_row}
-use Rattle.tally_rows.specs.Tallied.{is_black_to_move, mover_rating, rating_sum, track_month, entries, has_move, IsTally, Tallied}
+use Rattle.tally_rows.specs.Tallied.{rating_sum, track_month, entries, has_move, IsTally, Tallied}
 use Rattle.tally_rows.specs.Tally.{IsTallyOf, IsTrackOf}
-use Rattle.tally_rows.specs.Track.{Track, has}
+use Rattle.tally_rows.specs.Track.{has}
 use Rattle.tally_rows.proofs.AddsUp.{count-outcomes}
 use Rattle.tally_rows.proofs.TrackBounds.{ratings-bound, track-ratings, best-fit}
 use Rattle.tally_rows.proofs.Members.{IsIn, All-IsIn, recursion-from_IsIn}

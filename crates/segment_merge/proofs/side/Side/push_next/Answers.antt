@@ -1,4 +1,4 @@
-use Rattle.std.proofs.Common.{◌≡◌, ◌++◌, map, sym, subst}
+use Rattle.std.proofs.Common.{◌++◌, map, sym, subst}
 use Rattle.tally_rows.specs.Row.{shifted_row}
 use Rattle.segment_blocks.specs.HeldRow.{row_in}
 use Rattle.segment_blocks.specs.PackedRows.{AreInOrder}
