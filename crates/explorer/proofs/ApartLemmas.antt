@@ -1,11 +1,11 @@
 -- Groups of which no game is a repeat are accounted each by itself.
-use Rattle.std.proofs.Common.{◌≡◌, ℕ, List, [], ◌∷◌, ◌++◌, map, Option, None, Some, refl, sym, ap, ap₂, subst, ◌∙◌}
+use Rattle.std.proofs.Common.{◌≡◌, ℕ, List, [], ◌∷◌, ◌++◌, map, Option, None, Some, refl, ap, ap₂, subst}
 use Rattle.std.specs.List.{AllByRecursion, flat_map}
 use Rattle.explorer_model.specs.declared.archive.Batch.{Batch}
 use Rattle.explorer_model.specs.declared.archive.Game.{Game}
 use Rattle.explorer_model.specs.declared.fault.Refusal.{Refusal}
 use Rattle.explorer_model.specs.Cuts.{Cut}
-use Rattle.explorer_model.specs.Imports.{Accepted, Accounted, AccountedApart, Candidate, Examination, Numbering, Refused, Verdict, batch_of, candidates, numbers_of, refusals, verdict_behind, verdict_if_stored, verdicts, verdicts_behind, verdicts_in_turn, Yields}
+use Rattle.explorer_model.specs.Imports.{Accepted, Accounted, AccountedApart, Examination, Numbering, Refused, Verdict, numbers_of, refusals, verdict_behind, verdict_if_stored, verdicts, verdicts_behind, verdicts_in_turn, Yields}
 use Rattle.import_run.specs.Progress.{and_games}
 use Rattle.explorer.specs.Laws.{IsNoRepeat}
 

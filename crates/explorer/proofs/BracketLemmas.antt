@@ -1,5 +1,5 @@
 -- Things that go out and come back, one bracket within another.
-use Rattle.std.proofs.Common.{◌≡◌, ◌⊎◌, Bool, ℕ, zero, suc, ◌+◌, ◌-◌, ◌<◌, ◌≤◌, List, [], ◌∷◌, ◌++◌, Option, None, Some, IfSome, length, map, refl, sym, ap, subst, ◌∙◌, append_assoc, append-nil, inl, inr, arith}
+use Rattle.std.proofs.Common.{◌≡◌, ◌⊎◌, Bool, ℕ, suc, ◌+◌, ◌<◌, ◌≤◌, List, [], ◌∷◌, ◌++◌, Option, None, Some, IfSome, length, map, refl, sym, ap, subst, ◌∙◌, append_assoc, inl, inr, arith}
 use Rattle.std.specs.Prelude.{sum_by, reverse}
 use Rattle.std.specs.List.{AllByRecursion, AllZip}
 use Rattle.std.specs.Option.{option_map}
@@ -21,8 +21,7 @@ use Rattle.explorer.specs.Serve.{IsMaybe}
 use Rattle.explorer.specs.Served.{DoorRun, FileRun, IsImported, IsServedFrom, Service, file_at, files_back, files_out}
 use Rattle.explorer.specs.Serving.{AreOut, HasGivenUp, HasWorked, WorksOver, due}
 use Rattle.explorer.specs.Workers.{AreNamed, CanReturn, FilesOut, FilesRefused, GivenBack, IsFileOf, calls_of, name_at}
-use Rattle.explorer.proofs.HostCalls.{if_some}
-use Rattle.explorer.proofs.ServedLemmas.{GivenRest, due-is, given-rest, name-at-front, returned-files, same-file}
+use Rattle.explorer.proofs.ServedLemmas.{due-is, given-rest, name-at-front, returned-files}
 use Rattle.explorer.proofs.WorkerLists.{zip-length}
 
 -- ---- calls

@@ -1,5 +1,5 @@
 -- A query string without a parameter asks something.
-use Rattle.std.proofs.Common.{◌≡◌, ℕ, true, List, [], Option, Some, Result, Ok, Err, refl, subst}
+use Rattle.std.proofs.Common.{◌≡◌, true, [], Some, Result, Ok, Err, subst}
 use Rattle.form_urlencoded.specs.Form.{raw_pairs, split}
 use Rattle.explorer_model.specs.declared.chess.Position.{Position}
 use Rattle.explorer_model.specs.declared.query.BadParameter.{BadParameter}

@@ -1,11 +1,9 @@
 -- What is handed out, one thing after another.
-use Rattle.std.proofs.Common.{◌≡◌, ℕ, zero, suc, ◌+◌, ◌<◌, ◌≤◌, List, [], ◌∷◌, ◌++◌, Option, None, Some, length, map, take, slice_index_or, refl, sym, ap, subst, ◌∙◌, append_assoc, append-nil, arith}
-use Rattle.std.specs.Prelude.{reverse}
+use Rattle.std.proofs.Common.{◌≡◌, ℕ, zero, suc, ◌+◌, ◌<◌, List, [], ◌∷◌, ◌++◌, length, map, take, slice_index_or, refl, sym, ap, subst, ◌∙◌, append_assoc, append-nil, arith}
 use Rattle.std.specs.List.{AllByRecursion, AllZip}
-use Rattle.std.specs.Option.{option_map}
 use Rattle.std.proofs.lemmas.List.{length-map, map-append, reverse-append}
 use Rattle.outside.specs.Doors.{Connections}
-use Rattle.outside.specs.Stream.{Stream, source_alone}
+use Rattle.outside.specs.Stream.{Stream}
 use Rattle.host.specs.Hosts.{FileOut, HandsFile, HostCall, HostState, RefusesFile, added, noted}
 use Rattle.explorer_model.specs.declared.archive.Batch.{Batch}
 use Rattle.explorer_model.specs.Timeline.{IsPrefix}

@@ -1,13 +1,12 @@
 -- Calls of a host, one after another: what is out, and what comes back.
-use Rattle.std.proofs.Common.{◌≡◌, ◌+◌, ◌-◌, ◌<◌, ◌≤◌, ◌++◌, ℕ, zero, suc, Bool, true, List, [], ◌∷◌, Option, None, Some, IfSome, refl, sym, ap, subst, ◌∙◌, append_assoc, append-nil, map, length, slice_index_or, arith}
-use Rattle.std.specs.Prelude.{sum_by, if◌then◌else◌}
+use Rattle.std.proofs.Common.{◌≡◌, ◌+◌, ◌<◌, ℕ, zero, suc, Bool, true, List, [], ◌∷◌, Option, None, Some, IfSome, refl, ap, map, length, slice_index_or, arith}
+use Rattle.std.specs.Prelude.{sum_by}
 use Rattle.std.specs.Str.{bytes_eq}
 use Rattle.std.proofs.lemmas.Grind.{common_steps}
-use Rattle.std.proofs.lemmas.List.Sums.{sum_by-append, sum_by-cons}
 use Rattle.std.proofs.lemmas.Slice.Eq.{bytes_eq-Decides}
 use Rattle.outside.specs.Doors.{Connections}
 use Rattle.outside.specs.Stream.{Stream}
-use Rattle.host.specs.Hosts.{ADisk, ADoor, AFile, DiskBack, DiskOut, DiskRefused, DoorBack, DoorsOut, DoorsRefused, FileBack, FileOut, FileRefused, GivesBack, HostCall, HostState, IsOut, TakesDisk, TakesDoor, TakesFile, Thing, added, handed, noted, one_if, out, returned}
+use Rattle.host.specs.Hosts.{ADoor, AFile, DoorBack, FileBack, HostState, IsOut, one_if, returned}
 use Rattle.explorer.specs.Workers.{CanReturn, name_at}
 
 pub if_some : {A : Type 0} (o : Option A) (P Q : A → Type 0) → ((x : A) → P x → Q x) → IfSome o P → IfSome o Q

@@ -1,5 +1,5 @@
 -- What an import into an opened store comes to.
-use Rattle.std.proofs.Common.{◌≡◌, ◌⊎◌, inl, inr, ⊎_elim, ℕ, ◌+◌, ◌<◌, ◌≤◌, ◌^◌, List, [], ◌∷◌, ◌++◌, Option, None, Some, length, sum_by, refl, sym, ap, subst, ◌∙◌, length-append, arith}
+use Rattle.std.proofs.Common.{◌≡◌, inl, inr, ℕ, ◌+◌, ◌<◌, ◌≤◌, ◌^◌, List, [], ◌∷◌, ◌++◌, Option, None, Some, length, refl, sym, ap, subst, ◌∙◌, length-append, arith}
 use Rattle.std.specs.Prelude.{IfSome}
 use Rattle.std.proofs.lemmas.List.Sums.{sum_by-cons}
 use Rattle.std.proofs.lemmas.Grind.{flat_map-append}
@@ -20,7 +20,7 @@ use Rattle.ingest_desk.specs.declared.report.End.TheVariants as ends
 use Rattle.ingest_desk.specs.declared.report.ImportEnding.{ImportEnding}
 use Rattle.ingest_desk.specs.declared.report.Report.{Report}
 use Rattle.import_run.specs.Alone.{DiskFaultsAre, ImportsAlone, stored_in}
-use Rattle.import_run.specs.Committing.{Known, Store, store_of}
+use Rattle.import_run.specs.Committing.{Known, Store}
 use Rattle.import_run.specs.Ending.{ReadFaultsAre, StandsAt, StoresBy}
 use Rattle.import_run.specs.Progress.{AreReceiptsOf}
 use Rattle.explorer.specs.declared.importing.Came.{Came}

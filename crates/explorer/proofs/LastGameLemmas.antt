@@ -1,11 +1,10 @@
 -- Where a game ends.
-use Rattle.std.proofs.Common.{◌≡◌, ℕ, ◌+◌, ◌≤◌, ◌<◌, slice_index_or, List, [], ◌∷◌, ◌++◌, length, drop, Result, Ok, Err, refl, sym, ap, subst, ◌∙◌, arith}
+use Rattle.std.proofs.Common.{◌≡◌, ℕ, ◌+◌, ◌<◌, slice_index_or, List, [], ◌∷◌, ◌++◌, length, drop, Result, Ok, Err, refl, sym, ap, subst, ◌∙◌, arith}
 use Rattle.std.proofs.lemmas.List.{drop_more}
 use Rattle.explorer_model.specs.declared.archive.Game.{Game}
 use Rattle.explorer_model.specs.declared.chess.Move.{Move}
 use Rattle.explorer_model.specs.declared.chess.Position.{Position}
 use Rattle.explorer_model.specs.declared.fault.GameFault.{GameFault}
-use Rattle.explorer_model.specs.declared.notation.FenFault.{FenFault}
 use Rattle.explorer_model.specs.Chess.{IsValid, Legal, after, start}
 use Rattle.explorer_model.specs.Fen.{FenReads, fen_text}
 use Rattle.explorer_model.specs.Games.{GameOf}
@@ -13,7 +12,7 @@ use Rattle.explorer_model.specs.Visits.{AreLegalFrom, IsTextOf}
 use Rattle.rand_pcg.specs.Lcg.{Lcg}
 use Rattle.sample_games.specs.Samples as samples
 use Rattle.sample_games.specs.Samples.{IsSample, drawn, later}
-use Rattle.sample_games.specs.Streams.{AreSamples, generator, joined}
+use Rattle.sample_games.specs.Streams.{AreSamples}
 use Rattle.sample_games.proofs.HasGame.{drawn-legal}
 use Rattle.explorer.specs.Trial.{position_behind}
 use Rattle.explorer.specs.Trying.{AreShort, IsReadable}

@@ -1,16 +1,16 @@
 -- A run of the command `serve`, from the moments between its calls.
 use Rattle.std.proofs.Common.{◌≡◌, ◌⊎◌, Bool, true, false, ℕ, zero, suc, replicate, ◌+◌, ◌-◌, ◌<◌, ◌≤◌, List, [], ◌∷◌, ◌++◌, Option, None, Some, IfSome, length, map, refl, sym, ap, subst, ◌∙◌, append_assoc, inl, inr, arith, string_bytes}
-use Rattle.std.specs.Prelude.{if◌then◌else◌, slice_get, Result, Ok, Err}
-use Rattle.std.specs.List.{All, AllByRecursion, AllZip}
+use Rattle.std.specs.Prelude.{if◌then◌else◌, Result, Ok, Err}
+use Rattle.std.specs.List.{AllByRecursion, AllZip}
 use Rattle.std.specs.Option.{option_map, option_or}
 use Rattle.std.specs.Str.{bytes_eq}
 use Rattle.std.proofs.lemmas.List.Elements.{All-weaker}
 use Rattle.std.proofs.lemmas.List.Concat.{flat_map-append}
 use Rattle.disk_model.specs.Disk.{DiskState, MayLeave}
 use Rattle.outside.specs.Doors.{Connections}
-use Rattle.outside.specs.Stream.{FailsToTake, Rises, Stream, Takes, Writes, Wrote, source_alone}
+use Rattle.outside.specs.Stream.{Rises, Stream, Writes, Wrote, source_alone}
 use Rattle.outside.proofs.StreamLemmas.{takes-faults, writes-fails, writes-takes}
-use Rattle.host.specs.Hosts.{ADisk, ADoor, AFile, AreFresh, DiskBack, DiskOut, DiskRefused, DoorBack, DoorsOut, GivesBack, FileRefused, DoorsRefused, HandsDisk, HostCall, HostState, IsOut, RefusesDisk, TakesDisk, Thing, added, handed, noted, one_if, out, put, returned}
+use Rattle.host.specs.Hosts.{ADisk, ADoor, AFile, AreFresh, DiskBack, DiskOut, DiskRefused, DoorBack, DoorsOut, GivesBack, HandsDisk, HostCall, HostState, IsOut, RefusesDisk, TakesDisk, Thing, added, handed, noted, one_if, out, returned}
 use Rattle.explorer_model.specs.declared.archive.Batch.{Batch}
 use Rattle.explorer_model.specs.declared.fault.Refusal.{Refusal}
 use Rattle.explorer_model.specs.declared.fault.Why.{Why}
@@ -33,10 +33,9 @@ use Rattle.explorer.specs.declared.serving.Unserved.{Unserved}
 use Rattle.explorer.specs.declared.serving.Unserved.TheVariants as whys
 use Rattle.explorer.specs.declared.serving.Outcome.TheVariants as outcomes
 use Rattle.explorer.specs.Faults.{fault_of_opening}
-use Rattle.record_log.specs.Log.{EachImage, Log}
+use Rattle.record_log.specs.Log.{Log}
 use Rattle.manifest.specs.Manifest.{HasJournal, IsWithOrWithoutBatch}
 use Rattle.ingest_desk.specs.Kept.{Keeps, KeepsBy}
-use Rattle.ingest_desk.specs.Reporting.{RepeatsGame}
 use Rattle.ingest_desk.specs.declared.report.ImportEnding.{ImportEnding}
 use Rattle.ingest_desk.specs.declared.report.ImportEnding.TheVariants as endings
 use Rattle.session.specs.declared.doors.DoorEnd.{DoorEnd}
@@ -46,14 +45,14 @@ use Rattle.session.proofs.FrontLemmas.{get-prefix}
 use Rattle.explorer.specs.declared.fault.Fault.{Fault}
 use Rattle.explorer.specs.declared.fault.Fault.TheVariants as faults
 use Rattle.explorer.specs.Concluding.{Concludes, EndsBy, TellsLonger}
-use Rattle.explorer.specs.Lines.{Done, Ending, Stopped}
+use Rattle.explorer.specs.Lines.{Ending, Stopped}
 use Rattle.explorer.specs.Serve.{GoesOn, HasNoStore, HasStore, IsFull, IsServed, IsWorkedTo, Listens, RefusesAddress, RefusesOneFile, Reports, Serves, ServesBy, listening_line}
-use Rattle.explorer.specs.Served.{DoorRun, FileRun, FindsFull, IsFullBy, IsGivenUp, IsImported, IsSeenIn, IsServedFrom, IsServedIn, IsStoredIn, IsWorked, Service, fault_of_door, fault_of_doors, fault_of_import, file_at, files_back, files_out, first_fault, serve_report}
+use Rattle.explorer.specs.Served.{DoorRun, FileRun, FindsFull, IsFullBy, IsGivenUp, IsImported, IsSeenIn, IsServedIn, IsStoredIn, IsWorked, Service, fault_of_door, fault_of_doors, fault_of_import, file_at, files_back, files_out, first_fault, serve_report}
 use Rattle.explorer.specs.Serving.{AreCounted, FilesServed, HasGivenUp, HasWorked, IsGivenUpSo, IsToldBy, ListensSo, WroteLine, lines_told}
 use Rattle.explorer.specs.Workers.{name_at}
-use Rattle.explorer.specs.World.{IsFaultless, World, WriteFails, world}
+use Rattle.explorer.specs.World.{World, world}
 use Rattle.explorer.proofs.BracketLemmas.{added-both}
-use Rattle.explorer.proofs.HostCalls.{if_some, same_bytes}
+use Rattle.explorer.proofs.HostCalls.{same_bytes}
 use Rattle.explorer.proofs.StoreLemmas.{told_has}
 
 -- ---- a disk that is out, and comes back

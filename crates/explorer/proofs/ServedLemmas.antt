@@ -1,5 +1,5 @@
 -- What files and doors came to, from what the workers did and were told.
-use Rattle.std.proofs.Common.{◌≡◌, ◌⊎◌, Bool, true, ℕ, zero, suc, ◌+◌, ◌<◌, ◌≤◌, List, [], ◌∷◌, ◌++◌, Option, None, Some, IfSome, length, map, slice_index_or, refl, sym, ap, subst, ◌∙◌, append_assoc, append-nil, inl, inr, arith}
+use Rattle.std.proofs.Common.{◌≡◌, ◌⊎◌, Bool, true, ℕ, zero, suc, ◌+◌, ◌<◌, ◌≤◌, List, [], ◌∷◌, ◌++◌, Option, None, Some, IfSome, length, map, slice_index_or, refl, sym, ap, subst, ◌∙◌, append_assoc, inl, inr, arith}
 use Rattle.std.specs.List.{AllByRecursion, AllZip}
 use Rattle.std.specs.Option.{option_or}
 use Rattle.std.specs.Prelude.{sum_by, Result, Ok, Err, IfOk, Vec}
@@ -17,7 +17,7 @@ use Rattle.explorer_model.specs.Imports.{groups}
 use Rattle.explorer_model.specs.Timeline.{IsPrefix}
 use Rattle.explorer_model.proofs.Timelines.{prefix-self, prefix-trans}
 use Rattle.published_index.specs.States.{Watching, watching}
-use Rattle.ingest_desk.specs.Importers.{ImporterState, ending_of}
+use Rattle.ingest_desk.specs.Importers.{ending_of}
 use Rattle.ingest_desk.specs.Reporting.{AccountsTo, games_of}
 use Rattle.ingest_desk.specs.declared.report.End.{End}
 use Rattle.ingest_desk.specs.declared.report.End.TheVariants as ends

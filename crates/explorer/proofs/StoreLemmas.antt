@@ -1,5 +1,5 @@
 -- What commands do with the disk of a store.
-use Rattle.std.proofs.Common.{◌≡◌, ◌≢◌, ◌<◌, ℕ, List, length, Option, None, Some, refl, sym, ap, ◌∙◌, subst, arith}
+use Rattle.std.proofs.Common.{◌≡◌, ◌<◌, ℕ, List, length, Option, None, Some, refl, sym, ap, subst, arith}
 use Rattle.std.specs.Prelude.{IfSome}
 use Rattle.outside.specs.Stream.{Rises}
 use Rattle.disk_model.specs.Disk.{DiskState, MayLeave}

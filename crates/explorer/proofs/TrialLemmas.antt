@@ -10,7 +10,6 @@ use Rattle.explorer_model.specs.declared.archive.Batch.{Batch}
 use Rattle.explorer_model.specs.declared.archive.Game.{Game}
 use Rattle.explorer_model.specs.declared.archive.Placed.{Placed}
 use Rattle.explorer_model.specs.declared.fault.Refusal.{Refusal}
-use Rattle.explorer_model.specs.declared.notation.FenFault.{FenFault}
 use Rattle.explorer_model.specs.Chess.{start}
 use Rattle.explorer_model.specs.Cuts.{cuts}
 use Rattle.explorer_model.specs.declared.query.Query.{Query}

@@ -1,5 +1,5 @@
 -- Lists of workers.
-use Rattle.std.proofs.Common.{◌≡◌, ℕ, zero, suc, ◌+◌, ◌-◌, ◌<◌, ◌≤◌, List, [], ◌∷◌, ◌++◌, Option, None, Some, IfSome, true, length, map, take, drop, slice_index_or, refl, sym, ap, subst, ◌∙◌, append_assoc, append-nil, arith}
+use Rattle.std.proofs.Common.{◌≡◌, ℕ, zero, suc, ◌+◌, ◌<◌, ◌≤◌, List, [], ◌∷◌, ◌++◌, Option, None, Some, IfSome, length, map, take, drop, slice_index_or, refl, sym, ap, subst, ◌∙◌, append_assoc, append-nil, arith}
 use Rattle.std.proofs.lemmas.Grind.{common_steps}
 use Rattle.std.specs.Prelude.{sum_by}
 use Rattle.std.specs.List.{AllByRecursion, AllZip}
@@ -19,8 +19,6 @@ use Rattle.ingest_desk.specs.declared.report.End.{End}
 use Rattle.ingest_desk.specs.declared.report.End.TheVariants as ends
 use Rattle.ingest_desk.specs.declared.report.Report.{Report}
 use Rattle.session.specs.Steps.{KnowsEnd, KnowsNotes, KnowsReceipts}
-use Rattle.explorer.specs.declared.workers.FileWork.{FileWork}
-use Rattle.explorer.specs.declared.workers.ReaderWork.{ReaderWork}
 use Rattle.explorer.specs.declared.workers.Worker.{Worker}
 use Rattle.explorer.specs.declared.workers.Worker.TheVariants.{File, Reader, Merger}
 use Rattle.explorer.specs.Workers.{AreNamed, CanReturn, GivenBack, HasReport, IsTold, TakesWorker, call_of, calls_of, lines_in, lines_of, name_at}

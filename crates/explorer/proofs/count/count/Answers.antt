@@ -1,4 +1,4 @@
-use Rattle.std.proofs.Common.{◌≡◌, ◌⊎◌, inl, inr, Ok, ap, sym, ◌∙◌}
+use Rattle.std.proofs.Common.{◌≡◌, ◌⊎◌, inl, inr, Ok, ap, ◌∙◌}
 use Rattle.outside.proofs.StreamLemmas.{takes-faults}
 use Rattle.explorer.specs.Count.{Counts}
 use Rattle.explorer.specs.Faults.{fault_of_query}

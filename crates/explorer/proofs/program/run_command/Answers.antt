@@ -1,4 +1,4 @@
-use Rattle.std.proofs.Common.{◌≡◌, ℕ, List, map, refl, rules, subst, string_bytes}
+use Rattle.std.proofs.Common.{ℕ, List, map, refl, rules, subst, string_bytes}
 use Rattle.explorer.specs.Lines.{ending_of}
 use Rattle.explorer.specs.QueryStore.{QueriesBy}
 use Rattle.explorer.specs.Serve.{Serves}

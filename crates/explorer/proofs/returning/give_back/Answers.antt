@@ -1,6 +1,5 @@
-use Rattle.std.proofs.Common.{rules, ◌≡◌, ◌+◌, ◌∷◌, ◌++◌, [], List, ℕ, true, map, string_bytes, length, refl, sym, ap, subst, ◌∙◌, arith}
-use Rattle.host.specs.Hosts.{HostCall, HostState}
-use Rattle.explorer_model.specs.declared.archive.Batch.{Batch}
+use Rattle.std.proofs.Common.{rules, ◌≡◌, ◌+◌, ◌∷◌, ◌++◌, [], List, map, string_bytes, length, refl, sym, ap, subst, ◌∙◌, arith}
+use Rattle.host.specs.Hosts.{HostCall}
 use Rattle.explorer_model.specs.Timeline.{IsPrefix}
 use Rattle.explorer_model.proofs.Timelines.{prefix-trans}
 use Rattle.ingest_desk.specs.Stored.{Stored, journal}

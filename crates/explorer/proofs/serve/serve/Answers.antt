@@ -1,4 +1,4 @@
-use Rattle.std.proofs.Common.{◌≡◌, refl, ap}
+use Rattle.std.proofs.Common.{refl, ap}
 use Rattle.disk_model.specs.Disk.{DiskState}
 use Rattle.explorer.specs.Serving.{service_of}
 use Rattle.explorer.proofs.ServeLemmas.{breaks, not-opened, refuses-store}

@@ -1,4 +1,4 @@
-use Rattle.std.proofs.Common.{◌≡◌, List, ℕ, IfSome, refl, string_bytes, sym, ap, subst, ◌∙◌}
+use Rattle.std.proofs.Common.{List, IfSome, string_bytes, sym, ap, subst, ◌∙◌}
 use Rattle.host.specs.Hosts.{ADisk}
 use Rattle.explorer_model.specs.declared.archive.Batch.{Batch}
 use Rattle.manifest.specs.Manifest.{HasJournal}

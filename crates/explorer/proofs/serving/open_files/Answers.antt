@@ -1,4 +1,4 @@
-use Rattle.std.proofs.Common.{rules, ◌≡◌, ◌+◌, ◌++◌, ◌∷◌, [], None, List, ℕ, map, take, string_bytes, length, vec_len, sym, ap, subst, ◌∙◌, arith}
+use Rattle.std.proofs.Common.{rules, ◌++◌, ◌∷◌, [], None, List, ℕ, map, take, string_bytes, sym, ap, subst, ◌∙◌, arith}
 use Rattle.std.proofs.lemmas.Grind.{common_steps}
 use Rattle.host.specs.Hosts.{HandsFile}
 use Rattle.explorer.specs.Workers.{FilesOut}

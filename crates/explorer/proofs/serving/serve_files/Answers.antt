@@ -1,11 +1,9 @@
-use Rattle.std.proofs.Common.{rules, ◌≡◌, ◌+◌, ◌<◌, List, ℕ, false, map, length, string_bytes, sym, ap, subst, ◌∙◌, refl, arith}
+use Rattle.std.proofs.Common.{◌≡◌, ◌<◌, ℕ, map, length, string_bytes, subst, arith}
 use Rattle.std.proofs.lemmas.List.{length-map}
 use Rattle.host.specs.Hosts.{GivesBack}
 use Rattle.ingest_desk.specs.Stored.{journal}
 use Rattle.explorer.specs.declared.serving.Unserved.TheVariants.{NoFile, NoAddress, NoMemory}
 use Rattle.explorer.specs.Serving.{AreOut, HasGivenUp, HasWorked, lines_told, service_of}
-use Rattle.explorer.specs.Workers.{name_at}
-use Rattle.explorer.proofs.HostCalls.{name_is}
 use Rattle.explorer.proofs.BracketLemmas.{doors-files, doors-given-up, doors-out, doors-worked, file-given-up, file-refused-can, file-refused-named, starved, stopped-can, stopped-named}
 use Rattle.explorer.proofs.serving.serve_files.Goals as goal
 use Rattle.explorer.proofs.serving.serve_files.Goals.{After-drop-passes, After-drop-passes-in-Fault, After-serve_doors-ingest, In-OutOfMemory}

@@ -1,4 +1,4 @@
-use Rattle.std.proofs.Common.{◌≡◌, ◌≤◌, ◌+◌, List, vec_len, vec_capacity, map}
+use Rattle.std.proofs.Common.{◌≡◌, ◌≤◌, ◌+◌, List, vec_len, vec_capacity}
 use Rattle.std.specs.List.{AllByRecursion}
 use Rattle.explorer_model.specs.declared.archive.Batch.{Batch}
 use Rattle.published_index.specs.States.{watching}

@@ -1,11 +1,7 @@
-use Rattle.std.proofs.Common.{◌≡◌, ◌∙◌, None, ap, length, map, subst, sym, rules}
+use Rattle.std.proofs.Common.{◌≡◌, ◌∙◌, ap, length, sym, rules}
 use Rattle.std.proofs.lemmas.List.{length-map}
 use Rattle.std.specs.Arc.{arc_value}
-use Rattle.explorer_model.specs.declared.archive.Batch.{Batch}
-use Rattle.explorer_model.specs.Finds.{IsFound}
-use Rattle.ingest_desk.specs.Stored.{Stored, journal}
-use Rattle.import_run.specs.Alone.{AnswersDrained}
-use Rattle.published_index.specs.Cover.{journal_of}
+use Rattle.ingest_desk.specs.Stored.{journal}
 use Rattle.published_index.specs.States.{Publishing}
 use Rattle.explorer.proofs.TrialLemmas.{all_published, found_over}
 use Rattle.explorer.proofs.trial.count_stored.Goals as goal

@@ -1,4 +1,4 @@
-use Rattle.std.proofs.Common.{rules, ◌≡◌, ◌++◌, ◌≤◌, length, List, ℕ}
+use Rattle.std.proofs.Common.{rules, ◌≡◌, ◌++◌}
 use Rattle.explorer.proofs.SampleLemmas.{goes_on}
 use Rattle.explorer.proofs.trial.draw_samples.Goals as goal
 

@@ -1,4 +1,4 @@
-use Rattle.std.proofs.Common.{◌≡◌, ℕ, List, ◌∷◌, [], codes, refl, subst, sym, string_bytes}
+use Rattle.std.proofs.Common.{ℕ, List, ◌∷◌, [], codes, refl, subst, sym, string_bytes}
 use Rattle.outside.specs.Stream.{Writes}
 use Rattle.explorer.specs.declared.fault.Fault.{Fault}
 use Rattle.explorer.specs.Lines.{TellsOf}
