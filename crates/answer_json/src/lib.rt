@@ -7,8 +7,6 @@ pub mod laws;
 mod line;
 pub mod refusal;
 mod stored;
-#[cfg(test)]
-mod tests;
 mod texts;
 
 pub use stored::stored_body;

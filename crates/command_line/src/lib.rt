@@ -4,8 +4,6 @@
 mod app;
 mod command;
 pub mod laws;
-#[cfg(test)]
-mod tests;
 mod words;
 
 pub use command::Command;

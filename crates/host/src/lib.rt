@@ -11,6 +11,3 @@ mod real;
 pub use host::Host;
 pub use memory::{MemAddress, MemCall, MemFile, MemHost, MemLinks, Named};
 pub use real::RealHost;
-
-#[cfg(test)]
-mod tests;

@@ -20,6 +20,3 @@ mod wire;
 
 pub use explorer_model::wire::{Asked, Method, Path, Reply, Request, RequestFault};
 pub use wire::Wire;
-
-#[cfg(test)]
-mod tests;

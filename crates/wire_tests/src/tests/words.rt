@@ -1,4 +1,5 @@
-use crate::words::parse_words;
+//! What words ask for, and what is told of others.
+use command_line::parse_words;
 use explorer_model::fault::Stop;
 use std::alloc::{AllocError, Global};
 use std::test::Fail;

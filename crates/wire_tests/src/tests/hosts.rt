@@ -1,5 +1,6 @@
-use super::*;
+//! What stands under the names of a host.
 use disk_model::{Disk, MemDisk};
+use host::{Host, MemFile, MemHost, laws};
 use outside::{Failed, Source};
 use std::alloc::Global;
 use std::test::Fail;

@@ -1,6 +1,7 @@
-use super::*;
+//! Requests however they are cut, and replies byte by byte.
 use explorer_model::archive::Bytes;
 use explorer_model::query::Parameter;
+use http_wire::{Asked, Method, Path, Reply, Request, RequestFault, Wire};
 use outside::{MemLink, MemSink, MemSource};
 use std::alloc::Global;
 use std::test::Fail;

@@ -1,13 +1,15 @@
+//! Printed answers, and the words of refusals.
 ghost use Rattle.std.specs.Prelude.{◌≡◌, ◌∷◌, [], IfOk};
 ghost use Rattle.std.specs.List.{All};
 ghost use Rattle.answer_json.specs.Plain.{HasPlainId, IsPlainLine, IsPlainFound};
 
-use crate::answer::body;
-use crate::stored_body;
+use answer_json::answer::body;
+use answer_json::refusal::why_text;
+use answer_json::stored_body;
 use explorer_model::answer::{Found, Listed, MonthLine, MoveLine, Totals};
 use explorer_model::archive::{Bytes, Classes, GameId, Group, Mode, Month, Outcome, Player, Speed};
 use explorer_model::chess::{Move, Role};
-use explorer_model::fault::{Refusal, Why};
+use explorer_model::fault::{GameFault, Refusal, TagFault, TagName, Why};
 use explorer_model::list::Items;
 use explorer_model::square::Square;
 use explorer_model::text::Name;
@@ -216,5 +218,41 @@ fn writes_what_was_stored(rt: HostRuntime) -> Result<(), Fail> {
     let text = "{\"batches\":2,\"refused\":[{\"place\":0,\"why\":\"Repeated 0\"},\
          {\"place\":194,\"why\":\"Twice 0\"}],\"stored\":0}";
     assert!(rt; two.as_slice() == text.as_bytes());
+    Ok(())
+}
+
+#[test]
+fn says_why(rt: HostRuntime) -> Result<(), Fail> {
+    let table = [
+        (Why::Preamble, "Preamble"),
+        (Why::TooLong { length: 65537 }, "TooLong 65537"),
+        (Why::Game(GameFault::Lex { place: 196 }), "Lex 196"),
+        (
+            Why::Game(GameFault::Tag(TagFault::Missing {
+                name: TagName::UtcDate,
+            })),
+            "Missing UTCDate",
+        ),
+        (
+            Why::Game(GameFault::Tag(TagFault::Bad {
+                name: TagName::WhiteElo,
+            })),
+            "Bad WhiteElo",
+        ),
+        (
+            Why::Game(GameFault::Tag(TagFault::UnknownResult)),
+            "UnknownResult",
+        ),
+        (Why::Game(GameFault::TooManyPlies), "TooManyPlies"),
+        (
+            Why::Game(GameFault::Illegal { ply: 3, place: 202 }),
+            "Illegal 3 202",
+        ),
+        (Why::Twice { first: 0 }, "Twice 0"),
+        (Why::Repeated { number: 18 }, "Repeated 18"),
+    ];
+    for (why, words) in table {
+        assert!(rt; why_text(rt.alloc(), &why)?.as_slice() == words.as_bytes());
+    }
     Ok(())
 }
