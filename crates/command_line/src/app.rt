@@ -83,8 +83,7 @@ fn import_command<'a>(alloc: Global) -> Result<Command<'a>, AllocError>
     ensures globals { IfOk result (λ command. (fields_of command).has_globals ≡ false) }
 {
     let command = Command::new(alloc, "import").about("Import the games of a file into a store");
-    let command = with_arg(command, store_arg(alloc))?;
-    let command = with_arg(command, file_arg(alloc))?;
+    let command = with_args(command, store_arg(alloc), file_arg(alloc))?;
     with_arg(command, workers_arg(alloc))
 }
 
@@ -93,8 +92,7 @@ fn query_command<'a>(alloc: Global) -> Result<Command<'a>, AllocError>
     ensures globals { IfOk result (λ command. (fields_of command).has_globals ≡ false) }
 {
     let command = Command::new(alloc, "query").about("Answer a query over the games of a store");
-    let command = with_arg(command, store_arg(alloc))?;
-    let command = with_arg(command, query_arg(alloc))?;
+    let command = with_args(command, store_arg(alloc), query_arg(alloc))?;
     with_arg(command, workers_arg(alloc))
 }
 
@@ -104,8 +102,7 @@ fn serve_command<'a>(alloc: Global) -> Result<Command<'a>, AllocError>
 {
     let command = serve_command_of_texts(alloc)?;
     let command = with_arg(command, workers_arg(alloc))?;
-    let command = with_arg(command, readers_arg(alloc))?;
-    with_arg(command, connections_arg(alloc))
+    with_args(command, readers_arg(alloc), connections_arg(alloc))
 }
 
 /// The same without its numbers.
@@ -118,8 +115,7 @@ fn serve_command_of_texts<'a>(alloc: Global) -> Result<Command<'a>, AllocError>
     let command = Command::new(alloc, "serve").about(
         "Answer queries over HTTP, and import files and posted games meanwhile",
     );
-    let command = with_arg(command, store_arg(alloc))?;
-    let command = with_arg(command, address_arg(alloc))?;
+    let command = with_args(command, store_arg(alloc), address_arg(alloc))?;
     with_arg(command, files_arg(alloc))
 }
 
@@ -130,8 +126,7 @@ fn trial_command<'a>(alloc: Global) -> Result<Command<'a>, AllocError>
     let command = Command::new(alloc, "trial").about(
         "Store sample games that are drawn from a seed, and count them",
     );
-    let command = with_arg(command, games_arg(alloc))?;
-    let command = with_arg(command, seed_arg(alloc))?;
+    let command = with_args(command, games_arg(alloc), seed_arg(alloc))?;
     with_arg(command, workers_arg(alloc))
 }
 
@@ -242,6 +237,23 @@ fn connections_arg<'a>(alloc: Global) -> Arg<'a>
         .value_parser(value_parser!(u64).range(1..=1_000_000))
         .default_value("1000")
         .help("How many connections each reader serves before it ends, 1 to 1000000")
+}
+
+/// The command with two more arguments, the first one before the second.
+fn with_args<'a>(
+    command: Command<'a>,
+    first: Arg<'a>,
+    second: Arg<'a>,
+) -> Result<Command<'a>, AllocError>
+    requires first_local { first.global ≡ false }
+    requires second_local { second.global ≡ false }
+    ensures app { IfOk result (λ new. app_of new
+        ≡ with_rule (with_rule (app_of command.entry) (rule_of first.entry)) (rule_of second.entry)) }
+    ensures globals { IfOk result (λ new.
+        (fields_of new).has_globals ≡ (fields_of command.entry).has_globals) }
+{
+    let command = with_arg(command, first)?;
+    with_arg(command, second)
 }
 
 fn with_arg<'a>(command: Command<'a>, arg: Arg<'a>) -> Result<Command<'a>, AllocError>
