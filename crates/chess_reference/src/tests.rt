@@ -1,4 +1,8 @@
-//! The definitions against what is known of chess from outside.
+//! The definitions against what is known of chess from outside, and the boards of `legal_moves` too.
+mod boards;
+mod legal;
+mod perft;
+mod pins;
 mod plainly;
 
 use crate::legal::{is_legal, is_same};
@@ -25,6 +29,13 @@ const WHITE_LONG: Rights = Rights {
     white_long: true,
     black_short: false,
     black_long: false,
+};
+
+const BLACK_LONG: Rights = Rights {
+    white_short: false,
+    white_long: false,
+    black_short: false,
+    black_long: true,
 };
 
 const ALL_RIGHTS: Rights = Rights {
@@ -70,12 +81,12 @@ fn pieces(placement: &str) -> [Option<Piece>; 64] {
     squares
 }
 
-fn position(placement: &str, turn: Color, rights: Rights) -> Position {
+fn position(placement: &str, turn: Color, rights: Rights, en_passant: Option<Square>) -> Position {
     Position {
         squares: pieces(placement),
         turn,
         rights,
-        en_passant: None,
+        en_passant,
     }
 }
 
@@ -98,25 +109,30 @@ fn by_name(name: &[u8; 4], promotion: Option<Role>) -> Move {
 
 #[test]
 fn moves_are_legal_where_the_laws_say_so(rt: HostRuntime) {
-    let rook_on_f5 = position("4k3/8/8/5r2/8/8/8/R3K2R", Color::White, WHITE_RIGHTS);
-    let rook_on_b8 = position("1r2k3/8/8/8/8/8/8/R3K3", Color::White, WHITE_LONG);
-    let rook_on_d8 = position("3rk3/8/8/8/8/8/8/R3K3", Color::White, WHITE_LONG);
-    let rook_on_e4 = position("4k3/8/8/8/4r3/8/8/R3K2R", Color::White, WHITE_RIGHTS);
-    let knight_on_b1 = position("4k3/8/8/8/8/8/8/RN2K2R", Color::White, WHITE_RIGHTS);
-    let no_rights = position("4k3/8/8/8/8/8/8/R3K2R", Color::White, NO_RIGHTS);
-    let pawn_on_a7 = position("8/P7/8/8/8/8/8/k1K5", Color::White, NO_RIGHTS);
-    let blocked = position("4k3/8/8/8/8/4n3/4P3/4K3", Color::White, NO_RIGHTS);
-    let pinned = position("4k3/8/8/8/1b6/2N5/8/4K3", Color::White, NO_RIGHTS);
+    let rook_on_f5 = position("4k3/8/8/5r2/8/8/8/R3K2R", Color::White, WHITE_RIGHTS, None);
+    let rook_on_b8 = position("1r2k3/8/8/8/8/8/8/R3K3", Color::White, WHITE_LONG, None);
+    let rook_on_d8 = position("3rk3/8/8/8/8/8/8/R3K3", Color::White, WHITE_LONG, None);
+    let rook_on_e4 = position("4k3/8/8/8/4r3/8/8/R3K2R", Color::White, WHITE_RIGHTS, None);
+    let knight_on_b1 = position("4k3/8/8/8/8/8/8/RN2K2R", Color::White, WHITE_RIGHTS, None);
+    let no_rights = position("4k3/8/8/8/8/8/8/R3K2R", Color::White, NO_RIGHTS, None);
+    let pawn_on_a7 = position("8/P7/8/8/8/8/8/k1K5", Color::White, NO_RIGHTS, None);
+    let blocked = position("4k3/8/8/8/8/4n3/4P3/4K3", Color::White, NO_RIGHTS, None);
+    let pinned = position("4k3/8/8/8/1b6/2N5/8/4K3", Color::White, NO_RIGHTS, None);
     // White's pawn has gone from e2 to e4: taking it en passant would open the rank from the rook
     // on b4 to the king on h4.
-    let rank_opens = Position {
-        en_passant: Some(square(b"e3")),
-        ..position("8/2p5/3p4/KP5r/1R2Pp1k/8/6P1/8", Color::Black, NO_RIGHTS)
-    };
-    let rank_stays = Position {
-        en_passant: Some(square(b"e3")),
-        ..position("8/2p5/1R1p4/KP5r/4Pp1k/8/6P1/8", Color::Black, NO_RIGHTS)
-    };
+    let en_passant = Some(square(b"e3"));
+    let rank_opens = position(
+        "8/2p5/3p4/KP5r/1R2Pp1k/8/6P1/8",
+        Color::Black,
+        NO_RIGHTS,
+        en_passant,
+    );
+    let rank_stays = position(
+        "8/2p5/1R1p4/KP5r/4Pp1k/8/6P1/8",
+        Color::Black,
+        NO_RIGHTS,
+        en_passant,
+    );
     for (at, name, promotion, legal) in [
         (rook_on_f5, b"e1g1", None, false),
         (rook_on_f5, b"e1c1", None, true),
@@ -155,7 +171,7 @@ fn an_en_passant_square_counts_where_a_pawn_can_be_taken(rt: HostRuntime) {
         // the rank would be opened to the king
         ("8/2p5/3p4/KP5r/1R2Pp1k/8/6P1/8", true),
     ] {
-        let without = position(placement, Color::Black, NO_RIGHTS);
+        let without = position(placement, Color::Black, NO_RIGHTS, None);
         let with = Position {
             en_passant: Some(square(b"e3")),
             ..without

@@ -21,7 +21,5 @@ mod piece_sets;
 mod pins;
 mod play;
 mod sources;
-#[cfg(test)]
-mod tests;
 mod tidy;
 pub mod valid;

@@ -88,7 +88,7 @@ fn listed_moves_are_those_of_the_plain_test(rt: HostRuntime) {
             NO_RIGHTS,
         ),
     ] {
-        let is_told = match Board::of(&position(placement, Color::White, rights)) {
+        let is_told = match Board::of(&position(placement, Color::White, rights, None)) {
             Some(board) => are_all_told(&board),
             None => false,
         };

@@ -1,103 +1,13 @@
 //! Boards against what the Laws of Chess say of a few moves.
-mod legal;
-mod perft;
-mod pins;
-
-use crate::board::Board;
-use crate::valid::{is_valid, start};
-use explorer_model::chess::{Color, Move, Piece, Position, Rights, Role};
-use explorer_model::square::Square;
-
-const NO_RIGHTS: Rights = Rights {
-    white_short: false,
-    white_long: false,
-    black_short: false,
-    black_long: false,
-};
-
-const WHITE_RIGHTS: Rights = Rights {
-    white_short: true,
-    white_long: true,
-    black_short: false,
-    black_long: false,
-};
-
-const BLACK_LONG: Rights = Rights {
-    white_short: false,
-    white_long: false,
-    black_short: false,
-    black_long: true,
-};
-
-const ALL_RIGHTS: Rights = Rights {
-    white_short: true,
-    white_long: true,
-    black_short: true,
-    black_long: true,
-};
-
-/// The piece that a letter of FEN names.
-fn piece(letter: u8) -> Option<Piece> {
-    let color = if letter.is_ascii_uppercase() {
-        Color::White
-    } else {
-        Color::Black
-    };
-    let role = match letter.to_ascii_lowercase() {
-        b'p' => Role::Pawn,
-        b'n' => Role::Knight,
-        b'b' => Role::Bishop,
-        b'r' => Role::Rook,
-        b'q' => Role::Queen,
-        _ => Role::King,
-    };
-    Some(Piece { color, role })
-}
-
-/// The pieces that the first field of a FEN text places.
-fn pieces(placement: &str) -> [Option<Piece>; 64] {
-    let mut squares = [None; 64];
-    // FEN goes from a8 to h8, and ends with h1.
-    let mut place = 0u8;
-    for letter in placement.bytes() {
-        match letter {
-            b'/' => {}
-            b'1'..=b'8' => place = place.wrapping_add(letter - b'0'),
-            _ => {
-                squares[(place ^ 56) as usize % 64] = piece(letter);
-                place = place.wrapping_add(1);
-            }
-        }
-    }
-    squares
-}
-
-/// The square that is written by a file and a rank, as `e4`.
-fn square(name: &[u8; 2]) -> Square {
-    let file = name[0].wrapping_sub(b'a') % 8;
-    let rank = name[1].wrapping_sub(b'1') % 8;
-    Square {
-        index: 8 * rank + file,
-    }
-}
-
-fn position(placement: &str, turn: Color, rights: Rights, en_passant: Option<Square>) -> Position {
-    Position {
-        squares: pieces(placement),
-        turn,
-        rights,
-        en_passant,
-    }
-}
+use super::{ALL_RIGHTS, BLACK_LONG, NO_RIGHTS, WHITE_RIGHTS, by_name, position, square};
+use explorer_model::chess::{Color, Position, Role};
+use legal_moves::board::Board;
+use legal_moves::valid::{is_valid, start};
 
 /// The position after a legal move on a valid position.
 fn played(at: &Position, name: &[u8; 4], promotion: Option<Role>) -> Option<Position> {
     let board = Board::of(at)?;
-    let wanted = Move {
-        from: square(&[name[0], name[1]]),
-        to: square(&[name[2], name[3]]),
-        promotion,
-    };
+    let wanted = by_name(name, promotion);
     for m in board.legal().as_slice() {
         if *m == wanted {
             return Some(board.play(*m).position());

@@ -1,5 +1,5 @@
 use Rattle.legal_moves.proofs.Lists.{listed_legal}
-use Rattle.legal_moves.proofs.tests.perft.+count_lines.Goals as goal
+use Rattle.chess_reference.proofs.tests.perft.+count_lines.Goals as goal
 
 pub play-requires : goal.play-requires
 play-requires t c =

@@ -1,7 +1,7 @@
 //! Pins, and where checks are met.
 use super::{NO_RIGHTS, position, square};
-use crate::board::Board;
 use explorer_model::chess::Color;
+use legal_moves::board::Board;
 use step_tables::{Bitboard, only};
 
 fn bitboard(names: &[&[u8; 2]]) -> Bitboard {

@@ -1,7 +1,7 @@
 //! Trees of legal moves against the counts of their leaves that programs agree on.
 use super::{ALL_RIGHTS, NO_RIGHTS, WHITE_RIGHTS, position};
-use crate::board::Board;
 use explorer_model::chess::{Color, Position, Rights};
+use legal_moves::board::Board;
 
 /// In how many ways so many legal moves can be played one after another.
 fn count_lines(board: &Board, depth: u32) -> u64 {

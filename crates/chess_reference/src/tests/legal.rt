@@ -1,8 +1,8 @@
 //! Legal moves against counts that programs agree on, and against what the Laws say of single
 //! moves.
 use super::{ALL_RIGHTS, NO_RIGHTS, WHITE_RIGHTS, position, square};
-use crate::board::Board;
 use explorer_model::chess::{Color, Move, Position};
+use legal_moves::board::Board;
 
 /// How many legal moves a valid position has.
 fn count_moves(at: &Position) -> Option<usize> {
