@@ -22,6 +22,11 @@ const WHITE_WON: Totals = Totals {
     black: 0,
 };
 
+const JANUARY: Month = Month {
+    year: 2020,
+    month: 1,
+};
+
 fn one<T: Drop>(alloc: Global, item: T) -> Result<Items<T>, AllocError>
     ensures { IfOk result (λ items. items ≡ item ∷ []) }
 {
@@ -64,11 +69,7 @@ fn listed(alloc: Global, white: &str, outcome: Outcome, month: Month) -> Result<
 fn won(alloc: Global, white: &str) -> Result<Items<Listed>, AllocError>
     ensures { IfOk result (All HasPlainId) }
 {
-    let month = Month {
-        year: 2020,
-        month: 1,
-    };
-    let game = listed(alloc, white, Outcome::White, month)?;
+    let game = listed(alloc, white, Outcome::White, JANUARY)?;
     one(alloc, game)
 }
 
@@ -76,11 +77,7 @@ fn won(alloc: Global, white: &str) -> Result<Items<Listed>, AllocError>
 fn line(alloc: Global, white: &str) -> Result<MoveLine, AllocError>
     ensures { IfOk result IsPlainLine }
 {
-    let month = Month {
-        year: 2020,
-        month: 1,
-    };
-    let game = listed(alloc, white, Outcome::White, month)?;
+    let game = listed(alloc, white, Outcome::White, JANUARY)?;
     Ok(MoveLine {
         next: game.next,
         san: Bytes::from_vec(Vec::from_slice(alloc, b"e4")?),
@@ -117,49 +114,66 @@ fn game_text(alloc: Global, white: &str) -> Result<String, AllocError> {
     )
 }
 
+/// What is written for the answer.
+fn answer_text(alloc: Global, white: &str, history: &str) -> Result<String, AllocError> {
+    let game = game_text(alloc, white)?;
+    format!(in alloc;
+        "{{\"black\":0,\"draws\":0,{history}\"moves\":[{{\"averageRating\":1500,\
+         \"black\":0,\"draws\":0,\"game\":{game},\"opening\":null,\"san\":\"e4\",\
+         \"uci\":\"e2e4\",\"white\":1}}],\"opening\":null,\"recentGames\":[{game}],\
+         \"topGames\":[{game}],\"white\":1}}"
+    )
+}
+
+/// The month of the game, so many times.
+fn months(alloc: Global, count: u32) -> Result<Items<MonthLine>, AllocError> {
+    let mut months = Vec::new(alloc);
+    for _ in 0..count {
+        months.push(MonthLine {
+            month: JANUARY,
+            totals: WHITE_WON,
+        })?;
+    }
+    Ok(Items::from_vec(months))
+}
+
+/// Whether the answer is written so, with a history of so many months if there is one.
+fn is_written(
+    alloc: Global,
+    white: &str,
+    count: Option<u32>,
+    text: &str,
+) -> Result<bool, AllocError> {
+    let history = match count {
+        Some(count) => Some(months(alloc, count)?),
+        None => None,
+    };
+    let found = answer(alloc, white, history)?;
+    Ok(body(alloc, &found)?.as_slice() == text.as_bytes())
+}
+
 #[test]
 fn writes_worked_answers(rt: HostRuntime) -> Result<(), Fail> {
     let alloc = rt.alloc();
-    let months = MonthLine {
-        month: Month {
-            year: 2020,
-            month: 1,
-        },
-        totals: WHITE_WON,
-    };
     let history = "\"history\":[{\"black\":0,\"draws\":0,\"month\":\"2020-01\",\"white\":1}],";
-    let table = vec![in alloc;
+    let table = [
         ("Ann", "Ann", None, ""),
-        ("Ann", "Ann", Some(one(alloc, months)?), history),
-        (
-            "Ann",
-            "Ann",
-            Some(Items::from_vec(Vec::new(alloc))),
-            "\"history\":[],"
-        ),
+        ("Ann", "Ann", Some(1), history),
+        ("Ann", "Ann", Some(0), "\"history\":[],"),
         ("\"Ann\" \u{dc}nal\n", "\\\"Ann\\\" \u{dc}nal\\n", None, ""),
-    ]?;
-    for (white, written, history, history_text) in table {
-        let game = game_text(alloc, written)?;
-        let text = format!(in alloc;
-            "{{\"black\":0,\"draws\":0,{history_text}\"moves\":[{{\"averageRating\":1500,\
-             \"black\":0,\"draws\":0,\"game\":{game},\"opening\":null,\"san\":\"e4\",\
-             \"uci\":\"e2e4\",\"white\":1}}],\"opening\":null,\"recentGames\":[{game}],\
-             \"topGames\":[{game}],\"white\":1}}"
-        )?;
-        let found = answer(alloc, white, history)?;
-        assert!(rt;
-            body(alloc, &found)?.as_slice() == text.as_bytes(),
-            "{text}"
-        );
+    ];
+    for (white, written, count, history) in table {
+        let text = answer_text(alloc, written, history)?;
+        assert!(rt; is_written(alloc, white, count, text.as_str())?, "{text}");
     }
     Ok(())
 }
 
-#[test]
-fn writes_other_values(rt: HostRuntime) -> Result<(), Fail> {
-    let alloc = rt.alloc();
-    let line = MoveLine {
+/// A move that makes a knight of a pawn, after which nobody's game is listed.
+fn knight_line(alloc: Global) -> Result<MoveLine, AllocError>
+    ensures { IfOk result IsPlainLine }
+{
+    Ok(MoveLine {
         next: Move {
             from: Square { index: 55 },
             to: Square { index: 63 },
@@ -173,7 +187,13 @@ fn writes_other_values(rt: HostRuntime) -> Result<(), Fail> {
             black: 300,
         },
         game: None,
-    };
+    })
+}
+
+/// A casual game of ultra bullet that was drawn in the year 987.
+fn casual_game(alloc: Global) -> Result<Listed, AllocError>
+    ensures { IfOk result HasPlainId }
+{
     let december = Month {
         year: 987,
         month: 12,
@@ -181,13 +201,29 @@ fn writes_other_values(rt: HostRuntime) -> Result<(), Fail> {
     let mut game = listed(alloc, "", Outcome::Draw, december)?;
     game.classes.mode = Mode::Casual;
     game.classes.speed = Speed::UltraBullet;
-    let found = Found {
+    Ok(game)
+}
+
+/// The answer with both, and nothing else.
+fn answer_with_both(alloc: Global) -> Result<Found, AllocError>
+    ensures { IfOk result IsPlainFound }
+{
+    let line = knight_line(alloc)?;
+    let moves = one(alloc, line)?;
+    let game = casual_game(alloc)?;
+    Ok(Found {
         totals: Totals::default(),
-        moves: one(alloc, line)?,
+        moves,
         top: Items::from_vec(Vec::new(alloc)),
         recent: one(alloc, game)?,
         history: None,
-    };
+    })
+}
+
+#[test]
+fn writes_other_values(rt: HostRuntime) -> Result<(), Fail> {
+    let alloc = rt.alloc();
+    let found = answer_with_both(alloc)?;
     let text =
         "{\"black\":0,\"draws\":0,\"moves\":[{\"averageRating\":0,\"black\":300,\"draws\":20,\
          \"game\":null,\"opening\":null,\"san\":\"h8=N+\",\"uci\":\"h7h8n\",\

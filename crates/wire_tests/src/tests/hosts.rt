@@ -34,21 +34,31 @@ fn read_some<H: Host>(host: &mut H, name: &str, into: &mut [u8; 8]) -> Result<us
     read
 }
 
-#[test]
-fn host_in_memory_keeps_what_stands_under_names(rt: HostRuntime) -> Result<(), Fail> {
-    let alloc: Global = rt.alloc();
+/// A host with a disk `a` and a file `b`.
+fn host_with_both(alloc: Global) -> Result<MemHost, Fail> {
     let mut host = MemHost::new(alloc);
     host.add_disk("a", MemDisk::new(alloc, 8, Vec::new(alloc))?)?;
     let bytes = Vec::from_slice(alloc, b"abc")?;
     let failing = Vec::new(alloc);
     host.add_file("b", MemFile { bytes, failing })?;
-    for answer in [Ok(1), Ok(2)] {
-        assert_eq!(rt; append_byte(&mut host, "a"), answer);
-    }
-    assert_eq!(rt; append_byte(&mut host, "b"), Err(Failed));
+    Ok(host)
+}
+
+#[test]
+fn host_in_memory_keeps_what_stands_under_names(rt: HostRuntime) -> Result<(), Fail> {
+    let mut host = host_with_both(rt.alloc())?;
+    let sizes = [
+        append_byte(&mut host, "a"),
+        append_byte(&mut host, "a"),
+        append_byte(&mut host, "b"),
+    ];
+    assert_eq!(rt; sizes, [Ok(1), Ok(2), Err(Failed)]);
     let mut into = [0; 8];
-    assert_eq!(rt; read_some(&mut host, "b", &mut into), Ok(3));
-    assert_eq!(rt; read_some(&mut host, "a", &mut into), Err(Failed));
+    let reads = [
+        read_some(&mut host, "b", &mut into),
+        read_some(&mut host, "a", &mut into),
+    ];
+    assert_eq!(rt; reads, [Ok(3), Err(Failed)]);
     assert_eq!(rt; &into[..3], b"abc".as_slice());
     assert_eq!(rt; host.calls().len(), 8);
     Ok(())

@@ -106,27 +106,41 @@ fn request_may_end_at_each_byte(rt: HostRuntime) -> Result<(), Fail> {
     Ok(())
 }
 
+/// The first answer to a text with a piece that comes so many times, in a word.
+fn first_of(
+    alloc: Global,
+    front: &[u8],
+    piece: &[u8],
+    times: usize,
+    back: &[u8],
+) -> Result<&'static str, Fail> {
+    let text = text(alloc, front, piece, times, back)?;
+    first(alloc, &text)
+}
+
 #[test]
 fn heads_and_lengths_at_their_limits(rt: HostRuntime) -> Result<(), Fail> {
     let alloc: Global = rt.alloc();
-    // The line ends, the target and the rest of the head have 28 bytes beside the letters.
-    for (letters, word) in [(8163, "wanted"), (8164, "wanted"), (8165, "431")] {
-        let head = text(
-            alloc,
-            b"\r\nGET /lichess?",
-            b"a",
-            letters,
-            b" HTTP/1.1\r\n\r\n",
-        )?;
-        assert_eq!(rt; first(alloc, &head)?, word);
+    let line: &[u8] = b"\r\nGET /lichess?";
+    let fields: &[u8] = b"GET / HTTP/1.1\n";
+    let post: &[u8] = b"POST / HTTP/1.1\nContent-Length: 4194304\n\n";
+    let rows: [(&[u8], &[u8], usize, &[u8], &str); 6] = [
+        // The line ends, the target and the rest of the head have 28 bytes beside the letters.
+        (line, b"a", 8163, b" HTTP/1.1\r\n\r\n", "wanted"),
+        (line, b"a", 8164, b" HTTP/1.1\r\n\r\n", "wanted"),
+        (line, b"a", 8165, b" HTTP/1.1\r\n\r\n", "431"),
+        (fields, b"A:\n", 32, b"\n", "wanted"),
+        (fields, b"A:\n", 33, b"\n", "431"),
+        (post, &[b'a'; 1024], 4096, b"", "wanted"),
+    ];
+    for (front, piece, times, back, word) in rows {
+        assert_eq!(rt; first_of(alloc, front, piece, times, back)?, word);
     }
-    for (fields, word) in [(32, "wanted"), (33, "431")] {
-        let head = text(alloc, b"GET / HTTP/1.1\n", b"A:\n", fields, b"\n")?;
-        assert_eq!(rt; first(alloc, &head)?, word);
-    }
-    let front = b"POST / HTTP/1.1\nContent-Length: 4194304\n\n";
-    let longest = text(alloc, front, &[b'a'; 1024], 4096, b"")?;
-    assert_eq!(rt; first(alloc, &longest)?, "wanted");
+    Ok(())
+}
+
+#[test]
+fn heads_ask_or_are_refused(rt: HostRuntime) -> Result<(), Fail> {
     let rows: [(&[u8], &str); 16] = [
         (b"", "done"),
         (b"\r\n\n\r", "done"),
@@ -152,28 +166,30 @@ fn heads_and_lengths_at_their_limits(rt: HostRuntime) -> Result<(), Fail> {
         ),
     ];
     for (text, word) in rows {
-        assert_eq!(rt; first(alloc, text)?, word);
+        assert_eq!(rt; first(rt.alloc(), text)?, word);
     }
     Ok(())
 }
 
+/// What a field's name or its value of one byte is answered with.
+fn first_with(alloc: Global, byte: u8) -> Result<(&'static str, &'static str), Fail> {
+    let name = first_of(alloc, b"GET / HTTP/1.1\r\nA", &[byte], 1, b": x\r\n\r\n")?;
+    let value = first_of(alloc, b"GET / HTTP/1.1\r\nA: ", &[byte], 1, b"\r\n\r\n")?;
+    Ok((name, value))
+}
+
+fn wanted(is_allowed: bool) -> &'static str {
+    if is_allowed { "wanted" } else { "400" }
+}
+
 #[test]
 fn any_byte_in_a_field(rt: HostRuntime) -> Result<(), Fail> {
-    let alloc: Global = rt.alloc();
     for byte in 0..=255u8 {
-        let name = text(alloc, b"GET / HTTP/1.1\r\nA", &[byte], 1, b": x\r\n\r\n")?;
         let is_name = byte.is_ascii_alphanumeric() || b"!#$%&'*+-.^_`|~:".contains(&byte);
-        assert_eq!(rt;
-            first(alloc, &name)?,
-            if is_name { "wanted" } else { "400" },
-            "{byte}"
-        );
-
-        let value = text(alloc, b"GET / HTTP/1.1\r\nA: ", &[byte], 1, b"\r\n\r\n")?;
         let is_value = byte == b'\t' || byte == b'\n' || 32 <= byte && byte != 127;
         assert_eq!(rt;
-            first(alloc, &value)?,
-            if is_value { "wanted" } else { "400" },
+            first_with(rt.alloc(), byte)?,
+            (wanted(is_name), wanted(is_value)),
             "{byte}"
         );
     }
@@ -218,6 +234,24 @@ fn written(alloc: Global, reply: &Reply, last: bool) -> Result<(bool, Vec<u8>), 
     let mut link = MemLink::new(source, MemSink::new(alloc, 9000, vec![in alloc; 1]?)?);
     let is_done = Wire::new().reply(&mut link, reply, last).is_ok();
     Ok((is_done, Vec::from_slice(alloc, link.written())?))
+}
+
+/// Whether a reply is written with this status line, fields of its own and body.
+fn is_written(
+    alloc: Global,
+    reply: &Reply,
+    last: bool,
+    status: &str,
+    own: &str,
+    body: &str,
+) -> Result<bool, Fail> {
+    let size = body.len();
+    let text = format!(in alloc;
+        "HTTP/1.1 {status}\r\nContent-Type: application/json\r\nContent-Length: {size}\r\n\
+         {own}\r\n{body}"
+    )?;
+    let (is_done, bytes) = written(alloc, reply, last)?;
+    Ok(is_done && bytes.as_slice() == text.as_bytes())
 }
 
 #[test]
@@ -316,16 +350,16 @@ fn replies_byte_by_byte(rt: HostRuntime) -> Result<(), Fail> {
             "{\"error\":\"no reading\"}",
         ),
     ];
-    for (reply, status, own, body) in rows {
-        let size = body.len();
-        for (last, close) in [(false, ""), (true, "Connection: close\r\n")] {
-            let text = format!(in alloc;
-                "HTTP/1.1 {status}\r\nContent-Type: application/json\r\nContent-Length: {size}\r\n{own}{close}\r\n{body}"
-            )?;
-            let (is_done, bytes) = written(alloc, &reply, last)?;
-            assert!(rt; is_done);
-            assert_eq!(rt; bytes.as_slice(), text.as_bytes());
-        }
+    for (reply, status, own, body) in &rows {
+        let last = format!(in alloc; "{own}Connection: close\r\n")?;
+        assert!(rt;
+            is_written(alloc, reply, false, status, own, body)?,
+            "{status} {body}"
+        );
+        assert!(rt;
+            is_written(alloc, reply, true, status, last.as_str(), body)?,
+            "{status} {body}"
+        );
     }
     Ok(())
 }
