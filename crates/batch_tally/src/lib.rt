@@ -11,7 +11,5 @@ mod singles;
 mod step;
 mod steps;
 mod tallying;
-#[cfg(test)]
-mod tests;
 
 pub use tallying::{Tallying, tally};

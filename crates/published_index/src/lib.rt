@@ -24,8 +24,6 @@ mod publisher;
 mod rule;
 mod seat;
 mod snapshot;
-#[cfg(test)]
-mod tests;
 mod unnamed;
 
 pub use fault::EnterFault;

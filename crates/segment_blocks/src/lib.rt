@@ -25,8 +25,6 @@ mod rows_cursor;
 mod segment;
 mod single_game;
 mod steps;
-#[cfg(test)]
-mod tests;
 mod until;
 
 pub use bound::Bound;

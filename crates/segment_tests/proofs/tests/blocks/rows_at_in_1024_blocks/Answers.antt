@@ -1,5 +1,5 @@
 use Rattle.std.proofs.Common.{◌<◌, ◌^◌, arith}
-use Rattle.segment_blocks.proofs.tests.rows_at_in_1024_blocks.Goals as goal
+use Rattle.segment_tests.proofs.tests.blocks.rows_at_in_1024_blocks.Goals as goal
 
 pub returns : goal.returns
 returns g c =

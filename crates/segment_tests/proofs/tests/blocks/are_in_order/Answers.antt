@@ -10,7 +10,7 @@ use Rattle.tally_rows.specs.declared.row_key.RowKey.{RowKey}
 use Rattle.tally_rows.specs.RowKey.{row_order, row_order-total}
 use Rattle.tally_rows.specs.Row.{row_key_of}
 use Rattle.segment_blocks.specs.PackedRows.{AreInOrder}
-use Rattle.segment_blocks.proofs.tests.are_in_order.Goals as goal
+use Rattle.segment_tests.proofs.tests.blocks.are_in_order.Goals as goal
 
 -- rows in order up to a place, and the next one behind them
 module _ (k : RowKey) where

@@ -1,7 +1,8 @@
+//! Batches of worked games, tallied.
 ghost use Rattle.std.specs.Prelude.{◌≤◌, length, IsTrue};
 ghost use Rattle.std.specs.List.{All};
 
-use crate::tallying::{Tallying, tally};
+use batch_tally::{Tallying, tally};
 use explorer_model::archive::{Bytes, Placed};
 use explorer_model::fault::{GameFault, Refusal, Why};
 use outside::{FreeGate, Gate};
@@ -185,14 +186,23 @@ fn tallies_alike_with_every_number_of_workers(rt: HostRuntime) -> Result<(), Fai
     // Of 100 texts 20 have no game, and 24 of the last 30 the id of an accepted one.
     assert_eq!(rt; (alone.places.len(), alone.refused.len()), (56, 44));
     for workers in [2, 8, 16] {
-        let texts = repeating(rt.alloc())?;
-        let tallying = tallied(&rt, rt.alloc(), texts, workers, &FreeGate)?;
         assert!(rt;
-            matches!(&tallying, Some(t) if are_same(t, &alone)),
+            is_tallied_alike(&rt, workers, &alone)?,
             "with {workers} workers"
         );
     }
     Ok(())
+}
+
+/// Whether so many workers tally the same texts alike.
+fn is_tallied_alike<R: AllocGlobal + Threads + Sync>(
+    rt: &R,
+    workers: usize,
+    alone: &Tallying,
+) -> Result<bool, Fail> {
+    let texts = repeating(rt.alloc())?;
+    let tallying = tallied(rt, rt.alloc(), texts, workers, &FreeGate)?;
+    Ok(matches!(&tallying, Some(t) if are_same(t, alone)))
 }
 
 #[test]

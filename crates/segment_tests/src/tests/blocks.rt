@@ -1,10 +1,11 @@
+//! Rows in packed blocks.
 ghost use Rattle.std.specs.Prelude.{◌≡◌, ◌+◌, ◌<◌, ◌≤◌, IsTrue};
 ghost use Rattle.segment_blocks.specs.PackedRows.{AreInOrder};
 
-use crate::{PackedRows, RowWalk, Segment, Steps};
 use explorer_model::archive::{Group, Month, Outcome, Speed};
 use explorer_model::chess::Move;
 use explorer_model::square::Square;
+use segment_blocks::{PackedRows, RowWalk, Segment, Steps};
 use std::alloc::{AllocError, Global};
 use std::marker::Brand;
 use std::sync::ledger::{Blank, Ledger};
@@ -69,7 +70,9 @@ fn packed(alloc: Global, rows: &[Row]) -> Result<Option<PackedRows>, AllocError>
         return Ok(None);
     }
     let mut packed = PackedRows::new(alloc);
-    packed.push_all(alloc, rows)?;
+    for row in rows {
+        packed.push(alloc, row)?;
+    }
     Ok(Some(packed))
 }
 

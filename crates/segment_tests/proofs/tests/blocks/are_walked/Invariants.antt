@@ -1,4 +1,4 @@
-use Rattle.segment_blocks.proofs.tests.are_walked.Given as goal
+use Rattle.segment_tests.proofs.tests.blocks.are_walked.Given as goal
 
 abbrev pub ghosts-walks_at : goal.ghosts-walks_at
 ghosts-walks_at a = record { name = a.blank.name; parts = a.blank.parts }

@@ -1,0 +1,4 @@
+//! Tallies, packed rows and published lists.
+mod blocks;
+mod lists;
+mod tallies;
