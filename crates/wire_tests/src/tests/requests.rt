@@ -254,9 +254,10 @@ fn is_written(
     Ok(is_done && bytes.as_slice() == text.as_bytes())
 }
 
-#[test]
-fn replies_byte_by_byte(rt: HostRuntime) -> Result<(), Fail> {
-    let alloc: Global = rt.alloc();
+/// A reply, and the status line, the fields of its own and the body that it is written with.
+type Row = (Reply, &'static str, &'static str, &'static str);
+
+fn replies(alloc: Global) -> Result<[Row; 13], Fail> {
     let found = Reply::Found {
         batches: 12,
         body: bytes(alloc, b"{}")?,
@@ -273,7 +274,7 @@ fn replies_byte_by_byte(rt: HostRuntime) -> Result<(), Fail> {
         bytes: 18446744073709551615,
         stored: 4294967295,
     };
-    let rows = [
+    Ok([
         (found, "200 OK", "X-Explorer-Batches: 12\r\n", "{}"),
         (
             stored,
@@ -349,7 +350,13 @@ fn replies_byte_by_byte(rt: HostRuntime) -> Result<(), Fail> {
             "",
             "{\"error\":\"no reading\"}",
         ),
-    ];
+    ])
+}
+
+#[test]
+fn replies_byte_by_byte(rt: HostRuntime) -> Result<(), Fail> {
+    let alloc: Global = rt.alloc();
+    let rows = replies(alloc)?;
     for (reply, status, own, body) in &rows {
         let last = format!(in alloc; "{own}Connection: close\r\n")?;
         assert!(rt;
