@@ -1,6 +1,6 @@
 #!/usr/bin/env python3
-"""Tests of bench/run on a few games: what it writes, and what it says where a measure cannot be taken; and of the right bodies that
-stand beside wrong ones: that each is such."""
+"""Tests of bench/run on a few games: what it writes, and what it says where a measure cannot be taken; of the right bodies that
+stand beside wrong ones: that each is such; and of what is told of the prover's time."""
 import importlib.machinery
 import importlib.util
 import os
@@ -84,11 +84,50 @@ class Programs(unittest.TestCase):
         self.assertEqual(len(set(sums)), len(sums))
 
 
+def loaded(name):
+    """A script of bench/ as a module."""
+    loader = importlib.machinery.SourceFileLoader(name.replace("-", "_"), str(support.TOP / "bench" / name))
+    tool = importlib.util.module_from_spec(importlib.util.spec_from_loader(loader.name, loader))
+    loader.exec_module(tool)
+    return tool
+
+
+class ProofTimes(unittest.TestCase):
+    def test_a_file_is_about_a_function(self):
+        tool = loaded("proof-times")
+        for name, told in (
+            ("Rattle-lookup-proofs.answer.found_in.Lts.oantt", ("lookup", "answer.found_in", "evaluation")),
+            ("Rattle-lookup-proofs.answer.found_in.Proof.decls.oantt.tmp.7.8", ("lookup", "answer.found_in", "search")),
+            ("Rattle-lookup-specs.contracts.answer.found_in.Key.oantt", ("lookup", "answer.found_in", "rest")),
+            ("Rattle-lookup-proofs.Sorting.oantt", ("lookup", "Sorting", "rest")),
+            ("Rattle-lookup.oantt", ("lookup", "the crate", "rest")),
+        ):
+            self.assertEqual(tool.function_of(name), told)
+
+    def test_time_is_told_by_what_took_most(self):
+        times = loaded("proof-times").Times()
+        for process, seconds, name in (
+            (1, 2.0, "Rattle-a-proofs.f.Key.oantt"),
+            (2, 9.0, "Rattle-b-proofs.g.Key.oantt"),
+            (1, 3.5, "Rattle-a-proofs.f.Lts.oantt"),
+            (2, 13.0, "Rattle-b-proofs.g.Proof.oantt"),
+            (1, 3.75, "Rattle-a-proofs.f.Proof.oantt"),
+        ):
+            times.add(process, seconds, name)
+        self.assertEqual([line.split() for line in times.lines(2)][1:],
+                         [["4.0", "0.0", "4.0", "0.0", "b", "g"], ["1.8", "1.5", "0.2", "0.0", "a", "f"]])
+
+    def test_help_and_faulty_words(self):
+        tool = str(support.TOP / "bench/proof-times")
+        self.assertIn("usage: bench/proof-times", support.run_tool(tool, "--help")[1])
+        status, _, errors = support.run_tool(tool)
+        self.assertEqual(status, 2)
+        self.assertIn("there is no command", errors)
+
+
 class RightBodies(unittest.TestCase):
     def test_each_stands_beside_a_wrong_one(self):
-        loader = importlib.machinery.SourceFileLoader("right_bodies", str(support.TOP / "bench/right-bodies"))
-        tool = importlib.util.module_from_spec(importlib.util.spec_from_loader("right_bodies", loader))
-        loader.exec_module(tool)
+        tool = loaded("right-bodies")
         edits = sorted(tool.CONTROLS.glob("*/*.edit"))
         self.assertTrue(edits)
         for edit in edits:
