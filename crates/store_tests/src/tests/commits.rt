@@ -1,7 +1,7 @@
 //! Batches that are stored, published and read again, and stores that are damaged.
 ghost use Rattle.std.specs.Prelude.{◌≡◌, ◌∷◌, [], IfOk};
 
-use super::stores::{games, join_twice, named, new_store};
+use super::stores::{commit_games, games, join_twice, named, new_store};
 use super::{tally_of, text};
 use disk_model::{Disk, MemDisk};
 use explorer_model::archive::{Batch, Bytes, Texts};
@@ -52,21 +52,13 @@ fn store_three<J: Index, R: Threads + Wait + Abort + Sync>(
     alloc: Global,
     ingest: &mut Ingest<MemDisk, J>,
 ) -> Result<(), Fail> {
-    let first = games(rt, alloc, 1, 1)?;
-    let mut texts = Vec::new(alloc);
-    texts.push(text(alloc, 2, 0, "")?)?;
-    texts.push(text(alloc, 1, 0, "")?)?;
-    let again = tally_of(rt, alloc, texts)?;
-    let second = games(rt, alloc, 2, 2)?;
-    assert_eq!(rt; stored(&ingest.commit(rt, alloc, first)), Some((1, 0, 1)));
-    assert_eq!(rt;
-        clash_of(ingest.commit(rt, alloc, again)),
-        Some(Clashing {
-            place: 1,
-            number: 0
-        })
-    );
-    assert_eq!(rt; stored(&ingest.commit(rt, alloc, second)), Some((2, 1, 2)));
+    assert_eq!(rt; commit_games(rt, alloc, ingest, 1, 1)?, Some((1, 0, 1)));
+    let clash = Clashing {
+        place: 1,
+        number: 0,
+    };
+    assert_eq!(rt; commit_again(rt, alloc, ingest)?, Some(clash));
+    assert_eq!(rt; commit_games(rt, alloc, ingest, 2, 2)?, Some((2, 1, 2)));
     assert!(rt; matches!(ingest.catch_up(rt), Ok(None)));
     let spans = join_twice(rt, alloc, ingest)?;
     assert!(rt; spans.as_slice() == [Standing { first: 0, count: 2 }].as_slice());
@@ -74,13 +66,17 @@ fn store_three<J: Index, R: Threads + Wait + Abort + Sync>(
     Ok(())
 }
 
-/// How many batches there are with a batch that was stored, the number of its first game, and how
-/// many games it has.
-fn stored<J: Index>(answer: &Result<Receipt<J>, CommitFault<J>>) -> Option<(u32, u32, u32)> {
-    match answer {
-        Ok(receipt) => Some((receipt.batches(), receipt.first(), receipt.games())),
-        Err(_) => None,
-    }
+/// Commits a new game behind one that is stored, and gives the first text that clashes.
+fn commit_again<J: Index, R: Threads + Wait + Abort + Sync>(
+    rt: &R,
+    alloc: Global,
+    ingest: &mut Ingest<MemDisk, J>,
+) -> Result<Option<Clashing>, Fail> {
+    let mut texts = Vec::new(alloc);
+    texts.push(text(alloc, 2, 0, "")?)?;
+    texts.push(text(alloc, 1, 0, "")?)?;
+    let again = tally_of(rt, alloc, texts)?;
+    Ok(clash_of(ingest.commit(rt, alloc, again)))
 }
 
 /// The first text that clashes.

@@ -1,7 +1,7 @@
 //! A desk at its limit, and beside another worker.
 ghost use Rattle.std.specs.Prelude.{◌≡◌};
 
-use super::stores::{games, join_twice, named, new_store};
+use super::stores::{commit_games, games, join_twice, named, new_store};
 use super::text;
 use disk_model::{Disk, MemDisk};
 use explorer_model::store::LogFault;
@@ -96,21 +96,25 @@ fn fill<J: Index, R: Threads + Wait + Abort + Sync>(
     ingest: &mut Ingest<MemDisk, J>,
 ) -> Result<(), Fail> {
     // Each text has 195 bytes.
-    let two = games(rt, alloc, LIMIT - 1, 2)?;
-    let full = room_of(ingest.commit(rt, alloc, two));
+    let full = room_for(rt, alloc, ingest, LIMIT - 1, 2)?;
     assert_eq!(rt; full, Some((131_071, 131_071 * 195)));
-    let one = games(rt, alloc, LIMIT - 1, 1)?;
-    let Ok(receipt) = ingest.commit(rt, alloc, one) else {
-        return Err(Fail::from("the last game is not stored"));
-    };
-    assert_eq!(rt;
-        (receipt.batches(), receipt.first(), receipt.games()),
-        (257, 131_071, 1)
-    );
-    let more = games(rt, alloc, LIMIT, 1)?;
-    let full = room_of(ingest.commit(rt, alloc, more));
+    let last = commit_games(rt, alloc, ingest, LIMIT - 1, 1)?;
+    assert_eq!(rt; last, Some((257, 131_071, 1)));
+    let full = room_for(rt, alloc, ingest, LIMIT, 1)?;
     assert_eq!(rt; full, Some((131_072, 131_072 * 195)));
     Ok(())
+}
+
+/// How many games and bytes a store has that is too full for so many games from a number on.
+fn room_for<J: Index, R: Threads + Wait + Abort + Sync>(
+    rt: &R,
+    alloc: Global,
+    ingest: &mut Ingest<MemDisk, J>,
+    first: u32,
+    count: u32,
+) -> Result<Option<(u64, u64)>, Fail> {
+    let tally = games(rt, alloc, first, count)?;
+    Ok(room_of(ingest.commit(rt, alloc, tally)))
 }
 
 /// How many games and bytes a full store has.
@@ -170,8 +174,7 @@ fn join_first_two<J: Index, R: Threads + Wait + Abort + Sync>(
     ingest: &mut Ingest<MemDisk, J>,
 ) -> Result<(), Fail> {
     for (first, count) in [(0, 512), (512, 512), (1024, 1)] {
-        let tally = games(rt, alloc, first, count)?;
-        if ingest.commit(rt, alloc, tally).is_err() {
+        if commit_games(rt, alloc, ingest, first, count)?.is_none() {
             return Err(Fail::from("not stored"));
         }
     }

@@ -3,7 +3,7 @@
 ghost use Rattle.std.specs.Prelude.{◌≡◌, None};
 
 use super::desk::{disk_with, store_file};
-use super::stores::{games, named, store_on};
+use super::stores::{commit_games, games, named, store_on};
 use disk_model::{Disk, MemDisk};
 use ingest_desk::{CommitFault, Ingest, InstallFault, Unnamed, open};
 use outside::{Failed, FreeGate};
@@ -164,7 +164,6 @@ fn hold_batch<J: Index, R: Threads + Wait + Abort + Sync>(
     hoard: &Hoard,
 ) -> Result<(), Fail> {
     let first = games(rt, alloc, 0, 1)?;
-    let second = games(rt, alloc, 1, 1)?;
     hoard.takes.set(true);
     let answer = ingest.commit(rt, alloc, first);
     hoard.takes.set(false);
@@ -174,13 +173,7 @@ fn hold_batch<J: Index, R: Threads + Wait + Abort + Sync>(
     assert_eq!(rt; ingest.batches(), 1);
     let published = ingest.publisher().list().batches();
     assert_eq!(rt; published, if held { 0 } else { 1 });
-    let Ok(receipt) = ingest.commit(rt, alloc, second) else {
-        return Err(Fail::from("not stored"));
-    };
-    assert_eq!(rt;
-        (receipt.batches(), receipt.first(), receipt.games()),
-        (2, 1, 1)
-    );
+    assert_eq!(rt; commit_games(rt, alloc, ingest, 1, 1)?, Some((2, 1, 1)));
     assert_eq!(rt; ingest.publisher().list().batches(), 2);
     Ok(())
 }

@@ -3,7 +3,7 @@ ghost use Rattle.std.specs.Prelude.{◌≡◌};
 
 use super::{tally_of, text};
 use disk_model::{Disk, MemDisk};
-use ingest_desk::{Ingest, InstallFault, Standing, Unnamed, fresh};
+use ingest_desk::{CommitFault, Ingest, InstallFault, Receipt, Standing, Unnamed, fresh};
 use manifest::create;
 use outside::FreeGate;
 use published_index::{Index, Pass};
@@ -87,4 +87,24 @@ pub(super) fn join_twice<J: Index, R: Threads + Wait + Abort + Sync>(
         return Err(Fail::from("joined twice"));
     };
     Ok(spans.as_slice().to_vec(alloc)?)
+}
+
+/// Commits so many games from a number on. Gives how many batches there are with the one that was
+/// stored, the number of its first game, and how many games it has.
+pub(super) fn commit_games<J: Index, D: Disk, R: Threads + Wait + Abort + Sync>(
+    rt: &R,
+    alloc: Global,
+    ingest: &mut Ingest<D, J>,
+    first: u32,
+    count: u32,
+) -> Result<Option<(u32, u32, u32)>, Fail> {
+    let tally = games(rt, alloc, first, count)?;
+    Ok(stored(&ingest.commit(rt, alloc, tally)))
+}
+
+fn stored<J: Index>(answer: &Result<Receipt<J>, CommitFault<J>>) -> Option<(u32, u32, u32)> {
+    match answer {
+        Ok(receipt) => Some((receipt.batches(), receipt.first(), receipt.games())),
+        Err(_) => None,
+    }
 }
