@@ -78,15 +78,6 @@ fn games(alloc: Global, count: u32) -> Result<String, AllocError> {
     Ok(text)
 }
 
-/// The texts, one behind the other.
-fn joined(alloc: Global, texts: &[&str]) -> Result<String, AllocError> {
-    let mut all = String::new(alloc);
-    for text in texts {
-        all.push_str(text)?;
-    }
-    Ok(all)
-}
-
 /// A game as an answer lists it.
 fn listed(alloc: Global, id: &str, uci: &str, winner: &str) -> Result<String, AllocError> {
     format!(in alloc;
@@ -113,37 +104,8 @@ fn one_move(
     )
 }
 
-/// Five games that White won and that began with `1. e4`, whose ids end with their numbers.
-fn five_texts(alloc: Global) -> Result<String, AllocError> {
-    let mut texts = String::new(alloc);
-    for number in 0..5u32 {
-        texts.push_str(numbered(alloc, number)?.as_str())?;
-    }
-    Ok(texts)
-}
-
-/// The game of this number.
-fn numbered(alloc: Global, number: u32) -> Result<String, AllocError> {
-    let id = format!(in alloc; "aaaaaaa{number}")?;
-    named(alloc, id.as_str(), "1-0", "1. e4 1-0")
-}
-
-/// The games of these numbers as an answer lists them.
-fn listed_five(alloc: Global, numbers: &[u32]) -> Result<String, AllocError> {
-    let mut all = String::new(alloc);
-    for number in numbers {
-        let id = format!(in alloc; "aaaaaaa{number}")?;
-        let comma = if all.is_empty() { "" } else { "," };
-        all.push_str(comma)?;
-        all.push_str(listed(alloc, id.as_str(), "e2e4", "white")?.as_str())?;
-    }
-    Ok(all)
-}
-
-/// The answer over the five games, of which it lists these.
-fn five_games(alloc: Global, top: &[u32], recent: &[u32]) -> Result<String, AllocError> {
-    let top = listed_five(alloc, top)?;
-    let recent = listed_five(alloc, recent)?;
+/// The answer over five games that White won and that began with `1. e4`.
+fn five_games(alloc: Global, top: &str, recent: &str) -> Result<String, AllocError> {
     format!(in alloc;
         "{{\"black\":0,\"draws\":0,\"moves\":[{{\"averageRating\":1500,\"black\":0,\"draws\":0,\
          \"game\":null,\"opening\":null,\"san\":\"e4\",\"uci\":\"e2e4\",\"white\":5}}],\

@@ -2,8 +2,8 @@
 ghost use Rattle.std.specs.Prelude.{◌<◌};
 
 use super::{
-    FAULTLESS, NEVER, NO_GAME, ONE_DRAW, ONE_WHITE, Tags, game, games, joined, named, one_move,
-    run_on, tagged,
+    FAULTLESS, NEVER, NO_GAME, ONE_DRAW, ONE_WHITE, Tags, game, games, named, one_move, run_on,
+    tagged,
 };
 use std::alloc::{AllocError, Global};
 use std::sync::Wait;
@@ -60,25 +60,38 @@ fn counts_games_and_reports_the_rest(rt: HostRuntime) -> Result<(), Fail> {
     let draw = game(alloc, "1/2-1/2", "1/2-1/2")?;
     let unknown = game(alloc, "*", "*")?;
     let illegal = game(alloc, "1-0", "1. e4 e5 2. Ke3 1-0")?;
-    let (win, draw) = (win.as_str(), draw.as_str());
-    let (unknown, illegal) = (unknown.as_str(), illegal.as_str());
-    let table: [(&[&str], &str, &str); 9] = [
-        (&[], NO_GAME, ""),
-        (&[draw, "\n\n"], ONE_DRAW, ""),
-        (&[unknown, "\n", win], ONE_WHITE, "0 UnknownResult\n"),
-        (&[illegal, win], ONE_WHITE, "0 Illegal 3 202\n"),
-        (&["hello\n", win], ONE_WHITE, "0 Preamble\n"),
-        (&["\u{feff}", win], ONE_WHITE, ""),
-        (&["\u{feff}", unknown], NO_GAME, "3 UnknownResult\n"),
-        (&[win, win], ONE_WHITE, "194 Twice 0\n"),
+    let table = [
+        (format!(in alloc; "")?, NO_GAME, ""),
+        (format!(in alloc; "{draw}\n\n")?, ONE_DRAW, ""),
         (
-            &["\u{feff} hello\n", win, "\n", win],
+            format!(in alloc; "{unknown}\n{win}")?,
+            ONE_WHITE,
+            "0 UnknownResult\n",
+        ),
+        (
+            format!(in alloc; "{illegal}{win}")?,
+            ONE_WHITE,
+            "0 Illegal 3 202\n",
+        ),
+        (
+            format!(in alloc; "hello\n{win}")?,
+            ONE_WHITE,
+            "0 Preamble\n",
+        ),
+        (format!(in alloc; "\u{feff}{win}")?, ONE_WHITE, ""),
+        (
+            format!(in alloc; "\u{feff}{unknown}")?,
+            NO_GAME,
+            "3 UnknownResult\n",
+        ),
+        (format!(in alloc; "{win}{win}")?, ONE_WHITE, "194 Twice 0\n"),
+        (
+            format!(in alloc; "\u{feff} hello\n{win}\n{win}")?,
             ONE_WHITE,
             "4 Preamble\n205 Twice 10\n",
         ),
     ];
-    for (parts, answer, report) in table {
-        let text = joined(alloc, parts)?;
+    for (text, answer, report) in &table {
         assert!(rt;
             counts_at_each_size(&rt, text.as_str(), answer, report)?,
             "{text}"
@@ -182,20 +195,16 @@ fn counts_the_games_of_two_groups(rt: HostRuntime) -> Result<(), Fail> {
     Ok(())
 }
 
-/// A text without a result, and so many games.
-fn behind_unknown(alloc: Global, count: u32) -> Result<String, AllocError> {
-    let mut text = game(alloc, "*", "*")?;
-    text.push_str(games(alloc, count)?.as_str())?;
-    Ok(text)
-}
-
 /// A text ends where the next begins, so that the last one of a stream that is cut off has not
 /// ended, and a group is reported once its last text has.
 #[test]
 fn reports_whole_groups_where_a_read_fails(rt: HostRuntime) -> Result<(), Fail> {
     let alloc = rt.alloc();
-    let one_group = behind_unknown(alloc, 511)?;
-    let two_groups = behind_unknown(alloc, 512)?;
+    let unknown = game(alloc, "*", "*")?;
+    let whole = games(alloc, 511)?;
+    let beyond = games(alloc, 512)?;
+    let one_group = format!(in alloc; "{unknown}{whole}")?;
+    let two_groups = format!(in alloc; "{unknown}{beyond}")?;
     let table = [
         (one_group.as_str(), NEVER, "read fault\n"),
         (two_groups.as_str(), NEVER, "0 UnknownResult\nread fault\n"),
