@@ -58,15 +58,16 @@ disjoint a b fits = (
 )
 
 -- one square
+pub Holds-power : (own square : ℕ) → Holds (2 ^ own) square ↔ (square ≡ own)
+Holds-power own square = (
+  λ h. ⊎_elim (λ (same : (square == own ≡ true) × (square ≡ own)). same.1)
+      (λ (apart : (square == own ≡ false) × (square ≢ own)). absurd (omega (arith, h, bit_at-pow_other own square apart.1)))
+      (eqb_tells square own),
+  λ same. rw same (bit_at-pow_same own),
+)
+
 pub Holds-only : (own square : ℕ) → own < 64 → Holds (1 * 2 ^ own % 2 ^ 64) square ↔ (square ≡ own)
-Holds-only own square on_board =
-    let power : Holds (2 ^ own) square ↔ (square ≡ own) = (
-      λ h. ⊎_elim (λ (same : (square == own ≡ true) × (square ≡ own)). same.1)
-          (λ (apart : (square == own ≡ false) × (square ≢ own)). absurd (omega (arith, h, bit_at-pow_other own square apart.1)))
-          (eqb_tells square own),
-      λ same. rw same (bit_at-pow_same own),
-    ) in
-    rw (one_shl own 64 on_board) power
+Holds-only own square on_board = rw (one_shl own 64 on_board) (Holds-power own square)
 
 -- all but one square
 pub Holds-without : (bitboard own square : ℕ) → own < 64 → square < 64

@@ -1,4 +1,5 @@
 pub mod Test
+pub mod StepBits
 pub mod Rule
 pub mod BitboardLemmas
 pub mod BetweenLemmas

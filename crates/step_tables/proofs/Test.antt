@@ -4,6 +4,7 @@ use Rattle.std.specs.Bool.{Decides}
 use Rattle.std.specs.List.{Any, list_any}
 use Rattle.std.specs.Int.{bit_at}
 use Rattle.std.proofs.lemmas.Bool.Decides.{Decides-below_and, Decides-below_or, Decides-and, Decides-int_eq, Decides-eqb}
+use Rattle.std.proofs.lemmas.Nat.Bits.{bit_at-lt}
 use Rattle.std.proofs.lemmas.List.Folds.{Any-from_list_any, list_any-from_Any}
 use Rattle.step_tables.specs.Bitboard.{Holds}
 use Rattle.step_tables.specs.Step.{IsStep, IsReached, IsAhead, IsInSight, times, direction_at}
@@ -16,6 +17,11 @@ unfolding all_below
 all_below-at test n e =
     (Decides-below_and test (λ k. test k ≡ true) (all_below test) (λ k. (λ x. x, λ x. x)) refl (λ _. refl) n).0 e
 
+pub all_below-from : (test : ℕ → Bool) (n : ℕ) → ((k : ℕ) → k < n → test k ≡ true) → all_below test n ≡ true
+unfolding all_below
+all_below-from test n each =
+    (Decides-below_and test (λ k. test k ≡ true) (all_below test) (λ k. (λ x. x, λ x. x)) refl (λ _. refl) n).1 each
+
 -- a bit that the test decides
 bit_of : (bit : ℕ) (t : Bool) (P : Type 0) → Decides t P → bit ≡ cond t 1 0 → (bit ≡ 1) ↔ P
 bit_of bit true P d e = (λ _. d.0 refl, λ _. e)
@@ -26,6 +32,17 @@ pub Holds-is_set_of : (test : ℕ → Bool) (P : ℕ → Type 0) (bitboard : ℕ
     → is_set_of test bitboard ≡ true → (b : ℕ) → b < 64 → Holds bitboard b ↔ P b
 Holds-is_set_of test P bitboard decides e b h =
     bit_of _ (test b) (P b) (decides b) ((Decides-eqb _ _).0 (all_below-at (λ k. bit_at bitboard k == cond (test k) 1 0) 64 e b h))
+
+bit_from : (bit : ℕ) (t : Bool) (P : Type 0) → bit < 2 → Decides t P → (bit ≡ 1) ↔ P → bit ≡ cond t 1 0
+bit_from bit true P low d same = same.1 (d.0 refl)
+bit_from bit false P low d same =
+    let none : ¬ (bit ≡ 1) = λ h. true≢false (sym (d.1 (same.0 h))) in omega (arith, low, none)
+
+pub is_set_of-from : (test : ℕ → Bool) (P : ℕ → Type 0) (bitboard : ℕ) → ((b : ℕ) → Decides (test b) (P b))
+    → ((b : ℕ) → b < 64 → Holds bitboard b ↔ P b) → is_set_of test bitboard ≡ true
+is_set_of-from test P bitboard decides same =
+    all_below-from (λ k. bit_at bitboard k == cond (test k) 1 0) 64
+    (λ b h. (Decides-eqb _ _).1 (bit_from _ (test b) (P b) (bit_at-lt bitboard b) (decides b) (same b h)))
 
 -- a test of a list's elements
 pub Decides-list_any : {X : Type 0} (test : X → Bool) (P : X → Type 0) → ((x : X) → Decides (test x) (P x)) → (xs : List X)

@@ -2,13 +2,14 @@ use Rattle.std.proofs.Common.{◌↔◌, refl}
 use Rattle.step_tables.specs.Bitboard.{Holds}
 use Rattle.step_tables.specs.Step.{IsReached}
 use Rattle.step_tables.specs.Piece.{knight_steps}
-use Rattle.step_tables.specs.Test.{all_below, has_reached}
+use Rattle.step_tables.specs.Test.{all_below}
+use Rattle.step_tables.proofs.StepBits.{union, has_reached-from}
 use Rattle.step_tables.proofs.Rule.{knight_rule, both}
 use Rattle.step_tables.proofs.pieces.knight_targets.Goals as goal
 
 pub invariant_of-table : goal.invariant_of-table
-unfolding all_below has_reached
-invariant_of-table c = record { right = refl }
+unfolding all_below union
+invariant_of-table c = record { right = has_reached-from _ _ refl }
 
 pub returns : goal.returns
 returns c = λ b h.
