@@ -1,9 +1,11 @@
-//! The definitions against what is known of chess from outside, and the boards of `legal_moves` too.
+//! The definitions against what is known of chess from outside, and the boards of `legal_moves` and
+//! the tables of `step_tables` too.
 mod boards;
 mod legal;
 mod perft;
 mod pins;
 mod plainly;
+mod tables;
 
 use crate::legal::{is_legal, is_same};
 use explorer_model::chess::{Color, Move, Piece, Position, Rights, Role};
