@@ -14,6 +14,3 @@ pub use disk::Disk;
 pub use file::FileDisk;
 pub use memory::MemDisk;
 pub use unkept::Unkept;
-
-#[cfg(test)]
-mod tests;

@@ -10,9 +10,6 @@ ghost use Rattle.std.specs.Fork.{AcceptsJobs, GivesEach, GivesJobs};
 ghost use Rattle.std.specs.Fork.Halves.{GivesFor, GivesFrom};
 ghost use denote.Param.Send.{IsSend, IsSync};
 
-#[cfg(test)]
-mod tests;
-
 use std::alloc::{AllocError, Global};
 use std::marker::{Send, Sync};
 use std::thread::{Threads, join};

@@ -1,4 +1,5 @@
-use super::*;
+//! Calls side by side.
+use side_by_side::{map_indices, map_jobs};
 use std::test::Fail;
 
 fn tenfold(number: usize) -> usize {

@@ -1,0 +1,166 @@
+//! Disks, in memory, over a file, and of a size alone.
+use disk_model::{Disk, FileDisk, MemDisk, Unkept};
+use outside::Failed;
+use std::alloc::Global;
+use std::fs;
+use std::fs::{File, Files, OpenOptions};
+use std::test::Fail;
+
+/// An empty disk with room for so many bytes; the listed calls fail.
+pub(super) fn disk_of(alloc: Global, room: usize, failing: &[u64]) -> Result<MemDisk, Fail> {
+    Ok(MemDisk::new(alloc, room, Vec::from_slice(alloc, failing)?)?)
+}
+
+/// A disk with room for so many bytes and with these, synced. Its calls are counted from 2; the
+/// listed ones fail.
+pub(super) fn disk_with(
+    alloc: Global,
+    room: usize,
+    bytes: &[u8],
+    failing: &[u64],
+) -> Result<MemDisk, Fail> {
+    if room > 100_000 || bytes.len() > room {
+        return Err(Fail::from("too long"));
+    }
+    let mut disk = disk_of(alloc, room, failing)?;
+    disk.write_at(0, bytes)?;
+    disk.sync()?;
+    Ok(disk)
+}
+
+/// What stands on a disk, where it is so many bytes.
+pub(super) fn content<D: Disk, const N: usize>(disk: &mut D) -> Result<[u8; N], Failed> {
+    let mut bytes = [0; N];
+    if disk.size()? != N as u64 {
+        return Err(Failed);
+    }
+    disk.read_at(0, &mut bytes)?;
+    Ok(bytes)
+}
+
+/// Writes where the disk allows it, and says whether it did.
+fn put<D: Disk>(disk: &mut D, at: u64, piece: &[u8]) -> Result<(), Failed> {
+    if at > disk.size()? || piece.len() > 8 || at > 8 {
+        return Err(Failed);
+    }
+    disk.write_at(at, piece)
+}
+
+fn sync<D: Disk>(disk: &mut D) -> Result<(), Failed> {
+    disk.sync()
+}
+
+fn size<D: Disk>(disk: &mut D) -> Result<u64, Failed> {
+    disk.size()
+}
+
+#[test]
+fn disk_in_memory_fails_where_listed_and_past_its_room(rt: HostRuntime) -> Result<(), Fail> {
+    let mut disk = disk_of(rt.alloc(), 4, &[3, 7, 8])?;
+    let answers = [put(&mut disk, 0, b"abc"), sync(&mut disk)];
+    assert_eq!(rt; answers, [Ok(()), Ok(())]);
+    assert_eq!(rt; size(&mut disk), Err(Failed));
+    assert_eq!(rt; put(&mut disk, 2, b"def"), Err(Failed));
+    assert_eq!(rt; disk.short_of_memory(), false);
+    let answers = [put(&mut disk, 2, b"de"), sync(&mut disk)];
+    assert_eq!(rt; answers, [Err(Failed), Err(Failed)]);
+    assert_eq!(rt; disk.faults(), 4);
+    assert_eq!(rt; content(&mut disk), Ok(*b"abc"));
+    Ok(())
+}
+
+/// A disk with `xyz` synced, over which `abc` was written; the listed calls fail.
+fn half_written(alloc: Global, failing: &[u64]) -> Result<MemDisk, Fail> {
+    let mut disk = disk_of(alloc, 8, failing)?;
+    let _ = put(&mut disk, 0, b"xyz");
+    let _ = sync(&mut disk);
+    let _ = put(&mut disk, 0, b"abc");
+    Ok(disk)
+}
+
+/// What such a disk has after a crash with this choice, and after another one, behind which all of
+/// it was synced.
+fn crashed_twice(alloc: Global, choice: u64) -> Result<([u8; 3], [u8; 3]), Fail> {
+    let mut disk = half_written(alloc, &[])?.crashed(choice);
+    let left = content(&mut disk)?;
+    Ok((left, content(&mut disk.crashed(7))?))
+}
+
+#[test]
+fn crash_tears_what_was_not_synced(rt: HostRuntime) -> Result<(), Fail> {
+    let table = [
+        *b"abc",
+        *b"\0bc",
+        *b"a\x01c",
+        *b"\x01\x01c",
+        *b"ab\x02",
+        *b"\x02b\x02",
+        *b"a\x03\x03",
+        *b"\x03\x03\x03",
+    ];
+    for (choice, left) in table.iter().enumerate() {
+        let both = crashed_twice(rt.alloc(), choice as u64)?;
+        assert_eq!(rt; both, (*left, *left));
+    }
+    Ok(())
+}
+
+#[test]
+fn crash_tears_a_write_that_failed(rt: HostRuntime) -> Result<(), Fail> {
+    let mut disk = half_written(rt.alloc(), &[4])?;
+    // Without a crash it did nothing.
+    assert_eq!(rt; content(&mut disk), Ok(*b"xyz"));
+    let mut disk = disk.crashed(2);
+    assert_eq!(rt; content(&mut disk), Ok(*b"a\x01c"));
+    assert_eq!(rt; disk.faults(), 0);
+    Ok(())
+}
+
+#[test]
+fn unkept_disk_keeps_its_size(rt: HostRuntime) {
+    let mut disk = Unkept::new();
+    let answers = [
+        put(&mut disk, 0, b"abcd"),
+        put(&mut disk, 1, b"e"),
+        sync(&mut disk),
+    ];
+    assert_eq!(rt; answers, [Ok(()), Ok(()), Ok(())]);
+    assert_eq!(rt; size(&mut disk), Ok(4));
+    assert_eq!(rt; disk.faults(), 0);
+}
+
+/// A disk over an empty file of this name.
+fn empty_file<R: Files<File = File>>(rt: &R, path: &str) -> Result<FileDisk, Fail> {
+    let file = OpenOptions::new()
+        .read(true)
+        .write(true)
+        .create(true)
+        .truncate(true)
+        .open(rt, path)?;
+    Ok(FileDisk::new(file)?)
+}
+
+/// A disk over the file of this name, which is open for reading alone.
+fn file_to_read<R: Files<File = File>>(rt: &R, path: &str) -> Result<FileDisk, Fail> {
+    Ok(FileDisk::new(OpenOptions::new().read(true).open(rt, path)?)?)
+}
+
+#[test]
+fn disk_over_a_file_keeps_what_is_written(rt: HostRuntime) -> Result<(), Fail> {
+    let path = "disk_over_a_file";
+    let mut disk = empty_file(&rt, path)?;
+    let answers = [
+        put(&mut disk, 0, b"abc"),
+        put(&mut disk, 2, b"de"),
+        sync(&mut disk),
+    ];
+    drop(disk);
+    assert_eq!(rt; answers, [Ok(()), Ok(()), Ok(())]);
+    let mut disk = file_to_read(&rt, path)?;
+    assert_eq!(rt; content(&mut disk), Ok(*b"abde"));
+    assert_eq!(rt; put(&mut disk, 0, b"x"), Err(Failed));
+    assert_eq!(rt; disk.faults(), 1);
+    drop(disk);
+    fs::remove_file(&rt, path)?;
+    Ok(())
+}
