@@ -12,8 +12,6 @@ mod best4;
 mod entry;
 pub mod laws;
 mod ranking;
-#[cfg(test)]
-mod tests;
 
 pub use best4::Best4;
 pub use entry::Entry;

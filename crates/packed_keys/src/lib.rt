@@ -12,8 +12,6 @@ ghost use Rattle.explorer_model.specs.Keys.{key, state_code, en_passant_code, Ha
 mod codes;
 pub mod laws;
 mod squares;
-#[cfg(test)]
-mod tests;
 
 use crate::codes::{
     LAST_EN_PASSANT, LAST_PIECE, LAST_STATE, en_passant_code, en_passant_of_code, piece_of_code,

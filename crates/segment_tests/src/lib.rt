@@ -1,5 +1,6 @@
-//! Tests of `batch_tally`, `segment_blocks` and `published_index`: tallies, packed rows, and the
-//! list that readers enter.
+//! Tests of `packed_keys`, `best_lists`, `tally_rows`, `batch_tally`, `segment_blocks` and
+//! `published_index`: keys, rows and their best games, tallies, packed rows, and the list that
+//! readers enter.
 #![tactic(auto)]
 
 #[cfg(test)]

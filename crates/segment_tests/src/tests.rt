@@ -1,4 +1,7 @@
-//! Tallies, packed rows and published lists.
+//! Keys, rows, tallies, packed rows and published lists.
+mod best;
 mod blocks;
+mod keys;
 mod lists;
+mod rows;
 mod tallies;

@@ -10,8 +10,6 @@ mod rows;
 mod single;
 mod sort_entry;
 mod tally;
-#[cfg(test)]
-mod tests;
 
 pub use grid::{Cell, Grid};
 pub use key_range::{KeyRange, first_word};

@@ -1,7 +1,7 @@
 use Rattle.std.proofs.Common.{◌≡◌, ◌+◌, ap, ◌∙◌, lit<, arith}
 use Rattle.tally_rows.specs.Grid.{zeros, added, plus}
 use Rattle.tally_rows.proofs.Combining.{row_of-one}
-use Rattle.tally_rows.proofs.tests.grids_sum_what_is_chosen.Goals as goal
+use Rattle.segment_tests.proofs.tests.rows.grids_sum_what_is_chosen.Goals as goal
 
 pub sum_of-requires : goal.sum_of-requires
 unfolding added plus

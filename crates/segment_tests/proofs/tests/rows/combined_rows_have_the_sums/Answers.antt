@@ -2,7 +2,7 @@ use Rattle.std.proofs.Common.{◌≡◌, ◌+◌, ap, sym, ◌∙◌, arith}
 use Rattle.tally_rows.specs.Row.{row_key_of}
 use Rattle.tally_rows.proofs.Combining.{row_of-one}
 use Rattle.tally_rows.proofs.FromSingles.{row_of-row_key}
-use Rattle.tally_rows.proofs.tests.combined_rows_have_the_sums.Goals as goal
+use Rattle.segment_tests.proofs.tests.rows.combined_rows_have_the_sums.Goals as goal
 
 pub combine-both-requires-clause-same : goal.combine-both-requires-clause-same
 combine-both-requires-clause-same g c =

@@ -1,12 +1,14 @@
+//! Rows, their order and their sums.
 ghost use Rattle.std.specs.Prelude.{◌≡◌};
 
-use crate::{Cell, Grid, Row, RowKey, Single, rows_of};
 use best_lists::Entry;
 use explorer_model::answer::Totals;
 use explorer_model::archive::{Group, Month, Outcome, Speed};
 use explorer_model::chess::{Move, Role};
 use explorer_model::square::Square;
+use std::alloc::{AllocError, Global};
 use std::test::Fail;
+use tally_rows::{Cell, Grid, Row, RowKey, Single, rows_of};
 
 /// The key of some position, told by its first byte.
 fn key(first: u8) -> [u8; 34] {
@@ -49,49 +51,45 @@ fn single(row_key: RowKey, number: u32, outcome: Outcome, rating: u16, sum: u32)
     }
 }
 
-#[test]
-fn rows_count_the_games_of_their_row_key(rt: HostRuntime) -> Result<(), Fail> {
+/// The rows of three games in one position: e4 follows in the first and in the last, and the second
+/// ends there.
+fn rows_of_three(alloc: Global) -> Result<Vec<Row>, AllocError> {
     let played = row_key(1, Some(king_pawn()));
-    let singles = vec![in rt.alloc();
+    let singles = vec![in alloc;
         single(played, 0, Outcome::White, 1700, 3300),
         single(row_key(1, None), 1, Outcome::Draw, 1650, 3310),
         single(played, 2, Outcome::Black, 1600, 3400),
     ]?;
-    let rows = rows_of(rt.alloc(), singles)?;
+    rows_of(alloc, singles)
+}
+
+/// The games of a row by their outcomes, and its sum of ratings.
+fn counts(row: &Row) -> (u32, u32, u32, u64) {
+    (row.white, row.draws, row.black, row.ratings)
+}
+
+/// Whether a row lists these games by rating, and these by month.
+fn lists(row: &Row, top: &[Entry], recent: &[Entry]) -> bool {
+    row.top.entries() == top && row.recent.entries() == recent
+}
+
+fn entry(rank: u32, number: u32) -> Entry {
+    Entry { rank, number }
+}
+
+#[test]
+fn rows_count_the_games_of_their_row_key(rt: HostRuntime) -> Result<(), Fail> {
+    let rows = rows_of_three(rt.alloc())?;
     assert_eq!(rt; rows.len(), 2);
-    let (ended, went_on) = (&rows[0], &rows[1]);
-    assert_eq!(rt;
-        (ended.white, ended.draws, ended.black, ended.ratings),
-        (0, 1, 0, 0)
-    );
-    assert!(rt; ended.top.entries().is_empty() && ended.recent.entries().is_empty());
-    assert_eq!(rt;
-        (went_on.white, went_on.draws, went_on.black, went_on.ratings),
-        (1, 0, 1, 3300)
-    );
-    let by_rating = [
-        Entry {
-            rank: 3400,
-            number: 2,
-        },
-        Entry {
-            rank: 3300,
-            number: 0,
-        },
-    ];
-    assert_eq!(rt; went_on.top.entries(), by_rating.as_slice());
+    assert_eq!(rt; counts(&rows[0]), (0, 1, 0, 0));
+    assert!(rt; lists(&rows[0], &[], &[]));
+    assert_eq!(rt; counts(&rows[1]), (1, 0, 1, 3300));
     // January 2020 is month 12 * 2020 + 1; the later game comes first.
-    let by_month = [
-        Entry {
-            rank: 24241,
-            number: 2,
-        },
-        Entry {
-            rank: 24241,
-            number: 0,
-        },
-    ];
-    assert_eq!(rt; went_on.recent.entries(), by_month.as_slice());
+    let (top, recent) = (
+        [entry(3400, 2), entry(3300, 0)],
+        [entry(24241, 2), entry(24241, 0)],
+    );
+    assert!(rt; lists(&rows[1], &top, &recent));
     Ok(())
 }
 

@@ -1,7 +1,7 @@
 //! Keys whose bytes are known from the layout, and bytes that are no key.
-use crate::{pack, unpack};
 use explorer_model::chess::{Color, Piece, Position, Rights, Role};
 use explorer_model::square::Square;
+use packed_keys::{pack, unpack};
 
 const NO_RIGHTS: Rights = Rights {
     white_short: false,

@@ -1,4 +1,5 @@
-use crate::{Best4, ByMonth, ByRating, Entry, Ranking};
+//! The best games of a few.
+use best_lists::{Best4, ByMonth, ByRating, Entry, Ranking};
 use std::test::Fail;
 
 /// The best four of five games of one rank, whose numbers are 0 to 4.
