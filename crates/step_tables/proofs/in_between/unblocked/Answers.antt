@@ -2,7 +2,7 @@ use Rattle.std.proofs.Common.{◌≡◌, ◌≢◌, ◌↔◌, ℕ, ◌<◌, ◌
 use Rattle.std.proofs.lemmas.Bool.Decides.{eqb_tells}
 use Rattle.step_tables.specs.Bitboard.{Holds}
 use Rattle.step_tables.specs.Squares.{IsUnblocked}
-use Rattle.step_tables.proofs.BitboardLemmas.{Holds-or}
+use Rattle.step_tables.proofs.BitboardLemmas.{Holds-zero, Holds-or}
 use Rattle.step_tables.proofs.in_between.unblocked.Goals as goal
 
 -- P is that the square is unblocked; the target goes out of the rest
@@ -51,3 +51,9 @@ loop-rest-preserved c =
           (all_but Open c.args.targets c.loop-rest.seen c.loop-rest.rest c.without-rest.result c.lowest-target.result
           c.without-rest.ensures.others loop.all b h x y z);
     }
+
+pub returns : goal.returns
+returns c =
+    let none : (b : ℕ) → ¬ Holds c.loop-rest.rest b = λ b h.
+    let P : ℕ → Type 0 = λ m. Holds m b in Holds-zero b (subst P c.loop-rest-test.false h) in
+    λ b h. (c.loop-rest.invariant.taken b h, λ x. c.loop-rest.invariant.all b h x.0 x.1 (none b))
