@@ -1,5 +1,6 @@
-//! Streams, doors, disks and calls side by side.
+//! Streams, doors, disks, logs and calls side by side.
 mod calls;
 mod disks;
 mod doors;
+mod logs;
 mod streams;

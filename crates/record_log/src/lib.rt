@@ -18,6 +18,3 @@ pub use fault::{AppendFault, Back, CreateFault, OpenFault};
 pub use format::Format;
 pub use log::RecordLog;
 pub use opening::{Opened, open};
-
-#[cfg(test)]
-mod tests;

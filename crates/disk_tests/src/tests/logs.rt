@@ -1,11 +1,11 @@
-use super::*;
+//! Logs of payloads, damaged, cut and crashed.
+use super::disks::{content, disk_of, disk_with};
 use disk_model::{Disk, FileDisk, MemDisk};
-use explorer_model::archive::Bytes;
 use explorer_model::store::LogFault;
-use outside::Failed;
+use record_log::{AppendFault, CreateFault, Format, OpenFault, RecordLog, create, open};
 use std::alloc::Global;
 use std::fs;
-use std::fs::OpenOptions;
+use std::fs::{File, Files, OpenOptions};
 use std::test::Fail;
 
 const FIRST: Format = Format {
@@ -18,16 +18,8 @@ const ONE: [u8; 25] = *b"OPENEXP1\x01\x00\x00\x00\x01\x07\x00\x00\x00\x01\x00\x0
 
 const TEXT: [u8; 7] = *b"\x01\x00\x01\x00\x00\x00x";
 
-/// A disk with these bytes, synced. Its calls are counted from 2.
-fn disk_with(alloc: Global, bytes: &[u8], failing: Vec<u64>) -> Result<MemDisk, Fail> {
-    let mut disk = MemDisk::new(alloc, 4096, failing)?;
-    if bytes.len() > 4096 {
-        return Err(Fail::from("too long"));
-    }
-    disk.write_at(0, bytes)?;
-    disk.sync()?;
-    Ok(disk)
-}
+/// The room of a disk that has bytes from the start.
+const ROOM: usize = 4096;
 
 /// The bytes of a disk.
 fn bytes_of<D: Disk>(alloc: Global, disk: &mut D) -> Result<Vec<u8>, Fail> {
@@ -35,6 +27,14 @@ fn bytes_of<D: Disk>(alloc: Global, disk: &mut D) -> Result<Vec<u8>, Fail> {
     let mut bytes = vec![in alloc; 0; size as usize]?;
     disk.read_at(0, &mut bytes)?;
     Ok(bytes)
+}
+
+/// A new log on an empty disk with room for so many bytes.
+fn new_log(alloc: Global, room: usize) -> Result<RecordLog<MemDisk>, Fail> {
+    match create(disk_of(alloc, room, &[])?, FIRST) {
+        Ok(log) => Ok(log),
+        Err(_) => Err(Fail::from("not created")),
+    }
 }
 
 /// Adds a payload that the log has room for.
@@ -54,33 +54,61 @@ fn count_of<D: Disk + Drop>(alloc: Global, disk: D) -> Result<usize, OpenFault> 
     }
 }
 
+/// The log on a disk.
+fn log_on(alloc: Global, disk: MemDisk) -> Result<RecordLog<MemDisk>, Fail> {
+    match open(alloc, disk, FIRST) {
+        Ok(opened) => Ok(opened.log),
+        Err(_) => Err(Fail::from("not opened")),
+    }
+}
+
+/// Why no log is on a disk, which is given back.
+fn no_log_on(alloc: Global, disk: MemDisk) -> Result<(OpenFault, MemDisk), Fail> {
+    match open(alloc, disk, FIRST) {
+        Ok(_) => Err(Fail::from("opened")),
+        Err(back) => Ok((back.fault, back.disk)),
+    }
+}
+
+/// Why no log is made on a disk, which is given back.
+fn not_created(disk: MemDisk) -> Result<(CreateFault, MemDisk), Fail> {
+    match create(disk, FIRST) {
+        Ok(_) => Err(Fail::from("created")),
+        Err(back) => Ok((back.fault, back.disk)),
+    }
+}
+
+/// How many payloads a disk has, whether the first is `TEXT`, and where the gate stands.
+fn told_of(alloc: Global, disk: MemDisk) -> Result<(usize, bool, u64), Fail> {
+    match open(alloc, disk, FIRST) {
+        Ok(opened) => {
+            let is_text = opened
+                .payloads
+                .first()
+                .is_some_and(|it| it.as_slice() == TEXT.as_slice());
+            Ok((opened.payloads.len(), is_text, opened.log.gate()))
+        }
+        Err(_) => Err(Fail::from("not opened")),
+    }
+}
+
 #[test]
 fn log_is_written_byte_by_byte(rt: HostRuntime) -> Result<(), Fail> {
     let alloc: Global = rt.alloc();
-    let Ok(mut log) = create(MemDisk::new(alloc, 100, Vec::new(alloc))?, FIRST) else {
-        return Err(Fail::from("not created"));
-    };
+    let mut log = new_log(alloc, 100)?;
     assert_eq!(rt; log.gate(), 12);
     assert_eq!(rt; add(alloc, &mut log, &TEXT), Ok(()));
     assert_eq!(rt; log.gate(), 24);
     let mut disk = log.into_disk();
-    assert_eq!(rt; bytes_of(alloc, &mut disk)?.as_slice(), ONE.as_slice());
-    let Err(back) = create(disk, FIRST) else {
-        return Err(Fail::from("created"));
-    };
-    assert_eq!(rt; back.fault, CreateFault::NotEmpty { size: 25 });
-    let Ok(opened) = open(alloc, back.disk, FIRST) else {
-        return Err(Fail::from("not opened"));
-    };
-    assert_eq!(rt; opened.payloads.len(), 1);
-    assert_eq!(rt; opened.payloads[0].as_slice(), TEXT.as_slice());
-    assert_eq!(rt; opened.log.gate(), 24);
+    assert_eq!(rt; content(&mut disk), Ok(ONE));
+    let (fault, disk) = not_created(disk)?;
+    assert_eq!(rt; fault, CreateFault::NotEmpty { size: 25 });
+    assert_eq!(rt; told_of(alloc, disk)?, (1, true, 24));
     Ok(())
 }
 
 #[test]
 fn bytes_that_are_no_log_are_refused(rt: HostRuntime) -> Result<(), Fail> {
-    let alloc: Global = rt.alloc();
     let damaged = Err(OpenFault::Log(LogFault::Damaged { at: 12 }));
     let table = [
         (
@@ -118,44 +146,53 @@ fn bytes_that_are_no_log_are_refused(rt: HostRuntime) -> Result<(), Fail> {
         ),
     ];
     for (bytes, answer) in table {
-        assert_eq!(rt;
-            count_of(alloc, disk_with(alloc, bytes, Vec::new(alloc))?),
-            answer
-        );
+        assert_eq!(rt; count_in(rt.alloc(), bytes)?, answer);
     }
     Ok(())
 }
 
-/// A log of payloads of these sizes, and where its gates stand.
-fn log_of(alloc: Global, sizes: &[usize]) -> Result<(Vec<u8>, Vec<usize>), Fail> {
-    let Ok(mut log) = create(MemDisk::new(alloc, 2047, Vec::new(alloc))?, FIRST) else {
-        return Err(Fail::from("not created"));
-    };
+/// How many payloads these bytes have, or why they are no log.
+fn count_in(alloc: Global, bytes: &[u8]) -> Result<Result<usize, OpenFault>, Fail> {
+    Ok(count_of(alloc, disk_with(alloc, ROOM, bytes, &[])?))
+}
+
+/// Adds payloads of these sizes, and gives the places of the log's gates.
+fn gates_of(
+    alloc: Global,
+    log: &mut RecordLog<MemDisk>,
+    sizes: &[usize],
+) -> Result<Vec<usize>, Fail> {
+    let ones = [1; 1000];
     let mut gates = vec![in alloc; 12]?;
     for size in sizes {
-        let payload = vec![in alloc; 1; *size]?;
-        if add(alloc, &mut log, &payload).is_err() {
+        if *size > 1000 || add(alloc, log, &ones[..*size]).is_err() {
             return Err(Fail::from("not added"));
         }
         gates.push(log.gate() as usize)?;
     }
+    Ok(gates)
+}
+
+/// A log of payloads of these sizes, and where its gates stand.
+fn log_of(alloc: Global, sizes: &[usize]) -> Result<(Vec<u8>, Vec<usize>), Fail> {
+    let mut log = new_log(alloc, 2047)?;
+    let gates = gates_of(alloc, &mut log, sizes)?;
     Ok((bytes_of(alloc, &mut log.into_disk())?, gates))
 }
 
 #[test]
 fn log_is_cut_at_every_byte(rt: HostRuntime) -> Result<(), Fail> {
-    let alloc: Global = rt.alloc();
     let logs: [&[usize]; 5] = [&[], &[7], &[1, 1, 1], &[255, 256, 257], &[7, 1, 1000, 1000]];
     for sizes in logs {
-        let (bytes, gates) = log_of(alloc, sizes)?;
+        let (bytes, gates) = log_of(rt.alloc(), sizes)?;
         for size in 0..bytes.len() + 1 {
             let answer = match gates.iter().rev().find(|gate| **gate < size) {
                 None => Err(OpenFault::Log(LogFault::NotALog)),
                 Some(_) if size == bytes.len() => Ok(sizes.len()),
                 Some(gate) => Err(OpenFault::Log(LogFault::Damaged { at: *gate as u64 })),
             };
-            let disk = disk_with(alloc, &bytes[..size], Vec::new(alloc))?;
-            assert_eq!(rt; count_of(alloc, disk), answer, "{size} of {sizes:?}");
+            let count = count_in(rt.alloc(), &bytes[..size])?;
+            assert_eq!(rt; count, answer, "{size} of {sizes:?}");
         }
     }
     Ok(())
@@ -175,11 +212,7 @@ struct Stopped {
 }
 
 fn stop_at(alloc: Global, call: u64, choice: u64) -> Result<Stopped, Fail> {
-    let disk = disk_with(alloc, &ONE, vec![in alloc; call]?)?;
-    let Ok(opened) = open(alloc, disk, FIRST) else {
-        return Err(Fail::from("not opened"));
-    };
-    let mut log = opened.log;
+    let mut log = log_on(alloc, disk_with(alloc, ROOM, &ONE, &[call])?)?;
     let added = add(alloc, &mut log, b"abc");
     let again = if added.is_ok() {
         Ok(())
@@ -196,7 +229,6 @@ fn stop_at(alloc: Global, call: u64, choice: u64) -> Result<Stopped, Fail> {
 
 #[test]
 fn crash_leaves_the_payload_or_not(rt: HostRuntime) -> Result<(), Fail> {
-    let alloc: Global = rt.alloc();
     let table = [
         (10, [1; 8]),
         (11, [1; 8]),
@@ -208,7 +240,7 @@ fn crash_leaves_the_payload_or_not(rt: HostRuntime) -> Result<(), Fail> {
     let after = 1;
     for (call, counts) in table {
         for (choice, count) in counts.iter().enumerate() {
-            let stopped = stop_at(alloc, call, choice as u64)?;
+            let stopped = stop_at(rt.alloc(), call, choice as u64)?;
             assert_eq!(rt; stopped.count, *count);
             if call == 14 {
                 assert_eq!(rt; stopped.added, Ok(()));
@@ -224,6 +256,17 @@ fn crash_leaves_the_payload_or_not(rt: HostRuntime) -> Result<(), Fail> {
     Ok(())
 }
 
+/// What an opening of the log `ONE` answers whose disk call of this number fails, and how many
+/// payloads a crash leaves then.
+fn fail_opening_at(
+    alloc: Global,
+    call: u64,
+    choice: u64,
+) -> Result<(OpenFault, Result<usize, OpenFault>), Fail> {
+    let (fault, disk) = no_log_on(alloc, disk_with(alloc, ROOM, &ONE, &[call])?)?;
+    Ok((fault, count_of(alloc, disk.crashed(choice))))
+}
+
 #[test]
 fn each_call_of_an_opening_may_fail(rt: HostRuntime) -> Result<(), Fail> {
     let alloc: Global = rt.alloc();
@@ -231,15 +274,11 @@ fn each_call_of_an_opening_may_fail(rt: HostRuntime) -> Result<(), Fail> {
     let after = 1;
     for call in 2..10 {
         for choice in 0..8 {
-            let disk = disk_with(alloc, &ONE, vec![in alloc; call]?)?;
-            let Err(back) = open(alloc, disk, FIRST) else {
-                return Err(Fail::from("opened"));
-            };
-            assert_eq!(rt; back.fault, OpenFault::DiskFault { before, after });
-            assert_eq!(rt; count_of(alloc, back.disk.crashed(choice)), Ok(1));
+            let answer = fail_opening_at(alloc, call, choice)?;
+            assert_eq!(rt; answer, (OpenFault::DiskFault { before, after }, Ok(1)));
         }
     }
-    let disk = disk_with(alloc, &ONE, vec![in alloc; 10]?)?;
+    let disk = disk_with(alloc, ROOM, &ONE, &[10])?;
     assert_eq!(rt; count_of(alloc, disk), Ok(1));
     Ok(())
 }
@@ -248,30 +287,23 @@ fn each_call_of_an_opening_may_fail(rt: HostRuntime) -> Result<(), Fail> {
 /// leaves then. The log is `ONE` and a payload whose gate is written but not synced, by an append
 /// that failed at the call 13. The opening makes the calls 14 to 24.
 fn stop_opening_at(alloc: Global, call: u64, choice: u64) -> Result<(OpenFault, usize), Fail> {
-    let disk = disk_with(alloc, &ONE, vec![in alloc; 13, call]?)?;
-    let Ok(opened) = open(alloc, disk, FIRST) else {
-        return Err(Fail::from("not opened"));
-    };
-    let mut log = opened.log;
+    let mut log = log_on(alloc, disk_with(alloc, ROOM, &ONE, &[13, call])?)?;
     if add(alloc, &mut log, b"abc").is_ok() {
         return Err(Fail::from("added"));
     }
-    match open(alloc, log.into_disk(), FIRST) {
-        Ok(_) => Err(Fail::from("opened")),
-        Err(back) => Ok((back.fault, count_of(alloc, back.disk.crashed(choice))?)),
-    }
+    let (fault, disk) = no_log_on(alloc, log.into_disk())?;
+    Ok((fault, count_of(alloc, disk.crashed(choice))?))
 }
 
 #[test]
 fn opening_leaves_what_a_crash_could_have_left(rt: HostRuntime) -> Result<(), Fail> {
-    let alloc: Global = rt.alloc();
     let before = 1;
     let after = 2;
     for call in 14..25 {
         // The first call syncs the gate, which is torn up to there.
         let counts = if call == 14 { GATES_TORN } else { [2; 8] };
         for (choice, count) in counts.iter().enumerate() {
-            let stopped = stop_opening_at(alloc, call, choice as u64)?;
+            let stopped = stop_opening_at(rt.alloc(), call, choice as u64)?;
             assert_eq!(rt; stopped, (OpenFault::DiskFault { before, after }, *count));
         }
     }
@@ -280,36 +312,43 @@ fn opening_leaves_what_a_crash_could_have_left(rt: HostRuntime) -> Result<(), Fa
 
 #[test]
 fn each_call_of_a_creation_may_fail(rt: HostRuntime) -> Result<(), Fail> {
-    let alloc: Global = rt.alloc();
     let before = 0;
     let after = 1;
     for call in 0..3 {
-        let disk = MemDisk::new(alloc, 100, vec![in alloc; call]?)?;
-        let Err(back) = create(disk, FIRST) else {
-            return Err(Fail::from("created"));
-        };
-        assert_eq!(rt; back.fault, CreateFault::DiskFault { before, after });
+        let (fault, _) = not_created(disk_of(rt.alloc(), 100, &[call])?)?;
+        assert_eq!(rt; fault, CreateFault::DiskFault { before, after });
     }
     Ok(())
+}
+
+/// A disk over the file of this name, which is made where there is none.
+fn file_of<R: Files<File = File>>(rt: &R, path: &str) -> Result<FileDisk, Fail> {
+    let mut how = OpenOptions::new();
+    how.read(true).write(true).create(true);
+    Ok(FileDisk::new(how.open(rt, path)?)?)
+}
+
+/// What an append of `TEXT` to a new log on such a file answers.
+fn add_on_a_file<R: Files<File = File>>(
+    rt: &R,
+    alloc: Global,
+    path: &str,
+) -> Result<Result<(), AppendFault>, Fail> {
+    match create(file_of(rt, path)?, FIRST) {
+        Ok(mut log) => Ok(add(alloc, &mut log, &TEXT)),
+        Err(_) => Err(Fail::from("not created")),
+    }
 }
 
 #[test]
 fn log_on_a_file_is_opened_again(rt: HostRuntime) -> Result<(), Fail> {
     let alloc: Global = rt.alloc();
-    let path = "record_log_test";
-    let mut how = OpenOptions::new();
-    how.read(true).write(true).create(true);
+    let path = "log_on_a_file";
     let _ = fs::remove_file(&rt, path);
-    let Ok(mut log) = create(FileDisk::new(how.open(&rt, path)?)?, FIRST) else {
-        return Err(Fail::from("not created"));
-    };
-    assert_eq!(rt; add(alloc, &mut log, &TEXT), Ok(()));
-    drop(log);
+    assert_eq!(rt; add_on_a_file(&rt, alloc, path)?, Ok(()));
     assert_eq!(rt; fs::read(&rt, path)?.as_slice(), ONE.as_slice());
-    assert_eq!(rt;
-        count_of(alloc, FileDisk::new(how.open(&rt, path)?)?),
-        Ok(1)
-    );
+    let disk = file_of(&rt, path)?;
+    assert_eq!(rt; count_of(alloc, disk), Ok(1));
     fs::remove_file(&rt, path)?;
     Ok(())
 }
