@@ -1,6 +1,6 @@
 //! What stands on the squares, and what attacks what.
 ghost use Rattle.std.specs.Prelude.{◌≡◌, ℕ, ◌<◌, ◌↔◌, IsTrue};
-ghost use Rattle.explorer_model.specs.Board.{IsEmpty, IsRankAhead, PawnDiagonal, IsOpen, RoleAttacks, PieceAttacks, Attacks, IsAttacked, InCheck};
+ghost use Rattle.explorer_model.specs.Board.{piece_at, IsEmpty, IsBetween, IsRankAhead, PawnDiagonal, IsOpen, RoleAttacks, PieceAttacks, Attacks, IsAttacked, InCheck};
 
 use crate::geometry::{
     files_apart, is_between, is_bishop_line, is_king_step, is_knight_step, is_rook_line,
@@ -36,7 +36,7 @@ pub fn is_open(squares: &[Option<Piece>; 64], a: u8, b: u8) -> bool
     ensures { IsTrue result ↔ IsOpen squares.now a b }
 {
     for s in 0..64u8 {
-        if is_between(a, s, b) && !is_empty(piece_at(squares, s)) {
+        if cuts_off(squares, a, s, b) {
             return false;
         }
     }
@@ -88,4 +88,12 @@ pub fn in_check(squares: &[Option<Piece>; 64], color: Color) -> bool
         }
     }
     false
+}
+
+/// Does a piece stand on `s`, strictly between `a` and `b`?
+fn cuts_off(squares: &[Option<Piece>; 64], a: u8, s: u8, b: u8) -> bool
+    requires { s < 64 }
+    ensures { IsTrue result ↔ (IsBetween a s b × ¬ IsEmpty (piece_at squares.now s)) }
+{
+    is_between(a, s, b) && !is_empty(piece_at(squares, s))
 }

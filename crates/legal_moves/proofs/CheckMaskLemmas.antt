@@ -1,10 +1,9 @@
 -- A move of a piece that is neither the king nor pinned is legal where it meets each check.
 use Rattle.std.proofs.Common.{◌≡◌, ◌↔◌, inl, inr}
 use Rattle.explorer_model.specs.declared.chess.Role.TheVariants.{King}
-use Rattle.explorer_model.specs.declared.chess.Piece.{Piece}
 use Rattle.explorer_model.specs.declared.chess.Position.{Position}
 use Rattle.explorer_model.specs.declared.chess.Move.{Move}
-use Rattle.explorer_model.specs.Board.{opponent, piece_at, IsPiece}
+use Rattle.explorer_model.specs.Board.{piece_at, IsPiece}
 use Rattle.explorer_model.specs.Chess.{PseudoLegal, Castles, Legal}
 use Rattle.legal_moves.specs.EnemySets.{IsInfoOf}
 use Rattle.legal_moves.specs.CheckMasks.{AreMasksOf, IsSteady}

@@ -1,14 +1,13 @@
 -- What bitboards tell of a board: a bitboard is a set of squares, of which bit s stands for square
 -- s.
-use Rattle.std.specs.Prelude.{◌≡◌, ◌≢◌, ℕ, ◌<◌, ◌↔◌, ◌⊎◌, List, Option, Some, None, false, IsTrue}
+use Rattle.std.specs.Prelude.{◌≡◌, ◌≢◌, ℕ, ◌<◌, ◌↔◌, ◌⊎◌, List, Option, Some, None}
 use Rattle.step_tables.specs.Bitboard.{Holds}
 use Rattle.explorer_model.specs.declared.chess.Color.{Color}
 use Rattle.explorer_model.specs.declared.chess.Role.TheVariants.{Pawn, Knight, Bishop, Rook, Queen, King}
 use Rattle.explorer_model.specs.declared.chess.Piece.{Piece}
 use Rattle.explorer_model.specs.declared.chess.Position.{Position}
-use Rattle.explorer_model.specs.declared.chess.Move.{Move}
-use Rattle.explorer_model.specs.Board.{opponent, piece_at, IsOfColor, IsPiece, InCheck, IsBetween, PawnDiagonal, KnightStep, KingStep, RookLine, BishopLine}
-use Rattle.explorer_model.specs.Chess.{IsValid, takes_en_passant}
+use Rattle.explorer_model.specs.Board.{opponent, piece_at, IsOfColor, IsPiece, IsBetween, PawnDiagonal, KnightStep, KingStep, RookLine, BishopLine}
+use Rattle.explorer_model.specs.Chess.{IsValid}
 use Rattle.legal_moves.specs.declared.enemy_sets.EnemySets.{EnemySets}
 use Rattle.legal_moves.specs.declared.check_info.CheckInfo.{CheckInfo}
 

@@ -7,6 +7,14 @@ use Rattle.legal_moves.proofs.generate.list_promotions.Goals as goal
 next : (a b n k : ℕ) → n ≡ 512 * a + 8 * b + 1 + k → n + 1 ≡ 512 * a + 8 * b + 1 + (k + 1)
 next a b n k e = omega arith
 
+start : (a b : ℕ) → 512 * a + 8 * b + 1 ≡ 512 * a + 8 * b + 1 + 0
+start a b = omega arith
+
+pub loop-promotion-init : goal.loop-promotion-init
+loop-promotion-init c =
+    let P : ℕ → Type 0 = λ n. ListsBelow c.args.position.now n c.args.moves.now.items in
+    subst P (start c.args.from.index c.args.to.index) c.requires.before
+
 pub list_move-requires-clause-pseudo_legal : goal.list_move-requires-clause-pseudo_legal
 list_move-requires-clause-pseudo_legal c =
     promoting_pseudo_legal c.args.position.now (step_with c.args.from c.args.to c.loop-promotion.promotion-index)

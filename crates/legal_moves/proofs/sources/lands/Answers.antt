@@ -1,8 +1,19 @@
 use Rattle.std.proofs.Common.{◌↔◌, IsTrue, sym, subst}
 use Rattle.explorer_model.specs.declared.chess.Role.{Role}
+use Rattle.step_tables.proofs.Rule.{both}
 use Rattle.legal_moves.specs.Sources.{Lands}
 use Rattle.legal_moves.proofs.AttackSets.{clear-open}
 use Rattle.legal_moves.proofs.sources.lands.Goals as goal
+
+pub returns-in-Knight : goal.returns-in-Knight
+returns-in-Knight c =
+    let P : Role → Type 0 = λ role. IsTrue c.contains.result ↔ Lands c.args.position.now role c.args.m in
+    subst P (sym c.in-Knight.is) (both c.contains.ensures (c.knight_targets.ensures c.args.m.to.index c.args.m.to.on_board))
+
+pub returns-in-King : goal.returns-in-King
+returns-in-King c =
+    let P : Role → Type 0 = λ role. IsTrue c.contains-in-King.result ↔ Lands c.args.position.now role c.args.m in
+    subst P (sym c.in-King.is) (both c.contains-in-King.ensures (c.king_targets.ensures c.args.m.to.index c.args.m.to.on_board))
 
 pub returns-in-Bishop : goal.returns-in-Bishop
 returns-in-Bishop c =

@@ -1,0 +1,8 @@
+use Rattle.explorer_model.specs.Board.{BishopLine}
+use Rattle.legal_moves.proofs.sources.goes_diagonally.Goals as goal
+
+pub returns-then-contains : goal.returns-then-contains
+returns-then-contains c =
+    let line : BishopLine c.args.from c.args.to =
+    (c.bishop_targets.ensures c.args.to c.requires.to_on_board).0 (c.contains.ensures.0 c.if-contains.true) in
+    (λ e. (line, c.is_clear.ensures.0 e), λ h. c.is_clear.ensures.1 h.1)
