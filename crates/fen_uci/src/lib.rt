@@ -23,6 +23,3 @@ mod writer;
 pub use reader::read_fen;
 pub use uci::{read_uci, write_uci};
 pub use writer::write_fen;
-
-#[cfg(test)]
-mod tests;

@@ -10,6 +10,3 @@ mod tags;
 mod time;
 
 pub use steps::classes;
-
-#[cfg(test)]
-mod tests;

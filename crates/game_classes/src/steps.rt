@@ -1,17 +1,19 @@
-ghost use Rattle.std.specs.Prelude.{◌≡◌, ok_or, option_map};
+ghost use Rattle.std.specs.Prelude.{◌≡◌, IfOk, ok_or, option_map};
 ghost use Rattle.explorer_model.specs.declared.fault.TagFault.TheVariants.{Bad};
-ghost use Rattle.explorer_model.specs.Classes.{classes, name_of, outcome_of, asked, date_name};
-ghost use Rattle.explorer_model.specs.Stop.{Gives};
+ghost use Rattle.explorer_model.specs.declared.fault.TagName.TheVariants.{Site, TimeControl};
+ghost use Rattle.explorer_model.specs.Classes.{classes, asked, id_of, name_of, outcome_of, rating_of};
+ghost use Rattle.explorer_model.specs.Classes.{control_of, date_name, month_of};
+ghost use Rattle.explorer_model.specs.Stop.{Gives, GivesBy};
 
 use crate::event::mode_of;
 use crate::rating::{group_of, rating_of};
 use crate::site::id_of;
 use crate::tags::{is_from_start, is_standard, required, value_of};
 use crate::time::{control_of, month_of};
-use explorer_model::archive::{Classes, Outcome, Player, Tag, Tags};
+use explorer_model::archive::{Classes, GameId, Month, Outcome, Player, Speed, Tag, Tags};
 use explorer_model::fault::{Stop, TagFault, TagName};
 use explorer_model::text::Name;
-use std::alloc::Global;
+use std::alloc::{AllocError, Global};
 
 /// What the tags of a text say of its game, or the first fault in the order in which the archive
 /// asks for them.
@@ -27,34 +29,20 @@ pub fn classes(alloc: Global, tags: &Tags) -> Result<Classes, Stop<TagFault>>
         return Err(Stop::Fault(TagFault::SetUp));
     }
     let mode = mode_of(required(TagName::Event, tags)?);
-    let id = asked(TagName::Site, id_of(required(TagName::Site, tags)?))?;
-    let white = name_of(alloc, TagName::White, tags)?;
-    let black = name_of(alloc, TagName::Black, tags)?;
+    let id = site_id(tags)?;
+    let white = player_name(TagName::White, tags)?;
+    let black = player_name(TagName::Black, tags)?;
     let outcome = outcome_of(required(TagName::Result, tags)?)?;
-    let white_rating = asked(
-        TagName::WhiteElo,
-        rating_of(required(TagName::WhiteElo, tags)?),
-    )?;
-    let black_rating = asked(
-        TagName::BlackElo,
-        rating_of(required(TagName::BlackElo, tags)?),
-    )?;
-    let speed = asked(
-        TagName::TimeControl,
-        control_of(required(TagName::TimeControl, tags)?),
-    )?;
-    let date = date_name(tags);
-    let month = asked(date, month_of(required(date, tags)?))?;
+    let white_rating = player_rating(TagName::WhiteElo, tags)?;
+    let black_rating = player_rating(TagName::BlackElo, tags)?;
+    let speed = speed(tags)?;
+    let month = month(tags)?;
+    let white = player(alloc, white, white_rating)?;
+    let black = player(alloc, black, black_rating)?;
     Ok(Classes {
         id,
-        white: Player {
-            name: white,
-            rating: white_rating,
-        },
-        black: Player {
-            name: black,
-            rating: black_rating,
-        },
+        white,
+        black,
         outcome,
         mode,
         speed,
@@ -73,14 +61,46 @@ fn asked<T: Copy>(name: TagName, meaning: Option<T>) -> Result<T, Stop<TagFault>
     }
 }
 
-/// The name of a player.
-fn name_of(alloc: Global, name: TagName, tags: &[Tag]) -> Result<Name, Stop<TagFault>>
-    ensures { Gives result (asked name name_of tags.now) }
+fn site_id(tags: &[Tag]) -> Result<GameId, Stop<TagFault>>
+    ensures { Gives result (asked Site id_of tags.now) }
+{
+    asked(TagName::Site, id_of(required(TagName::Site, tags)?))
+}
+
+fn player_name(name: TagName, tags: &[Tag]) -> Result<&str, Stop<TagFault>>
+    ensures { GivesBy (λ text. text.now) result (asked name name_of tags.now) }
 {
     match utf8_of(required(name, tags)?) {
-        Some(text) => Ok(Name::from_string(String::from_str(alloc, text)?)),
+        Some(text) => Ok(text),
         None => Err(Stop::Fault(TagFault::Bad { name })),
     }
+}
+
+fn player_rating(name: TagName, tags: &[Tag]) -> Result<u16, Stop<TagFault>>
+    ensures { Gives result (asked name rating_of tags.now) }
+{
+    asked(name, rating_of(required(name, tags)?))
+}
+
+fn speed(tags: &[Tag]) -> Result<Speed, Stop<TagFault>>
+    ensures { Gives result (asked TimeControl control_of tags.now) }
+{
+    let name = TagName::TimeControl;
+    asked(name, control_of(required(name, tags)?))
+}
+
+fn month(tags: &[Tag]) -> Result<Month, Stop<TagFault>>
+    ensures { Gives result (asked (date_name tags.now) month_of tags.now) }
+{
+    let name = date_name(tags);
+    asked(name, month_of(required(name, tags)?))
+}
+
+fn player(alloc: Global, name: &str, rating: u16) -> Result<Player, AllocError>
+    ensures { IfOk result (λ player. player ≡ record { name = name.now; rating = rating }) }
+{
+    let name = Name::from_string(String::from_str(alloc, name)?);
+    Ok(Player { name, rating })
 }
 
 /// The text that the bytes are, where they are valid UTF-8.

@@ -7,6 +7,3 @@ mod replaying;
 mod score;
 
 pub use replaying::replay;
-
-#[cfg(test)]
-mod tests;

@@ -19,6 +19,4 @@ mod front;
 pub mod laws;
 mod mark;
 mod scan;
-#[cfg(test)]
-mod tests;
 mod text;

@@ -13,6 +13,3 @@ mod spanned;
 pub use reading::{parts, spanned_parts};
 pub use span::Span;
 pub use spanned::SpannedParts;
-
-#[cfg(test)]
-mod tests;

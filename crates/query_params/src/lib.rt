@@ -11,6 +11,3 @@ mod position;
 mod values;
 
 pub use asking::query;
-
-#[cfg(test)]
-mod tests;

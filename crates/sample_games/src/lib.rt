@@ -7,7 +7,5 @@ mod header;
 pub mod laws;
 mod movetext;
 mod sampling;
-#[cfg(test)]
-mod tests;
 
 pub use sampling::sample;

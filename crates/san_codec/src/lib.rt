@@ -12,6 +12,3 @@ mod writer;
 pub use board_reader::read_on;
 pub use reader::read;
 pub use writer::write;
-
-#[cfg(test)]
-mod tests;

@@ -1,5 +1,5 @@
 use Rattle.std.proofs.Common.{refl, sym, true≢false}
-use Rattle.san_codec.proofs.tests.mark_of.Goals as goal
+use Rattle.notation_tests.proofs.tests.san.mark_of.Goals as goal
 
 pub returns-then-has_move : goal.returns-then-has_move
 returns-then-has_move c = (c.if-not-checked.ensures.0 refl, c.if-has_move.ensures.0 refl)

@@ -1,6 +1,6 @@
 use Rattle.std.proofs.Common.{refl}
 use Rattle.legal_moves.proofs.Lists.{listed_legal, lists-same}
-use Rattle.san_codec.proofs.tests.text_of.Goals as goal
+use Rattle.notation_tests.proofs.tests.san.text_of.Goals as goal
 
 pub written-requires-clause-each : goal.written-requires-clause-each
 written-requires-clause-each c =

@@ -5,7 +5,7 @@ use Rattle.pgn_cut.specs.Cut.{meaning, cuts_in}
 use Rattle.pgn_cut.specs.Cutter.{cuts_of_rest}
 use Rattle.pgn_cut.specs.declared.cut.Cut.{Cut}
 use Rattle.pgn_cut.proofs.Cutters.{one_cut_more, fed_on, taken_within}
-use Rattle.pgn_cut.proofs.tests.cuts_in_pieces.Goals as goal
+use Rattle.notation_tests.proofs.tests.cuts.cuts_in_pieces.Goals as goal
 
 pub loop-at-preserved-in-Continue-branch-2 : goal.loop-at-preserved-in-Continue-branch-2
 loop-at-preserved-in-Continue-branch-2 c =

@@ -1,5 +1,5 @@
 use Rattle.legal_moves.proofs.Lists.{lists-same}
-use Rattle.san_codec.proofs.tests.read_among_legal.Goals as goal
+use Rattle.notation_tests.proofs.tests.san.read_among_legal.Goals as goal
 
 pub read-requires-clause-each : goal.read-requires-clause-each
 read-requires-clause-each c =

@@ -1,9 +1,10 @@
+//! Streams cut into texts, in pieces of every length.
 ghost use Rattle.std.specs.Prelude.{◌≡◌, ◌+◌, ◌<◌, ◌^◌, length, map, IfOk};
 ghost use Rattle.explorer_model.specs.Cuts.{cuts};
 ghost use Rattle.pgn_cut.specs.Cut.{meaning};
 
-use crate::cut::Cut;
-use crate::cutter::Cutter;
+use pgn_cut::cut::Cut;
+use pgn_cut::cutter::Cutter;
 use std::alloc::{AllocError, Global};
 use std::process::Abort;
 use std::test::Fail;
@@ -175,29 +176,30 @@ fn long_text(alloc: Global, length: usize) -> Result<Vec<u8>, AllocError> {
     Ok(text)
 }
 
+const SECOND: &[u8] = b"[Event \"b\"]\n*";
+
+/// A text of `length` bytes, and a short one behind it.
+fn long_stream(alloc: Global, length: usize) -> Result<Vec<u8>, AllocError> {
+    let mut stream = long_text(alloc, length)?;
+    stream.extend_from_slice(SECOND)?;
+    Ok(stream)
+}
+
 #[test]
 fn text_of_65536_bytes_is_read_and_a_longer_one_is_not(rt: HostRuntime) -> Result<(), Fail> {
-    let second = b"[Event \"b\"]\n*";
     for length in [65_536, 65_537] {
-        let text = long_text(rt.alloc(), length)?;
-        let mut stream = text.clone()?;
-        stream.extend_from_slice(second)?;
+        let stream = long_stream(rt.alloc(), length)?;
         let stream = stream.as_slice();
         assert!(rt; stream.len() < 100_000);
         let place = length as u64;
-        let first = if length == 65_536 {
-            Wanted::Text(0, text.as_slice())
-        } else {
-            Wanted::TooLong(0, place)
+        let first = match stream.get(..length) {
+            Some(text) if length == 65_536 => Wanted::Text(0, text),
+            _ => Wanted::TooLong(0, place),
         };
+        let wanted = [first, Wanted::Text(place, SECOND)];
         for size in [1, 1_000, 100_000] {
             let found = cuts_in_pieces(rt.alloc(), stream, size, size)?;
-            assert_cuts(
-                &rt,
-                found.as_slice(),
-                &[first, Wanted::Text(place, second)],
-                stream,
-            );
+            assert_cuts(&rt, found.as_slice(), &wanted, stream);
         }
     }
     Ok(())

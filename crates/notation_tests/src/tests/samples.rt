@@ -1,5 +1,6 @@
-use crate::sample;
+//! Games drawn at random, beside texts of another program.
 use rand_pcg::Lcg64Xsh32;
+use sample_games::sample;
 use std::test::Fail;
 
 // The texts were worked out from the format by another program, with its own generator and moves.

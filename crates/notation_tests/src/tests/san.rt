@@ -1,10 +1,9 @@
-//! Reading and writing on moves and texts that are known from outside.
+//! Moves in SAN, read and written, on moves and texts that are known from outside.
 ghost use Rattle.std.specs.Prelude.{◌≢◌, ◌↔◌, AllPairs, Contains};
 ghost use Rattle.explorer_model.specs.declared.chess.Move.{Move as AMove};
 ghost use Rattle.explorer_model.specs.Chess.{Legal};
 ghost use Rattle.explorer_model.specs.San.{IsMarked};
 
-use crate::{read, read_on, write};
 use arrayvec::ArrayVec;
 use explorer_model::chess::{Color, Move, Piece, Position, Rights, Role};
 use explorer_model::fault::SanFault;
@@ -12,6 +11,7 @@ use explorer_model::notation::CheckMark;
 use explorer_model::square::Square;
 use legal_moves::board::Board;
 use legal_moves::valid::start;
+use san_codec::{read, read_on, write};
 use std::process::Abort;
 
 /// How the side that is to move stands.
@@ -89,7 +89,11 @@ fn square(file: u8, rank: u8) -> Square {
     }
 }
 
-fn by_name(name: &[u8; 4], promotion: Option<Role>) -> Move {
+/// The first and the last square of a move by their names, and what it promotes to.
+type Named<'a> = (&'a [u8; 4], Option<Role>);
+
+fn by_name(named: Named) -> Move {
+    let (name, promotion) = named;
     Move {
         from: square(name[0], name[1]),
         to: square(name[2], name[3]),
@@ -97,15 +101,23 @@ fn by_name(name: &[u8; 4], promotion: Option<Role>) -> Move {
     }
 }
 
-type Reading<'a> = (&'a str, Result<Move, SanFault>);
+type Reading<'a> = (&'a str, Result<Named<'a>, SanFault>);
+
+fn wanted_of(reading: &Result<Named, SanFault>) -> Result<Move, SanFault> {
+    match reading {
+        Ok(named) => Ok(by_name(*named)),
+        Err(fault) => Err(*fault),
+    }
+}
 
 fn check_readings(rt: &impl Abort, at: &Position, rows: &[Reading]) {
     let Some(board) = Board::of(at) else {
         panic!(rt; "the position is not valid");
     };
-    for (text, wanted) in rows {
-        assert_eq!(rt; read_among_legal(&board, text), *wanted, "{text}");
-        assert_eq!(rt; read_on(text.as_bytes(), &board), *wanted, "{text}");
+    for (text, reading) in rows {
+        let wanted = wanted_of(reading);
+        assert_eq!(rt; read_among_legal(&board, text), wanted, "{text}");
+        assert_eq!(rt; read_on(text.as_bytes(), &board), wanted, "{text}");
     }
 }
 
@@ -113,12 +125,12 @@ fn read_among_legal(board: &Board, text: &str) -> Result<Move, SanFault> {
     read(text.as_bytes(), &board.position(), board.legal().as_slice())
 }
 
-fn check_texts(rt: &impl Abort, at: &Position, rows: &[(Move, &str)]) {
+fn check_texts(rt: &impl Abort, at: &Position, rows: &[(Named, &str)]) {
     let Some(board) = Board::of(at) else {
         panic!(rt; "the position is not valid");
     };
     for (named, wanted) in rows {
-        let Some(text) = text_of(&board, *named) else {
+        let Some(text) = text_of(&board, by_name(*named)) else {
             panic!(rt; "{wanted} is not legal");
         };
         assert_eq!(rt; text.as_slice(), wanted.as_bytes(), "{wanted}");
@@ -152,7 +164,7 @@ fn pinned_knight_is_no_rival(rt: HostRuntime) {
         Color::White,
         ALL_RIGHTS,
     );
-    let move_of_g1 = by_name(b"g1e2", None);
+    let move_of_g1 = (b"g1e2", None);
     check_readings(
         &rt,
         &at,
@@ -171,12 +183,12 @@ fn texts_of_the_start_are_read(rt: HostRuntime) {
         &rt,
         &start(),
         &[
-            ("e4", Ok(by_name(b"e2e4", None))),
-            ("e2e4", Ok(by_name(b"e2e4", None))),
-            ("ee4", Ok(by_name(b"e2e4", None))),
-            ("Ng1f3", Ok(by_name(b"g1f3", None))),
-            ("Nc3+", Ok(by_name(b"b1c3", None))),
-            ("Nc3#+#", Ok(by_name(b"b1c3", None))),
+            ("e4", Ok((b"e2e4", None))),
+            ("e2e4", Ok((b"e2e4", None))),
+            ("ee4", Ok((b"e2e4", None))),
+            ("Ng1f3", Ok((b"g1f3", None))),
+            ("Nc3+", Ok((b"b1c3", None))),
+            ("Nc3#+#", Ok((b"b1c3", None))),
             ("Nxf3", Err(SanFault::NoSuchMove)),
             ("e5", Err(SanFault::NoSuchMove)),
             ("O-O", Err(SanFault::NoSuchMove)),
@@ -195,9 +207,9 @@ fn castling_is_read_and_written(rt: HostRuntime) {
         &rt,
         &at,
         &[
-            ("O-O", Ok(by_name(b"e1g1", None))),
-            ("0-0", Ok(by_name(b"e1g1", None))),
-            ("0-O-0+", Ok(by_name(b"e1c1", None))),
+            ("O-O", Ok((b"e1g1", None))),
+            ("0-0", Ok((b"e1g1", None))),
+            ("0-O-0+", Ok((b"e1c1", None))),
             ("Kg1", Err(SanFault::NoSuchMove)),
         ],
     );
@@ -205,9 +217,9 @@ fn castling_is_read_and_written(rt: HostRuntime) {
         &rt,
         &at,
         &[
-            (by_name(b"e1g1", None), "O-O"),
-            (by_name(b"e1c1", None), "O-O-O"),
-            (by_name(b"a1a8", None), "Rxa8+"),
+            ((b"e1g1", None), "O-O"),
+            ((b"e1c1", None), "O-O-O"),
+            ((b"a1a8", None), "Rxa8+"),
         ],
     );
 }
@@ -220,30 +232,30 @@ fn promotions_and_captures_are_named(rt: HostRuntime) {
         &rt,
         &white,
         &[
-            ("exd8=Q", Ok(by_name(b"e7d8", Some(Role::Queen)))),
-            ("exd8Q", Ok(by_name(b"e7d8", Some(Role::Queen)))),
-            ("e8=N", Ok(by_name(b"e7e8", Some(Role::Knight)))),
+            ("exd8=Q", Ok((b"e7d8", Some(Role::Queen)))),
+            ("exd8Q", Ok((b"e7d8", Some(Role::Queen)))),
+            ("e8=N", Ok((b"e7e8", Some(Role::Knight)))),
             ("exd8", Err(SanFault::NoSuchMove)),
             ("ed8=Q", Err(SanFault::NoSuchMove)),
             ("exe8=Q", Err(SanFault::NoSuchMove)),
             ("Bb2", Err(SanFault::NoSuchMove)),
-            ("Bxb2", Ok(by_name(b"a1b2", None))),
+            ("Bxb2", Ok((b"a1b2", None))),
         ],
     );
     check_texts(
         &rt,
         &white,
         &[
-            (by_name(b"e7d8", Some(Role::Queen)), "exd8=Q+"),
-            (by_name(b"e7e8", Some(Role::Knight)), "e8=N"),
-            (by_name(b"a1b2", None), "Bxb2"),
+            ((b"e7d8", Some(Role::Queen)), "exd8=Q+"),
+            ((b"e7e8", Some(Role::Knight)), "e8=N"),
+            ((b"a1b2", None), "Bxb2"),
         ],
     );
     let black = position(placement, Color::Black, NO_RIGHTS);
     check_readings(
         &rt,
         &black,
-        &[("bxa1=N+", Ok(by_name(b"b2a1", Some(Role::Knight))))],
+        &[("bxa1=N+", Ok((b"b2a1", Some(Role::Knight))))],
     );
 }
 
@@ -254,23 +266,23 @@ fn starts_are_named_where_they_must_be(rt: HostRuntime) {
         &rt,
         &queens,
         &[
-            (by_name(b"e4e1", None), "Qee1"),
-            (by_name(b"h1e1", None), "Q1e1"),
-            (by_name(b"h4e1", None), "Qh4e1"),
-            (by_name(b"h4g5", None), "Qg5"),
+            ((b"e4e1", None), "Qee1"),
+            ((b"h1e1", None), "Q1e1"),
+            ((b"h4e1", None), "Qh4e1"),
+            ((b"h4g5", None), "Qg5"),
         ],
     );
     check_readings(
         &rt,
         &queens,
         &[
-            ("Qh4e1", Ok(by_name(b"h4e1", None))),
+            ("Qh4e1", Ok((b"h4e1", None))),
             ("Qhe1", Err(SanFault::Ambiguous)),
             ("Q4e1", Err(SanFault::Ambiguous)),
         ],
     );
     let mate = position("6k1/5ppp/8/8/8/8/8/R5K1", Color::White, NO_RIGHTS);
-    check_texts(&rt, &mate, &[(by_name(b"a1a8", None), "Ra8#")]);
+    check_texts(&rt, &mate, &[((b"a1a8", None), "Ra8#")]);
 }
 
 #[test]
@@ -281,10 +293,10 @@ fn rivals_promotions_and_captures_are_told_apart(rt: HostRuntime) {
         &rt,
         &rooks,
         &[
-            ("Rd4", Ok(by_name(b"a4d4", None))),
+            ("Rd4", Ok((b"a4d4", None))),
             ("Red4", Err(SanFault::NoSuchMove)),
-            ("Re6", Ok(by_name(b"e4e6", None))),
-            ("Rxe8+", Ok(by_name(b"e4e8", None))),
+            ("Re6", Ok((b"e4e6", None))),
+            ("Rxe8+", Ok((b"e4e8", None))),
             ("Re8", Err(SanFault::NoSuchMove)),
             ("Rxd4", Err(SanFault::NoSuchMove)),
         ],
@@ -294,8 +306,8 @@ fn rivals_promotions_and_captures_are_told_apart(rt: HostRuntime) {
         &rt,
         &pawns,
         &[
-            ("cxd8=Q", Ok(by_name(b"c7d8", Some(Role::Queen)))),
-            ("exd8=N", Ok(by_name(b"e7d8", Some(Role::Knight)))),
+            ("cxd8=Q", Ok((b"c7d8", Some(Role::Queen)))),
+            ("exd8=N", Ok((b"e7d8", Some(Role::Knight)))),
             ("xd8=Q", Err(SanFault::Ambiguous)),
             ("cd8=Q", Err(SanFault::NoSuchMove)),
             ("cxd8", Err(SanFault::NoSuchMove)),
@@ -309,9 +321,9 @@ fn rivals_promotions_and_captures_are_told_apart(rt: HostRuntime) {
         &rt,
         &crossed,
         &[
-            ("exd6", Ok(by_name(b"e5d6", None))),
+            ("exd6", Ok((b"e5d6", None))),
             ("ed6", Err(SanFault::NoSuchMove)),
-            ("Bd6", Ok(by_name(b"b4d6", None))),
+            ("Bd6", Ok((b"b4d6", None))),
             ("Bxd6", Err(SanFault::NoSuchMove)),
         ],
     );

@@ -2,7 +2,7 @@ use Rattle.std.specs.Prelude.{◌≡◌, ◌-◌, ◌≤◌, ◌++◌, length, d
 use Rattle.explorer_model.specs.Cuts.{cuts}
 use Rattle.pgn_cut.specs.Cut.{meaning}
 use Rattle.pgn_cut.specs.Cutter.{cuts_of_rest, came}
-use Rattle.pgn_cut.proofs.tests.cuts_in_pieces.Given as goal
+use Rattle.notation_tests.proofs.tests.cuts.cuts_in_pieces.Given as goal
 
 abbrev pub invariant-loop-at : goal.invariant-loop-at
 invariant-loop-at l = (l.at ≤ length l.stream) × (came l.cutter ≡ l.at)
