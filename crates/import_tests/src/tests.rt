@@ -1,6 +1,7 @@
-//! Imports of worked streams.
+//! Imports of worked streams, and connections.
 mod connections;
 mod desks;
+mod doors;
 mod imports;
 
 ghost use Rattle.std.specs.Prelude.{◌≡◌};

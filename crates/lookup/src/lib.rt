@@ -15,8 +15,6 @@ mod moves;
 mod notation;
 mod segment_rows;
 pub mod snapshot;
-#[cfg(test)]
-mod tests;
 mod totals;
 
 pub use answer::look_segments;

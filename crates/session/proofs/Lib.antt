@@ -7,4 +7,3 @@ pub mod DoorLemmas
 pub mod LawLemmas
 pub mod AskedLemmas
 pub mod ReplyLemmas
-pub mod NoReports

@@ -12,6 +12,3 @@ pub use answering::answer;
 pub use doors::{DoorEnd, serve_door};
 pub use importing::{learn_notes, learn_receipts};
 pub use serving::{Ended, serve_connection};
-
-#[cfg(test)]
-mod tests;

@@ -1,4 +1,5 @@
 //! Segments of worked games.
+mod answers;
 mod commits;
 mod cuts;
 mod desk;

@@ -27,6 +27,11 @@ const GET: &str = "GET /lichess HTTP/1.1\r\n\r\n";
 const NOTHING: &str = "{\"black\":0,\"draws\":0,\"moves\":[],\"opening\":null,\"recentGames\":[],\
 \"topGames\":[],\"white\":0}";
 
+const ONE_GAME: &str = "{\"black\":0,\"draws\":0,\"moves\":[],\"opening\":null,\"recentGames\":[],\
+\"topGames\":[],\"white\":1}";
+
+const STORED: &str = "{\"batches\":1,\"refused\":[],\"stored\":1}";
+
 /// A game that White won.
 fn text(alloc: Global, id: &str, moves: &str) -> Result<Vec<u8>, AllocError> {
     let text = format!(in alloc;
@@ -66,13 +71,23 @@ fn failed(alloc: Global, body: &str) -> Result<Vec<u8>, AllocError> {
     Ok(reply.into_bytes())
 }
 
-/// The pieces one behind the other.
-fn joined(alloc: Global, pieces: &[Vec<u8>]) -> Result<Vec<u8>, AllocError> {
+/// The import of a game without a move.
+fn post_of(alloc: Global, id: &str) -> Result<Vec<u8>, AllocError> {
+    post(alloc, text(alloc, id, "1-0")?.as_slice())
+}
+
+/// Replies with numbers of batches, one behind the other.
+fn found_each(alloc: Global, replies: &[(u32, &str)]) -> Result<Vec<u8>, AllocError> {
     let mut all = Vec::new(alloc);
-    for piece in pieces {
-        all.extend_from_slice(piece.as_slice())?;
+    for (batches, body) in replies {
+        all.extend_from_slice(found(alloc, *batches, body)?.as_slice())?;
     }
     Ok(all)
+}
+
+/// Whether these replies were written, and nothing else.
+fn are_found(alloc: Global, written: &[u8], replies: &[(u32, &str)]) -> Result<bool, AllocError> {
+    Ok(written == found_each(alloc, replies)?.as_slice())
 }
 
 /// What is written on each connection, over a new store on a disk, of whose calls these fail.
@@ -135,127 +150,143 @@ fn served<J: Index, R: Threads + Wait + Sync>(
     Ok(link.written().to_vec(alloc)?)
 }
 
+/// What is written on the one connection of a reader, over a new store on a disk, of whose calls
+/// these fail.
+fn replies_of_one<R: Threads + Wait + Abort + Sync>(
+    rt: &R,
+    alloc: Global,
+    failing: Vec<u64>,
+    requests: Vec<u8>,
+) -> Result<Vec<u8>, Fail> {
+    let talk = Talk {
+        reader: 0,
+        requests,
+    };
+    let mut written = replies(rt, alloc, failing, vec![in alloc; talk]?)?;
+    if written.len() != 1 {
+        return Err(Fail::from("there is one connection"));
+    }
+    Ok(written.pop().ok_or("what is written")?)
+}
+
+/// The import of a game with these moves, and then a question.
+fn post_and_get(alloc: Global, moves: &str) -> Result<Vec<u8>, AllocError> {
+    let mut requests = post(alloc, text(alloc, "aaaaaaa1", moves)?.as_slice())?;
+    requests.extend_from_slice(GET.as_bytes())?;
+    Ok(requests)
+}
+
+const GAME: &str =
+    "{\"black\":{\"name\":\"Bob\",\"rating\":1400},\"id\":\"aaaaaaa1\",\"mode\":\"rated\",\
+\"month\":\"2020-01\",\"speed\":\"blitz\",\"uci\":\"e2e4\",\"white\":{\"name\":\"Ann\",\
+\"rating\":1500},\"winner\":\"white\",\"year\":2020}";
+
+/// The answer once a game is stored in which e4 was played.
+fn answer_with_game(alloc: Global) -> Result<String, AllocError> {
+    format!(in alloc;
+        "{{\"black\":0,\"draws\":0,\"moves\":[{{\"averageRating\":1500,\"black\":0,\"draws\":0,\
+         \"game\":{GAME},\"opening\":null,\"san\":\"e4\",\"uci\":\"e2e4\",\"white\":1}}],\
+         \"opening\":null,\"recentGames\":[{GAME}],\"topGames\":[{GAME}],\"white\":1}}"
+    )
+}
+
 #[test]
 fn game_that_is_posted_is_found(rt: HostRuntime) -> Result<(), Fail> {
     let alloc: Global = rt.alloc();
     let moves = "1. e4 { [%eval 0.17] [%clk 0:00:30] } 1... c5?! { [%clk 0:00:29] } 1-0";
-    let body = text(alloc, "aaaaaaa1", moves)?;
-    let asked = [post(alloc, body.as_slice())?, GET.as_bytes().to_vec(alloc)?];
-    let requests = joined(alloc, asked.as_slice())?;
-    let talks = vec![in alloc;
-        Talk {
-            reader: 0,
-            requests
-        },
-    ]?;
-    let written = replies(&rt, alloc, Vec::new(alloc), talks)?;
-    let game =
-        "{\"black\":{\"name\":\"Bob\",\"rating\":1400},\"id\":\"aaaaaaa1\",\"mode\":\"rated\",\
-                \"month\":\"2020-01\",\"speed\":\"blitz\",\"uci\":\"e2e4\",\"white\":{\"name\":\"Ann\",\
-                \"rating\":1500},\"winner\":\"white\",\"year\":2020}";
-    let answer = format!(in alloc;
-        "{{\"black\":0,\"draws\":0,\"moves\":[{{\"averageRating\":1500,\"black\":0,\"draws\":0,\
-         \"game\":{game},\"opening\":null,\"san\":\"e4\",\"uci\":\"e2e4\",\"white\":1}}],\
-         \"opening\":null,\"recentGames\":[{game}],\"topGames\":[{game}],\"white\":1}}"
-    )?;
-    let expected = [
-        found(alloc, 1, "{\"batches\":1,\"refused\":[],\"stored\":1}")?,
-        found(alloc, 1, answer.as_str())?,
-    ];
-    let expected = joined(alloc, expected.as_slice())?;
-    assert_eq!(rt; written.len(), 1);
-    assert_eq!(rt; written[0].as_slice(), expected.as_slice());
+    let requests = post_and_get(alloc, moves)?;
+    let written = replies_of_one(&rt, alloc, Vec::new(alloc), requests)?;
+    let answer = answer_with_game(alloc)?;
+    let expected = found_each(alloc, &[(1, STORED), (1, answer.as_str())])?;
+    assert_eq!(rt; written.as_slice(), expected.as_slice());
     Ok(())
+}
+
+/// A question, the import of a game, and the question again.
+fn get_post_and_get(alloc: Global) -> Result<Vec<u8>, AllocError> {
+    let mut requests = GET.as_bytes().to_vec(alloc)?;
+    requests.extend_from_slice(post_of(alloc, "aaaaaaa1")?.as_slice())?;
+    requests.extend_from_slice(GET.as_bytes())?;
+    Ok(requests)
+}
+
+/// One reader imports a game between two questions. The other asks, and then imports the same game.
+fn talks_of_two(alloc: Global) -> Result<Vec<Talk>, AllocError> {
+    let mut talks = Vec::new(alloc);
+    talks.push(Talk {
+        reader: 0,
+        requests: get_post_and_get(alloc)?,
+    })?;
+    talks.push(Talk {
+        reader: 1,
+        requests: GET.as_bytes().to_vec(alloc)?,
+    })?;
+    talks.push(Talk {
+        reader: 1,
+        requests: post_of(alloc, "aaaaaaa1")?,
+    })?;
+    Ok(talks)
 }
 
 #[test]
 fn second_reader_finds_what_the_first_posted(rt: HostRuntime) -> Result<(), Fail> {
     let alloc: Global = rt.alloc();
-    let body = text(alloc, "aaaaaaa1", "1-0")?;
-    let get = GET.as_bytes();
-    let first = [
-        get.to_vec(alloc)?,
-        post(alloc, body.as_slice())?,
-        get.to_vec(alloc)?,
-    ];
-    let mut talks = Vec::new(alloc);
-    talks.push(Talk {
-        reader: 0,
-        requests: joined(alloc, first.as_slice())?,
-    })?;
-    talks.push(Talk {
-        reader: 1,
-        requests: get.to_vec(alloc)?,
-    })?;
-    talks.push(Talk {
-        reader: 1,
-        requests: post(alloc, body.as_slice())?,
-    })?;
+    let talks = talks_of_two(alloc)?;
     let written = replies(&rt, alloc, Vec::new(alloc), talks)?;
-    let one = "{\"black\":0,\"draws\":0,\"moves\":[],\"opening\":null,\"recentGames\":[],\
-               \"topGames\":[],\"white\":1}";
-    let expected = [
-        found(alloc, 0, NOTHING)?,
-        found(alloc, 1, "{\"batches\":1,\"refused\":[],\"stored\":1}")?,
-        found(alloc, 1, one)?,
-    ];
-    let again = "{\"batches\":1,\"refused\":[{\"place\":0,\"why\":\"Repeated 0\"}],\"stored\":0}";
     assert_eq!(rt; written.len(), 3);
-    assert_eq!(rt;
-        written[0].as_slice(),
-        joined(alloc, expected.as_slice())?.as_slice()
-    );
-    assert_eq!(rt; written[1].as_slice(), found(alloc, 1, one)?.as_slice());
-    assert_eq!(rt; written[2].as_slice(), found(alloc, 1, again)?.as_slice());
+    let first = [(0, NOTHING), (1, STORED), (1, ONE_GAME)];
+    assert!(rt; are_found(alloc, written[0].as_slice(), &first)?);
+    assert!(rt; are_found(alloc, written[1].as_slice(), &[(1, ONE_GAME)])?);
+    let again = "{\"batches\":1,\"refused\":[{\"place\":0,\"why\":\"Repeated 0\"}],\"stored\":0}";
+    assert!(rt; are_found(alloc, written[2].as_slice(), &[(1, again)])?);
     Ok(())
+}
+
+/// The imports of three games, and then a question.
+fn posts_and_get(alloc: Global) -> Result<Vec<u8>, AllocError> {
+    let mut requests = Vec::new(alloc);
+    for id in ["aaaaaaa1", "aaaaaaa2", "aaaaaaa3"] {
+        requests.extend_from_slice(post_of(alloc, id)?.as_slice())?;
+    }
+    requests.extend_from_slice(GET.as_bytes())?;
+    Ok(requests)
+}
+
+/// One game is stored, none behind it, and the one is found.
+fn replies_around_a_fault(alloc: Global) -> Result<Vec<u8>, AllocError> {
+    let mut replies = found(alloc, 1, STORED)?;
+    for body in [
+        "{\"error\":\"disk fault\",\"stored\":0}",
+        "{\"error\":\"closed\",\"stored\":0}",
+    ] {
+        replies.extend_from_slice(failed(alloc, body)?.as_slice())?;
+    }
+    replies.extend_from_slice(found(alloc, 1, ONE_GAME)?.as_slice())?;
+    Ok(replies)
 }
 
 #[test]
 fn disk_fault_closes_the_store_and_readers_go_on(rt: HostRuntime) -> Result<(), Fail> {
     let alloc: Global = rt.alloc();
-    let asked = [
-        post(alloc, text(alloc, "aaaaaaa1", "1-0")?.as_slice())?,
-        post(alloc, text(alloc, "aaaaaaa2", "1-0")?.as_slice())?,
-        post(alloc, text(alloc, "aaaaaaa3", "1-0")?.as_slice())?,
-        GET.as_bytes().to_vec(alloc)?,
-    ];
-    let requests = joined(alloc, asked.as_slice())?;
-    let talks = vec![in alloc;
-        Talk {
-            reader: 0,
-            requests
-        },
-    ]?;
     // The disk's calls: three of the creation, four of the first commit, and a write before the sync.
-    let written = replies(&rt, alloc, vec![in alloc; 8]?, talks)?;
-    let one = "{\"black\":0,\"draws\":0,\"moves\":[],\"opening\":null,\"recentGames\":[],\
-               \"topGames\":[],\"white\":1}";
-    let expected = [
-        found(alloc, 1, "{\"batches\":1,\"refused\":[],\"stored\":1}")?,
-        failed(alloc, "{\"error\":\"disk fault\",\"stored\":0}")?,
-        failed(alloc, "{\"error\":\"closed\",\"stored\":0}")?,
-        found(alloc, 1, one)?,
-    ];
-    let expected = joined(alloc, expected.as_slice())?;
-    assert_eq!(rt; written.len(), 1);
-    assert_eq!(rt; written[0].as_slice(), expected.as_slice());
+    let failing = vec![in alloc; 8]?;
+    let written = replies_of_one(&rt, alloc, failing, posts_and_get(alloc)?)?;
+    let expected = replies_around_a_fault(alloc)?;
+    assert_eq!(rt; written.as_slice(), expected.as_slice());
     Ok(())
 }
 
-#[test]
-fn connection_has_at_most_a_thousand_requests(rt: HostRuntime) -> Result<(), Fail> {
-    let alloc: Global = rt.alloc();
+/// So many requests of a path that is not there.
+fn requests_for_nothing(alloc: Global, count: u32) -> Result<Vec<u8>, AllocError> {
     let mut requests = Vec::new(alloc);
-    for _ in 0..1001u32 {
+    for _ in 0..count {
         requests.extend_from_slice(b"GET / HTTP/1.1\r\n\r\n")?;
     }
-    let talks = vec![in alloc;
-        Talk {
-            reader: 0,
-            requests
-        },
-    ]?;
-    let written = replies(&rt, alloc, Vec::new(alloc), talks)?;
+    Ok(requests)
+}
+
+/// A thousand replies that nothing is found, of which the last one closes the connection.
+fn thousand_not_found(alloc: Global) -> Result<Vec<u8>, AllocError> {
     let body = "HTTP/1.1 404 Not Found\r\nContent-Type: application/json\r\nContent-Length: 21\r\n";
     let mut expected = Vec::new(alloc);
     for n in 0..1000u32 {
@@ -265,7 +296,15 @@ fn connection_has_at_most_a_thousand_requests(rt: HostRuntime) -> Result<(), Fai
         }
         expected.extend_from_slice(b"\r\n{\"error\":\"not found\"}")?;
     }
-    assert_eq!(rt; written.len(), 1);
-    assert!(rt; written[0].as_slice() == expected.as_slice());
+    Ok(expected)
+}
+
+#[test]
+fn connection_has_at_most_a_thousand_requests(rt: HostRuntime) -> Result<(), Fail> {
+    let alloc: Global = rt.alloc();
+    let requests = requests_for_nothing(alloc, 1001)?;
+    let written = replies_of_one(&rt, alloc, Vec::new(alloc), requests)?;
+    let expected = thousand_not_found(alloc)?;
+    assert!(rt; written.as_slice() == expected.as_slice());
     Ok(())
 }

@@ -4,7 +4,7 @@ ghost use Rattle.std.specs.Thread.{IsSync};
 
 use super::{Told, games, named, new_store, summary_of};
 use disk_model::MemDisk;
-use explorer_model::fault::Why;
+use explorer_model::fault::{Refusal, Why};
 use import_run::{DeskHandle, Drained, OwnIngest, drain, import};
 use ingest_desk::{Desk, ImportEnding, Importer, Unnamed};
 use outside::{FreeGate, MemSource};
@@ -89,31 +89,43 @@ fn import_one<J: Index, R: Threads + Wait + Sync>(
 #[test]
 fn a_handle_and_an_ingest_of_its_own_import_alike(rt: HostRuntime) -> Result<(), Fail> {
     let alloc: Global = rt.alloc();
-    // The disk's calls: three of the creation, and four of each commit. The third commit fails.
+    let unnamed = store_with_two_commits(&rt, alloc)?;
+    assert_three_reports(&rt, over_a_desk::<Brand, _>(&rt, alloc, unnamed)?)?;
+    let unnamed = store_with_two_commits(&rt, alloc)?;
+    assert_three_reports(&rt, over_an_ingest::<Brand, _>(&rt, alloc, unnamed)?)
+}
+
+/// A new store whose third commit fails.
+fn store_with_two_commits<R: Wait>(rt: &R, alloc: Global) -> Result<Unnamed<MemDisk>, Fail> {
+    // The disk's calls: three of the creation, and four of each commit.
     let failing = vec![in alloc; 12]?;
-    let shared = over_a_desk::<Brand, _>(&rt, alloc, new_store(&rt, alloc, failing)?)?;
-    let failing = vec![in alloc; 12]?;
-    let own = over_an_ingest::<Brand, _>(&rt, alloc, new_store(&rt, alloc, failing)?)?;
-    for told in [shared, own] {
-        let [first, second, third] = told.as_slice() else {
-            return Err(Fail::from("three bodies have three reports"));
-        };
-        assert_eq!(rt; first.ending, ImportEnding::Whole);
-        assert!(rt; first.batches.as_slice() == [(1, 0, 1)].as_slice());
-        assert_eq!(rt; first.refused.len(), 0);
-        assert!(rt; second.batches.as_slice() == [(2, 1, 1)].as_slice());
-        assert_eq!(rt; second.refused.len(), 1);
-        assert_eq!(rt; second.refused[0].place, 0);
-        assert_eq!(rt; second.refused[0].why, Why::Repeated { number: 0 });
-        assert_eq!(rt;
-            third.ending,
-            ImportEnding::DiskFault {
-                before: 0,
-                after: 1
-            }
-        );
-    }
+    new_store(rt, alloc, failing)
+}
+
+/// Of three bodies the first two are stored, but the text that comes twice, and the third meets the
+/// fault.
+fn assert_three_reports<R: Abort>(rt: &R, told: Vec<Told>) -> Result<(), Fail> {
+    let [first, second, third] = told.as_slice() else {
+        return Err(Fail::from("three bodies have three reports"));
+    };
+    assert_eq!(rt; first.ending, ImportEnding::Whole);
+    assert!(rt; has_stored_and_refused(first, &[(1, 0, 1)], &[]));
+    let again = Refusal {
+        place: 0,
+        why: Why::Repeated { number: 0 },
+    };
+    assert!(rt; has_stored_and_refused(second, &[(2, 1, 1)], &[again]));
+    let fault = ImportEnding::DiskFault {
+        before: 0,
+        after: 1,
+    };
+    assert_eq!(rt; third.ending, fault);
     Ok(())
+}
+
+/// Whether a report has these batches and these refusals.
+fn has_stored_and_refused(told: &Told, batches: &[(u32, u32, u32)], refused: &[Refusal]) -> bool {
+    told.batches.as_slice() == batches && told.refused.as_slice() == refused
 }
 
 /// Imports three bodies: a game, the same with another one, and one more.

@@ -163,20 +163,41 @@ fn go_on_behind_a_fault<J: Index, R: Threads + Wait + Abort + Sync>(
 ) -> Result<(), Fail> {
     let mut pass = passes.pop().ok_or("a pass")?;
     let mut marks = Marks::new();
-    let mut faults = Vec::new(alloc);
-    for number in 0..3 {
-        let tally = games(rt, alloc, number, 1)?;
-        faults.push(fault_of(&mut marks, ingest.commit(rt, alloc, tally)))?;
+    let wanted = [None, Some(("disk fault", 0, 1)), Some(("closed", 0, 1))];
+    for number in 0..3u32 {
+        let fault = commit_one(rt, alloc, ingest, &mut marks, number)?;
+        assert!(rt; fault == wanted[number as usize], "of game {number}");
         assert_eq!(rt; pass.enter(alloc)?.batches(), 1);
     }
-    let wanted = [None, Some(("disk fault", 0, 1)), Some(("closed", 0, 1))];
-    assert!(rt; faults.as_slice() == wanted.as_slice());
     assert_eq!(rt; (marks.disk_faults(), marks.closed()), (1, 1));
-    assert_eq!(rt; ingest.batches(), 1);
-    assert!(rt; matches!(ingest.catch_up(rt), Ok(None)));
-    pass.learn(ingest.tell());
-    assert_eq!(rt; pass.front(), 1);
+    assert_eq!(rt; batches_told(rt, ingest, &mut pass), Some((1, 1)));
     Ok(())
+}
+
+/// Commits a batch of one game, and gives the fault of the disk that is told.
+fn commit_one<J: Index, R: Threads + Wait + Abort + Sync>(
+    rt: &R,
+    alloc: Global,
+    ingest: &mut Ingest<MemDisk, J>,
+    marks: &mut Marks,
+    number: u32,
+) -> Result<Option<(&'static str, u64, u64)>, Fail> {
+    let tally = games(rt, alloc, number, 1)?;
+    Ok(fault_of(marks, ingest.commit(rt, alloc, tally)))
+}
+
+/// How many batches a store has that holds nothing back, and how many a pass then knows.
+fn batches_told<J: Index, R: Wait>(
+    rt: &R,
+    ingest: &mut Ingest<MemDisk, J>,
+    pass: &mut Pass<J>,
+) -> Option<(u32, u32)> {
+    let batches = ingest.batches();
+    if !matches!(ingest.catch_up(rt), Ok(None)) {
+        return None;
+    }
+    pass.learn(ingest.tell());
+    Some((batches, pass.front()))
 }
 
 /// The fault of the disk that an answer tells of, with its counts. Its mark is counted.

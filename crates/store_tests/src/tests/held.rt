@@ -163,19 +163,33 @@ fn hold_batch<J: Index, R: Threads + Wait + Abort + Sync>(
     ingest: &mut Ingest<GreedyDisk<'_>, J>,
     hoard: &Hoard,
 ) -> Result<(), Fail> {
+    let held = commit_without_memory(rt, alloc, ingest, hoard)?;
+    assert!(rt; held == hoard.has_all.get());
+    let published = if held { 0 } else { 1 };
+    assert_eq!(rt; batches_of(ingest), (1, published));
+    assert_eq!(rt; commit_games(rt, alloc, ingest, 1, 1)?, Some((2, 1, 1)));
+    assert_eq!(rt; batches_of(ingest), (2, 2));
+    Ok(())
+}
+
+/// Commits the first batch, and says whether it is held.
+fn commit_without_memory<J: Index, R: Threads + Wait + Abort + Sync>(
+    rt: &R,
+    alloc: Global,
+    ingest: &mut Ingest<GreedyDisk<'_>, J>,
+    hoard: &Hoard,
+) -> Result<bool, Fail> {
     let first = games(rt, alloc, 0, 1)?;
     hoard.takes.set(true);
     let answer = ingest.commit(rt, alloc, first);
     hoard.takes.set(false);
     hoard.blocks.set(Vec::new(alloc));
-    let held = matches!(answer, Err(CommitFault::OutOfMemory { stored: true }));
-    assert!(rt; held == hoard.has_all.get());
-    assert_eq!(rt; ingest.batches(), 1);
-    let published = ingest.publisher().list().batches();
-    assert_eq!(rt; published, if held { 0 } else { 1 });
-    assert_eq!(rt; commit_games(rt, alloc, ingest, 1, 1)?, Some((2, 1, 1)));
-    assert_eq!(rt; ingest.publisher().list().batches(), 2);
-    Ok(())
+    Ok(matches!(answer, Err(CommitFault::OutOfMemory { stored: true })))
+}
+
+/// How many batches are stored, and how many are published.
+fn batches_of<D: Disk, J: Index>(ingest: &Ingest<D, J>) -> (u32, u32) {
+    (ingest.batches(), ingest.publisher().list().batches())
 }
 
 // ---- a join that is held
@@ -210,22 +224,38 @@ fn hold_join<J: Index, R: Threads + Wait + Abort + Sync>(
     alloc: Global,
     ingest: &mut Ingest<MemDisk, J>,
 ) -> Result<(), Fail> {
-    let last = games(rt, alloc, 5, 1)?;
-    let job = ingest.pick()?.ok_or("two are due")?;
-    let merged = merge(rt, alloc, &job.left, &job.right, 1, &FreeGate)?;
-    let mut blocks = room(alloc)?;
-    // A shared segment stands behind a count. No block but this one is left.
-    let block: Vec<u8> = Vec::with_capacity(alloc, 8 + size_of::<Segment>())?;
-    let has_all = take_all(alloc, &mut blocks);
-    drop(block);
-    let answer = ingest.install(rt, alloc, job, merged);
-    drop(blocks);
-    let held = matches!(answer, Err(InstallFault::OutOfMemory));
+    let (held, has_all) = join_without_memory(rt, alloc, ingest)?;
     assert!(rt; held == has_all);
     let published = ingest.publisher().list().segments().len();
     assert_eq!(rt; published, if held { 2 } else { 1 });
-    assert!(rt; ingest.commit(rt, alloc, last).is_ok());
+    assert_eq!(rt; commit_games(rt, alloc, ingest, 5, 1)?, Some((6, 5, 1)));
     let list = ingest.publisher().list();
     assert_eq!(rt; (list.batches(), list.segments().len()), (6, 2));
     Ok(())
+}
+
+/// Joins the last two segments that are due, and says whether the join is held, and whether all
+/// memory was taken.
+fn join_without_memory<J: Index, R: Threads + Wait + Abort + Sync>(
+    rt: &R,
+    alloc: Global,
+    ingest: &mut Ingest<MemDisk, J>,
+) -> Result<(bool, bool), Fail> {
+    let job = ingest.pick()?.ok_or("two are due")?;
+    let merged = merge(rt, alloc, &job.left, &job.right, 1, &FreeGate)?;
+    let (blocks, has_all) = all_but_a_share(alloc)?;
+    let answer = ingest.install(rt, alloc, job, merged);
+    drop(blocks);
+    Ok((matches!(answer, Err(InstallFault::OutOfMemory)), has_all))
+}
+
+/// Takes all memory but one block, as a shared segment needs it, and says whether none but this one
+/// is left.
+fn all_but_a_share(alloc: Global) -> Result<(Vec<Vec<u8>>, bool), AllocError> {
+    let mut blocks = room(alloc)?;
+    // A shared segment stands behind a count.
+    let block: Vec<u8> = Vec::with_capacity(alloc, 8 + size_of::<Segment>())?;
+    let has_all = take_all(alloc, &mut blocks);
+    drop(block);
+    Ok((blocks, has_all))
 }

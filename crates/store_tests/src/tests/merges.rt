@@ -1,13 +1,13 @@
 //! Two segments as one.
 use super::{BATCH, merged, one_game, segment_of, tally_of_batch};
+use best_lists::Entry;
 use outside::{FreeGate, Gate};
 use segment_blocks::Segment;
-use std::alloc::{AllocError, Global};
+use std::alloc::Global;
 use std::process::Abort;
 use std::sync::atomic::{AtomicU64, Ordering};
 use std::test::Fail;
 use std::thread::Threads;
-use tally_rows::Row;
 
 /// A gate that marks each leaf and counts how often it is passed. It holds leaf 1 until leaf 2 has
 /// come, or a million turns are over.
@@ -42,37 +42,53 @@ impl Gate for HoldingGate {
     }
 }
 
-/// How many games White won in each row, and the number of each game that a row lists.
-fn wins_and_listed(alloc: Global, segment: &Segment) -> Result<(Vec<u32>, Vec<u32>), AllocError> {
-    let mut wins = Vec::new(alloc);
-    let mut listed = Vec::new(alloc);
+/// The segment of two games with other second moves, merged by two workers.
+fn merged_games<R: Threads + Sync>(
+    rt: &R,
+    alloc: Global,
+    gate: &HoldingGate,
+) -> Result<Segment, Fail> {
+    let left = one_game(rt, alloc, 0, "1. e4 e5")?;
+    let right = one_game(rt, alloc, 1, "1. e4 c5")?;
+    merged(rt, alloc, &left, &right, 2, gate)
+}
+
+/// How many rows a segment has in which White won one game, those in which it won two, and all.
+fn rows_by_wins(segment: &Segment) -> (usize, usize, usize) {
+    let (mut one, mut two, mut all) = (0usize, 0usize, 0usize);
+    let mut rows = segment.rows_within(None, None);
+    while let Some(held) = rows.advance() {
+        let wins = held.to_row().white;
+        one = one.saturating_add(usize::from(wins == 1));
+        two = two.saturating_add(usize::from(wins == 2));
+        all = all.saturating_add(1);
+    }
+    (one, two, all)
+}
+
+/// How often the rows of a segment list game 0, game 1, and any game.
+fn listed_games(segment: &Segment) -> (usize, usize, usize) {
+    let (mut first, mut second, mut all) = (0usize, 0usize, 0usize);
     let mut rows = segment.rows_within(None, None);
     while let Some(held) = rows.advance() {
         let row = held.to_row();
-        wins.push(row.white)?;
-        push_listed(&mut listed, &row)?;
+        let listed = row.top.entries();
+        first = first.saturating_add(count_of(0, listed));
+        second = second.saturating_add(count_of(1, listed));
+        all = all.saturating_add(listed.len());
     }
-    Ok((wins, listed))
+    (first, second, all)
 }
 
-fn push_listed(listed: &mut Vec<u32>, row: &Row) -> Result<(), AllocError> {
-    for entry in row.top.entries() {
-        listed.push(entry.number)?;
-    }
-    Ok(())
-}
-
-/// How often a number stands among others.
-fn count_of(number: u32, among: &[u32]) -> usize {
-    among.iter().filter(|other| **other == number).count()
+/// How often a game stands among others.
+fn count_of(number: u32, among: &[Entry]) -> usize {
+    among.iter().filter(|entry| entry.number == number).count()
 }
 
 #[test]
 fn two_leaves_of_a_merge_run_at_once(rt: HostRuntime) -> Result<(), Fail> {
-    let left = one_game(&rt, rt.alloc(), 0, "1. e4 e5")?;
-    let right = one_game(&rt, rt.alloc(), 1, "1. e4 c5")?;
     let gate = HoldingGate::new();
-    let both = merged(&rt, rt.alloc(), &left, &right, 2, &gate)?;
+    let both = merged_games(&rt, rt.alloc(), &gate)?;
     // The mark of both, and leaves 1 and 2.
     assert_eq!(rt; gate.leaves.load(Ordering::SeqCst), 0b111);
     assert_eq!(rt;
@@ -80,21 +96,9 @@ fn two_leaves_of_a_merge_run_at_once(rt: HostRuntime) -> Result<(), Fail> {
         (0, 2, 2)
     );
     // The start with e4 counts both games; e4 with e5 and with c5, and the two last positions.
-    let (wins, listed) = wins_and_listed(rt.alloc(), &both)?;
-    assert_eq!(rt;
-        (count_of(1, wins.as_slice()), count_of(2, wins.as_slice())),
-        (4, 1)
-    );
-    assert_eq!(rt; wins.len(), 5);
+    assert_eq!(rt; rows_by_wins(&both), (4, 1, 5));
     // The start lists games 0 and 1, e4 lists game 0 with e5 and game 1 with c5.
-    assert_eq!(rt;
-        (
-            count_of(0, listed.as_slice()),
-            count_of(1, listed.as_slice())
-        ),
-        (2, 2)
-    );
-    assert_eq!(rt; listed.len(), 4);
+    assert_eq!(rt; listed_games(&both), (2, 2, 4));
     Ok(())
 }
 

@@ -1,6 +1,6 @@
 use Rattle.std.proofs.Common.{◌≡◌, ◌∙◌, sym}
-use Rattle.session.proofs.NoReports.{empty-list, reports-empty, reports-nothing}
-use Rattle.session.proofs.tests.RoomForNoneImporter.import.Goals as goal
+use Rattle.import_tests.proofs.NoReports.{empty-list, reports-empty, reports-nothing}
+use Rattle.import_tests.proofs.tests.doors.RoomForNoneImporter.import.Goals as goal
 
 pub returns-then-is_empty-clause-reports : goal.returns-then-is_empty-clause-reports
 returns-then-is_empty-clause-reports g c =

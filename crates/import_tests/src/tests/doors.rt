@@ -1,11 +1,12 @@
+//! Doors, over an importer that has room for nothing.
 ghost use Rattle.std.specs.Prelude.{◌≡◌, ◌∷◌, [], option_map};
 ghost use Rattle.ingest_desk.specs.Importers.{TellsAll};
 
-use super::*;
 use explorer_model::archive::Bytes;
 use ingest_desk::{End, ImportCall, ImportEnding, Importer, Report};
 use outside::{MemDoor, MemLink, MemSink, MemSource};
 use published_index::{Index, List, Pass, Unnamed, open_list};
+use session::{DoorEnd, serve_door};
 use std::alloc::Global;
 use std::marker::{Brand, PhantomData};
 use std::process::Abort;
@@ -152,16 +153,35 @@ fn serves<J: Index, R: Threads + Wait + Abort + Sync>(
         calls: Some(Vec::new(alloc)),
         of: PhantomData,
     };
-    let links = vec![in alloc; link(alloc, REQUESTS, 7)?, link(alloc, b"GET /", 7)?]?;
-    let mut door = MemDoor::new(alloc, links, 2, Vec::new(alloc))?;
-    let end = serve_door(rt, alloc, &mut door, pass, &mut importer);
+    let (end, door) = served(rt, alloc, pass, &mut importer)?;
     assert_eq!(rt; end, DoorEnd::Whole);
     let links = door.taken_back();
     assert_eq!(rt; links.len(), 2);
     assert_eq!(rt; links[0].written(), REPLIES);
     assert_eq!(rt; links[1].written(), b"".as_slice());
-    let calls = importer.calls.ok_or("the calls are told")?;
-    assert_eq!(rt; calls.len(), 2);
-    assert_eq!(rt; calls[1].body.as_slice(), b"x".as_slice());
+    assert_eq!(rt; calls_and_last(&importer), Some((2, b"x".as_slice())));
     Ok(())
+}
+
+/// Serves a door of two links: one with the requests, and one that ends in the middle of a request.
+fn served<J: Index, R: Threads + Wait + Sync>(
+    rt: &R,
+    alloc: Global,
+    pass: &mut Pass<J>,
+    importer: &mut RoomForNone<J>,
+) -> Result<(DoorEnd, MemDoor), Fail> {
+    let mut door = door(alloc)?;
+    let end = serve_door(rt, alloc, &mut door, pass, importer);
+    Ok((end, door))
+}
+
+fn door(alloc: Global) -> Result<MemDoor, Fail> {
+    let links = vec![in alloc; link(alloc, REQUESTS, 7)?, link(alloc, b"GET /", 7)?]?;
+    Ok(MemDoor::new(alloc, links, 2, Vec::new(alloc))?)
+}
+
+/// How many calls an importer tells, and the body of the last one.
+fn calls_and_last<J: Index>(importer: &RoomForNone<J>) -> Option<(usize, &[u8])> {
+    let calls = importer.calls.as_ref()?;
+    Some((calls.len(), calls.last()?.body.as_slice()))
 }

@@ -1,5 +1,5 @@
 use Rattle.std.proofs.Common.{length}
-use Rattle.store_tests.proofs.tests.merges.wins_and_listed.Given as goal
+use Rattle.store_tests.proofs.tests.merges.rows_by_wins.Given as goal
 
 abbrev pub decreases-loop-held : goal.decreases-loop-held
 decreases-loop-held l = length l.rows

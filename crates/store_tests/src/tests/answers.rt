@@ -1,15 +1,15 @@
-ghost use Rattle.std.specs.Prelude.{◌≡◌, ◌≤◌, ◌<◌, length, IsTrue};
-ghost use Rattle.std.specs.List.{All};
+//! Answers from five games in one, two and five segments.
+ghost use Rattle.std.specs.Prelude.{◌≡◌, ◌≤◌, ◌<◌};
 ghost use Rattle.explorer_model.specs.Chess.{IsValid};
 
-use crate::look_segments;
-use batch_tally::tally;
+use super::{segment_of, tally_of};
 use explorer_model::answer::{Found, Listed, MonthLine, MoveLine, Totals};
 use explorer_model::archive::{Bytes, Month, Placed};
 use explorer_model::list::Items;
 use explorer_model::query::{Filter, Query};
 use legal_moves::board::Board;
-use outside::FreeGate;
+use lookup::look_segments;
+use published_index::SharedSegment;
 use segment_blocks::{Segment, Steps};
 use std::alloc::{AllocError, Global};
 use std::marker::Brand;
@@ -18,7 +18,6 @@ use std::sync::Arc;
 use std::sync::ledger::{Blank, Ledger};
 use std::test::Fail;
 use std::thread::Threads;
-use tally_rows::Tally;
 
 /// A game, told apart by White's name of three letters.
 #[derive(Clone, Copy)]
@@ -46,30 +45,18 @@ fn text_of(alloc: Global, game: &Played) -> Result<Placed, AllocError> {
     })
 }
 
-fn are_short(texts: &[Placed]) -> bool
-    ensures { IsTrue result → All (λ text. length text.bytes ≤ 65536) texts.now }
-{
-    for text in texts {
-        if 65_536 < text.bytes.len() {
-            return false;
-        }
-    }
-    true
-}
-
-fn tally_of<R: Threads + Sync>(
+/// The segment of games, as the batch at this place in the journal.
+fn segment_of_games<R: Threads + Sync>(
     rt: &R,
     alloc: Global,
+    place: u32,
     games: &[Played],
-) -> Result<Option<Tally>, AllocError> {
+) -> Result<Segment, Fail> {
     let mut texts = Vec::new(alloc);
     for game in games {
         texts.push(text_of(alloc, game)?)?;
     }
-    if 512 < texts.len() || !are_short(texts.as_slice()) {
-        return Ok(None);
-    }
-    Ok(tally(rt, alloc, texts, 1, &FreeGate)?.tally)
+    segment_of(alloc, place, tally_of(rt, alloc, texts)?)
 }
 
 /// What is asked of the starting position.
@@ -264,48 +251,43 @@ const UNTIL_JANUARY: &str = "2/1/0; moves d4 2000 0/1/0 Cid e4 1500 1/0/0 Ann; t
 
 const SHORT: &str = "3/1/1; moves e4 1567 2/0/1; top Cid Bea; recent Dan";
 
-/// Segments of so many of the five games, one segment after another; None where a batch is refused
-/// or the games are too few.
+/// Segments of so many of the five games, one segment after another.
 fn segments_of<R: Threads + Sync>(
     rt: &R,
     alloc: Global,
     sizes: &[usize],
-) -> Result<Option<Vec<Arc<Segment>>>, AllocError> {
+) -> Result<Vec<SharedSegment>, Fail> {
     let games = [ann(), bea(), cid(), dan(), eve()];
     let mut segments = Vec::new(alloc);
-    let mut from = 0;
-    let mut first = 0;
+    let mut rest = &games[..];
+    let mut place = 0u32;
     for size in sizes {
-        if 4 < first || 5 < from || 5 - from < *size {
-            return Ok(None);
-        }
-        let Some(tally) = tally_of(rt, alloc, &games[from..from + *size])? else {
-            return Ok(None);
-        };
-        segments.push(Arc::new(alloc, Segment::of(alloc, first, tally)?)?)?;
-        from += *size;
-        first += 1;
+        let (front, behind) = rest.split_at_checked(*size).ok_or("too few games")?;
+        let segment = segment_of_games(rt, alloc, place, front)?;
+        segments.push(Arc::new(alloc, segment)?)?;
+        rest = behind;
+        place = place.saturating_add(1);
     }
-    Ok(Some(segments))
+    Ok(segments)
 }
 
-/// What is found in the journal of the segments, in one line; empty where they are too many.
+/// What is found in the journal of the segments, in one line.
 fn told_by_segments<L: Ledger>(
     alloc: Global,
-    segments: &[Arc<Segment>],
+    segments: &[SharedSegment],
     asked: &Asked,
     blank: Blank,
-) -> Result<String, AllocError>
+) -> Result<String, Fail>
     requires name { blank.name ≡ L.name }
     requires parts { blank.parts ≡ L.parts }
     requires some { 0 < L.parts }
 {
     if 64 < segments.len() {
-        return Ok(String::new(alloc));
+        return Err(Fail::from("at most 64 segments"));
     }
     let mut steps = Steps::<L>::new(blank);
     let found = look_segments(alloc, segments, &query_of(alloc, asked), &mut steps)?;
-    told(alloc, &found)
+    Ok(told(alloc, &found)?)
 }
 
 /// What is found in the journal of the five games in segments of these sizes.
@@ -314,13 +296,9 @@ fn told_by_cut<R: Threads + Sync>(
     alloc: Global,
     sizes: &[usize],
     asked: &Asked,
-) -> Result<String, AllocError> {
-    match segments_of(rt, alloc, sizes)? {
-        Some(segments) => {
-            told_by_segments::<Brand>(alloc, segments.as_slice(), asked, Blank::new(1))
-        }
-        None => Ok(String::new(alloc)),
-    }
+) -> Result<String, Fail> {
+    let segments = segments_of(rt, alloc, sizes)?;
+    told_by_segments::<Brand>(alloc, segments.as_slice(), asked, Blank::new(1))
 }
 
 /// What is asked of the five games, and the answer in one line.
@@ -346,12 +324,10 @@ fn table() -> [(Asked, &'static str); 6] {
 #[test]
 fn one_two_and_five_segments_answer_alike(rt: HostRuntime) -> Result<(), Fail> {
     for (asked, answer) in &table() {
-        let one = told_by_cut(&rt, rt.alloc(), &[5], asked)?;
-        assert_eq!(rt; one.as_str(), *answer);
-        let two = told_by_cut(&rt, rt.alloc(), &[2, 3], asked)?;
-        assert_eq!(rt; two.as_str(), *answer);
-        let five = told_by_cut(&rt, rt.alloc(), &[1, 1, 1, 1, 1], asked)?;
-        assert_eq!(rt; five.as_str(), *answer);
+        for sizes in [&[5][..], &[2, 3][..], &[1, 1, 1, 1, 1][..]] {
+            let told = told_by_cut(&rt, rt.alloc(), sizes, asked)?;
+            assert_eq!(rt; told.as_str(), *answer, "in segments of {sizes:?}");
+        }
     }
     Ok(())
 }

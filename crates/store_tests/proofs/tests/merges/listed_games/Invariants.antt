@@ -1,0 +1,5 @@
+use Rattle.std.proofs.Common.{length}
+use Rattle.store_tests.proofs.tests.merges.listed_games.Given as goal
+
+abbrev pub decreases-loop-held : goal.decreases-loop-held
+decreases-loop-held l = length l.rows
