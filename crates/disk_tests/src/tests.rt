@@ -1,6 +1,7 @@
-//! Streams, doors, disks, logs and calls side by side.
+//! Streams, doors, disks, logs, stored batches and calls side by side.
 mod calls;
 mod disks;
 mod doors;
 mod logs;
+mod stores;
 mod streams;

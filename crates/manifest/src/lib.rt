@@ -14,6 +14,3 @@ mod store;
 pub use creating::create;
 pub use manifest::Manifest;
 pub use opening::{Opened, open};
-
-#[cfg(test)]
-mod tests;

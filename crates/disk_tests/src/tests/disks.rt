@@ -57,14 +57,12 @@ fn size<D: Disk>(disk: &mut D) -> Result<u64, Failed> {
 #[test]
 fn disk_in_memory_fails_where_listed_and_past_its_room(rt: HostRuntime) -> Result<(), Fail> {
     let mut disk = disk_of(rt.alloc(), 4, &[3, 7, 8])?;
-    let answers = [put(&mut disk, 0, b"abc"), sync(&mut disk)];
-    assert_eq!(rt; answers, [Ok(()), Ok(())]);
-    assert_eq!(rt; size(&mut disk), Err(Failed));
-    assert_eq!(rt; put(&mut disk, 2, b"def"), Err(Failed));
-    assert_eq!(rt; disk.short_of_memory(), false);
-    let answers = [put(&mut disk, 2, b"de"), sync(&mut disk)];
-    assert_eq!(rt; answers, [Err(Failed), Err(Failed)]);
-    assert_eq!(rt; disk.faults(), 4);
+    let answers = (put(&mut disk, 0, b"abc"), sync(&mut disk), size(&mut disk));
+    assert_eq!(rt; answers, (Ok(()), Ok(()), Err(Failed)));
+    let answers = (put(&mut disk, 2, b"def"), disk.short_of_memory());
+    assert_eq!(rt; answers, (Err(Failed), false));
+    let answers = (put(&mut disk, 2, b"de"), sync(&mut disk), disk.faults());
+    assert_eq!(rt; answers, (Err(Failed), Err(Failed), 4));
     assert_eq!(rt; content(&mut disk), Ok(*b"abc"));
     Ok(())
 }
@@ -140,6 +138,16 @@ fn empty_file<R: Files<File = File>>(rt: &R, path: &str) -> Result<FileDisk, Fai
     Ok(FileDisk::new(file)?)
 }
 
+/// What two writes to an empty file of this name and a sync answer.
+fn write_to<R: Files<File = File>>(rt: &R, path: &str) -> Result<[Result<(), Failed>; 3], Fail> {
+    let mut disk = empty_file(rt, path)?;
+    Ok([
+        put(&mut disk, 0, b"abc"),
+        put(&mut disk, 2, b"de"),
+        sync(&mut disk),
+    ])
+}
+
 /// A disk over the file of this name, which is open for reading alone.
 fn file_to_read<R: Files<File = File>>(rt: &R, path: &str) -> Result<FileDisk, Fail> {
     Ok(FileDisk::new(OpenOptions::new().read(true).open(rt, path)?)?)
@@ -148,14 +156,7 @@ fn file_to_read<R: Files<File = File>>(rt: &R, path: &str) -> Result<FileDisk, F
 #[test]
 fn disk_over_a_file_keeps_what_is_written(rt: HostRuntime) -> Result<(), Fail> {
     let path = "disk_over_a_file";
-    let mut disk = empty_file(&rt, path)?;
-    let answers = [
-        put(&mut disk, 0, b"abc"),
-        put(&mut disk, 2, b"de"),
-        sync(&mut disk),
-    ];
-    drop(disk);
-    assert_eq!(rt; answers, [Ok(()), Ok(()), Ok(())]);
+    assert_eq!(rt; write_to(&rt, path)?, [Ok(()), Ok(()), Ok(())]);
     let mut disk = file_to_read(&rt, path)?;
     assert_eq!(rt; content(&mut disk), Ok(*b"abde"));
     assert_eq!(rt; put(&mut disk, 0, b"x"), Err(Failed));

@@ -29,6 +29,18 @@ fn pass_on<I: Source, O: Sink>(source: &mut I, sink: &mut O) -> Result<usize, Fa
     Ok(count)
 }
 
+/// What as many passes answer as are asked for.
+fn passes<I: Source, O: Sink, const N: usize>(
+    source: &mut I,
+    sink: &mut O,
+) -> [Result<usize, Failed>; N] {
+    let mut answers = [Ok(0); N];
+    for answer in answers.iter_mut() {
+        *answer = pass_on(source, sink);
+    }
+    answers
+}
+
 /// Writes a text.
 fn put<O: Sink>(sink: &mut O, text: &[u8]) -> Result<(), Failed> {
     sink.write(text)
@@ -82,9 +94,9 @@ impl Write for Narrow {
 fn source_in_memory_fails_where_listed(rt: HostRuntime) -> Result<(), Fail> {
     let mut source = source_of(rt.alloc(), b"abcde", 2, &[1, 4])?;
     let mut sink = sink_of(rt.alloc(), 5, &[])?;
-    for answer in [Ok(2), Err(Failed), Ok(2), Ok(1), Err(Failed), Ok(0), Ok(0)] {
-        assert_eq!(rt; pass_on(&mut source, &mut sink), answer);
-    }
+    let answers = passes(&mut source, &mut sink);
+    let wanted = [Ok(2), Err(Failed), Ok(2), Ok(1), Err(Failed), Ok(0), Ok(0)];
+    assert_eq!(rt; answers, wanted);
     assert_eq!(rt; sink.bytes(), b"abcde".as_slice());
     assert_eq!(rt; source.read_faults(), 2);
     Ok(())
@@ -108,9 +120,8 @@ fn sink_in_memory_fails_where_listed_and_past_its_room(rt: HostRuntime) -> Resul
 fn adapters_pass_bytes_on(rt: HostRuntime) -> Result<(), Fail> {
     let mut sink = sink_of(rt.alloc(), 5, &[])?;
     let mut source = StdSource::new(b"abcde".as_slice());
-    for answer in [Ok(4), Ok(1), Ok(0)] {
-        assert_eq!(rt; pass_on(&mut source, &mut sink), answer);
-    }
+    let answers = passes(&mut source, &mut sink);
+    assert_eq!(rt; answers, [Ok(4), Ok(1), Ok(0)]);
     assert_eq!(rt; sink.bytes(), b"abcde".as_slice());
     assert_eq!(rt; source.read_faults(), 0);
     Ok(())

@@ -1,9 +1,11 @@
+//! Stores of batches, damaged and crashed.
 ghost use Rattle.std.specs.Prelude.{◌≡◌, ◌∷◌, [], IfOk};
 
-use super::*;
+use super::disks::{content, disk_of, disk_with};
 use disk_model::{Disk, MemDisk};
 use explorer_model::archive::{Batch, Bytes, Texts};
 use explorer_model::store::LogFault;
+use manifest::{Manifest, create, open};
 use record_log::{AppendFault, CreateFault, OpenFault};
 use std::alloc::{AllocError, Global};
 use std::test::Fail;
@@ -11,16 +13,8 @@ use std::test::Fail;
 /// A store of format 1 with one batch of one text, `x`, byte by byte.
 const ONE: [u8; 25] = *b"OPENEXP1\x01\x00\x00\x00\x01\x07\x00\x00\x00\x01\x00\x01\x00\x00\x00x\x00";
 
-/// A disk with these bytes, synced. Its calls are counted from 2.
-fn disk_with(alloc: Global, bytes: &[u8], failing: Vec<u64>) -> Result<MemDisk, Fail> {
-    let mut disk = MemDisk::new(alloc, 70_000, failing)?;
-    if bytes.len() > 70_000 {
-        return Err(Fail::from("too long"));
-    }
-    disk.write_at(0, bytes)?;
-    disk.sync()?;
-    Ok(disk)
-}
+/// The room of a disk that has bytes from the start.
+const ROOM: usize = 70_000;
 
 /// Stores a batch of one short text.
 fn store_text<D: Disk>(
@@ -53,39 +47,60 @@ fn count_of<D: Disk + Drop>(alloc: Global, disk: D) -> Result<usize, OpenFault> 
     }
 }
 
+/// A new store on an empty disk with room for so many bytes.
+fn new_store(alloc: Global, room: usize) -> Result<Manifest<MemDisk>, Fail> {
+    match create(disk_of(alloc, room, &[])?) {
+        Ok(manifest) => Ok(manifest),
+        Err(_) => Err(Fail::from("not created")),
+    }
+}
+
+/// Why no store is made on a disk, which is given back.
+fn not_created(disk: MemDisk) -> Result<(CreateFault, MemDisk), Fail> {
+    match create(disk) {
+        Ok(_) => Err(Fail::from("created")),
+        Err(back) => Ok((back.fault, back.disk)),
+    }
+}
+
+/// Where the gate of the store on a disk stands, and its journal.
+fn journal_on(alloc: Global, disk: MemDisk) -> Result<(u64, Vec<Batch>), Fail> {
+    match open(alloc, disk) {
+        Ok(opened) => Ok((opened.manifest.gate(), opened.journal)),
+        Err(_) => Err(Fail::from("not opened")),
+    }
+}
+
+/// How many texts a batch has, and whether the first is `x`.
+fn told_of(batch: &Batch) -> (usize, bool) {
+    let texts = batch.texts.as_slice();
+    (
+        texts.len(),
+        texts
+            .first()
+            .is_some_and(|it| it.as_slice() == b"x".as_slice()),
+    )
+}
+
 #[test]
 fn store_is_written_byte_by_byte(rt: HostRuntime) -> Result<(), Fail> {
     let alloc: Global = rt.alloc();
-    let Ok(mut manifest) = create(MemDisk::new(alloc, 100, Vec::new(alloc))?) else {
-        return Err(Fail::from("not created"));
-    };
+    let mut manifest = new_store(alloc, 100)?;
     assert_eq!(rt; manifest.gate(), 12);
     assert_eq!(rt; store_text(alloc, &mut manifest, b"x"), Ok(()));
     assert_eq!(rt; manifest.gate(), 24);
     let mut disk = manifest.into_disk();
-    let mut bytes = [0; 25];
-    assert_eq!(rt; disk.size(), Ok(25));
-    disk.read_at(0, &mut bytes)?;
-    assert_eq!(rt; bytes, ONE);
-    let Err(back) = create(disk) else {
-        return Err(Fail::from("created"));
-    };
-    assert_eq!(rt; back.fault, CreateFault::NotEmpty { size: 25 });
-    let Ok(opened) = open(alloc, back.disk) else {
-        return Err(Fail::from("not opened"));
-    };
-    assert_eq!(rt; opened.manifest.gate(), 24);
-    assert_eq!(rt; opened.journal.len(), 1);
-    assert_eq!(rt; opened.journal[0].texts.len(), 1);
-    assert_eq!(rt;
-        opened.journal[0].texts.as_slice()[0].as_slice(),
-        b"x".as_slice()
-    );
+    assert_eq!(rt; content(&mut disk), Ok(ONE));
+    let (fault, disk) = not_created(disk)?;
+    assert_eq!(rt; fault, CreateFault::NotEmpty { size: 25 });
+    let (gate, journal) = journal_on(alloc, disk)?;
+    assert_eq!(rt; (gate, journal.len()), (24, 1));
+    assert_eq!(rt; told_of(&journal[0]), (1, true));
     Ok(())
 }
 
 /// A store with the batch of `ONE` and, behind the gate 24, a record with this payload.
-fn disk_behind_one(alloc: Global, payload: &[u8]) -> Result<MemDisk, Fail> {
+fn bytes_behind_one(alloc: Global, payload: &[u8]) -> Result<Vec<u8>, Fail> {
     if payload.len() > 66_000 {
         return Err(Fail::from("too long"));
     }
@@ -95,7 +110,13 @@ fn disk_behind_one(alloc: Global, payload: &[u8]) -> Result<MemDisk, Fail> {
     bytes.extend_from_slice(&(payload.len() as u32).to_le_bytes())?;
     bytes.extend_from_slice(payload)?;
     bytes.push(0)?;
-    disk_with(alloc, &bytes, Vec::new(alloc))
+    Ok(bytes)
+}
+
+/// How many batches such a store has, or why it is none.
+fn count_behind_one(alloc: Global, payload: &[u8]) -> Result<Result<usize, OpenFault>, Fail> {
+    let bytes = bytes_behind_one(alloc, payload)?;
+    Ok(count_of(alloc, disk_with(alloc, ROOM, &bytes, &[])?))
 }
 
 /// The payload of so many texts of this length, all of whose bytes are `x`.
@@ -110,9 +131,10 @@ fn payload_of(alloc: Global, count: u16, length: u32) -> Result<Vec<u8>, Fail> {
     Ok(payload)
 }
 
+const DAMAGED: Result<usize, OpenFault> = Err(OpenFault::Log(LogFault::Damaged { at: 24 }));
+
 #[test]
 fn payload_off_the_form_is_damaged_at_its_gate(rt: HostRuntime) -> Result<(), Fail> {
-    let alloc: Global = rt.alloc();
     let table = [
         b"\x01\x00\x01\x00\x00".as_slice(),
         b"\x00\x00".as_slice(),
@@ -124,19 +146,23 @@ fn payload_off_the_form_is_damaged_at_its_gate(rt: HostRuntime) -> Result<(), Fa
         b"\x02\x00\x01\x00\x00\x00x".as_slice(),
         b"\x00\x01\x00\x00\x00\x01x".as_slice(),
     ];
-    let damaged = Err(OpenFault::Log(LogFault::Damaged { at: 24 }));
     for payload in table {
-        assert_eq!(rt; count_of(alloc, disk_behind_one(alloc, payload)?), damaged);
+        assert_eq!(rt; count_behind_one(rt.alloc(), payload)?, DAMAGED);
     }
+    Ok(())
+}
+
+#[test]
+fn payload_past_a_limit_is_damaged_at_its_gate(rt: HostRuntime) -> Result<(), Fail> {
     let limits = [
         (512, 1, Ok(2)),
-        (513, 1, damaged),
+        (513, 1, DAMAGED),
         (1, 65_536, Ok(2)),
-        (1, 65_537, damaged),
+        (1, 65_537, DAMAGED),
     ];
     for (count, length, answer) in limits {
-        let payload = payload_of(alloc, count, length)?;
-        assert_eq!(rt; count_of(alloc, disk_behind_one(alloc, &payload)?), answer);
+        let payload = payload_of(rt.alloc(), count, length)?;
+        assert_eq!(rt; count_behind_one(rt.alloc(), &payload)?, answer);
     }
     Ok(())
 }
@@ -150,12 +176,16 @@ struct Stopped {
     count: usize,
 }
 
+/// The store `ONE` on a disk whose call of this number fails.
+fn store_of_one(alloc: Global, call: u64) -> Result<Manifest<MemDisk>, Fail> {
+    match open(alloc, disk_with(alloc, ROOM, &ONE, &[call])?) {
+        Ok(opened) => Ok(opened.manifest),
+        Err(_) => Err(Fail::from("not opened")),
+    }
+}
+
 fn stop_at(alloc: Global, call: u64, choice: u64) -> Result<Stopped, Fail> {
-    let disk = disk_with(alloc, &ONE, vec![in alloc; call]?)?;
-    let Ok(opened) = open(alloc, disk) else {
-        return Err(Fail::from("not opened"));
-    };
-    let mut manifest = opened.manifest;
+    let mut manifest = store_of_one(alloc, call)?;
     let stored = store_text(alloc, &mut manifest, b"abc");
     let again = if manifest.fault().is_none() {
         Ok(())
@@ -172,7 +202,6 @@ fn stop_at(alloc: Global, call: u64, choice: u64) -> Result<Stopped, Fail> {
 
 #[test]
 fn crash_leaves_the_batch_or_not(rt: HostRuntime) -> Result<(), Fail> {
-    let alloc: Global = rt.alloc();
     // The gate's write is torn to 1, 0, 1 and 1.
     let torn = [2, 1, 2, 2];
     let table = [
@@ -186,7 +215,7 @@ fn crash_leaves_the_batch_or_not(rt: HostRuntime) -> Result<(), Fail> {
     let after = 1;
     for (call, counts) in table {
         for (choice, count) in counts.iter().enumerate() {
-            let stopped = stop_at(alloc, call, choice as u64)?;
+            let stopped = stop_at(rt.alloc(), call, choice as u64)?;
             assert_eq!(rt; stopped.count, *count);
             if call == 14 {
                 assert_eq!(rt; stopped.stored, Ok(()));
