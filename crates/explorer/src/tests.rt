@@ -78,6 +78,15 @@ fn games(alloc: Global, count: u32) -> Result<String, AllocError> {
     Ok(text)
 }
 
+/// The texts, one behind the other.
+fn joined(alloc: Global, texts: &[&str]) -> Result<String, AllocError> {
+    let mut all = String::new(alloc);
+    for text in texts {
+        all.push_str(text)?;
+    }
+    Ok(all)
+}
+
 /// A game as an answer lists it.
 fn listed(alloc: Global, id: &str, uci: &str, winner: &str) -> Result<String, AllocError> {
     format!(in alloc;
@@ -104,8 +113,37 @@ fn one_move(
     )
 }
 
-/// The answer over five games that White won and that began with `1. e4`.
-fn five_games(alloc: Global, top: &str, recent: &str) -> Result<String, AllocError> {
+/// Five games that White won and that began with `1. e4`, whose ids end with their numbers.
+fn five_texts(alloc: Global) -> Result<String, AllocError> {
+    let mut texts = String::new(alloc);
+    for number in 0..5u32 {
+        texts.push_str(numbered(alloc, number)?.as_str())?;
+    }
+    Ok(texts)
+}
+
+/// The game of this number.
+fn numbered(alloc: Global, number: u32) -> Result<String, AllocError> {
+    let id = format!(in alloc; "aaaaaaa{number}")?;
+    named(alloc, id.as_str(), "1-0", "1. e4 1-0")
+}
+
+/// The games of these numbers as an answer lists them.
+fn listed_five(alloc: Global, numbers: &[u32]) -> Result<String, AllocError> {
+    let mut all = String::new(alloc);
+    for number in numbers {
+        let id = format!(in alloc; "aaaaaaa{number}")?;
+        let comma = if all.is_empty() { "" } else { "," };
+        all.push_str(comma)?;
+        all.push_str(listed(alloc, id.as_str(), "e2e4", "white")?.as_str())?;
+    }
+    Ok(all)
+}
+
+/// The answer over the five games, of which it lists these.
+fn five_games(alloc: Global, top: &[u32], recent: &[u32]) -> Result<String, AllocError> {
+    let top = listed_five(alloc, top)?;
+    let recent = listed_five(alloc, recent)?;
     format!(in alloc;
         "{{\"black\":0,\"draws\":0,\"moves\":[{{\"averageRating\":1500,\"black\":0,\"draws\":0,\
          \"game\":null,\"opening\":null,\"san\":\"e4\",\"uci\":\"e2e4\",\"white\":5}}],\
@@ -165,6 +203,22 @@ fn with_name(alloc: Global, words: &[&str]) -> Result<Vec<String>, AllocError> {
     Ok(all)
 }
 
+/// An input of this text that gives at most `most` bytes in a read, and whose read of this number
+/// fails.
+fn input_of(alloc: Global, text: &str, most: usize, failing: u64) -> Result<MemSource, AllocError>
+    requires { 0 < most }
+{
+    let bytes = Vec::from_slice(alloc, text.as_bytes())?;
+    let failing = Vec::from_slice(alloc, &[failing])?;
+    Ok(MemSource::new(bytes, most, failing))
+}
+
+/// An empty output or an empty stream of errors, whose write of this number fails.
+fn sink_of(alloc: Global, failing: u64) -> Result<MemSink, AllocError> {
+    let failing = Vec::from_slice(alloc, &[failing])?;
+    MemSink::new(alloc, 4096, failing)
+}
+
 /// Runs with the words behind the program's name, over an input that gives at most `most` bytes in
 /// a read.
 fn run_on<R: AllocGlobal + Wait + Threads + Sync>(
@@ -179,10 +233,9 @@ fn run_on<R: AllocGlobal + Wait + Threads + Sync>(
     let alloc = rt.alloc();
     let all = with_name(alloc, words)?;
     let [read, write, report] = failing;
-    let bytes = Vec::from_slice(alloc, text.as_bytes())?;
-    let mut input = MemSource::new(bytes, most, vec![in alloc; read]?);
-    let mut output = MemSink::new(alloc, 4096, vec![in alloc; write]?)?;
-    let mut errors = MemSink::new(alloc, 4096, vec![in alloc; report]?)?;
+    let mut input = input_of(alloc, text, most, read)?;
+    let mut output = sink_of(alloc, write)?;
+    let mut errors = sink_of(alloc, report)?;
     let status = run(
         rt,
         all.as_slice(),
@@ -209,9 +262,9 @@ fn ends<R: AllocGlobal + Wait + Threads + Sync>(
     let alloc = rt.alloc();
     let (status, printed, reported) = ending;
     let all = with_name(alloc, words)?;
-    let mut input = MemSource::new(Vec::new(alloc), 1, Vec::new(alloc));
-    let mut output = MemSink::new(alloc, 4096, Vec::new(alloc))?;
-    let mut errors = MemSink::new(alloc, 4096, Vec::new(alloc))?;
+    let mut input = input_of(alloc, "", 1, NEVER)?;
+    let mut output = sink_of(alloc, NEVER)?;
+    let mut errors = sink_of(alloc, NEVER)?;
     let ended = run(
         rt,
         all.as_slice(),

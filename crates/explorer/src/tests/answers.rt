@@ -1,6 +1,6 @@
 //! Answers to queries over a few games.
 use super::{
-    FAULTLESS, NO_GAME, ONE_WHITE, Tags, five_games, game, listed, named, one_move, run_on, tagged,
+    FAULTLESS, NO_GAME, ONE_WHITE, Tags, five_games, five_texts, game, one_move, run_on, tagged,
     two_moves,
 };
 use std::alloc::{AllocError, Global};
@@ -198,29 +198,14 @@ fn orders_moves_of_equal_totals_by_their_text(rt: HostRuntime) -> Result<(), Fai
 #[test]
 fn lists_four_of_five_equal_games(rt: HostRuntime) -> Result<(), Fail> {
     let alloc = rt.alloc();
-    let mut text = String::new(alloc);
-    for id in ["aaaaaaa0", "aaaaaaa1", "aaaaaaa2", "aaaaaaa3", "aaaaaaa4"] {
-        let game = named(alloc, id, "1-0", "1. e4 1-0")?;
-        text.push_str(game.as_str())?;
-    }
-    let zero = listed(alloc, "aaaaaaa0", "e2e4", "white")?;
-    let one = listed(alloc, "aaaaaaa1", "e2e4", "white")?;
-    let two = listed(alloc, "aaaaaaa2", "e2e4", "white")?;
-    let three = listed(alloc, "aaaaaaa3", "e2e4", "white")?;
-    let four = listed(alloc, "aaaaaaa4", "e2e4", "white")?;
-    let top = format!(in alloc; "{zero},{one},{two},{three}")?;
-    let recent = format!(in alloc; "{four},{three},{two},{one}")?;
-    let two_recent = format!(in alloc; "{four},{three}")?;
-    for (query, top, recent) in [
-        ("", top.as_str(), recent.as_str()),
-        ("colour=red&topGames=9", top.as_str(), recent.as_str()),
-        (
-            "topGames=1&recentGames=2",
-            zero.as_str(),
-            two_recent.as_str(),
-        ),
-        ("topGames=0", "", recent.as_str()),
-    ] {
+    let text = five_texts(alloc)?;
+    let table: [(&str, &[u32], &[u32]); 4] = [
+        ("", &[0, 1, 2, 3], &[4, 3, 2, 1]),
+        ("colour=red&topGames=9", &[0, 1, 2, 3], &[4, 3, 2, 1]),
+        ("topGames=1&recentGames=2", &[0], &[4, 3]),
+        ("topGames=0", &[], &[4, 3, 2, 1]),
+    ];
+    for (query, top, recent) in table {
         let answer = five_games(alloc, top, recent)?;
         assert!(rt;
             answers(&rt, text.as_str(), query, answer.as_str())?,

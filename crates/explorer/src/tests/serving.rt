@@ -1,5 +1,7 @@
 //! Stores that are served over a host in memory.
-use super::{NO_GAME, ONE_WHITE, ends, five_games, game, games, listed, named};
+ghost use Rattle.std.specs.Prelude.{◌≡◌, [], IfOk};
+
+use super::{NO_GAME, ONE_WHITE, ends, five_games, games, joined, named, numbered};
 use disk_model::MemDisk;
 use host::{Host, MemCall, MemFile, MemHost, MemLinks};
 use outside::{MemLink, MemSink, MemSource};
@@ -17,26 +19,34 @@ fn new_store(alloc: Global, failing: &[u64]) -> Result<MemDisk, AllocError> {
     }
 }
 
-fn link(alloc: Global, text: &str, failing: &[u64]) -> Result<MemLink, AllocError> {
-    let bytes = Vec::from_slice(alloc, text.as_bytes())?;
-    let source = MemSource::new(bytes, 64, Vec::new(alloc));
-    let sink = MemSink::new(alloc, 8192, failing.to_vec(alloc)?)?;
-    Ok(MemLink::new(source, sink))
+fn link(alloc: Global, asked: &[&str]) -> Result<MemLink, AllocError> {
+    let source = MemSource::new(joined(alloc, asked)?.into_bytes(), 64, Vec::new(alloc));
+    Ok(MemLink::new(source, MemSink::new(alloc, 8192, Vec::new(alloc))?))
 }
 
-/// The links to one door, the writes of whose first one fail as told.
-fn links(
+/// A link whose peer sends these.
+fn one_link(alloc: Global, asked: &[&str]) -> Result<Vec<MemLink>, AllocError> {
+    let link = link(alloc, asked)?;
+    Ok(vec![in alloc; link]?)
+}
+
+/// Two links, and what their peers send.
+fn two_links(
     alloc: Global,
-    asked: &[&str],
-    writes: &[u64],
+    asked_first: &[&str],
+    asked_second: &[&str],
+) -> Result<Vec<MemLink>, AllocError> {
+    let first = link(alloc, asked_first)?;
+    let second = link(alloc, asked_second)?;
+    Ok(vec![in alloc; first, second]?)
+}
+
+/// A door to which these links come, and some accepts of which fail.
+fn door(
+    alloc: Global,
+    links: Vec<MemLink>,
     accepts: &[u64],
 ) -> Result<Vec<MemLinks>, AllocError> {
-    let mut links = Vec::new(alloc);
-    let mut failing = writes;
-    for text in asked {
-        links.push(link(alloc, text, failing)?)?;
-        failing = &[];
-    }
     let failing = accepts.to_vec(alloc)?;
     Ok(vec![in alloc; MemLinks { links, failing }]?)
 }
@@ -48,11 +58,12 @@ fn host_with(
     disk: &[u64],
     links: Vec<MemLink>,
     accepts: &[u64],
-) -> Result<MemHost, AllocError> {
+) -> Result<MemHost, AllocError>
+    ensures { IfOk result (λ host. host.calls ≡ []) }
+{
     let mut host = MemHost::new(alloc);
     host.add_disk("s", new_store(alloc, disk)?)?;
-    let failing = accepts.to_vec(alloc)?;
-    host.add_links("a", vec![in alloc; MemLinks { links, failing }]?)?;
+    host.add_links("a", door(alloc, links, accepts)?)?;
     Ok(host)
 }
 
@@ -93,8 +104,27 @@ fn were_written(links: &[MemLink], told: &[&str]) -> bool {
 
 const SERVE: [&str; 7] = ["serve", "s", "a", "--readers", "1", "--connections", "2"];
 
-/// A reply of this status, whose body is a line without its end.
-fn reply(alloc: Global, status: &str, fields: &str, line: &str) -> Result<String, AllocError> {
+/// What a report says of a game that was stored, and of one whose text was there before.
+const STORED: &str = "{\"batches\":1,\"refused\":[],\"stored\":1}";
+
+const REPEATED: &str =
+    "{\"batches\":1,\"refused\":[{\"place\":0,\"why\":\"Repeated 0\"}],\"stored\":0}";
+
+/// A reply over so many batches, or one of status 500, whose body is a line without its end.
+fn reply(alloc: Global, batches: Option<&str>, line: &str) -> Result<String, AllocError> {
+    match batches {
+        Some(batches) => found(alloc, batches, line),
+        None => reply_of(alloc, "500 Internal Server Error", "", line),
+    }
+}
+
+/// A reply over so many batches.
+fn found(alloc: Global, batches: &str, line: &str) -> Result<String, AllocError> {
+    let fields = format!(in alloc; "X-Explorer-Batches: {batches}\r\n")?;
+    reply_of(alloc, "200 OK", fields.as_str(), line)
+}
+
+fn reply_of(alloc: Global, status: &str, fields: &str, line: &str) -> Result<String, AllocError> {
     let body = line.trim_end();
     format!(in alloc;
         "HTTP/1.1 {status}\r\nContent-Type: application/json\r\nContent-Length: {}\r\n\
@@ -103,10 +133,18 @@ fn reply(alloc: Global, status: &str, fields: &str, line: &str) -> Result<String
     )
 }
 
-/// A reply over so many batches.
-fn found(alloc: Global, batches: &str, line: &str) -> Result<String, AllocError> {
-    let fields = format!(in alloc; "X-Explorer-Batches: {batches}\r\n")?;
-    reply(alloc, "200 OK", fields.as_str(), line)
+/// Whether the link of this place that came back with the door was written these replies.
+fn was_told(
+    alloc: Global,
+    host: &MemHost,
+    at: usize,
+    replies: &[(Option<&str>, &str)],
+) -> Result<bool, AllocError> {
+    let mut told = String::new(alloc);
+    for (batches, line) in replies {
+        told.push_str(reply(alloc, *batches, line)?.as_str())?;
+    }
+    Ok(was_written(host, at, told.as_str()))
 }
 
 fn post(alloc: Global, text: &str) -> Result<String, AllocError> {
@@ -116,89 +154,84 @@ fn post(alloc: Global, text: &str) -> Result<String, AllocError> {
     )
 }
 
+/// A post of a moveless game.
+fn posted(alloc: Global, id: &str, outcome: &str) -> Result<String, AllocError> {
+    post(alloc, named(alloc, id, outcome, outcome)?.as_str())
+}
+
 #[test]
 fn serves_peers_and_imports_what_they_post(rt: HostRuntime) -> Result<(), Fail> {
     let alloc = rt.alloc();
-    let posted = post(alloc, game(alloc, "1-0", "1-0")?.as_str())?;
-    let none = found(alloc, "0", NO_GAME)?;
-    let one = found(alloc, "1", ONE_WHITE)?;
-    let stored = found(alloc, "1", "{\"batches\":1,\"refused\":[],\"stored\":1}")?;
-    let again = found(
-        alloc,
-        "1",
-        "{\"batches\":1,\"refused\":[{\"place\":0,\"why\":\"Repeated 0\"}],\"stored\":0}",
-    )?;
-    let first = format!(in alloc; "{GET}{posted}{GET}")?;
-    let second = format!(in alloc; "{GET}{posted}")?;
-    let links = vec![in alloc;
-        link(alloc, first.as_str(), &[])?,
-        link(alloc, second.as_str(), &[])?,
-    ]?;
+    let posted = posted(alloc, "aaaaaaa1", "1-0")?;
+    let post = posted.as_str();
+    let links = two_links(alloc, &[GET, post, GET], &[GET, post])?;
     let mut host = host_with(alloc, &[], links, &[])?;
     assert!(rt; ends(&rt, &mut host, &SERVE, (0, "listening a\n", ""))?);
-    let told = format!(in alloc; "{none}{stored}{one}")?;
-    assert!(rt; was_written(&host, 0, told.as_str()));
-    let told = format!(in alloc; "{one}{again}")?;
-    assert!(rt; was_written(&host, 1, told.as_str()));
+    let none = (Some("0"), NO_GAME);
+    let one = (Some("1"), ONE_WHITE);
+    assert!(rt; was_told(alloc, &host, 0, &[none, (Some("1"), STORED), one])?);
+    assert!(rt; was_told(alloc, &host, 1, &[one, (Some("1"), REPEATED)])?);
     assert!(rt; ends(&rt, &mut host, &["query", "s"], (0, ONE_WHITE, ""))?);
     Ok(())
+}
+
+/// Posts of three games.
+fn three_posts(alloc: Global) -> Result<String, AllocError> {
+    let mut posts = String::new(alloc);
+    for (id, outcome) in [
+        ("aaaaaaa1", "1-0"),
+        ("aaaaaaa2", "0-1"),
+        ("aaaaaaa3", "0-1"),
+    ] {
+        posts.push_str(posted(alloc, id, outcome)?.as_str())?;
+    }
+    Ok(posts)
 }
 
 #[test]
 fn a_sync_that_fails_closes_the_store(rt: HostRuntime) -> Result<(), Fail> {
     let alloc = rt.alloc();
-    let posted = post(alloc, game(alloc, "1-0", "1-0")?.as_str())?;
-    let second = post(alloc, named(alloc, "aaaaaaa2", "0-1", "0-1")?.as_str())?;
-    let third = post(alloc, named(alloc, "aaaaaaa3", "0-1", "0-1")?.as_str())?;
-    let one = found(alloc, "1", ONE_WHITE)?;
-    let stored = found(alloc, "1", "{\"batches\":1,\"refused\":[],\"stored\":1}")?;
-    let status = "500 Internal Server Error";
-    let failed = reply(alloc, status, "", "{\"error\":\"disk fault\",\"stored\":0}")?;
-    let closed = reply(alloc, status, "", "{\"error\":\"closed\",\"stored\":0}")?;
-    let posts = format!(in alloc; "{posted}{second}{third}{GET}")?;
-    let links = vec![in alloc; link(alloc, posts.as_str(), &[])?, link(alloc, GET, &[])?]?;
+    let posts = three_posts(alloc)?;
     // The calls 0 to 2 make the store, 3 to 7 open it, and each batch takes four.
+    let links = two_links(alloc, &[posts.as_str(), GET], &[GET])?;
     let mut host = host_with(alloc, &[13], links, &[])?;
     let ended = (6, "listening a\n", "disk fault\n");
     assert!(rt; ends(&rt, &mut host, &SERVE, ended)?);
-    let told = format!(in alloc; "{stored}{failed}{closed}{one}")?;
-    assert!(rt; was_written(&host, 0, told.as_str()));
-    assert!(rt; was_written(&host, 1, one.as_str()));
+    let one = (Some("1"), ONE_WHITE);
+    let failed = (None, "{\"error\":\"disk fault\",\"stored\":0}");
+    let closed = (None, "{\"error\":\"closed\",\"stored\":0}");
+    assert!(rt; was_told(alloc, &host, 0, &[(Some("1"), STORED), failed, closed, one])?);
+    assert!(rt; was_told(alloc, &host, 1, &[one])?);
     Ok(())
 }
 
 #[test]
 fn an_accept_fails(rt: HostRuntime) -> Result<(), Fail> {
     let alloc = rt.alloc();
-    let none = found(alloc, "0", NO_GAME)?;
-    let links = vec![in alloc; link(alloc, GET, &[])?, link(alloc, GET, &[])?]?;
+    let links = two_links(alloc, &[GET], &[GET])?;
     let mut host = host_with(alloc, &[], links, &[1])?;
     let ended = (10, "listening a\n", "cannot accept\n");
     assert!(rt; ends(&rt, &mut host, &SERVE, ended)?);
-    assert!(rt; was_written(&host, 0, none.as_str()));
+    assert!(rt; was_told(alloc, &host, 0, &[(Some("0"), NO_GAME)])?);
     Ok(())
+}
+
+/// Posts of five games.
+fn five_posts(alloc: Global) -> Result<String, AllocError> {
+    let mut posts = String::new(alloc);
+    for number in 0..5u32 {
+        let game = numbered(alloc, number)?;
+        posts.push_str(post(alloc, game.as_str())?.as_str())?;
+    }
+    Ok(posts)
 }
 
 #[test]
 fn batches_are_merged_beside_answers(rt: HostRuntime) -> Result<(), Fail> {
     let alloc = rt.alloc();
-    let mut posts = String::new(alloc);
-    for id in ["aaaaaaa0", "aaaaaaa1", "aaaaaaa2", "aaaaaaa3", "aaaaaaa4"] {
-        let game = named(alloc, id, "1-0", "1. e4 1-0")?;
-        posts.push_str(post(alloc, game.as_str())?.as_str())?;
-    }
-    let zero = listed(alloc, "aaaaaaa0", "e2e4", "white")?;
-    let one = listed(alloc, "aaaaaaa1", "e2e4", "white")?;
-    let two = listed(alloc, "aaaaaaa2", "e2e4", "white")?;
-    let three = listed(alloc, "aaaaaaa3", "e2e4", "white")?;
-    let four = listed(alloc, "aaaaaaa4", "e2e4", "white")?;
-    let top = format!(in alloc; "{zero},{one},{two},{three}")?;
-    let recent = format!(in alloc; "{four},{three},{two},{one}")?;
-    let answer = five_games(alloc, top.as_str(), recent.as_str())?;
-    let mut host = MemHost::new(alloc);
-    host.add_disk("s", new_store(alloc, &[])?)?;
-    host.add_links("a", links(alloc, &[posts.as_str()], &[], &[])?)?;
-    host.add_links("b", links(alloc, &[GET], &[], &[])?)?;
+    let posts = five_posts(alloc)?;
+    let mut host = host_with(alloc, &[], one_link(alloc, &[posts.as_str()])?, &[])?;
+    host.add_links("b", door(alloc, one_link(alloc, &[GET])?, &[])?)?;
     for (address, listening) in [("a", "listening a\n"), ("b", "listening b\n")] {
         let words = [
             "serve",
@@ -211,6 +244,7 @@ fn batches_are_merged_beside_answers(rt: HostRuntime) -> Result<(), Fail> {
         ];
         assert!(rt; ends(&rt, &mut host, &words, (0, listening, ""))?);
     }
+    let answer = five_games(alloc, &[0, 1, 2, 3], &[4, 3, 2, 1])?;
     let told = found(alloc, "5", answer.as_str())?;
     assert!(rt; wrote(&host, &[told.as_str()]));
     Ok(())
@@ -236,9 +270,7 @@ fn imports_a_file_of_two_groups(rt: HostRuntime) -> Result<(), Fail> {
         bytes: games(alloc, 513)?.into_bytes(),
         failing: Vec::new(alloc),
     };
-    let mut host = MemHost::new(alloc);
-    host.add_disk("s", new_store(alloc, &[])?)?;
-    host.add_links("a", links(alloc, &[""], &[], &[])?)?;
+    let mut host = host_with(alloc, &[], one_link(alloc, &[])?, &[])?;
     host.add_file("f", file)?;
     let words = [
         "serve",

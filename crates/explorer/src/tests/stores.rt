@@ -1,10 +1,15 @@
 //! Commands over stores, on a host in memory.
+ghost use Rattle.std.specs.Prelude.{◌≤◌, length};
+
 use super::{FAULTLESS, NO_GAME, ends, game, one_move, run_on, two_moves};
 use disk_model::{Disk, MemDisk};
 use host::laws::what_is_handed_out_is_out;
 use host::{Host, MemFile, MemHost};
 use outside::Failed;
+use std::alloc::{AllocError, Global};
+use std::sync::Wait;
 use std::test::Fail;
+use std::thread::Threads;
 
 /// A store of format 1 without a batch.
 const EMPTY_STORE: [u8; 13] = *b"OPENEXP1\x01\x00\x00\x00\x00";
@@ -48,22 +53,31 @@ fn makes_a_store_once(rt: HostRuntime) -> Result<(), Fail> {
     Ok(())
 }
 
+/// A disk with these bytes.
+fn disk_with(alloc: Global, bytes: &[u8]) -> Result<MemDisk, Fail>
+    requires { length bytes.now ≤ 100 }
+{
+    let mut disk = MemDisk::new(alloc, 100, Vec::new(alloc))?;
+    disk.write_at(0, bytes)?;
+    Ok(disk)
+}
+
+/// A file with this text.
+fn file_of(alloc: Global, text: &str) -> Result<MemFile, AllocError> {
+    Ok(MemFile {
+        bytes: text.as_bytes().to_vec(alloc)?,
+        failing: Vec::new(alloc),
+    })
+}
+
 #[test]
 fn opens_what_is_named(rt: HostRuntime) -> Result<(), Fail> {
     let alloc = rt.alloc();
     let mut host = MemHost::new(alloc);
     host.add_disk("a", MemDisk::new(alloc, 100, Vec::new(alloc))?)?;
-    let mut short = MemDisk::new(alloc, 100, Vec::new(alloc))?;
-    short.write_at(0, b"OPENEXP1\x01\x00\x00\x00")?;
-    host.add_disk("short", short)?;
-    let mut other = MemDisk::new(alloc, 100, Vec::new(alloc))?;
-    other.write_at(0, b"OPENEXP1\x09\x00\x00\x00\x00")?;
-    host.add_disk("other", other)?;
-    let file = MemFile {
-        bytes: Vec::new(alloc),
-        failing: Vec::new(alloc),
-    };
-    host.add_file("f", file)?;
+    host.add_disk("short", disk_with(alloc, b"OPENEXP1\x01\x00\x00\x00")?)?;
+    host.add_disk("other", disk_with(alloc, b"OPENEXP1\x09\x00\x00\x00\x00")?)?;
+    host.add_file("f", file_of(alloc, "")?)?;
     let table: [(&[&str], _); 10] = [
         (&["create", "a"], (0, "created\n", "")),
         (&["query", "a"], (0, NO_GAME, "")),
@@ -86,47 +100,44 @@ fn opens_what_is_named(rt: HostRuntime) -> Result<(), Fail> {
     Ok(())
 }
 
+/// A host with an empty disk `s` and a file `f` of this text.
+pub fn host_of(alloc: Global, text: &str) -> Result<MemHost, AllocError> {
+    let mut host = MemHost::new(alloc);
+    host.add_disk("s", MemDisk::new(alloc, 1 << 20, Vec::new(alloc))?)?;
+    host.add_file("f", file_of(alloc, text)?)?;
+    Ok(host)
+}
+
+/// Whether a new store into which the text is imported, which prints that it stored so much, and a
+/// count of the text give this answer.
+fn answer_alike<R: AllocGlobal + Wait + Threads + Sync>(
+    rt: &R,
+    text: &str,
+    stored: &str,
+    answer: &str,
+) -> Result<bool, AllocError> {
+    let mut host = host_of(rt.alloc(), text)?;
+    let created = ends(rt, &mut host, &["create", "s"], (0, "created\n", ""))?;
+    let imported = ends(rt, &mut host, &["import", "s", "f"], (0, stored, ""))?;
+    let queried = ends(rt, &mut host, &["query", "s"], (0, answer, ""))?;
+    let seen = run_on(rt, &["count"], text, 4096, FAULTLESS)?;
+    Ok(created && imported && queried && seen.is(0, answer, ""))
+}
+
 #[test]
 fn a_store_answers_as_a_count_does(rt: HostRuntime) -> Result<(), Fail> {
     let alloc = rt.alloc();
     let commented = "1. e4 { [%eval 0.17] [%clk 0:00:30] } 1... c5?! { [%clk 0:00:29] } 1-0";
     let returning = "1. Nf3 Nf6 2. Ng1 Ng8 3. e4 1-0";
-    let (two, over_two) = two_moves(alloc)?;
-    let table = [
-        (
-            game(alloc, "1-0", commented)?,
-            "stored 1\nbatches 1\njournal 1\n",
-            one_move(alloc, "", "1500", "e4", "e2e4")?,
-        ),
-        (
-            game(alloc, "1-0", returning)?,
-            "stored 1\nbatches 1\njournal 1\n",
-            one_move(alloc, "", "1500", "Nf3", "g1f3")?,
-        ),
-        (two, "stored 2\nbatches 1\njournal 1\n", over_two),
-    ];
-    for (text, stored, answer) in &table {
-        let mut host = MemHost::new(alloc);
-        host.add_disk("s", MemDisk::new(alloc, 1 << 20, Vec::new(alloc))?)?;
-        let file = MemFile {
-            bytes: text.as_bytes().to_vec(alloc)?,
-            failing: Vec::new(alloc),
-        };
-        host.add_file("f", file)?;
-        let commands: [(&[&str], _); 3] = [
-            (&["create", "s"], (0, "created\n", "")),
-            (&["import", "s", "f"], (0, *stored, "")),
-            (&["query", "s"], (0, answer.as_str(), "")),
-        ];
-        for (words, ending) in commands {
-            assert!(rt;
-                ends(&rt, &mut host, words, ending)?,
-                "{:?} {answer}",
-                words
-            );
-        }
-        let seen = run_on(&rt, &["count"], text.as_str(), 4096, FAULTLESS)?;
-        assert!(rt; seen.is(0, answer.as_str(), ""), "{answer}");
+    for (movetext, san, uci) in [(commented, "e4", "e2e4"), (returning, "Nf3", "g1f3")] {
+        let text = game(alloc, "1-0", movetext)?;
+        let answer = one_move(alloc, "", "1500", san, uci)?;
+        let stored = "stored 1\nbatches 1\njournal 1\n";
+        let alike = answer_alike(&rt, text.as_str(), stored, answer.as_str())?;
+        assert!(rt; alike, "{movetext}");
     }
+    let (two, answer) = two_moves(alloc)?;
+    let stored = "stored 2\nbatches 1\njournal 1\n";
+    assert!(rt; answer_alike(&rt, two.as_str(), stored, answer.as_str())?);
     Ok(())
 }

@@ -53,45 +53,73 @@ fn counts_at_each_size<R: AllocGlobal + Wait + Threads + Sync>(
     Ok(by_bytes && by_sevens && at_once)
 }
 
+/// A part of a stream: a game, or what stands between games.
+#[derive(Clone, Copy, Debug)]
+enum Part {
+    Win,
+    Draw,
+    Unknown,
+    Illegal,
+    Between(&'static str),
+}
+
+impl Part {
+    fn text(self, alloc: Global) -> Result<String, AllocError> {
+        match self {
+            Part::Win => game(alloc, "1-0", "1-0"),
+            Part::Draw => game(alloc, "1/2-1/2", "1/2-1/2"),
+            Part::Unknown => game(alloc, "*", "*"),
+            Part::Illegal => game(alloc, "1-0", "1. e4 e5 2. Ke3 1-0"),
+            Part::Between(text) => String::from_str(alloc, text),
+        }
+    }
+}
+
+/// The parts, one behind the other.
+fn stream_of(alloc: Global, parts: &[Part]) -> Result<String, AllocError> {
+    let mut all = String::new(alloc);
+    for part in parts {
+        all.push_str(part.text(alloc)?.as_str())?;
+    }
+    Ok(all)
+}
+
 #[test]
 fn counts_games_and_reports_the_rest(rt: HostRuntime) -> Result<(), Fail> {
-    let alloc = rt.alloc();
-    let win = game(alloc, "1-0", "1-0")?;
-    let draw = game(alloc, "1/2-1/2", "1/2-1/2")?;
-    let unknown = game(alloc, "*", "*")?;
-    let illegal = game(alloc, "1-0", "1. e4 e5 2. Ke3 1-0")?;
-    let table = [
-        (format!(in alloc; "")?, NO_GAME, ""),
-        (format!(in alloc; "{draw}\n\n")?, ONE_DRAW, ""),
+    let table: [(&[Part], &str, &str); 9] = [
+        (&[], NO_GAME, ""),
+        (&[Part::Draw, Part::Between("\n\n")], ONE_DRAW, ""),
         (
-            format!(in alloc; "{unknown}\n{win}")?,
+            &[Part::Unknown, Part::Between("\n"), Part::Win],
             ONE_WHITE,
             "0 UnknownResult\n",
         ),
+        (&[Part::Illegal, Part::Win], ONE_WHITE, "0 Illegal 3 202\n"),
         (
-            format!(in alloc; "{illegal}{win}")?,
-            ONE_WHITE,
-            "0 Illegal 3 202\n",
-        ),
-        (
-            format!(in alloc; "hello\n{win}")?,
+            &[Part::Between("hello\n"), Part::Win],
             ONE_WHITE,
             "0 Preamble\n",
         ),
-        (format!(in alloc; "\u{feff}{win}")?, ONE_WHITE, ""),
+        (&[Part::Between("\u{feff}"), Part::Win], ONE_WHITE, ""),
         (
-            format!(in alloc; "\u{feff}{unknown}")?,
+            &[Part::Between("\u{feff}"), Part::Unknown],
             NO_GAME,
             "3 UnknownResult\n",
         ),
-        (format!(in alloc; "{win}{win}")?, ONE_WHITE, "194 Twice 0\n"),
+        (&[Part::Win, Part::Win], ONE_WHITE, "194 Twice 0\n"),
         (
-            format!(in alloc; "\u{feff} hello\n{win}\n{win}")?,
+            &[
+                Part::Between("\u{feff} hello\n"),
+                Part::Win,
+                Part::Between("\n"),
+                Part::Win,
+            ],
             ONE_WHITE,
             "4 Preamble\n205 Twice 10\n",
         ),
     ];
-    for (text, answer, report) in &table {
+    for (parts, answer, report) in table {
+        let text = stream_of(rt.alloc(), parts)?;
         assert!(rt;
             counts_at_each_size(&rt, text.as_str(), answer, report)?,
             "{text}"
@@ -195,16 +223,20 @@ fn counts_the_games_of_two_groups(rt: HostRuntime) -> Result<(), Fail> {
     Ok(())
 }
 
+/// A text without a result, and so many games.
+fn behind_unknown(alloc: Global, count: u32) -> Result<String, AllocError> {
+    let mut text = game(alloc, "*", "*")?;
+    text.push_str(games(alloc, count)?.as_str())?;
+    Ok(text)
+}
+
 /// A text ends where the next begins, so that the last one of a stream that is cut off has not
 /// ended, and a group is reported once its last text has.
 #[test]
 fn reports_whole_groups_where_a_read_fails(rt: HostRuntime) -> Result<(), Fail> {
     let alloc = rt.alloc();
-    let unknown = game(alloc, "*", "*")?;
-    let whole = games(alloc, 511)?;
-    let beyond = games(alloc, 512)?;
-    let one_group = format!(in alloc; "{unknown}{whole}")?;
-    let two_groups = format!(in alloc; "{unknown}{beyond}")?;
+    let one_group = behind_unknown(alloc, 511)?;
+    let two_groups = behind_unknown(alloc, 512)?;
     let table = [
         (one_group.as_str(), NEVER, "read fault\n"),
         (two_groups.as_str(), NEVER, "0 UnknownResult\nread fault\n"),
