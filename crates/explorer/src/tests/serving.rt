@@ -42,11 +42,7 @@ fn two_links(
 }
 
 /// A door to which these links come, and some accepts of which fail.
-fn door(
-    alloc: Global,
-    links: Vec<MemLink>,
-    accepts: &[u64],
-) -> Result<Vec<MemLinks>, AllocError> {
+fn door(alloc: Global, links: Vec<MemLink>, accepts: &[u64]) -> Result<Vec<MemLinks>, AllocError> {
     let failing = accepts.to_vec(alloc)?;
     Ok(vec![in alloc; MemLinks { links, failing }]?)
 }
