@@ -7,16 +7,17 @@ ghost use Rattle.tally_rows.specs.Within.{TalliedWithin, is_in_range, FollowFrom
 ghost use Rattle.tally_rows.specs.declared.key_range.KeyRange.{KeyRange};
 ghost use Rattle.tally_rows.specs.declared.row.Row.{Row};
 ghost use Rattle.batch_tally.specs.Accepting.{IsCounted};
-ghost use Rattle.batch_tally.specs.Singles.{AreRowsOf, AreTracksOf, is_kept, numbered, singles_in};
+ghost use Rattle.batch_tally.specs.Singles.{AreRowsOf, AreTracksOf, is_kept, numbered, singles_in, word_of};
 ghost use Rattle.std.specs.declared.alloc.AllocError.{AllocError};
 ghost use Rattle.std.specs.declared.alloc.Global.{Global};
 
 use crate::accepting::Accepted;
 use crate::leaves::all_made;
+use crate::singles::Count;
 use side_by_side::map_jobs;
 use std::alloc::{AllocError, Global};
 use std::thread::Threads;
-use tally_rows::{KeyRange, Row, Single, first_word, rows_of};
+use tally_rows::{KeyRange, Row, Single, rows_of};
 
 /// The rows of games, whose numbers are their places, in parts, one after another. Each leaf makes
 /// those of a range of keys, of which there are as many as workers, and the leaves work side by
@@ -91,24 +92,29 @@ fn singles_within(
     let mut singles = Vec::new(alloc);
     let mut number = 0;
     for accepted in games {
-        push_within(&mut singles, accepted.singles.as_slice(), range, number)?;
+        push_within(&mut singles, &accepted.count, range, number)?;
         number += 1;
     }
     Ok(singles)
 }
 
-/// Puts what a game of this number counts for in a range of keys behind the others.
+/// Puts what a game of this number counts for in a range of keys behind the others. Words tell which
+/// singles those are: the others, which another processor's cache may hold, are not read.
 fn push_within(
     singles: &mut Vec<Single>,
-    of_game: &[Single],
+    count: &Count,
     range: KeyRange,
     number: u32,
 ) -> Result<(), AllocError>
+    requires { count.now.words.items ≡ map word_of count.now.singles.items }
     ensures { OnOk result (singles.new.items ≡ singles.old.items
-        ++ filter (is_kept range) (map (numbered number) of_game.now)) }
+        ++ filter (is_kept range) (map (numbered number) count.now.singles.items)) }
 {
-    for single in of_game {
-        if range.contains(&single.row_key.key) {
+    let of_game = count.singles.as_slice();
+    let words = count.words.as_slice();
+    for place in 0..words.len() {
+        let single = &of_game[place];
+        if range.contains_word(words[place]) {
             singles.push(Single { number, ..*single })?;
         }
     }
@@ -140,9 +146,9 @@ fn ranges_of(alloc: Global, games: &[Accepted], workers: usize) -> Result<Vec<Ke
 fn sample_of(alloc: Global, games: &[Accepted]) -> Result<Vec<u64>, AllocError> {
     let mut words = Vec::with_capacity(alloc, games.len())?;
     for (number, accepted) in games.iter().enumerate() {
-        let singles = accepted.singles.as_slice();
-        if !singles.is_empty() {
-            words.push(first_word(&singles[number % singles.len()].row_key.key))?;
+        let of_game = accepted.count.words.as_slice();
+        if !of_game.is_empty() {
+            words.push(of_game[number % of_game.len()])?;
         }
     }
     words.sort_unstable();
