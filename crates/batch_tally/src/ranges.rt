@@ -36,16 +36,18 @@ pub fn row_parts<R: Threads + Sync>(
 {
     tally_rows::laws::ranges_are_tallied();
     let ranges = ranges_of(alloc, games, workers)?;
-    let results = rows_of_ranges(rt, alloc, games, ranges)?;
+    let room = room_of(games, workers);
+    let results = rows_of_ranges(rt, alloc, games, ranges, room)?;
     all_made(alloc, results)
 }
 
-/// The rows in each range.
+/// The rows in each range, of which each is likely to have no more than so many singles.
 fn rows_of_ranges<R: Threads + Sync>(
     rt: &R,
     alloc: Global,
     games: &[Accepted],
     ranges: Vec<KeyRange>,
+    room: usize,
 ) -> Result<Vec<Result<Vec<Row>, AllocError>>, AllocError>
     requires counted { All IsCounted games.now }
     requires few { length games.now ≤ group_limit }
@@ -60,36 +62,43 @@ fn rows_of_ranges<R: Threads + Sync>(
         requires { All IsCounted games.now × (length games.now ≤ group_limit) }
         ensures { IfOk result (λ rows. (tracks : List Track) → AreTracksOf games.entry.now tracks
             → TalliedWithin (is_in_range range) tracks rows.items) }
-    { rows_within(alloc, games, range) };
+    { rows_within(alloc, games, range, room) };
     let results = map_jobs(rt, alloc, ranges, &within)?;
     let _count = results.as_slice().len();
     Ok(results)
 }
 
 /// The rows in a range of keys.
-fn rows_within(alloc: Global, games: &[Accepted], range: KeyRange) -> Result<Vec<Row>, AllocError>
+fn rows_within(
+    alloc: Global,
+    games: &[Accepted],
+    range: KeyRange,
+    room: usize,
+) -> Result<Vec<Row>, AllocError>
     requires counted { All IsCounted games.now }
     requires few { length games.now ≤ group_limit }
     ensures { IfOk result (λ rows. (tracks : List Track) → AreTracksOf games.now tracks
         → TalliedWithin (is_in_range range) tracks rows.items) }
 {
     tally_rows::laws::singles_of_passing_keys();
-    let singles = singles_within(alloc, games, range)?;
+    let singles = singles_within(alloc, games, range, room)?;
     rows_of(alloc, singles)
 }
 
-/// What games count for in a range of keys, under their numbers.
+/// What games count for in a range of keys, under their numbers. There is room at once for so many
+/// singles, which spares moving them while their list grows.
 fn singles_within(
     alloc: Global,
     games: &[Accepted],
     range: KeyRange,
+    room: usize,
 ) -> Result<Vec<Single>, AllocError>
     requires counted { All IsCounted games.now }
     requires few { length games.now ≤ group_limit }
     ensures singles { IfOk result (λ singles. singles.items ≡ singles_in range 0 games.now) }
     ensures few { IfOk result (λ singles. vec_len singles < 2 ^ 32) }
 {
-    let mut singles = Vec::new(alloc);
+    let mut singles = Vec::with_capacity(alloc, room)?;
     let mut number = 0;
     for accepted in games {
         push_within(&mut singles, &accepted.count, range, number)?;
@@ -119,6 +128,25 @@ fn push_within(
         }
     }
     Ok(())
+}
+
+/// How many singles each of so many ranges is likely to have at the most: a quarter more than the
+/// mean of all, but no more than there are.
+fn room_of(games: &[Accepted], ranges: usize) -> usize
+    requires { 1 ≤ ranges }
+{
+    let all = count_singles(games);
+    let mean = all.div_ceil(ranges);
+    mean.saturating_add(mean / 4).min(all)
+}
+
+/// How many singles all games have.
+fn count_singles(games: &[Accepted]) -> usize {
+    let mut count = 0usize;
+    for accepted in games {
+        count = count.saturating_add(accepted.count.words.len());
+    }
+    count
 }
 
 /// Ranges of keys that follow one another, as many as there are workers. Any do; these have about as many singles each.
