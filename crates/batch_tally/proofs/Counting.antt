@@ -5,13 +5,13 @@ use Rattle.std.proofs.lemmas.List.{length-map}
 use Rattle.explorer_model.specs.declared.archive.Game.{Game}
 use Rattle.explorer_model.specs.Chess.{start}
 use Rattle.explorer_model.specs.Visits.{Stage, stages, stage_limit, counted_stages}
-use Rattle.tally_rows.specs.declared.single.Single.{Single}
 use Rattle.tally_rows.specs.Games.{has_key, first_steps, single_at}
 use Rattle.tally_rows.specs.Tally.{IsStepOf}
 use Rattle.tally_rows.specs.Track as tracks
 use Rattle.tally_rows.specs.Track.{Track}
 use Rattle.batch_tally.specs.declared.step.Step.{Step}
-use Rattle.batch_tally.specs.Singles.{IsCountOf}
+use Rattle.batch_tally.specs.declared.singles.Count.{Count}
+use Rattle.batch_tally.specs.Singles.{IsCountOf, word_of}
 use Rattle.batch_tally.specs.Steps.{step_as, IsStepAt, stages_within}
 
 are-steps : (stages : List Stage) (steps : List Step) → AllZip IsStepAt stages steps → AllZip IsStepOf stages (map step_as steps)
@@ -40,9 +40,10 @@ first-steps-le earlier (step ∷ steps) =
       | false ↦ omega (arith, rest)
     ]
 
-pub count-of : (game : Game) (steps : List Step) (singles : List Single) → AllZip IsStepAt (stages_within stage_limit start game.moves) steps
-    → singles ≡ map (single_at game.classes 0) (first_steps [] (map step_as steps)) → IsCountOf game singles
-count-of game steps singles stepped are =
+pub count-of : (game : Game) (steps : List Step) (count : Count) → AllZip IsStepAt (stages_within stage_limit start game.moves) steps
+    → count.singles.items ≡ map (single_at game.classes 0) (first_steps [] (map step_as steps))
+    → count.words.items ≡ map word_of count.singles.items → IsCountOf game count
+count-of game steps count stepped are words =
     let track : Track = record { classes = game.classes; steps = map step_as steps } in
     let steps_few : length steps ≤ 51 = (let e = few-steps (stages_within stage_limit start game.moves) steps stepped in
     let f = length-take-le stage_limit (stages start game.moves) in omega (arith, e, f)) in
@@ -54,4 +55,5 @@ count-of game steps singles stepped are =
       track = track;
       counts = record { is_track = record { classes = refl; steps = are-steps (counted_stages game) steps stepped }; singles_are = are };
       few = omega (arith, many, of_firsts, firsts, mapped, steps_few);
+      words = words;
     }

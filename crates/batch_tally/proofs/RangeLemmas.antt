@@ -1,7 +1,7 @@
 -- The singles of games in a range of keys, and the rows of all ranges.
 use Rattle.std.proofs.Common.{◌≡◌, ◌++◌, ◌+◌, ◌*◌, ◌<◌, ◌≤◌, ℕ, suc, Bool, true, false, cond, Some, None, List, [], ◌∷◌, map, take, length, get_or, sym, ap, ◌∙◌, subst, refl, arith}
 use Rattle.std.specs.List.{All, AllByRecursion, AllZip, filter, flat_map}
-use Rattle.std.proofs.lemmas.List.{append_assoc, append-nil, length-append, length-map, length-take-le}
+use Rattle.std.proofs.lemmas.List.{append_assoc, append-nil, length-append, get_or-map, length-map, length-take-le, map_more}
 use Rattle.std.proofs.lemmas.List.Elements.{filter-append, recursion_from_All}
 use Rattle.std.proofs.Math.Seq.{take-suc}
 use Rattle.tally_rows.specs.declared.key_range.KeyRange.{KeyRange}
@@ -12,10 +12,10 @@ use Rattle.tally_rows.specs.Tallied.{Tallied}
 use Rattle.tally_rows.specs.Tally.{IsTrackOf}
 use Rattle.tally_rows.specs.Track as tracks
 use Rattle.tally_rows.specs.Track.{Track}
-use Rattle.tally_rows.specs.Within.{TalliedWithin, is_in_range, FollowFrom}
+use Rattle.tally_rows.specs.Within.{TalliedWithin, is_in_range, is_word_in, FollowFrom}
 use Rattle.batch_tally.specs.declared.accepting.Accepted.{Accepted}
 use Rattle.batch_tally.specs.Accepting.{IsCounted}
-use Rattle.batch_tally.specs.Singles.{AreTracksOf, AreRowsOf, numbered, is_kept, singles_in}
+use Rattle.batch_tally.specs.Singles.{AreTracksOf, AreRowsOf, numbered, is_kept, singles_in, word_of}
 use Rattle.batch_tally.proofs.Stages.{next-place}
 
 -- ---- the singles in a range are those of the games' tracks
@@ -30,26 +30,70 @@ singles-in range first [] [] each = refl
 singles-in range first [] (t ∷ tracks) each = absurd each
 singles-in range first (a ∷ games) [] each = absurd each
 singles-in range first (a ∷ games) (t ∷ tracks) each =
-    let one : map (numbered first) a.singles.items ≡ game_singles first t =
+    let one : map (numbered first) a.count.singles.items ≡ game_singles first t =
     ap (map (numbered first)) each.0.singles_are ∙ numbered-each t first _ in
     (λ i. filter (is_kept range) (one i) ++ singles-in range (first + 1) games tracks each.1 i)
     ∙ sym (filter-append (is_kept range) (game_singles first t) (singles_from (first + 1) tracks))
 
+-- ---- one single more of a game
+
+-- those of the first so many singles of a game that are in a range, under a number
+abbrev pub kept_of : KeyRange → ℕ → List Single → ℕ → List Single
+kept_of range number of_game place = filter (is_kept range) (map (numbered number) (take place of_game))
+
+kept-next : (range : KeyRange) (number : ℕ) (of_game : List Single) (place : ℕ) (single : Single) → place < length of_game → get_or of_game place single ≡ single
+    → kept_of range number of_game (place + 1) ≡ kept_of range number of_game place ++ filter (is_kept range) (numbered number single ∷ [])
+kept-next range number of_game place single below is =
+    ap (filter (is_kept range)) (map_more (numbered number) of_game place single below
+    ∙ ap (λ s. map (numbered number) (take place of_game) ++ numbered number s ∷ []) is)
+    ∙ filter-append (is_kept range) (map (numbered number) (take place of_game)) (numbered number single ∷ [])
+
+-- the word at a place is that of the single there
+pub record TellsOf (words : List ℕ) (of_game : List Single) (place : ℕ) (single : Single) : Type 0 where
+  pub words_are : words ≡ map word_of of_game
+  pub below : place < length of_game
+  pub is : get_or of_game place single ≡ single
+
+kept-by : (range : KeyRange) (number : ℕ) (words : List ℕ) (of_game : List Single) (place : ℕ) (single : Single) → TellsOf words of_game place single
+    → filter (is_kept range) (numbered number single ∷ []) ≡ cond (is_word_in range (get_or words place 0)) (numbered number single ∷ []) []
+kept-by range number words of_game place single tells =
+    ap (λ n. cond (is_word_in range n) (numbered number single ∷ []) [])
+    (sym (ap (λ l. get_or l place 0) tells.words_are ∙ get_or-map word_of of_game place single 0 tells.below ∙ ap word_of tells.is))
+
+pub one-kept : (range : KeyRange) (number : ℕ) (words : List ℕ) (of_game before now more : List Single) (place : ℕ) (single : Single)
+    → TellsOf words of_game place single → is_word_in range (get_or words place 0) ≡ true → more ≡ now ++ numbered number single ∷ []
+    → now ≡ before ++ kept_of range number of_game place → more ≡ before ++ kept_of range number of_game (place + 1)
+one-kept range number words of_game before now more place single tells kept pushed are =
+    pushed ∙ ap (λ l. l ++ numbered number single ∷ []) are
+    ∙ append_assoc before (kept_of range number of_game place) (numbered number single ∷ [])
+    ∙ ap (λ l. before ++ l) (sym (kept-next range number of_game place single tells.below tells.is
+    ∙ ap (λ l. kept_of range number of_game place ++ l) (kept-by range number words of_game place single tells
+    ∙ ap (λ b. cond b (numbered number single ∷ []) []) kept)))
+
+pub one-left : (range : KeyRange) (number : ℕ) (words : List ℕ) (of_game before now : List Single) (place : ℕ) (single : Single)
+    → TellsOf words of_game place single → is_word_in range (get_or words place 0) ≡ false
+    → now ≡ before ++ kept_of range number of_game place → now ≡ before ++ kept_of range number of_game (place + 1)
+one-left range number words of_game before now place single tells left are =
+    are ∙ ap (λ l. before ++ l) (sym (kept-next range number of_game place single tells.below tells.is
+    ∙ ap (λ l. kept_of range number of_game place ++ l) (kept-by range number words of_game place single tells
+    ∙ ap (λ b. cond b (numbered number single ∷ []) []) left)
+    ∙ append-nil (kept_of range number of_game place)))
+
 -- ---- one game more
 
 in-push : (range : KeyRange) (first : ℕ) (games : List Accepted) (a : Accepted)
-    → singles_in range first (games ++ a ∷ []) ≡ singles_in range first games ++ filter (is_kept range) (map (numbered (first + length games)) a.singles.items)
+    → singles_in range first (games ++ a ∷ []) ≡ singles_in range first games ++ filter (is_kept range) (map (numbered (first + length games)) a.count.singles.items)
 in-push range first [] a =
-    append-nil (filter (is_kept range) (map (numbered first) a.singles.items))
-    ∙ ap (λ n. filter (is_kept range) (map (numbered n) a.singles.items)) (place first)
+    append-nil (filter (is_kept range) (map (numbered first) a.count.singles.items))
+    ∙ ap (λ n. filter (is_kept range) (map (numbered n) a.count.singles.items)) (place first)
   where
     place : (n : ℕ) → n ≡ n + length {A = Accepted} []
     place n = omega arith
 in-push range first (g ∷ games) a =
-    let here = filter (is_kept range) (map (numbered first) g.singles.items) in
+    let here = filter (is_kept range) (map (numbered first) g.count.singles.items) in
     ap (λ l. here ++ l) (in-push range (first + 1) games a)
-    ∙ sym (append_assoc here (singles_in range (first + 1) games) (filter (is_kept range) (map (numbered (first + 1 + length games)) a.singles.items)))
-    ∙ ap (λ n. (here ++ singles_in range (first + 1) games) ++ filter (is_kept range) (map (numbered n) a.singles.items)) (place first (length games))
+    ∙ sym (append_assoc here (singles_in range (first + 1) games) (filter (is_kept range) (map (numbered (first + 1 + length games)) a.count.singles.items)))
+    ∙ ap (λ n. (here ++ singles_in range (first + 1) games) ++ filter (is_kept range) (map (numbered n) a.count.singles.items)) (place first (length games))
   where
     place : (n k : ℕ) → n + 1 + k ≡ n + suc k
     place n k = omega arith
@@ -76,11 +120,11 @@ starts-keeping range games singles none =
 
 pub one-game : (range : KeyRange) (games : List Accepted) → All IsCounted games → (singles more : List Single) (number next index : ℕ) (a : Accepted)
     → index < length games → get_or games index a ≡ a
-    → more ≡ singles ++ filter (is_kept range) (map (numbered number) a.singles.items) → next ≡ number + 1
+    → more ≡ singles ++ filter (is_kept range) (map (numbered number) a.count.singles.items) → next ≡ number + 1
     → Keeping range games singles number index → Keeping range games more next (index + 1)
 one-game range games counted singles more number next index a below is pushed grown keeping =
-    let short : length a.singles.items ≤ 51 = subst (λ (x : Accepted). length x.singles.items ≤ 51) is (counted index a below).few in
-    let new = filter (is_kept range) (map (numbered number) a.singles.items) in
+    let short : length a.count.singles.items ≤ 51 = subst (λ (x : Accepted). length x.count.singles.items ≤ 51) is (counted index a below).few in
+    let new = filter (is_kept range) (map (numbered number) a.count.singles.items) in
     let taken : take (index + 1) games ≡ take index games ++ a ∷ [] =
     ap (λ n. take n games) (sym (next-place index)) ∙ take-suc games index a below ∙ ap (λ x. take index games ++ x ∷ []) is in
     let long : length (take index games) ≡ index = length-take-le index games (omega (arith, below)) in
@@ -88,15 +132,15 @@ one-game range games counted singles more number next index a below is pushed gr
     record {
       singles_are = pushed
           ∙ ap (λ l. l ++ new) keeping.singles_are
-          ∙ ap (λ n. singles_in range 0 (take index games) ++ filter (is_kept range) (map (numbered n) a.singles.items)) by
+          ∙ ap (λ n. singles_in range 0 (take index games) ++ filter (is_kept range) (map (numbered n) a.count.singles.items)) by
           ∙ sym (in-push range 0 (take index games) a)
           ∙ ap (singles_in range 0) (sym taken);
       numbered_by = (let n = keeping.numbered_by in omega (arith, grown, n));
       within = omega (arith, below);
       few = (let e = ap (λ l. length l) pushed in
           let f = length-append singles new in
-          let h = filter-le (is_kept range) (map (numbered number) a.singles.items) in
-          let m = length-map a.singles.items (numbered number) in
+          let h = filter-le (is_kept range) (map (numbered number) a.count.singles.items) in
+          let m = length-map a.count.singles.items (numbered number) in
           let g = keeping.few in omega (arith, e, f, g, h, m, short));
     }
 

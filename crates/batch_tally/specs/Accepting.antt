@@ -20,9 +20,9 @@ abbrev pub verdict_as : Verdict → imports.Verdict
 verdict_as (verdicts.Accepted accepted) = imports.Accepted (candidate_as accepted)
 verdict_as (verdicts.Refused refusal) = imports.Refused refusal
 
--- the singles of an accepted text are those of its game
+-- the count of an accepted text is that of its game
 abbrev pub IsCounted : Accepted → Type 0
-IsCounted accepted = IsCountOf accepted.game accepted.singles.items
+IsCounted accepted = IsCountOf accepted.game accepted.count
 
 -- the number that the bytes of its game's id spell
 abbrev pub id_word_of : Accepted → ℕ

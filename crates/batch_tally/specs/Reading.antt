@@ -12,9 +12,9 @@ replayed_as reading = record { place = reading.place; text = reading.text; game 
 abbrev pub examination_as : Reading → Examination
 examination_as reading = Read (replayed_as reading)
 
--- the singles are those of the game, where there is one
+-- the count is that of the game, where there is one
 abbrev pub HasCount : Reading → Type 0
-HasCount reading = IfOk reading.game (λ game. IsCountOf game reading.singles.items)
+HasCount reading = IfOk reading.game (λ game. IsCountOf game reading.count)
 
 -- the reading is that of the text
 pub record IsReadingOf (text : Placed) (reading : Reading) : Type 0 where

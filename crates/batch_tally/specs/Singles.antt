@@ -10,23 +10,30 @@ use Rattle.tally_rows.specs.Games.{game_singles}
 use Rattle.tally_rows.specs.Tallied.{Tallied}
 use Rattle.tally_rows.specs.Tally.{IsTrackOf}
 use Rattle.tally_rows.specs.Track.{Track}
-use Rattle.tally_rows.specs.Within.{is_in_range}
+use Rattle.tally_rows.specs.Within.{first_word, is_in_range}
 use Rattle.batch_tally.specs.declared.accepting.Accepted.{Accepted}
+use Rattle.batch_tally.specs.declared.singles.Count.{Count}
 
 -- the track is that of the game, and the singles are those of the track, under the number 0
 pub record CountsBy (track : Track) (game : Game) (singles : List Single) : Type 0 where
   pub is_track : IsTrackOf game track
   pub singles_are : singles ≡ game_singles 0 track
 
--- the singles are those of the game, under the number 0
-pub record IsCountOf (game : Game) (singles : List Single) : Type 0 where
+-- the first word of the key of a single
+abbrev pub word_of : Single → ℕ
+word_of single = first_word single.row_key.key
+
+-- the singles are those of the game, under the number 0, and the words are theirs
+pub record IsCountOf (game : Game) (count : Count) : Type 0 where
   pub track : Track
-  pub counts : CountsBy track game singles
-  pub few : length singles ≤ stage_limit
+  pub counts : CountsBy track game count.singles.items
+  pub few : length count.singles.items ≤ stage_limit
+  pub words : count.words.items ≡ map word_of count.singles.items
 
 -- the tracks are those of the games, by which they are counted
 abbrev pub AreTracksOf : List Accepted → List Track → Type 0
-AreTracksOf games tracks = AllZip (λ a track. CountsBy track a.game a.singles.items) games tracks
+AreTracksOf games tracks =
+    AllZip (λ a track. CountsBy track a.game a.count.singles.items) games tracks
 
 -- the single of the game of another number
 abbrev pub numbered : ℕ → Single → Single
@@ -40,7 +47,7 @@ is_kept range single = is_in_range range single.row_key.key
 abbrev pub singles_in : KeyRange → ℕ → List Accepted → List Single
 singles_in range first [] = []
 singles_in range first (a ∷ games) =
-    filter (is_kept range) (map (numbered first) a.singles.items)
+    filter (is_kept range) (map (numbered first) a.count.singles.items)
     ++ singles_in range (first + 1) games
 
 -- the rows count the games, whose numbers are their places

@@ -8,10 +8,11 @@ ghost use Rattle.tally_rows.specs.SortEntry.{spelled};
 ghost use Rattle.batch_tally.specs.Reading.{HasCount, examination_as};
 
 use crate::reading::Reading;
+use crate::singles::Count;
 use explorer_model::archive::{Bytes, Game, GameId};
 use explorer_model::fault::{Refusal, Why};
 use std::alloc::{AllocError, Global};
-use tally_rows::{Single, word_at};
+use tally_rows::word_at;
 
 /// A text with its game, whose id no text before it in its group has.
 #[derive(Debug, Drop)]
@@ -20,8 +21,7 @@ pub struct Accepted {
     pub place: u64,
     pub text: Bytes,
     pub game: Game,
-    /// What the game counts for, under the number 0.
-    pub singles: Vec<Single>,
+    pub count: Count,
 }
 
 /// What becomes of one text.
@@ -78,7 +78,7 @@ fn judge(accepted: &[Accepted], words: &[u64], marks: &[bool; 4096], reading: Re
         place,
         text,
         game,
-        singles,
+        count,
     } = reading;
     let game = match game {
         Ok(game) => game,
@@ -98,7 +98,7 @@ fn judge(accepted: &[Accepted], words: &[u64], marks: &[bool; 4096], reading: Re
             place,
             text,
             game,
-            singles,
+            count,
         }),
     }
 }

@@ -7,16 +7,17 @@ ghost use Rattle.tally_rows.specs.Within.{TalliedWithin, is_in_range, FollowFrom
 ghost use Rattle.tally_rows.specs.declared.key_range.KeyRange.{KeyRange};
 ghost use Rattle.tally_rows.specs.declared.row.Row.{Row};
 ghost use Rattle.batch_tally.specs.Accepting.{IsCounted};
-ghost use Rattle.batch_tally.specs.Singles.{AreRowsOf, AreTracksOf, is_kept, numbered, singles_in};
+ghost use Rattle.batch_tally.specs.Singles.{AreRowsOf, AreTracksOf, is_kept, numbered, singles_in, word_of};
 ghost use Rattle.std.specs.declared.alloc.AllocError.{AllocError};
 ghost use Rattle.std.specs.declared.alloc.Global.{Global};
 
 use crate::accepting::Accepted;
 use crate::leaves::all_made;
+use crate::singles::Count;
 use side_by_side::map_jobs;
 use std::alloc::{AllocError, Global};
 use std::thread::Threads;
-use tally_rows::{KeyRange, Row, Single, first_word, rows_of};
+use tally_rows::{KeyRange, Row, Single, rows_of};
 
 /// The rows of games, whose numbers are their places, in parts, one after another. Each leaf makes
 /// those of a range of keys, of which there are as many as workers, and the leaves work side by
@@ -35,16 +36,18 @@ pub fn row_parts<R: Threads + Sync>(
 {
     tally_rows::laws::ranges_are_tallied();
     let ranges = ranges_of(alloc, games, workers)?;
-    let results = rows_of_ranges(rt, alloc, games, ranges)?;
+    let room = room_of(games, workers);
+    let results = rows_of_ranges(rt, alloc, games, ranges, room)?;
     all_made(alloc, results)
 }
 
-/// The rows in each range.
+/// The rows in each range, of which each is likely to have no more than so many singles.
 fn rows_of_ranges<R: Threads + Sync>(
     rt: &R,
     alloc: Global,
     games: &[Accepted],
     ranges: Vec<KeyRange>,
+    room: usize,
 ) -> Result<Vec<Result<Vec<Row>, AllocError>>, AllocError>
     requires counted { All IsCounted games.now }
     requires few { length games.now ≤ group_limit }
@@ -59,60 +62,91 @@ fn rows_of_ranges<R: Threads + Sync>(
         requires { All IsCounted games.now × (length games.now ≤ group_limit) }
         ensures { IfOk result (λ rows. (tracks : List Track) → AreTracksOf games.entry.now tracks
             → TalliedWithin (is_in_range range) tracks rows.items) }
-    { rows_within(alloc, games, range) };
+    { rows_within(alloc, games, range, room) };
     let results = map_jobs(rt, alloc, ranges, &within)?;
     let _count = results.as_slice().len();
     Ok(results)
 }
 
 /// The rows in a range of keys.
-fn rows_within(alloc: Global, games: &[Accepted], range: KeyRange) -> Result<Vec<Row>, AllocError>
+fn rows_within(
+    alloc: Global,
+    games: &[Accepted],
+    range: KeyRange,
+    room: usize,
+) -> Result<Vec<Row>, AllocError>
     requires counted { All IsCounted games.now }
     requires few { length games.now ≤ group_limit }
     ensures { IfOk result (λ rows. (tracks : List Track) → AreTracksOf games.now tracks
         → TalliedWithin (is_in_range range) tracks rows.items) }
 {
     tally_rows::laws::singles_of_passing_keys();
-    let singles = singles_within(alloc, games, range)?;
+    let singles = singles_within(alloc, games, range, room)?;
     rows_of(alloc, singles)
 }
 
-/// What games count for in a range of keys, under their numbers.
+/// What games count for in a range of keys, under their numbers. There is room at once for so many
+/// singles, which spares moving them while their list grows.
 fn singles_within(
     alloc: Global,
     games: &[Accepted],
     range: KeyRange,
+    room: usize,
 ) -> Result<Vec<Single>, AllocError>
     requires counted { All IsCounted games.now }
     requires few { length games.now ≤ group_limit }
     ensures singles { IfOk result (λ singles. singles.items ≡ singles_in range 0 games.now) }
     ensures few { IfOk result (λ singles. vec_len singles < 2 ^ 32) }
 {
-    let mut singles = Vec::new(alloc);
+    let mut singles = Vec::with_capacity(alloc, room)?;
     let mut number = 0;
     for accepted in games {
-        push_within(&mut singles, accepted.singles.as_slice(), range, number)?;
+        push_within(&mut singles, &accepted.count, range, number)?;
         number += 1;
     }
     Ok(singles)
 }
 
-/// Puts what a game of this number counts for in a range of keys behind the others.
+/// Puts what a game of this number counts for in a range of keys behind the others. Words tell which
+/// singles those are: the others, which another processor's cache may hold, are not read.
 fn push_within(
     singles: &mut Vec<Single>,
-    of_game: &[Single],
+    count: &Count,
     range: KeyRange,
     number: u32,
 ) -> Result<(), AllocError>
+    requires { count.now.words.items ≡ map word_of count.now.singles.items }
     ensures { OnOk result (singles.new.items ≡ singles.old.items
-        ++ filter (is_kept range) (map (numbered number) of_game.now)) }
+        ++ filter (is_kept range) (map (numbered number) count.now.singles.items)) }
 {
-    for single in of_game {
-        if range.contains(&single.row_key.key) {
+    let of_game = count.singles.as_slice();
+    let words = count.words.as_slice();
+    for place in 0..words.len() {
+        let single = &of_game[place];
+        if range.contains_word(words[place]) {
             singles.push(Single { number, ..*single })?;
         }
     }
     Ok(())
+}
+
+/// How many singles each of so many ranges is likely to have at the most: a quarter more than the
+/// mean of all, but no more than there are.
+fn room_of(games: &[Accepted], ranges: usize) -> usize
+    requires { 1 ≤ ranges }
+{
+    let all = count_singles(games);
+    let mean = all.div_ceil(ranges);
+    mean.saturating_add(mean / 4).min(all)
+}
+
+/// How many singles all games have.
+fn count_singles(games: &[Accepted]) -> usize {
+    let mut count = 0usize;
+    for accepted in games {
+        count = count.saturating_add(accepted.count.words.len());
+    }
+    count
 }
 
 /// Ranges of keys that follow one another, as many as there are workers. Any do; these have about as many singles each.
@@ -140,9 +174,9 @@ fn ranges_of(alloc: Global, games: &[Accepted], workers: usize) -> Result<Vec<Ke
 fn sample_of(alloc: Global, games: &[Accepted]) -> Result<Vec<u64>, AllocError> {
     let mut words = Vec::with_capacity(alloc, games.len())?;
     for (number, accepted) in games.iter().enumerate() {
-        let singles = accepted.singles.as_slice();
-        if !singles.is_empty() {
-            words.push(first_word(&singles[number % singles.len()].row_key.key))?;
+        let of_game = accepted.count.words.as_slice();
+        if !of_game.is_empty() {
+            words.push(of_game[number % of_game.len()])?;
         }
     }
     words.sort_unstable();

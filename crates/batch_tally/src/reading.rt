@@ -10,7 +10,7 @@ ghost use Rattle.std.specs.declared.alloc.AllocError.{AllocError};
 ghost use Rattle.std.specs.declared.alloc.Global.{Global};
 
 use crate::leaves::{all_made, joined};
-use crate::singles::singles_of;
+use crate::singles::{Count, count_of};
 use explorer_model::archive::{Bytes, Game, Placed};
 use explorer_model::fault::{GameFault, Stop};
 use game_replay::replay;
@@ -18,7 +18,6 @@ use outside::Gate;
 use side_by_side::map_jobs;
 use std::alloc::{AllocError, Global};
 use std::thread::Threads;
-use tally_rows::Single;
 
 /// A text with its game, or the first of its faults.
 #[derive(Debug, Drop)]
@@ -27,8 +26,8 @@ pub struct Reading {
     pub place: u64,
     pub text: Bytes,
     pub game: Result<Game, GameFault>,
-    /// What the game counts for, under the number 0; none without a game.
-    pub singles: Vec<Single>,
+    /// Nothing without a game.
+    pub count: Count,
 }
 
 /// The texts of one leaf.
@@ -149,19 +148,22 @@ fn read(alloc: Global, text: Placed) -> Result<Reading, AllocError>
     let Placed { place, bytes } = text;
     match replay(alloc, bytes.as_slice()) {
         Ok(game) => {
-            let singles = singles_of(alloc, &game)?;
+            let count = count_of(alloc, &game)?;
             Ok(Reading {
                 place,
                 text: bytes,
                 game: Ok(game),
-                singles,
+                count,
             })
         }
         Err(Stop::Fault(fault)) => Ok(Reading {
             place,
             text: bytes,
             game: Err(fault),
-            singles: Vec::new(alloc),
+            count: Count {
+                singles: Vec::new(alloc),
+                words: Vec::new(alloc),
+            },
         }),
         Err(Stop::OutOfMemory) => Err(AllocError),
     }

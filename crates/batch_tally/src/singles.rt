@@ -4,7 +4,7 @@ ghost use Rattle.std.specs.List.{list_any};
 ghost use Rattle.explorer_model.specs.Visits.{AreLegal};
 ghost use Rattle.tally_rows.specs.Games.{has_key, first_steps, single_at};
 ghost use Rattle.tally_rows.specs.Tallied.{mover_rating};
-ghost use Rattle.batch_tally.specs.Singles.{IsCountOf};
+ghost use Rattle.batch_tally.specs.Singles.{IsCountOf, word_of};
 ghost use Rattle.batch_tally.specs.Marks.{mark_of, AreMarked};
 ghost use Rattle.batch_tally.specs.Steps.{step_as};
 
@@ -12,15 +12,36 @@ use crate::step::Step;
 use crate::steps::steps_of;
 use explorer_model::archive::{Classes, Game};
 use std::alloc::{AllocError, Global};
-use tally_rows::{RowKey, Single};
+use tally_rows::{RowKey, Single, first_word};
 
-/// What the game counts for, under the number 0: a single for each position, at its first visit.
-pub fn singles_of(alloc: Global, game: &Game) -> Result<Vec<Single>, AllocError>
+/// What a game counts for, under the number 0.
+#[derive(Debug, Drop)]
+pub struct Count {
+    /// A single for each position, at its first visit.
+    pub singles: Vec<Single>,
+    /// The first word of the key of each single, which tells whether a range of keys has it.
+    pub words: Vec<u64>,
+}
+
+pub fn count_of(alloc: Global, game: &Game) -> Result<Count, AllocError>
     requires { AreLegal game.now }
-    ensures { IfOk result (λ singles. IsCountOf game.now singles.items) }
+    ensures { IfOk result (λ count. IsCountOf game.now count) }
 {
     let steps = steps_of(alloc, game.moves.as_slice())?;
-    first_visits(alloc, &game.classes, steps.as_slice())
+    let singles = first_visits(alloc, &game.classes, steps.as_slice())?;
+    let words = words_of(alloc, singles.as_slice())?;
+    Ok(Count { singles, words })
+}
+
+/// The first word of the key of each single.
+fn words_of(alloc: Global, singles: &[Single]) -> Result<Vec<u64>, AllocError>
+    ensures { IfOk result (λ words. words.items ≡ map word_of singles.now) }
+{
+    let mut words = Vec::with_capacity(alloc, singles.len())?;
+    for single in singles {
+        words.push(first_word(&single.row_key.key))?;
+    }
+    Ok(words)
 }
 
 /// What a game counts for at each of its steps that is the first one to its position.

@@ -47,10 +47,13 @@ abbrev pub is_word_below : Option ℕ → ℕ → Bool
 is_word_below None word = true
 is_word_below (Some below) word = nat_lt word below
 
+-- whether the keys with this first word are in the range
+abbrev pub is_word_in : KeyRange → ℕ → Bool
+is_word_in range word = nat_le range.from word && is_word_below range.below word
+
 -- whether a key is in the range
 abbrev pub is_in_range : KeyRange → List ℕ → Bool
-is_in_range range key =
-    nat_le range.from (first_word key) && is_word_below range.below (first_word key)
+is_in_range range key = is_word_in range (first_word key)
 
 -- ranges that follow one another from a number on, and leave none out
 abbrev pub FollowFrom : ℕ → List KeyRange → Type 0

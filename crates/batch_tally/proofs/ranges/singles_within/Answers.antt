@@ -1,7 +1,6 @@
-use Rattle.std.proofs.Common.{◌++◌, map, rules, refl, ap, ◌∙◌, arith}
-use Rattle.std.specs.List.{filter}
+use Rattle.std.proofs.Common.{rules, refl, ap, ◌∙◌, arith}
 use Rattle.std.proofs.lemmas.List.{take_all}
-use Rattle.batch_tally.specs.Singles.{is_kept, numbered, singles_in}
+use Rattle.batch_tally.specs.Singles.{singles_in}
 use Rattle.batch_tally.proofs.RangeLemmas.{one-game}
 use Rattle.batch_tally.proofs.ranges.singles_within.Goals as goal
 
@@ -9,9 +8,7 @@ pub loop-accepted-preserved : goal.loop-accepted-preserved
 loop-accepted-preserved c =
     one-game c.args.range c.args.games.now c.requires.counted c.loop-accepted.singles.items c.push_within.new.singles.items
     c.loop-accepted.number _ c.loop-accepted.accepted-index c.accepted-item.result (search rules) (search rules)
-    (c.in_ok-push_within.ensures
-    ∙ ap (λ l. c.loop-accepted.singles.items ++ filter (is_kept c.args.range) (map (numbered c.loop-accepted.number) l)) c.as_slice.ensures.value)
-    refl c.loop-accepted.invariant
+    c.in_ok-push_within.ensures refl c.loop-accepted.invariant
 
 pub returns-clause-singles : goal.returns-clause-singles
 returns-clause-singles c =

@@ -4,11 +4,10 @@ use Rattle.explorer_model.specs.declared.chess.Move.{Move}
 use Rattle.explorer_model.specs.Chess.{start}
 use Rattle.explorer_model.specs.Visits.{stage_limit}
 use Rattle.tally_rows.specs.Games.{first_steps, single_at}
-use Rattle.batch_tally.specs.Singles.{IsCountOf}
+use Rattle.batch_tally.specs.Singles.{word_of}
 use Rattle.batch_tally.specs.Steps.{step_as, IsStepAt, stages_within}
 use Rattle.batch_tally.proofs.Counting.{count-of}
-use Rattle.batch_tally.proofs.LeafLemmas.{if-ok}
-use Rattle.batch_tally.proofs.singles.singles_of.Goals as goal
+use Rattle.batch_tally.proofs.singles.count_of.Goals as goal
 
 pub returns : goal.returns
 returns c =
@@ -16,8 +15,6 @@ returns c =
     let steps = c.in_ok-steps.steps.items in
     let stepped : AllZip IsStepAt (stages_within stage_limit start game.moves) steps =
     subst (λ (moves : List Move). AllZip IsStepAt (stages_within stage_limit start moves) steps) c.as_slice.ensures c.in_ok-steps.ensures in
-    if-ok _ (λ singles. IsCountOf game singles.items) c.first_visits.result
-    (λ singles is.
-    count-of game steps singles.items stepped
-    (is ∙ ap (λ l. map (single_at game.classes 0) (first_steps [] (map step_as l))) c.as_slice-2.ensures.value))
-    c.first_visits.ensures
+    count-of game steps _ stepped
+    (c.in_ok-singles.ensures ∙ ap (λ l. map (single_at game.classes 0) (first_steps [] (map step_as l))) c.as_slice-2.ensures.value)
+    (c.in_ok-words.ensures ∙ ap (λ l. map word_of l) c.as_slice-3.ensures.value)
