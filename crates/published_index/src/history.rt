@@ -1,6 +1,7 @@
 //! The history of an index: the batches that were put, one behind another.
 ghost use Rattle.std.specs.Prelude.{◌≡◌, ◌+◌, ◌<◌, ◌^◌, ◌++◌, [], ◌∷◌, length, MatchBool, IfSome};
 ghost use Rattle.std.specs.Bool.{OnTrue};
+ghost use Rattle.explorer_model.specs.Timeline.{IsPrefix};
 ghost use Rattle.published_index.specs.Cover.{journal_of};
 ghost use Rattle.published_index.specs.History.{batch_at, word_of};
 
@@ -120,6 +121,14 @@ impl History {
     {
         self.front.add(&self.word, segment, place)
     }
+    /// Makes sure that a beginning of the history that was seen has no more than this has.
+    pub fn confirm(&mut self, front: &Front)
+        requires { front.now.book ≡ self.old.book }
+        ensures same { self.new ≡ self.old }
+        ensures seen { IsPrefix front.now.log self.old.log }
+    {
+    }
+
     /// The history of a list: its batches, one behind another.
     pub fn of(list: &List) -> Option<History>
         ensures { IfSome result (λ history. history.log ≡ journal_of list.now) }
