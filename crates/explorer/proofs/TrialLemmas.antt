@@ -18,7 +18,7 @@ use Rattle.explorer_model.specs.Finds.{IsFound}
 use Rattle.explorer_model.specs.Imports.{Accounted, groups}
 use Rattle.explorer_model.specs.Visits.{IsTextOf, texts_of}
 use Rattle.ingest_desk.specs.Importers.{ending_of}
-use Rattle.ingest_desk.specs.Stored.{Stored, journal, with_held}
+use Rattle.ingest_desk.specs.Stored.{Stored, journal}
 use Rattle.ingest_desk.specs.declared.report.End.{End}
 use Rattle.ingest_desk.specs.declared.report.End.TheVariants as ends
 use Rattle.ingest_desk.specs.declared.report.ImportEnding.{ImportEnding}
@@ -28,7 +28,7 @@ use Rattle.import_run.specs.Alone.{ImportsAlone, stored_in}
 use Rattle.import_run.specs.Committing.{Known, Store}
 use Rattle.import_run.specs.Ending.{StandsAt, StoresBy}
 use Rattle.import_run.specs.Faultless.{StoresAll}
-use Rattle.published_index.specs.Changes.{Change}
+use Rattle.published_index.specs.Changes.{Change, with_held}
 use Rattle.published_index.specs.Cover.{journal_of}
 use Rattle.published_index.specs.States.{Publishing}
 use Rattle.segment_blocks.specs.Segment.{CountedSpan}

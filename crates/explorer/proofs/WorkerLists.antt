@@ -12,8 +12,7 @@ use Rattle.host.specs.Hosts.{ADisk, ADoor, AFile, DoorBack, FileBack, HostCall, 
 use Rattle.explorer_model.specs.declared.archive.Batch.{Batch}
 use Rattle.explorer_model.specs.Timeline.{IsPrefix}
 use Rattle.explorer_model.proofs.Timelines.{prefix-trans}
-use Rattle.published_index.specs.Changes.{AddOf, Change, JoinAt, with_put}
-use Rattle.ingest_desk.specs.Stored.{with_held}
+use Rattle.published_index.specs.Changes.{AddOf, Change, JoinAt, with_held, with_put}
 use Rattle.ingest_desk.specs.declared.receipt.Receipt.{Receipt}
 use Rattle.ingest_desk.specs.declared.report.End.{End}
 use Rattle.ingest_desk.specs.declared.report.End.TheVariants as ends

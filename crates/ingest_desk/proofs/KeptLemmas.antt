@@ -24,13 +24,12 @@ use Rattle.record_log.specs.Log.{IsNotAdded, Log}
 use Rattle.record_log.specs.declared.fault.AppendFault.{AppendFault}
 use Rattle.record_log.specs.declared.fault.AppendFault.TheVariants as appends
 use Rattle.published_index.specs.Calls.{Makes, Retries}
-use Rattle.published_index.specs.Changes.{AddOf, Change, JoinAt, with_put}
+use Rattle.published_index.specs.Changes.{AddOf, Change, JoinAt, with_held, with_put}
 use Rattle.published_index.specs.Cover.{journal_of}
-use Rattle.published_index.specs.States.{Publishing}
+use Rattle.published_index.specs.States.{Publishing, journal_by}
 use Rattle.ingest_desk.specs.Installs.{caught_up, list_by}
 use Rattle.ingest_desk.specs.Kept.{IsKept, Keeps, KeepsBy}
 use Rattle.ingest_desk.specs.Registers.{IsRegisterOf, IsSame, text_bytes}
-use Rattle.ingest_desk.specs.Stored.{journal_by, with_held}
 use Rattle.ingest_desk.specs.declared.register.Register.{Register}
 use Rattle.ingest_desk.proofs.IdLemmas.{false_true}
 use Rattle.ingest_desk.proofs.RegisterLemmas.{fewer_batches, register_same}

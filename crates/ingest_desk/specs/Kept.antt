@@ -4,8 +4,7 @@ use Rattle.disk_model.specs.Disk.{DiskState}
 use Rattle.explorer_model.specs.declared.archive.Batch.{Batch}
 use Rattle.record_log.specs.Log.{EachImage, Log}
 use Rattle.manifest.specs.Manifest.{IsManifestOf, IsWithOrWithoutBatch}
-use Rattle.published_index.specs.States.{Publishing}
-use Rattle.ingest_desk.specs.Stored.{journal_by}
+use Rattle.published_index.specs.States.{Publishing, journal_by}
 use Rattle.ingest_desk.specs.Registers.{IsRegisterOf}
 use Rattle.ingest_desk.specs.declared.register.Register.{Register}
 

@@ -1,25 +1,15 @@
 -- Statement: what is stored behind a desk, and what of it is published.
-use Rattle.std.specs.Prelude.{List, Option, None, Some}
+use Rattle.std.specs.Prelude.{List}
 use Rattle.explorer_model.specs.declared.archive.Batch.{Batch}
 use Rattle.record_log.specs.Log.{Log}
-use Rattle.published_index.specs.Changes.{Change, with_put}
-use Rattle.published_index.specs.Cover.{journal_of}
-use Rattle.published_index.specs.States.{Opened, Publishing, publishing}
+use Rattle.published_index.specs.States.{Opened, Publishing, journal_by, publishing}
 
 -- the manifest of the store; the published list, and the change that is held
 pub record Stored (D : Type 0) : Type 0 where
   pub manifest : Log D
   pub index : Publishing
 
--- the published journal, and the batch of a change that is held behind it
-abbrev pub with_held : List Batch → Option Change → List Batch
-with_held published None = published
-with_held published (Some change) = with_put published change
-
-abbrev pub journal_by : Publishing → List Batch
-journal_by index = with_held (journal_of index.list) index.held
-
--- the stored journal
+-- the stored journal: what is published, and the batch of a held change behind it
 abbrev pub journal : {D : Type 0} → Stored D → List Batch
 journal stored = journal_by stored.index
 

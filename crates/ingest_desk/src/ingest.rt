@@ -4,13 +4,14 @@ ghost use Rattle.published_index.specs.Cover.{journal_of, list_limit};
 ghost use Rattle.published_index.specs.Calls.{Retries};
 ghost use Rattle.published_index.specs.States.{IsPublishing};
 ghost use Rattle.explorer_model.specs.Journal.{IsSound};
+ghost use Rattle.explorer_model.specs.Timeline.{IsPrefix};
 ghost use Rattle.ingest_desk.specs.Kept.{Keeps};
 ghost use Rattle.ingest_desk.specs.Stored.{journal};
 
 use crate::register::Register;
 use disk_model::Disk;
 use manifest::Manifest;
-use published_index::{Index, Note, Publisher};
+use published_index::{Index, Note, Pass, Publisher};
 use std::alloc::AllocError;
 use std::marker::Model;
 use std::sync::{Mutex, Wait};
@@ -64,6 +65,14 @@ impl<D: Disk, J: Index> Ingest<D, J> {
         ensures same { self.new ≡ self.old }
     {
         self.publisher.tell()
+    }
+
+    /// Makes sure that a pass has seen nothing but what is stored. It takes no memory.
+    pub fn confirm(&mut self, pass: &Pass<J>)
+        ensures same { self.new ≡ self.old }
+        ensures seen { IsPrefix pass.now.seen (journal self.old) }
+    {
+        self.publisher.confirm(pass);
     }
 
     /// Publishes the change that is held, if one is. It waits for the readers that are inside.

@@ -24,6 +24,9 @@ prefix-begins xs ys h = record { rest = h.0; is = sym h.1 }
 pub prefix-length : {A : Type 0} (xs ys : List A) → IsPrefix xs ys → length xs ≤ length ys
 prefix-length xs ys h = omega (arith, ap length h.is, length-append xs h.rest)
 
+pub begins-length : {A : Type 0} (xs ys : List A) → Begins xs ys → length xs ≤ length ys
+begins-length xs ys h = prefix-length xs ys (prefix-begins xs ys h)
+
 -- of two beginnings of one list the shorter begins the longer
 pub prefix-shorter : {A : Type 0} (xs ys zs : List A) → Begins xs zs → Begins ys zs → length xs ≤ length ys → IsPrefix xs ys
 prefix-shorter [] ys zs p q le = record { rest = ys; is = refl }

@@ -1,18 +1,19 @@
 -- What is published by the writer's operations.
-use Rattle.std.proofs.Common.{◌≡◌, ℕ, ◌<◌, List, [], ◌∷◌, length, fold, sym, ap, ◌∙◌, subst, arith, Option, None}
+use Rattle.std.proofs.Common.{◌≡◌, ℕ, ◌<◌, List, [], ◌∷◌, length, fold, sym, ap, ◌∙◌, subst, arith, ⊎_elim, Option, None, Some}
 use Rattle.crossbeam_utils.specs.Register.{TurnsAt}
 use Rattle.explorer_model.specs.declared.archive.Batch.{Batch}
 use Rattle.explorer_model.specs.Timeline.{IsPrefix}
 use Rattle.segment_blocks.specs.Segment.{CountedSpan}
+use Rattle.published_index.specs.declared.held.Held.{Held}
 use Rattle.published_index.specs.declared.published.Published.{Published}
 use Rattle.published_index.specs.declared.published.Operation.{Operation}
 use Rattle.published_index.specs.Cover.{journal_of}
-use Rattle.published_index.specs.Changes.{Change, AddOf, JoinAt, with_change, with_put}
+use Rattle.published_index.specs.Changes.{Change, AddOf, JoinAt, with_change, with_held, with_put}
 use Rattle.published_index.specs.History.{Reached}
 use Rattle.published_index.specs.Operations.{change_made, applied}
 use Rattle.published_index.specs.Rule.{Begins}
-use Rattle.published_index.specs.Held.{IsQueued, IsWritten}
-use Rattle.published_index.proofs.PrefixLemmas.{prefix-self, prefix-append}
+use Rattle.published_index.specs.Held.{held_change, waiting, IsQueued, IsWritten, Waits}
+use Rattle.published_index.proofs.PrefixLemmas.{prefix-self, prefix-append, prefix-trans}
 use Rattle.published_index.proofs.CoverLemmas.{journal-changed}
 use Rattle.published_index.proofs.RuleLemmas.{holds, sees, sees-turns, begins-self}
 
@@ -76,3 +77,22 @@ change-turns shown history (operation ∷ []) seen written some next is seat =
     sees-turns seat seen shown next
     (subst (λ (f : Reached). Begins shown.front f) (sym after.front_is) (record { book = written.book; log = log }))
     (λ tied. after.tied)
+
+-- ---- what the history has
+
+as-prefix : (xs ys : List Batch) → xs ≡ ys → IsPrefix xs ys
+as-prefix xs ys is = subst (λ (l : List Batch). IsPrefix xs l) is (prefix-self xs)
+
+-- the history has what is published, and nothing more but what waits
+pub within-journal : (list : List CountedSpan) (front history : Reached) (held : Option Held) (operations : List Operation)
+    → Waits list front history held operations → IsPrefix history.log (with_held (journal_of list) (waiting held operations))
+within-journal list front history None [] waits = as-prefix history.log (journal_of list) waits
+within-journal list front history None (operation ∷ []) waits =
+    as-prefix history.log (with_put (journal_of list) (change_made operation)) waits.log
+within-journal list front history None (operation ∷ _ ∷ operations) waits = absurd waits
+within-journal list front history (Some held) (operation ∷ operations) waits = absurd waits
+within-journal list front history (Some held) [] waits =
+    let journal = journal_of list in
+    let whole = with_put journal (held_change held) in
+    ⊎_elim (λ is. prefix-trans history.log journal whole (as-prefix history.log journal is) (prefix-put journal (held_change held)))
+    (λ is. as-prefix history.log whole is) waits.log

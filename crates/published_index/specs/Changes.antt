@@ -1,5 +1,5 @@
 -- Statement: what may be done to a published list.
-use Rattle.std.specs.Prelude.{◌≡◌, ℕ, ◌+◌, ◌<◌, List, [], ◌∷◌, ◌++◌, length, take, drop, slice_get, Some}
+use Rattle.std.specs.Prelude.{◌≡◌, ℕ, ◌+◌, ◌<◌, List, [], ◌∷◌, ◌++◌, length, take, drop, slice_get, Option, None, Some}
 use Rattle.explorer_model.specs.declared.archive.Batch.{Batch}
 use Rattle.explorer_model.specs.Timeline.{both}
 use Rattle.segment_blocks.specs.Segment.{CountedSpan}
@@ -36,3 +36,8 @@ with_change list (JoinAt at segment) = take at list ++ segment ∷ drop (at + 2)
 abbrev pub with_put : List Batch → Change → List Batch
 with_put journal (AddOf segment) = journal ++ segment.span.batches
 with_put journal (JoinAt at segment) = journal
+
+-- the published journal, and the batch of a change that is held behind it
+abbrev pub with_held : List Batch → Option Change → List Batch
+with_held published None = published
+with_held published (Some change) = with_put published change

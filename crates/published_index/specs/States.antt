@@ -3,8 +3,8 @@ use Rattle.std.specs.Prelude.{ℕ, List, Option, None, IfSome}
 use Rattle.logbook.specs.Pages.{Book}
 use Rattle.explorer_model.specs.declared.archive.Batch.{Batch}
 use Rattle.segment_blocks.specs.Segment.{CountedSpan}
-use Rattle.published_index.specs.Cover.{IsList}
-use Rattle.published_index.specs.Changes.{Change, MayMake}
+use Rattle.published_index.specs.Cover.{IsList, journal_of}
+use Rattle.published_index.specs.Changes.{Change, MayMake, with_held}
 
 -- the published list, and the change that is held because it could not be published
 pub record Publishing : Type 0 where
@@ -14,6 +14,10 @@ pub record Publishing : Type 0 where
 pub record IsPublishing (publishing : Publishing) : Type 0 where
   pub list : IsList publishing.list
   pub held : IfSome publishing.held (λ change. MayMake publishing.list change)
+
+-- the published journal, and the batch of the held change behind it
+abbrev pub journal_by : Publishing → List Batch
+journal_by index = with_held (journal_of index.list) index.held
 
 -- the batches that a pass has seen, how often it saw what was published, and how many readings were
 -- not given

@@ -1,99 +1,56 @@
 //! The history of an index: the batches that were put, one behind another.
 ghost use Rattle.std.specs.Prelude.{◌≡◌, ◌+◌, ◌<◌, ◌^◌, ◌++◌, [], ◌∷◌, length, MatchBool, IfSome};
 ghost use Rattle.std.specs.Bool.{OnTrue};
+ghost use Rattle.explorer_model.specs.Timeline.{IsPrefix};
 ghost use Rattle.published_index.specs.Cover.{journal_of};
-ghost use Rattle.published_index.specs.History.{batch_at, word_of};
+ghost use Rattle.published_index.specs.History.{batch_at};
 
+use crate::book::{BookSeen, BookWord, add_batch, add_cell, see_all};
 use crate::front::Front;
 use crate::list::List;
-use explorer_model::archive::Batch;
-use logbook::{Gain, Plain, Play, Rule, Seen, Start, Word};
+use logbook::{Pen, Seen, Start};
 use segment_blocks::Segment;
 use std::marker::Model;
 
-/// The rule of the book.
-pub struct Law;
-
-impl Rule<Batch, u64> for Law {
-    ghost use Rattle.std.specs.Prelude.{[]};
-    ghost use base.Fml.{ftrue};
-    ghost use Rattle.published_index.specs.History.{IsKept};
-
-    ghost holds = { λ cells log. IsKept cells log };
-
-    ghost first = { [] };
-
-    ghost hinted = { λ n log. Unit {0} };
-
-    ghost shows = { λ log. [] };
-
-    ghost keeps = { λ names log. ftrue };
-
-    ghost moves = { λ ask before after answer. Unit {0} };
-}
-
-/// The one that adds trades nothing.
-pub struct Nothing;
-
-impl Gain<Batch, u64> for Nothing {
-    ghost use base.Fml.{ftrue};
-
-    ghost after = { λ names about answer. ftrue };
-}
-
-/// A batch of a segment, by its place there.
-#[derive(Clone, Copy)]
-pub struct Entry<'a> {
-    pub segment: &'a Segment,
-    pub place: u32,
-}
-
-/// A step that adds a batch.
-pub struct Add;
-
-impl Play<Batch, u64> for Add {
-    ghost use Rattle.published_index.specs.History.{Adds};
-
-    ghost then = { Adds };
-}
-
-impl<'a> Plain<Entry<'a>, Batch, u64> for Add {
-    ghost use Rattle.std.specs.Prelude.{None};
-    ghost use Rattle.published_index.specs.History.{batch_at};
-
-    ghost ask = { λ entry. batch_at entry.segment.now entry.place };
-
-    ghost state = { λ entry. None };
-}
-
-/// The whole history, with its word, which only the publisher has. Contracts see its batches.
+/// The whole history, with its word and with the pen that alone can add to it. Contracts see its
+/// batches.
 #[derive(Drop)]
 pub struct History {
-    word: Word<Batch, u64, Law>,
+    word: BookWord,
     front: Front,
+    pen: Pen,
 }
 
 impl Model for History {
     ghost use Rattle.std.specs.Prelude.{◌≡◌};
-    ghost use Rattle.published_index.specs.History.{Reached, word_of};
+    ghost use Rattle.published_index.specs.History.{Reached, next_nib, word_of};
 
     ghost Value = { Reached };
 
     ghost view = { λ history. history.front };
 
-    ghost invariant = { λ history. history.word ≡ word_of history.front.book };
+    ghost invariant = { λ history. (history.word ≡ word_of history.front.book)
+        × (history.pen.book ≡ history.front.book)
+        × (history.pen.nib ≡ next_nib history.front.log) };
 }
 
 impl History {
-    /// A history without a batch.
-    pub fn new() -> History
-        ensures { result.log ≡ [] }
+    /// A history without a batch. There is none where another has the word too.
+    pub fn new() -> Option<History>
+        ensures { IfSome result (λ history. history.log ≡ []) }
     {
-        let (seen, mut first, _second) = Seen::open(Start::alone(), 0, 0);
-        History {
-            word: Word::tracked(0, &mut first),
+        let (mut seen, mut first, _second): (BookSeen, Pen, Pen) = Seen::open(
+            Start::alone(),
+            0,
+            0,
+        );
+        let word = BookWord::tracked(0, &mut first);
+        let pen = add_cell(&word, &mut seen, 0)?;
+        Some(History {
+            word,
             front: Front { count: 0, seen },
-        }
+            pen,
+        })
     }
 
     /// The whole of it.
@@ -118,13 +75,37 @@ impl History {
             (self.new.log ≡ self.old.log ++ (batch_at segment.now place ∷ []))
             (self.new ≡ self.old) }
     {
-        self.front.add(&self.word, segment, place)
+        let mut seen = self.front.seen.again();
+        let Some(next) = add_cell(&self.word, &mut seen, 1) else {
+            return false;
+        };
+        if !add_batch(&self.word, &mut seen, &mut self.pen, segment, place) {
+            return false;
+        }
+        self.front = Front {
+            count: self.front.count + 1,
+            seen,
+        };
+        self.pen = next;
+        true
     }
+
+    /// Makes sure that a beginning of the history that was seen has no more than this has.
+    pub fn confirm(&mut self, front: &Front)
+        requires { front.now.book ≡ self.old.book }
+        ensures same { self.new ≡ self.old }
+        ensures seen { IsPrefix front.now.log self.old.log }
+    {
+        let mut seen = self.front.seen.again();
+        seen.learn(&front.seen);
+        see_all(&self.word, &mut seen, &mut self.pen);
+    }
+
     /// The history of a list: its batches, one behind another.
     pub fn of(list: &List) -> Option<History>
         ensures { IfSome result (λ history. history.log ≡ journal_of list.now) }
     {
-        let mut history = History::new();
+        let mut history = History::new()?;
         let _batches = list.batches();
         for segment in list.segments() {
             if !history.add_all(segment) {

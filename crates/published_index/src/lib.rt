@@ -9,6 +9,7 @@
 //! ```
 #![tactic(auto)]
 
+mod book;
 mod fault;
 mod front;
 mod held;

@@ -1,9 +1,10 @@
 //! The publisher's side, of an index whose name no type has.
 ghost use Rattle.std.specs.Prelude.{◌≡◌, ◌≤◌, ◌<◌, [], None, Some, IfOk, IfErr, MatchBool, drop, length};
 ghost use Rattle.left_right.specs.Sides.{view as view_of};
+ghost use Rattle.explorer_model.specs.Timeline.{IsPrefix};
 ghost use Rattle.published_index.specs.Cover.{IsList, journal_of};
 ghost use Rattle.published_index.specs.Changes.{AddOf, MayMake, with_put};
-ghost use Rattle.published_index.specs.States.{IsPublishing, publishing, watching};
+ghost use Rattle.published_index.specs.States.{IsPublishing, journal_by, publishing, watching};
 ghost use Rattle.published_index.specs.Operations.{change_made};
 ghost use Rattle.published_index.specs.Held.{
   held_change,
@@ -175,6 +176,15 @@ impl ListWriter {
         ensures log { result.log ≡ journal_of self.now.publishing.list }
     {
         self.writer.published().front.again()
+    }
+
+    /// Makes sure that a beginning of the history has no more than what is published, or waits to be.
+    pub fn confirm(&mut self, front: &Front)
+        requires { front.now.book ≡ self.old.book }
+        ensures same { self.new ≡ self.old }
+        ensures seen { IsPrefix front.now.log (journal_by self.old.publishing) }
+    {
+        self.history.confirm(front);
     }
 
     /// A snapshot of what is published.

@@ -2,8 +2,9 @@
 ghost use Rattle.std.specs.Prelude.{◌≡◌, IfOk, IfSome, IsSome, None};
 ghost use Rattle.std.specs.Arc.{arc_value};
 ghost use Rattle.published_index.specs.Cover.{IsList, journal_of};
+ghost use Rattle.explorer_model.specs.Timeline.{IsPrefix};
 ghost use Rattle.published_index.specs.Changes.{AddOf, JoinAt, CanAdd, CanJoin};
-ghost use Rattle.published_index.specs.States.{IsPublishing};
+ghost use Rattle.published_index.specs.States.{IsPublishing, journal_by};
 ghost use Rattle.published_index.specs.Calls.{Makes, Retries};
 ghost use Rattle.published_index.specs.Held.{Remakes};
 
@@ -12,6 +13,7 @@ use crate::index::Index;
 use crate::list::{List, SharedSegment};
 use crate::list_writer::ListWriter;
 use crate::note::Note;
+use crate::pass::Pass;
 use crate::snapshot::Snapshot;
 use std::alloc::{AllocError, Global};
 use std::marker::{Model, PhantomData};
@@ -88,6 +90,15 @@ impl<J: Index> Publisher<J> {
             front: self.writer.front(),
             of: PhantomData,
         }
+    }
+
+    /// Makes sure that a pass has seen nothing but what was published, or waits to be. It takes no
+    /// memory.
+    pub fn confirm(&mut self, pass: &Pass<J>)
+        ensures same { self.new ≡ self.old }
+        ensures seen { IsPrefix pass.now.seen (journal_by self.old) }
+    {
+        self.writer.confirm(pass.seat.front());
     }
 
     /// A snapshot of the published list.

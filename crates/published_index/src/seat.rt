@@ -137,6 +137,14 @@ impl Seat {
         self.front.learn(told);
     }
 
+    /// What was seen.
+    pub fn front(&self) -> &Front
+        ensures book { result.now.book ≡ self.now.book }
+        ensures log { result.now.log ≡ self.now.watching.seen }
+    {
+        &self.front
+    }
+
     /// How many batches were seen.
     pub fn count(&self) -> u32
         ensures { result ≡ length self.now.watching.seen }

@@ -8,7 +8,7 @@ use Rattle.published_index.specs.Changes.{AddOf}
 use Rattle.published_index.specs.Cover.{journal_of}
 use Rattle.ingest_desk.specs.Kept.{Keeps}
 use Rattle.ingest_desk.specs.Registers.{IsRegisterOf}
-use Rattle.ingest_desk.specs.Stored.{journal_by}
+use Rattle.published_index.specs.States.{journal_by}
 use Rattle.ingest_desk.proofs.KeptLemmas.{keeps_after, keeps_sound, kept_register, listed, low, made, sound_manifest, storable}
 use Rattle.ingest_desk.proofs.RegisterLemmas.{fewer_batches, first_is, fits_of, fits_same, long, register_same}
 use Rattle.ingest_desk.proofs.ingest.Ingest.store.Goals as goal
