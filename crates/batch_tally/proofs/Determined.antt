@@ -1,7 +1,8 @@
 -- Texts have one tallying.
-use Rattle.std.proofs.Common.{◌≡◌, ◌↔◌, ℕ, List, [], ◌∷◌, map, Option, Some, None, Result, refl, sym, ap, ◌∙◌, subst, arith}
+use Rattle.std.proofs.Common.{◌≡◌, ◌↔◌, ℕ, List, [], ◌∷◌, map, Option, Some, None, Result, Ok, refl, sym, ap, ◌∙◌, subst, arith}
 use Rattle.std.proofs.lemmas.Option.{none-some, same_Some}
 use Rattle.std.specs.List.{AllZip}
+use Rattle.explorer_model.specs.declared.archive.Classes.{Classes}
 use Rattle.explorer_model.specs.declared.archive.Game.{Game}
 use Rattle.explorer_model.specs.declared.archive.Placed.{Placed}
 use Rattle.explorer_model.specs.declared.chess.Position.{Position}
@@ -11,11 +12,11 @@ use Rattle.explorer_model.specs.Games.{GameOf}
 use Rattle.explorer_model.specs.Imports.{Examination, Read, Candidate, candidates, refusals, verdicts}
 use Rattle.explorer_model.specs.Keys.{key}
 use Rattle.explorer_model.specs.Tidy.{IsTidied, IsTidyKey}
-use Rattle.explorer_model.specs.Visits.{Stage, counted_stages}
+use Rattle.explorer_model.specs.Visits.{IsTextOf, Stage, counted_stages}
 use Rattle.explorer_model.proofs.Lists.{one-zip}
 use Rattle.tally_rows.specs.declared.row.Row.{Row}
 use Rattle.tally_rows.specs.Tallied.{Tallied}
-use Rattle.tally_rows.specs.Tally.{Counted, IsStepOf, IsTrackOf}
+use Rattle.tally_rows.specs.Tally.{Counted, IsStepOf, IsTallyOf, IsTrackOf}
 use Rattle.tally_rows.specs.Track.{Step, Track}
 use Rattle.batch_tally.specs.declared.tallying.Tallying.{Tallying}
 use Rattle.batch_tally.specs.Tallying.{IsExaminationOfText, IsTallying, IsTallyMade, Counts}
@@ -99,3 +100,32 @@ same-tally single texts tallying other first second =
     let R : List Examination → Type 0 = λ examinations. IsTallyMade (candidates (verdicts examinations)) tallying.tally in
     one-tally single (candidates (verdicts second.examinations)) tallying.tally other.tally
     (subst R (same-examinations single texts tallying other first second) first.tally) second.tally
+
+-- ---- texts
+
+read_as : Game → Result Game GameFault
+read_as game = Ok game
+
+same_ok : (game other : Game) → read_as game ≡ read_as other → game ≡ other
+unfolding read_as
+same_ok game other e = cc
+
+one-text : Single → (text : List ℕ) (game other : Game) → IsTextOf text game → IsTextOf text other → game ≡ other
+unfolding read_as
+one-text single text game other first second = same_ok game other (single.game text (read_as game) (read_as other) first second)
+
+module _ (single : Single) (texts : List (List ℕ)) (classes others : List Classes) (rows other_rows : List Row)
+    (first : IsTallyOf texts classes rows) (second : IsTallyOf texts others other_rows) where
+  one-games : first.games ≡ second.games
+  one-games = one-zip IsTextOf (one-text single) texts first.games second.games first.are_games second.are_games
+
+  pub same-classes : classes ≡ others
+  same-classes = first.classes_are ∙ ap (map (λ game. game.classes)) one-games ∙ sym second.classes_are
+
+  pub same-rows : rows ≡ other_rows
+  same-rows =
+      let G : List Game → Type 0 = λ games. AllZip IsTrackOf games first.tracks in
+      let are_tracks = subst G one-games first.are_tracks in
+      let tracks = one-zip IsTrackOf (one-track single) second.games first.tracks second.tracks are_tracks second.are_tracks in
+      let R : List Track → Type 0 = λ tracks. Tallied tracks rows in
+      single.rows second.tracks rows other_rows (subst R tracks first.tallied) second.tallied

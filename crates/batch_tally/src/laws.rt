@@ -1,6 +1,7 @@
 //! Laws of tallying and of accounting. Each is the contract of a function that only cites the laws below it.
-ghost use Rattle.std.specs.Prelude.{◌≡◌, List};
+ghost use Rattle.std.specs.Prelude.{◌≡◌, ℕ, List};
 ghost use Rattle.explorer_model.specs.declared.archive.Batch.{Batch};
+ghost use Rattle.explorer_model.specs.declared.archive.Classes.{Classes};
 ghost use Rattle.explorer_model.specs.declared.archive.Game.{Game};
 ghost use Rattle.explorer_model.specs.declared.archive.Placed.{Placed};
 ghost use Rattle.explorer_model.specs.declared.fault.Refusal.{Refusal};
@@ -8,6 +9,8 @@ ghost use Rattle.explorer_model.specs.Cuts.{Cut};
 ghost use Rattle.explorer_model.specs.Imports.{Accounted, AccountedApart};
 ghost use Rattle.batch_tally.specs.declared.tallying.Tallying.{Tallying};
 ghost use Rattle.batch_tally.specs.Tallying.{IsTallying};
+ghost use Rattle.tally_rows.specs.declared.row.Row.{Row};
+ghost use Rattle.tally_rows.specs.Tally.{IsTallyOf};
 
 use game_replay::laws::game_is_determined;
 use legal_moves::laws::tidy_forms_decide_same;
@@ -24,6 +27,21 @@ pub fn tallying_is_determined()
     ensures tally { (texts : List Placed) (tallying other : Tallying) → IsTallying texts tallying
         → IsTallying texts other
         → tallying.tally ≡ other.tally }
+{
+    game_is_determined();
+    tidy_forms_decide_same();
+    explorer_model::laws::same_is_an_equivalence();
+    tallied_rows_are_determined();
+}
+
+/// Texts have one tally: what their tags say, and the rows that count their games.
+pub fn tallies_are_determined()
+    ensures classes { (texts : List (List ℕ)) (classes others : List Classes)
+        (rows other_rows : List Row) → IsTallyOf texts classes rows
+        → IsTallyOf texts others other_rows → classes ≡ others }
+    ensures rows { (texts : List (List ℕ)) (classes others : List Classes)
+        (rows other_rows : List Row) → IsTallyOf texts classes rows
+        → IsTallyOf texts others other_rows → rows ≡ other_rows }
 {
     game_is_determined();
     tidy_forms_decide_same();

@@ -7,3 +7,4 @@ pub mod TallyingLemmas
 pub mod RecountLemmas
 pub mod SoundLemmas
 pub mod ListingLemmas
+pub mod AlikeLemmas

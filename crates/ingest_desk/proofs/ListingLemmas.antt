@@ -7,6 +7,7 @@ use Rattle.explorer_model.specs.declared.archive.Batch.{Batch}
 use Rattle.explorer_model.specs.Spans.{Span}
 use Rattle.explorer_model.specs.Timeline.{both}
 use Rattle.segment_blocks.specs.Segment.{CountedSpan}
+use Rattle.segment_merge.specs.Merging.{IsMergeOf}
 use Rattle.published_index.specs.Changes.{JoinAt, with_change}
 use Rattle.published_index.specs.Cover.{list_limit, spans_of}
 use Rattle.published_index.specs.States.{Publishing}
@@ -22,9 +23,9 @@ use Rattle.ingest_desk.proofs.PickingLemmas.{CanMerge, is_picked, one_picked, sa
 -- a full list gets room by the join of the last neighbours that are to become one
 pub room_by_join : (items list new : List CountedSpan) (at : ℕ) (left right joined : CountedSpan)
     → items ≡ list → IsLastDue items at → CanMerge list at left right → list_limit ≤ length list
-    → joined.span ≡ both left.span right.span → new ≡ with_change list (JoinAt at joined)
+    → IsMergeOf left right joined → new ≡ with_change list (JoinAt at joined)
     → MakesRoom list new
-room_by_join items list new at left right joined are due can full joins list_is = record {
+room_by_join items list new at left right joined are due can full merged list_is = record {
   has_room = λ few. absurd (omega (arith, few, full));
   is_full = λ _. record {
     left = left;
@@ -37,7 +38,7 @@ room_by_join items list new at left right joined are due can full joins list_is 
       join = can.join;
     };
     joined = joined;
-    joins = joins;
+    merged = merged;
     list_is = list_is;
   };
 }
@@ -73,10 +74,10 @@ one_join list first second a b =
     let one = one_picked list a.left a.right b.left b.right a.picked b.picked in
     let place = same_place list a.left a.right b.left b.right a.picked b.picked in
     let span : a.joined.span ≡ b.joined.span =
-    a.joins
+    a.merged.span
     ∙ ap (λ (s : CountedSpan). both s.span a.right.span) one.0
     ∙ ap (λ (s : CountedSpan). both b.left.span s.span) one.1
-    ∙ sym b.joins in
+    ∙ sym b.merged.span in
     ap spans_of a.list_is
     ∙ spans_joined list a.picked.at a.joined
     ∙ ap (λ (s : Span). spans_of (take a.picked.at list) ++ s ∷ spans_of (drop (a.picked.at + 2) list)) span

@@ -8,7 +8,7 @@ use Rattle.record_log.specs.Log.{Adds, Breaks, Log}
 use Rattle.record_log.specs.declared.fault.AppendFault.{AppendFault}
 use Rattle.record_log.specs.declared.fault.AppendFault.TheVariants as appends
 use Rattle.tally_rows.specs.Tally.{Counted}
-use Rattle.segment_blocks.specs.Segment.{CountedSpan}
+use Rattle.segment_blocks.specs.Segment.{CountedSpan, IsSegment}
 use Rattle.published_index.specs.Changes.{AddOf, Change}
 use Rattle.ingest_desk.specs.Causes.{Cause, HasIds, HasNoRoom, IsClosed}
 use Rattle.ingest_desk.specs.declared.fault.CommitFault.{CommitFault}
@@ -78,6 +78,7 @@ pub record Waits (batch : Batch) (held : Option Change) : Type 0 where
   pub segment : CountedSpan
   pub held_is : held ≡ Some (AddOf segment)
   pub batch_is : segment.span.batches ≡ batch ∷ []
+  pub counts : IsSegment segment
 
 -- what is held after a disk fault, which is nothing, and where the batch is stored without memory
 -- to publish it

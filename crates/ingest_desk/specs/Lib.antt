@@ -14,3 +14,4 @@ pub mod Recounts
 pub mod Openings
 pub mod Installs
 pub mod Listing
+pub mod Alike

@@ -1,10 +1,10 @@
 -- Statement: what a commit does to the published list.
 use Rattle.std.specs.Prelude.{◌≡◌, ◌≤◌, ◌<◌, true, false, List, [], ◌∷◌, ◌++◌, length, Result, Ok, Err}
 use Rattle.explorer_model.specs.declared.archive.Batch.{Batch}
-use Rattle.explorer_model.specs.Timeline.{both}
-use Rattle.segment_blocks.specs.Segment.{CountedSpan}
+use Rattle.segment_blocks.specs.Segment.{CountedSpan, IsSegment}
+use Rattle.segment_merge.specs.Merging.{IsMergeOf}
 use Rattle.published_index.specs.Changes.{JoinAt, with_change}
-use Rattle.published_index.specs.Cover.{list_limit}
+use Rattle.published_index.specs.Cover.{journal_of, list_limit}
 use Rattle.published_index.specs.States.{Publishing}
 use Rattle.ingest_desk.specs.Installs.{list_by}
 use Rattle.ingest_desk.specs.Picking.{IsPicked}
@@ -12,13 +12,13 @@ use Rattle.ingest_desk.specs.declared.fault.CommitFault.{CommitFault}
 use Rattle.ingest_desk.specs.declared.fault.CommitFault.TheVariants as faults
 use Rattle.ingest_desk.specs.declared.receipt.Receipt.{Receipt}
 
--- a segment stands in place of the neighbours that are picked
+-- the last neighbours that are due have become one, and all others are as they were
 pub record JoinsPicked (list new : List CountedSpan) : Type 0 where
   pub left : CountedSpan
   pub right : CountedSpan
   pub picked : IsPicked list left right
   pub joined : CountedSpan
-  pub joins : joined.span ≡ both left.span right.span
+  pub merged : IsMergeOf left right joined
   pub list_is : new ≡ with_change list (JoinAt picked.at joined)
 
 -- a list that is full gets room by a join; another one is left as it is
@@ -26,10 +26,12 @@ pub record MakesRoom (list new : List CountedSpan) : Type 0 where
   pub has_room : length list < list_limit → new ≡ list
   pub is_full : list_limit ≤ length list → JoinsPicked list new
 
--- a segment of the batch stands behind the list
+-- a segment stands behind the list, which counts the batch behind the list's journal
 pub record PutsBehind (batch : Batch) (list new : List CountedSpan) : Type 0 where
   pub segment : CountedSpan
+  pub starts : segment.span.first ≡ length (journal_of list)
   pub batch_is : segment.span.batches ≡ batch ∷ []
+  pub counts : IsSegment segment
   pub list_is : new ≡ list ++ segment ∷ []
 
 -- What is published after a commit. Behind a store that is closed it stays. Else it is first what it

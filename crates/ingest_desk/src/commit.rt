@@ -8,6 +8,7 @@ ghost use Rattle.explorer_model.specs.Journal.{IsSound};
 ghost use Rattle.explorer_model.specs.Visits.{AreGamesOf};
 ghost use Rattle.record_log.specs.Log.{EachImage};
 ghost use Rattle.manifest.specs.Manifest.{HasJournal, IsWithOrWithoutBatch};
+ghost use Rattle.segment_blocks.specs.Segment.{IsSegment};
 ghost use Rattle.published_index.specs.Cover.{list_limit};
 ghost use Rattle.ingest_desk.specs.Causes.{Judges, cause, cause_of_new};
 ghost use Rattle.ingest_desk.specs.Commits.{HoldsThen, IsFaultOf, IsMarked, IsReceiptOf, IsStoring, Leaves, Refuses, Stores, Tells};
@@ -177,8 +178,10 @@ pub(crate) fn share_of(alloc: Global, place: u32, tally: Tally) -> Result<Shared
     requires { place + 1 < 2 ^ 32 }
     ensures first { IfOk result (λ segment. (arc_value segment).span.first ≡ place) }
     ensures tally { IfOk result (λ segment. IsSegmentOf tally (arc_value segment)) }
+    ensures counts { IfOk result (λ segment. IsSegment (arc_value segment)) }
 {
     let segment = Segment::of(alloc, place, tally)?;
+    let _span = segment.span();
     Ok(Arc::new(alloc, segment)?)
 }
 

@@ -10,13 +10,15 @@ ghost use Rattle.tally_rows.specs.Tally.{Counted};
 ghost use Rattle.segment_blocks.specs.Segment.{CountedSpan};
 ghost use Rattle.published_index.specs.Changes.{Change};
 ghost use Rattle.published_index.specs.Cover.{spans_of};
+ghost use Rattle.ingest_desk.specs.Alike.{StandAlike};
 ghost use Rattle.ingest_desk.specs.Answers.{HadMemory, IsAnswer};
 ghost use Rattle.ingest_desk.specs.declared.fault.CommitFault.{CommitFault};
 ghost use Rattle.ingest_desk.specs.declared.receipt.Receipt.{Receipt};
-ghost use Rattle.ingest_desk.specs.Listing.{MakesRoom};
+ghost use Rattle.ingest_desk.specs.Listing.{JoinsPicked, MakesRoom, PutsBehind};
 ghost use Rattle.ingest_desk.specs.Openings.{IsWrong};
 ghost use Rattle.ingest_desk.specs.Picking.{HasNoneDue, IsPicked};
 
+use batch_tally::laws::tallies_are_determined;
 use disk_model::Disk;
 use published_index::Index;
 
@@ -40,6 +42,22 @@ pub fn picking_is_determined()
     ensures room { (list first second : List CountedSpan) → MakesRoom list first
         → MakesRoom list second → spans_of first ≡ spans_of second }
 {}
+
+/// What a commit and a join make of lists that stand alike stands alike: of one list there is one join,
+/// or none, one way to make room, and one segment of a batch behind it.
+pub fn listing_is_determined()
+    ensures joins { (list other first second : List CountedSpan) → StandAlike list other
+        → JoinsPicked list first → JoinsPicked other second → StandAlike first second }
+    ensures either { (list other new : List CountedSpan) → StandAlike list other
+        → HasNoneDue list → JoinsPicked other new → ⊥ }
+    ensures room { (list other first second : List CountedSpan) → StandAlike list other
+        → MakesRoom list first → MakesRoom other second → StandAlike first second }
+    ensures puts { (batch : Batch) (list other first second : List CountedSpan)
+        → StandAlike list other → PutsBehind batch list first
+        → PutsBehind batch other second → StandAlike first second }
+{
+    tallies_are_determined();
+}
 
 /// A file is opened with one answer, want of memory and faults of the disk aside: with this journal,
 /// or with this fault. A file whose journal is sound has no fault.

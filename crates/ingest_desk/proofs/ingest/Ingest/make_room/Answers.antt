@@ -4,6 +4,7 @@ use Rattle.std.proofs.lemmas.Option.{slice_get_within}
 use Rattle.std.specs.Arc.{arc_value}
 use Rattle.explorer_model.specs.Journal.{game_count, game_limit}
 use Rattle.segment_blocks.specs.Segment.{CountedSpan, IsSegment}
+use Rattle.segment_merge.specs.Merging.{IsMergeOf}
 use Rattle.published_index.specs.Changes.{JoinAt, with_change}
 use Rattle.published_index.specs.Cover.{journal_of, list_limit}
 use Rattle.ingest_desk.specs.Listing.{MakesRoom}
@@ -79,16 +80,17 @@ returns-clause-made g c =
     let right : IsSegment (arc_value y) = subst IsSegment c.deref-2.ensures c.span-right.ensures.segment in
     let can = picked arc_value segs.result.now at x y list segs.ensures.segments segs.ensures.list few
     c.in-Some.ensures c.index-segments-at.is c.index-segments-at-2.is left right in
-    let sides = rw (c.deref-3.ensures, c.deref-4.ensures) at c.in_ok-merged.ensures.span in
     let shared = arc_value c.in_ok-merged-2.merged in
-    let joins = ap (λ (t : CountedSpan). t.span) c.in_ok-merged-2.ensures.ok ∙ sides in
+    let sides = rw (c.deref-3.ensures, c.deref-4.ensures) at c.in_ok-merged.ensures in
+    let merged : IsMergeOf (arc_value x) (arc_value y) shared =
+    subst (λ (t : CountedSpan). IsMergeOf (arc_value x) (arc_value y) t) (sym c.in_ok-merged-2.ensures.ok) sides in
     let full : list_limit ≤ length list =
     omega (arith, c.if-segments-lt-LIST_LIMIT.false, ap length segs.ensures.segments, length-map segs.result.now arc_value) in
     let new = c.replace.new.self.list in
     let list_is = c.in_ok-replace.ensures.list
     ∙ ap (λ (l : List CountedSpan). with_change l (JoinAt at shared)) (sym c.list.ensures.list) in
     let room = room_by_join (map arc_value segs.result.now) list new at (arc_value x) (arc_value y) shared
-    segs.ensures.segments c.in-Some.ensures can full joins list_is in
+    segs.ensures.segments c.in-Some.ensures can full merged list_is in
     rw (← s.view_is) (subst (λ (l : List CountedSpan). MakesRoom l new) c.list.ensures.list room)
 
 pub returns-clause-few : goal.returns-clause-few
