@@ -19,6 +19,9 @@ use std::alloc::{AllocError, Global};
 use std::thread::Threads;
 use tally_rows::{KeyRange, Row, Single, rows_of};
 
+/// One of so many singles of a game is in the sample that ranges are cut by: two of most games.
+const SAMPLE_STEP: usize = 25;
+
 /// The rows of games, whose numbers are their places, in parts, one after another. Each leaf makes
 /// those of a range of keys, of which there are as many as workers, and the leaves work side by
 /// side.
@@ -154,7 +157,7 @@ fn ranges_of(alloc: Global, games: &[Accepted], workers: usize) -> Result<Vec<Ke
     requires { 1 ≤ workers }
     ensures { IfOk result (λ ranges. FollowFrom 0 ranges.items) }
 {
-    let words = sample_of(alloc, games)?;
+    let words = sample_of(alloc, games, workers)?;
     let mut ranges = Vec::with_capacity(alloc, workers)?;
     let mut from = 0;
     for part in 1..workers {
@@ -170,15 +173,17 @@ fn ranges_of(alloc: Global, games: &[Accepted], workers: usize) -> Result<Vec<Ke
     Ok(ranges)
 }
 
-/// The first word of the key of one single of each game, the lesser ones first.
-fn sample_of(alloc: Global, games: &[Accepted]) -> Result<Vec<u64>, AllocError> {
-    let mut words = Vec::with_capacity(alloc, games.len())?;
-    for (number, accepted) in games.iter().enumerate() {
-        let of_game = accepted.count.words.as_slice();
-        if !of_game.is_empty() {
-            words.push(of_game[number % of_game.len()])?;
-        }
+/// The first words of the keys of some singles of each game, the lesser ones first; none for one range,
+/// which has all keys.
+fn sample_of(alloc: Global, games: &[Accepted], ranges: usize) -> Result<Vec<u64>, AllocError> {
+    let mut sample = Vec::new(alloc);
+    if ranges == 1 {
+        return Ok(sample);
     }
-    words.sort_unstable();
-    Ok(words)
+    for (number, accepted) in games.iter().enumerate() {
+        let words = accepted.count.words.iter();
+        sample.extend(words.skip(number % SAMPLE_STEP).step_by(SAMPLE_STEP))?;
+    }
+    sample.sort_unstable();
+    Ok(sample)
 }
