@@ -15,7 +15,7 @@ use Rattle.tally_rows.specs.Track.{Track}
 use Rattle.tally_rows.specs.Within.{TalliedWithin, is_in_range, is_word_in, FollowFrom}
 use Rattle.batch_tally.specs.declared.accepting.Accepted.{Accepted}
 use Rattle.batch_tally.specs.Accepting.{IsCounted}
-use Rattle.batch_tally.specs.Singles.{AreTracksOf, AreRowsOf, numbered, is_kept, singles_in, word_of}
+use Rattle.batch_tally.specs.Singles.{AreTracksOf, AreRowsIn, AreRowsOf, numbered, is_kept, singles_in, word_of}
 use Rattle.batch_tally.proofs.Stages.{next-place}
 
 -- ---- the singles in a range are those of the games' tracks
@@ -165,10 +165,6 @@ are-of-games (a ∷ games) (t ∷ tracks) each = (each.0.is_track, are-of-games 
 
 -- ---- the rows of all ranges
 
--- what is known of the rows of a range
-abbrev pub IsPart : List Accepted → KeyRange → List Row → Type 0
-IsPart games range rows = (tracks : List Track) → AreTracksOf games tracks → TalliedWithin (is_in_range range) tracks rows
-
 abbrev pub RangesLaw : Type 0
 RangesLaw = (tracks : List Track) (ranges : List KeyRange) (parts : List (List Row)) → FollowFrom 0 ranges
     → AllZip (λ range rows. TalliedWithin (is_in_range range) tracks rows) ranges parts → Tallied tracks (flat_map (λ rows. rows) parts)
@@ -179,7 +175,7 @@ module _ {V : Type 0} (items : V → List Row) where
   items-of (part ∷ parts) = ap (λ l. items part ++ l) (items-of parts)
 
   parts-at : (games : List Accepted) (tracks : List Track) → AreTracksOf games tracks → (ranges : List KeyRange) (parts : List V)
-      → AllZip (λ range part. IsPart games range (items part)) ranges parts
+      → AllZip (λ range part. AreRowsIn games range (items part)) ranges parts
       → AllZip (λ range rows. TalliedWithin (is_in_range range) tracks rows) ranges (map items parts)
   parts-at games tracks of [] [] each = tt
   parts-at games tracks of [] (part ∷ parts) each = absurd each
@@ -187,7 +183,7 @@ module _ {V : Type 0} (items : V → List Row) where
   parts-at games tracks of (range ∷ ranges) (part ∷ parts) each = (each.0 tracks of, parts-at games tracks of ranges parts each.1)
 
   pub rows-of-all : RangesLaw → (games : List Accepted) (ranges : List KeyRange) (parts : List V) → All IsCounted games → FollowFrom 0 ranges
-      → AllZip (λ range part. IsPart games range (items part)) ranges parts → AreRowsOf games (flat_map items parts)
+      → AllZip (λ range part. AreRowsIn games range (items part)) ranges parts → AreRowsOf games (flat_map items parts)
   rows-of-all law games ranges parts counted follow each =
       let some = some-by games (recursion_from_All IsCounted games counted) in
       record {

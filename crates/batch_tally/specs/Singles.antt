@@ -10,7 +10,7 @@ use Rattle.tally_rows.specs.Games.{game_singles}
 use Rattle.tally_rows.specs.Tallied.{Tallied}
 use Rattle.tally_rows.specs.Tally.{IsTrackOf}
 use Rattle.tally_rows.specs.Track.{Track}
-use Rattle.tally_rows.specs.Within.{first_word, is_in_range}
+use Rattle.tally_rows.specs.Within.{TalliedWithin, first_word, is_in_range}
 use Rattle.batch_tally.specs.declared.accepting.Accepted.{Accepted}
 use Rattle.batch_tally.specs.declared.singles.Count.{Count}
 
@@ -49,6 +49,12 @@ singles_in range first [] = []
 singles_in range first (a ∷ games) =
     filter (is_kept range) (map (numbered first) a.count.singles.items)
     ++ singles_in range (first + 1) games
+
+-- the rows are those of the games in the range of keys
+abbrev pub AreRowsIn : List Accepted → KeyRange → List Row → Type 0
+AreRowsIn games range rows =
+    (tracks : List Track) → AreTracksOf games tracks
+    → TalliedWithin (is_in_range range) tracks rows
 
 -- the rows count the games, whose numbers are their places
 pub record AreRowsOf (games : List Accepted) (rows : List Row) : Type 0 where

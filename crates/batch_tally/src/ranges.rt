@@ -1,27 +1,29 @@
 //! The rows of accepted games, made in ranges of keys side by side.
-ghost use Rattle.std.specs.Prelude.{◌≡◌, ℕ, List, ◌++◌, ◌+◌, ◌*◌, ◌^◌, ◌≤◌, ◌<◌, Result, Vec, map, length, vec_len, slice_index_or, OnOk, IfOk};
+ghost use Rattle.std.specs.Prelude.{◌≡◌, ℕ, ◌++◌, ◌+◌, ◌*◌, ◌^◌, ◌≤◌, ◌<◌, Result, Vec, map, length, vec_len, slice_index_or, OnOk, IfOk};
 ghost use Rattle.std.specs.List.{All, filter, flat_map};
 ghost use Rattle.explorer_model.specs.Imports.{group_limit};
-ghost use Rattle.tally_rows.specs.Track.{Track};
-ghost use Rattle.tally_rows.specs.Within.{TalliedWithin, is_in_range, FollowFrom};
+ghost use Rattle.tally_rows.specs.Within.{FollowFrom};
 ghost use Rattle.tally_rows.specs.declared.key_range.KeyRange.{KeyRange};
 ghost use Rattle.tally_rows.specs.declared.row.Row.{Row};
 ghost use Rattle.batch_tally.specs.Accepting.{IsCounted};
-ghost use Rattle.batch_tally.specs.Singles.{AreRowsOf, AreTracksOf, is_kept, numbered, singles_in, word_of};
+ghost use Rattle.batch_tally.specs.Singles.{AreRowsIn, AreRowsOf, is_kept, numbered, singles_in, word_of};
 ghost use Rattle.std.specs.declared.alloc.AllocError.{AllocError};
 ghost use Rattle.std.specs.declared.alloc.Global.{Global};
 
 use crate::accepting::Accepted;
 use crate::leaves::all_made;
 use crate::singles::Count;
-use side_by_side::map_jobs;
+use side_by_side::map_taken;
 use std::alloc::{AllocError, Global};
 use std::thread::Threads;
 use tally_rows::{KeyRange, Row, Single, rows_of};
 
-/// The rows of games, whose numbers are their places, in parts, one after another. Each leaf makes
-/// those of a range of keys, of which there are as many as workers, and the leaves work side by
-/// side.
+/// One of so many singles of a game is in the sample that ranges are cut by: two of most games.
+const SAMPLE_STEP: usize = 25;
+
+/// The rows of games, whose numbers are their places, in parts, one after another. There are as many
+/// leaves as workers; they work side by side, and each makes the rows of a range of keys after those
+/// of another, as long as a range is left.
 pub fn row_parts<R: Threads + Sync>(
     rt: &R,
     alloc: Global,
@@ -35,10 +37,23 @@ pub fn row_parts<R: Threads + Sync>(
         (λ parts. AreRowsOf games.now (flat_map (λ part. part.items) parts.items)) }
 {
     tally_rows::laws::ranges_are_tallied();
-    let ranges = ranges_of(alloc, games, workers)?;
-    let room = room_of(games, workers);
-    let results = rows_of_ranges(rt, alloc, games, ranges, room)?;
+    let count = count_ranges(workers);
+    let ranges = ranges_of(alloc, games, count)?;
+    let room = room_of(games, count);
+    let results = rows_of_ranges(rt, alloc, games, ranges, workers, room)?;
     all_made(alloc, results)
+}
+
+/// How many ranges there are for so many workers: two for each, so that none waits long for the one
+/// that ends last, and one where no other works.
+fn count_ranges(workers: usize) -> usize
+    requires { 1 ≤ workers }
+    ensures { 1 ≤ result }
+{
+    if workers == 1 {
+        return 1;
+    }
+    workers.saturating_mul(2)
 }
 
 /// The rows in each range, of which each is likely to have no more than so many singles.
@@ -47,6 +62,7 @@ fn rows_of_ranges<R: Threads + Sync>(
     alloc: Global,
     games: &[Accepted],
     ranges: Vec<KeyRange>,
+    workers: usize,
     room: usize,
 ) -> Result<Vec<Result<Vec<Row>, AllocError>>, AllocError>
     requires counted { All IsCounted games.now }
@@ -54,16 +70,18 @@ fn rows_of_ranges<R: Threads + Sync>(
     ensures count { IfOk result (λ results. length results.items ≡ length ranges.items) }
     ensures results { IfOk result (λ results.
         (n : ℕ) (d : Result (Vec Row Global) AllocError) (r : KeyRange) → n < length ranges.items
-        → IfOk (slice_index_or results.items n d) (λ rows. (tracks : List Track)
-        → AreTracksOf games.now tracks
-        → TalliedWithin (is_in_range (slice_index_or ranges.items n r)) tracks rows.items)) }
+        → IfOk (slice_index_or results.items n d) (λ rows.
+        AreRowsIn games.now (slice_index_or ranges.items n r) rows.items)) }
 {
-    let within = |range: KeyRange| -> Result<Vec<Row>, AllocError>
-        requires { All IsCounted games.now × (length games.now ≤ group_limit) }
-        ensures { IfOk result (λ rows. (tracks : List Track) → AreTracksOf games.entry.now tracks
-            → TalliedWithin (is_in_range range) tracks rows.items) }
-    { rows_within(alloc, games, range, room) };
-    let results = map_jobs(rt, alloc, ranges, &within)?;
+    let ranges = ranges.as_slice();
+    let enter = |_leaf: usize| {};
+    let within = |n: usize| -> Result<Vec<Row>, AllocError>
+        requires { All IsCounted games.now × (length games.now ≤ group_limit)
+            × (n < length ranges.now) }
+        ensures { IfOk result (λ rows. (r : KeyRange)
+            → AreRowsIn games.entry.now (slice_index_or ranges.entry.now n r) rows.items) }
+    { rows_within(alloc, games, ranges[n], room) };
+    let results = map_taken(rt, alloc, workers, ranges.len(), &enter, &within)?;
     let _count = results.as_slice().len();
     Ok(results)
 }
@@ -77,8 +95,7 @@ fn rows_within(
 ) -> Result<Vec<Row>, AllocError>
     requires counted { All IsCounted games.now }
     requires few { length games.now ≤ group_limit }
-    ensures { IfOk result (λ rows. (tracks : List Track) → AreTracksOf games.now tracks
-        → TalliedWithin (is_in_range range) tracks rows.items) }
+    ensures { IfOk result (λ rows. AreRowsIn games.now range rows.items) }
 {
     tally_rows::laws::singles_of_passing_keys();
     let singles = singles_within(alloc, games, range, room)?;
@@ -149,16 +166,16 @@ fn count_singles(games: &[Accepted]) -> usize {
     count
 }
 
-/// Ranges of keys that follow one another, as many as there are workers. Any do; these have about as many singles each.
-fn ranges_of(alloc: Global, games: &[Accepted], workers: usize) -> Result<Vec<KeyRange>, AllocError>
-    requires { 1 ≤ workers }
+/// So many ranges of keys that follow one another. Any do; these have about as many singles each.
+fn ranges_of(alloc: Global, games: &[Accepted], count: usize) -> Result<Vec<KeyRange>, AllocError>
+    requires { 1 ≤ count }
     ensures { IfOk result (λ ranges. FollowFrom 0 ranges.items) }
 {
-    let words = sample_of(alloc, games)?;
-    let mut ranges = Vec::with_capacity(alloc, workers)?;
+    let words = sample_of(alloc, games, count)?;
+    let mut ranges = Vec::with_capacity(alloc, count)?;
     let mut from = 0;
-    for part in 1..workers {
-        let place = words.len().saturating_mul(part) / workers;
+    for part in 1..count {
+        let place = words.len().saturating_mul(part) / count;
         let below = words.get(place).copied().unwrap_or(from).max(from);
         ranges.push(KeyRange {
             from,
@@ -170,15 +187,17 @@ fn ranges_of(alloc: Global, games: &[Accepted], workers: usize) -> Result<Vec<Ke
     Ok(ranges)
 }
 
-/// The first word of the key of one single of each game, the lesser ones first.
-fn sample_of(alloc: Global, games: &[Accepted]) -> Result<Vec<u64>, AllocError> {
-    let mut words = Vec::with_capacity(alloc, games.len())?;
-    for (number, accepted) in games.iter().enumerate() {
-        let of_game = accepted.count.words.as_slice();
-        if !of_game.is_empty() {
-            words.push(of_game[number % of_game.len()])?;
-        }
+/// The first words of the keys of some singles of each game, the lesser ones first. One range, which
+/// has all keys, needs none.
+fn sample_of(alloc: Global, games: &[Accepted], ranges: usize) -> Result<Vec<u64>, AllocError> {
+    let mut sample = Vec::new(alloc);
+    if ranges == 1 {
+        return Ok(sample);
     }
-    words.sort_unstable();
-    Ok(words)
+    for (number, accepted) in games.iter().enumerate() {
+        let words = accepted.count.words.iter();
+        sample.extend(words.skip(number % SAMPLE_STEP).step_by(SAMPLE_STEP))?;
+    }
+    sample.sort_unstable();
+    Ok(sample)
 }

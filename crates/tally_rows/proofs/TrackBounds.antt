@@ -1,5 +1,5 @@
 -- What tracks of sound games come to at most: their ratings, and the numbers under which rows list them.
-use Rattle.std.proofs.Common.{◌≡◌, ℕ, ◌+◌, ◌*◌, ◌<◌, ◌≤◌, ◌^◌, Bool, true, false, ◌&&◌, cond, is_some, List, [], ◌∷◌, filter, length, sym, subst, arith}
+use Rattle.std.proofs.Common.{ℕ, ◌+◌, ◌*◌, ◌<◌, ◌≤◌, ◌^◌, Bool, true, false, ◌&&◌, cond, is_some, List, [], ◌∷◌, filter, length, sym, subst, arith}
 use Rattle.std.specs.List.{All, AllByRecursion, AllZip, sum_by, count_by, enumerate_from}
 use Rattle.std.proofs.lemmas.List.Elements.{All-nil, All-cons, All-map, All-filter, All-weaker}
 use Rattle.std.proofs.lemmas.List.Sums.{sum_by-cons}

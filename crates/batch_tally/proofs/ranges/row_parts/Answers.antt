@@ -1,5 +1,6 @@
 use Rattle.batch_tally.proofs.LeafLemmas.{if-ok, made-each}
-use Rattle.batch_tally.proofs.RangeLemmas.{IsPart, rows-of-all}
+use Rattle.batch_tally.specs.Singles.{AreRowsIn}
+use Rattle.batch_tally.proofs.RangeLemmas.{rows-of-all}
 use Rattle.batch_tally.proofs.ranges.row_parts.Goals as goal
 
 pub returns : goal.returns
@@ -8,7 +9,7 @@ returns g c =
     let ranges = c.in_ok-ranges.ranges.items in
     let results = c.in_ok-results in
     if-ok _ _ c.all_made.result (λ parts made.
-    let each = made-each (λ range rows. IsPart games range rows.items) ranges results.results.items parts.items
+    let each = made-each (λ range rows. AreRowsIn games range rows.items) ranges results.results.items parts.items
     made results.ensures.count results.ensures.results in
     rows-of-all (λ part. part.items) c.ranges_are_tallied.ensures games ranges parts.items c.requires.counted c.in_ok-ranges.ensures each)
     c.all_made.ensures
