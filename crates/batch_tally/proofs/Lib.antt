@@ -4,6 +4,7 @@ pub mod Stages
 pub mod Pushing
 pub mod Counting
 pub mod LeafLemmas
+pub mod RunLemmas
 pub mod RangeLemmas
 pub mod Candidates
 pub mod Made

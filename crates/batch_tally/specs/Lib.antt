@@ -1,6 +1,5 @@
 pub mod Accepting
 pub mod KeyedBoard
-pub mod Leaves
 pub mod Marks
 pub mod Reading
 pub mod Singles

@@ -1,8 +1,13 @@
 -- Texts that are replayed.
-use Rattle.std.specs.Prelude.{◌≡◌, IfOk}
+use Rattle.std.specs.Prelude.{◌≡◌, ℕ, ◌*◌, ◌<◌, ◌≤◌, Result, Vec, IfOk, List, [], ◌∷◌, length, take, drop, slice_index_or}
+use Rattle.std.specs.List.{All, AllZip}
+use Rattle.std.specs.declared.alloc.AllocError.{AllocError}
+use Rattle.std.specs.declared.alloc.Global.{Global}
 use Rattle.explorer_model.specs.declared.archive.Placed.{Placed}
+use Rattle.explorer_model.specs.Cuts.{text_limit}
 use Rattle.explorer_model.specs.Games.{GameOf}
 use Rattle.explorer_model.specs.Imports.{Replayed, Examination, Read}
+use Rattle.batch_tally.specs.declared.reading.Contents.{Contents}
 use Rattle.batch_tally.specs.declared.reading.Reading.{Reading}
 use Rattle.batch_tally.specs.Singles.{IsCountOf}
 
@@ -22,3 +27,43 @@ pub record IsReadingOf (text : Placed) (reading : Reading) : Type 0 where
   pub bytes : reading.text ≡ text.bytes
   pub game : GameOf text.bytes reading.game
   pub counted : HasCount reading
+
+-- the contents are those of the text
+pub record AreContentsOf (text : Placed) (contents : Contents) : Type 0 where
+  pub game : GameOf text.bytes contents.game
+  pub counted : IfOk contents.game (λ game. IsCountOf game contents.count)
+
+-- the text with its contents
+abbrev pub reading_of : Placed → Contents → Reading
+reading_of text contents = record {
+  place = text.place;
+  text = text.bytes;
+  game = contents.game;
+  count = contents.count;
+}
+
+-- each text with its contents
+abbrev pub readings_of : List Placed → List Contents → List Reading
+readings_of [] contents = []
+readings_of (text ∷ texts) [] = []
+readings_of (text ∷ texts) (one ∷ contents) = reading_of text one ∷ readings_of texts contents
+
+abbrev pub AreShort : List Placed → Type 0
+AreShort texts = All (λ text. length text.bytes ≤ text_limit) texts
+
+-- so many texts are read at a time
+abbrev pub run_length : ℕ
+run_length = 8
+
+-- the texts of a run, of which the last may be shorter
+abbrev pub run_of : List Placed → ℕ → List Placed
+run_of texts run = take run_length (drop (run * run_length) texts)
+
+-- what is made of a run: the contents of its texts, or want of memory
+abbrev pub RunMade : Type 0
+RunMade = Result (Vec Contents Global) AllocError
+
+-- each run that was made has the contents of its texts
+abbrev pub AreRunsOf : List Placed → List RunMade → Type 0
+AreRunsOf texts runs = (run : ℕ) (d : RunMade) → run < length runs
+    → IfOk (slice_index_or runs run d) (λ made. AllZip AreContentsOf (run_of texts run) made.items)

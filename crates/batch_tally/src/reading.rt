@@ -1,23 +1,21 @@
 //! Texts and the games that they hold.
-ghost use Rattle.std.specs.Prelude.{◌<◌, ◌≤◌, ◌≡◌, ℕ, Result, Vec, length, slice_index_or, IfOk};
-ghost use Rattle.std.specs.List.{All, AllZip};
+ghost use Rattle.std.specs.Prelude.{◌≡◌, ◌+◌, ◌*◌, ◌^◌, ◌<◌, ◌≤◌, ◌++◌, List, length, IfOk, OnOk};
+ghost use Rattle.std.specs.List.{All, AllZip, flat_map};
+ghost use Rattle.std.specs.Vec.Iter.{into_iter_items};
 ghost use Rattle.explorer_model.specs.Cuts.{text_limit};
-ghost use Rattle.batch_tally.specs.Leaves.{texts_of};
-ghost use Rattle.batch_tally.specs.Reading.{IsReadingOf};
-ghost use Rattle.batch_tally.specs.declared.reading.Leaf.{Leaf};
-ghost use Rattle.batch_tally.specs.declared.reading.Reading.{Reading};
-ghost use Rattle.std.specs.declared.alloc.AllocError.{AllocError};
-ghost use Rattle.std.specs.declared.alloc.Global.{Global};
+ghost use Rattle.batch_tally.specs.Reading.{AreContentsOf, AreRunsOf, AreShort, IsReadingOf, readings_of, run_length, run_of};
+ghost use Rattle.batch_tally.specs.declared.reading.Contents.{Contents};
 
-use crate::leaves::{all_made, joined};
+use crate::leaves::all_made;
 use crate::singles::{Count, count_of};
 use explorer_model::archive::{Bytes, Game, Placed};
 use explorer_model::fault::{GameFault, Stop};
 use game_replay::replay;
 use outside::Gate;
-use side_by_side::map_jobs;
+use side_by_side::map_taken;
 use std::alloc::{AllocError, Global};
 use std::thread::Threads;
+use std::vec::IntoIter;
 
 /// A text with its game, or the first of its faults.
 #[derive(Debug, Drop)]
@@ -30,17 +28,21 @@ pub struct Reading {
     pub count: Count,
 }
 
-/// The texts of one leaf.
+/// What a text holds: its game, or the first of its faults.
 #[derive(Debug, Drop)]
-pub struct Leaf {
-    /// Counted from 1.
-    pub number: usize,
-    pub texts: Vec<Placed>,
+pub struct Contents {
+    pub game: Result<Game, GameFault>,
+    /// Nothing without a game.
+    pub count: Count,
 }
 
-/// Each text of at most 65,536 bytes, replayed and counted. The texts go to as many leaves as there
-/// are workers, in order. The leaves work side by side, and each goes through the gate before its
-/// first text.
+/// So many texts are read at a time: enough that taking them costs nothing beside, and few enough
+/// that no leaf is long at work when the others have ended.
+const RUN: usize = 8;
+
+/// Each text of at most 65,536 bytes, replayed and counted. As many leaves as there are workers work
+/// side by side, each of which goes through the gate and then takes the next texts, a run at a time,
+/// as long as some are left.
 pub fn read_all<R: Threads + Sync, G: Gate>(
     rt: &R,
     alloc: Global,
@@ -52,113 +54,71 @@ pub fn read_all<R: Threads + Sync, G: Gate>(
     requires short { All (λ text. length text.bytes ≤ text_limit) texts.items }
     ensures { IfOk result (λ readings. AllZip IsReadingOf texts.items readings.items) }
 {
-    let leaves = leaves_of(alloc, texts, workers)?;
-    let results = read_leaves(rt, alloc, leaves, gate)?;
-    let parts = all_made(alloc, results)?;
-    joined(alloc, parts)
+    let runs = read_runs(rt, alloc, texts.as_slice(), workers, gate)?;
+    let parts = all_made(alloc, runs)?;
+    readings_of(alloc, texts, parts)
 }
 
-/// The texts in leaves, of which each has about as many bytes as the others: a leaf's time goes with its bytes.
-fn leaves_of(alloc: Global, texts: Vec<Placed>, workers: usize) -> Result<Vec<Leaf>, AllocError>
-    requires { 1 ≤ workers }
-    ensures { IfOk result (λ leaves. texts_of leaves.items ≡ texts.items) }
-{
-    let share = count_bytes(texts.as_slice()).div_ceil(workers);
-    let mut leaves = Vec::with_capacity(alloc, workers)?;
-    let mut rest = texts;
-    for number in 1..workers {
-        let count = count_within(rest.as_slice(), share);
-        let behind = rest.split_off(count.min(rest.len()))?;
-        leaves.push(Leaf {
-            number,
-            texts: rest,
-        })?;
-        rest = behind;
-    }
-    leaves.push(Leaf {
-        number: workers,
-        texts: rest,
-    })?;
-    Ok(leaves)
-}
-
-/// How many bytes all texts have.
-fn count_bytes(texts: &[Placed]) -> usize {
-    let mut bytes = 0usize;
-    for text in texts {
-        bytes = bytes.saturating_add(text.bytes.len());
-    }
-    bytes
-}
-
-/// How many of the first texts have so many bytes, or all of them.
-fn count_within(texts: &[Placed], bytes: usize) -> usize {
-    let mut taken = 0usize;
-    for place in 0..texts.len() {
-        if bytes <= taken {
-            return place;
-        }
-        taken = taken.saturating_add(texts[place].bytes.len());
-    }
-    texts.len()
-}
-
-/// What each leaf makes of its texts.
-fn read_leaves<R: Threads + Sync, G: Gate>(
+/// The contents of the texts, in runs.
+fn read_runs<R: Threads + Sync, G: Gate>(
     rt: &R,
     alloc: Global,
-    leaves: Vec<Leaf>,
+    texts: &[Placed],
+    workers: usize,
     gate: &G,
-) -> Result<Vec<Result<Vec<Reading>, AllocError>>, AllocError>
-    requires { All (λ leaf. All (λ text. length text.bytes ≤ text_limit) leaf.texts.items)
-        leaves.items }
-    ensures count { IfOk result (λ results. length results.items ≡ length leaves.items) }
-    ensures results { IfOk result (λ results.
-        (n : ℕ) (d : Result (Vec Reading Global) AllocError) (l : Leaf) → n < length leaves.items
-        → IfOk (slice_index_or results.items n d) (λ readings.
-        AllZip IsReadingOf (slice_index_or leaves.items n l).texts.items readings.items)) }
+) -> Result<Vec<Result<Vec<Contents>, AllocError>>, AllocError>
+    requires { AreShort texts.now }
+    ensures all { IfOk result (λ runs. length texts.now ≤ length runs.items * run_length) }
+    ensures runs { IfOk result (λ runs. AreRunsOf texts.now runs.items) }
 {
-    let read_one = |leaf: Leaf| -> Result<Vec<Reading>, AllocError>
-        requires { All (λ text. length text.bytes ≤ text_limit) leaf.texts.items }
-        ensures { IfOk result (λ readings. AllZip IsReadingOf leaf.texts.items readings.items) }
-    { read_leaf(alloc, leaf, gate) };
-    let results = map_jobs(rt, alloc, leaves, &read_one)?;
-    let _count = results.as_slice().len();
-    Ok(results)
+    let enter = |leaf: usize|
+        requires { leaf + 1 < 2 ^ 64 }
+    { gate.pass(leaf + 1) };
+    let read_one = |run: usize| -> Result<Vec<Contents>, AllocError>
+        requires { AreShort texts.now
+            × (run * run_length < length texts.now) }
+        ensures { IfOk result (λ made.
+            AllZip AreContentsOf (run_of texts.entry.now run) made.items) }
+    { read_run(alloc, texts, run) };
+    map_taken(
+        rt,
+        alloc,
+        workers,
+        texts.len().div_ceil(RUN),
+        &enter,
+        &read_one,
+    )
 }
 
-/// Goes through the gate, and then replays and counts the texts of the leaf.
-fn read_leaf<G: Gate>(alloc: Global, leaf: Leaf, gate: &G) -> Result<Vec<Reading>, AllocError>
-    requires { All (λ text. length text.bytes ≤ text_limit) leaf.texts.items }
-    ensures { IfOk result (λ readings. AllZip IsReadingOf leaf.texts.items readings.items) }
+/// The contents of the texts of a run.
+fn read_run(alloc: Global, texts: &[Placed], run: usize) -> Result<Vec<Contents>, AllocError>
+    requires short { AreShort texts.now }
+    requires begins { run * run_length < length texts.now }
+    ensures { IfOk result (λ made. AllZip AreContentsOf (run_of texts.now run) made.items) }
 {
-    gate.pass(leaf.number);
-    let mut readings = Vec::with_capacity(alloc, leaf.texts.len())?;
-    for text in leaf.texts {
-        readings.push(read(alloc, text)?)?;
+    let rest = &texts[run * RUN..];
+    let of_run = &rest[..rest.len().min(RUN)];
+    let mut made = Vec::with_capacity(alloc, of_run.len())?;
+    for text in of_run {
+        made.push(read(alloc, text)?)?;
     }
-    Ok(readings)
+    Ok(made)
 }
 
-/// The text with its game, if it has one, and with what the game counts for.
-fn read(alloc: Global, text: Placed) -> Result<Reading, AllocError>
-    requires { length text.bytes ≤ text_limit }
-    ensures { IfOk result (λ reading. IsReadingOf text reading) }
+/// What the text holds.
+fn read(alloc: Global, text: &Placed) -> Result<Contents, AllocError>
+    requires { length text.now.bytes ≤ text_limit }
+    ensures { IfOk result (λ contents. AreContentsOf text.now contents) }
 {
-    let Placed { place, bytes } = text;
-    match replay(alloc, bytes.as_slice()) {
+    match replay(alloc, text.bytes.as_slice()) {
         Ok(game) => {
             let count = count_of(alloc, &game)?;
-            Ok(Reading {
-                place,
-                text: bytes,
+            Ok(Contents {
                 game: Ok(game),
                 count,
             })
         }
-        Err(Stop::Fault(fault)) => Ok(Reading {
-            place,
-            text: bytes,
+        Err(Stop::Fault(fault)) => Ok(Contents {
             game: Err(fault),
             count: Count {
                 singles: Vec::new(alloc),
@@ -167,4 +127,45 @@ fn read(alloc: Global, text: Placed) -> Result<Reading, AllocError>
         }),
         Err(Stop::OutOfMemory) => Err(AllocError),
     }
+}
+
+/// Each text with its contents, which come in parts.
+fn readings_of(
+    alloc: Global,
+    texts: Vec<Placed>,
+    parts: Vec<Vec<Contents>>,
+) -> Result<Vec<Reading>, AllocError>
+    ensures { IfOk result (λ readings. readings.items
+        ≡ readings_of texts.items (flat_map (λ part. part.items) parts.items)) }
+{
+    let mut readings = Vec::with_capacity(alloc, texts.len())?;
+    let mut rest = texts.into_iter();
+    for part in parts {
+        put_together(&mut readings, &mut rest, part)?;
+    }
+    Ok(readings)
+}
+
+/// Puts the next texts with their contents behind the others.
+fn put_together(
+    readings: &mut Vec<Reading>,
+    texts: &mut IntoIter<Placed, Global>,
+    part: Vec<Contents>,
+) -> Result<(), AllocError>
+    ensures { OnOk result ((behind : List Contents)
+        → readings.new.items ++ readings_of (into_iter_items texts.new) behind
+        ≡ readings.old.items ++ readings_of (into_iter_items texts.old) (part.items ++ behind)) }
+{
+    for Contents { game, count } in part {
+        let Some(Placed { place, bytes }) = texts.next() else {
+            return Ok(());
+        };
+        readings.push(Reading {
+            place,
+            text: bytes,
+            game,
+            count,
+        })?;
+    }
+    Ok(())
 }

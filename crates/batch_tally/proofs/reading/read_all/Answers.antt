@@ -1,25 +1,16 @@
-use Rattle.std.proofs.Common.{◌≤◌, List, length, sym, subst}
-use Rattle.std.specs.List.{AllZip, flat_map}
+use Rattle.std.proofs.Common.{◌≤◌, ◌*◌, List, length, subst}
 use Rattle.explorer_model.specs.declared.archive.Placed.{Placed}
-use Rattle.batch_tally.specs.declared.reading.Reading.{Reading}
-use Rattle.batch_tally.specs.Reading.{IsReadingOf}
-use Rattle.batch_tally.proofs.LeafLemmas.{if-ok, joined-zip, made-each, parts-all}
+use Rattle.batch_tally.specs.Reading.{AreRunsOf, run_length}
+use Rattle.batch_tally.proofs.LeafLemmas.{if-ok}
+use Rattle.batch_tally.proofs.RunLemmas.{all-read}
 use Rattle.batch_tally.proofs.reading.read_all.Goals as goal
-
-pub read_leaves-requires-after_bounds : goal.read_leaves-requires-after_bounds
-read_leaves-requires-after_bounds g c κs within =
-    parts-all (λ text. length text.bytes ≤ 65536) (λ leaf. leaf.texts.items) c.in_ok-leaves.leaves.items c.args.texts.items
-    c.in_ok-leaves.ensures c.requires.short
 
 pub returns : goal.returns
 returns g c =
-    let leaves = c.in_ok-leaves.leaves.items in
-    let parts = c.in_ok-parts.parts.items in
-    let results = c.in_ok-results in
-    let each = made-each (λ leaf readings. AllZip IsReadingOf leaf.texts.items readings.items) leaves results.results.items parts
-    c.in_ok-parts.ensures results.ensures.count results.ensures.results in
-    let whole = joined-zip IsReadingOf (λ leaf. leaf.texts.items) (λ part. part.items) leaves parts each in
-    if-ok _ _ c.joined.result (λ all is.
-    subst (λ (readings : List Reading). AllZip IsReadingOf c.args.texts.items readings) (sym is)
-    (subst (λ (texts : List Placed). AllZip IsReadingOf texts (flat_map (λ part. part.items) parts)) c.in_ok-leaves.ensures whole))
-    c.joined.ensures
+    let runs = c.in_ok-runs in
+    let parts = c.in_ok-parts in
+    if-ok _ _ c.readings_of.result (λ readings are.
+    all-read (λ part. part.items) c.args.texts.items runs.runs.items parts.parts.items readings.items parts.ensures
+    (subst (λ (texts : List Placed). length texts ≤ length runs.runs.items * run_length) c.as_slice.ensures.value runs.ensures.all)
+    (subst (λ (texts : List Placed). AreRunsOf texts runs.runs.items) c.as_slice.ensures.value runs.ensures.runs) are)
+    c.readings_of.ensures
