@@ -1,6 +1,6 @@
 //! Ranges of keys.
 ghost use Rattle.std.specs.Prelude.{◌≡◌, ◌≤◌};
-ghost use Rattle.tally_rows.specs.Within.{first_word, is_in_range, is_word_in};
+ghost use Rattle.tally_rows.specs.Within.{first_word, is_word_in};
 
 use crate::sort_entry::word_at;
 
@@ -12,12 +12,6 @@ pub struct KeyRange {
 }
 
 impl KeyRange {
-    pub fn contains(&self, key: &[u8; 34]) -> bool
-        ensures { result ≡ is_in_range self.now key.now }
-    {
-        self.contains_word(first_word(key))
-    }
-
     /// Whether the keys with this first word are in the range.
     pub fn contains_word(&self, word: u64) -> bool
         ensures { result ≡ is_word_in self.now word }
