@@ -33,10 +33,10 @@ away-behind zero rest k e = omega arith
 away-behind (suc n) rest zero e = absurd (cc (e))
 away-behind (suc n) rest (suc k) e = omega (arith, away-behind n rest k e)
 
-key-behind : (n away key : ℕ) → (cell (cells_of n away) key).1 ≡ false → 2 + n ≤ key
-key-behind n away zero e = absurd (cc (e))
-key-behind n away (suc zero) e = absurd (cc (e))
-key-behind n away (suc (suc k)) e = omega (arith, away-behind n (replicate away is-away) k e)
+away-key : (n away key : ℕ) → (cell (cells_of n away) key).1 ≡ false → 2 + n ≤ key
+away-key n away zero e = absurd (cc (e))
+away-key n away (suc zero) e = absurd (cc (e))
+away-key n away (suc (suc k)) e = omega (arith, away-behind n (replicate away is-away) k e)
 
 -- one more that is away
 replicate-behind : (m : ℕ) → replicate m is-away ++ is-away ∷ [] ≡ replicate (suc m) is-away
@@ -65,7 +65,7 @@ pub record IsAll (seen log : List Batch) (key : ℕ) : Type 0 where
 pen-tells : (seen log : List Batch) (key away : ℕ) → key ≤ key_behind seen → IsPrefix seen log
     → Away (nib may_write key 0) (cells_of (length log) away) → IsAll seen log key
 pen-tells seen log key away few begins is-out =
-    let least : 2 + length log ≤ key = key-behind (length log) away key (is-out refl).1 in
+    let least : 2 + length log ≤ key = away-key (length log) away key (is-out refl).1 in
     let no-more : length seen ≤ length log = begins-length seen log begins in
     record { seen_is = begins-whole seen log begins (omega arith); key_is = omega arith }
 
@@ -91,9 +91,9 @@ add-cell-goes log seen ask away old first true is =
       record {
         away = suc old;
         cells_are = ap (with-word (either (away == old) (old + 1) away)) cells
-        ∙ ap (λ (w : ℕ). with-word w (replicate n at-home ++ replicate (suc away) is-away)) word
-        ∙ ap (λ (a : ℕ). with-word (suc old) (replicate n at-home ++ replicate (suc a) is-away)) here
-        ∙ ap (λ (l : List Batch). cells_of (length l) (suc old)) (sym all);
+            ∙ ap (λ (w : ℕ). with-word w (replicate n at-home ++ replicate (suc away) is-away)) word
+            ∙ ap (λ (a : ℕ). with-word (suc old) (replicate n at-home ++ replicate (suc a) is-away)) here
+            ∙ ap (λ (l : List Batch). cells_of (length l) (suc old)) (sym all);
         first = λ e. absurd (omega arith);
       },
       inl (refl, refl),

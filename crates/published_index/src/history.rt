@@ -39,11 +39,7 @@ impl History {
     pub fn new() -> Option<History>
         ensures { IfSome result (λ history. history.log ≡ []) }
     {
-        let (mut seen, mut first, _second): (BookSeen, Pen, Pen) = Seen::open(
-            Start::alone(),
-            0,
-            0,
-        );
+        let (mut seen, mut first, _second): (BookSeen, Pen, Pen) = Seen::open(Start::alone(), 0, 0);
         let word = BookWord::tracked(0, &mut first);
         let pen = add_cell(&word, &mut seen, 0)?;
         Some(History {
