@@ -10,9 +10,12 @@ ghost use Rattle.std.specs.Fork.{AcceptsJobs, GivesEach, GivesJobs};
 ghost use Rattle.std.specs.Fork.Halves.{GivesFor, GivesFrom};
 ghost use denote.Param.Send.{IsSend, IsSync};
 
+mod taking;
+
 use std::alloc::{AllocError, Global};
 use std::marker::{Send, Sync};
 use std::thread::{Threads, join};
+pub use taking::map_taken;
 
 /// What `f` gives for each index below `count`, in order. The calling thread does the last one.
 pub fn map_indices<R: Threads + Sync, X: Send + Drop, F: Fn(usize) -> X + Sync>(
