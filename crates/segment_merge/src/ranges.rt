@@ -17,8 +17,8 @@ use std::thread::Threads;
 /// How many rows a full block has.
 const ROWS_OF_BLOCK: usize = 128;
 
-/// How many ranges there are for each of several workers. Ranges of one length take different times.
-/// A leaf that is done with one takes the next, so that at the end none waits long for another.
+/// How many ranges there are for each of several workers. Equal ranges take different times; a leaf
+/// that is done with one takes the next, so that at the end none waits long for another.
 const RANGES_OF_WORKER: usize = 4;
 
 /// The segment of both spans, made by as many leaves as there are workers, side by side. Each leaf
