@@ -10,16 +10,20 @@ use crate::merging::merge_rows;
 use crate::side::Side;
 use outside::Gate;
 use segment_blocks::{PackedRows, Segment};
-use side_by_side::map_indices;
+use side_by_side::map_taken;
 use std::alloc::{AllocError, Global};
 use std::thread::Threads;
 
 /// How many rows a full block has.
 const ROWS_OF_BLOCK: usize = 128;
 
+/// How many ranges there are for each of several workers. Equal ranges take different times; a leaf
+/// that is done with one takes the next, so that at the end none waits long for another.
+const RANGES_OF_WORKER: usize = 4;
+
 /// The segment of both spans, made by as many leaves as there are workers, side by side. Each leaf
-/// goes through the gate and then merges the rows of its range of keys, which may be none. No key
-/// is in two ranges.
+/// goes through the gate once, and then merges the rows of one range of keys after another, as long
+/// as one is left. No key is in two ranges.
 pub fn merge<R: Threads + Sync, G: Gate>(
     rt: &R,
     alloc: Global,
@@ -36,22 +40,35 @@ pub fn merge<R: Threads + Sync, G: Gate>(
     // That each side is a segment, its span tells.
     let _left = left.span();
     let _right = right.span();
-    let keys = cut_keys(alloc, left, right, workers)?;
-    let results = merge_ranges(rt, alloc, left, right, keys.as_slice(), gate)?;
+    let keys = cut_keys(alloc, left, right, count_ranges(workers))?;
+    let results = merge_ranges(rt, alloc, left, right, keys.as_slice(), workers, gate)?;
     let parts = all_made(alloc, results)?;
     Segment::of_both(alloc, left, right, parts)
 }
 
-/// Keys that part the rows of the side with more blocks in as many ranges as there are workers, of
-/// about one length. Any rising keys serve.
+/// In how many ranges so many workers merge. One worker merges all rows in one.
+fn count_ranges(workers: usize) -> usize
+    requires some_workers { 1 ≤ workers }
+    requires few_workers { workers ≤ 16 }
+    ensures { 1 ≤ result }
+{
+    if workers == 1 {
+        1
+    } else {
+        workers * RANGES_OF_WORKER
+    }
+}
+
+/// Keys that part the rows of the side with more blocks in so many ranges, of about one length. Any
+/// rising keys serve.
 fn cut_keys(
     alloc: Global,
     left: &Segment,
     right: &Segment,
-    workers: usize,
+    ranges: usize,
 ) -> Result<Vec<[u8; 34]>, AllocError>
-    requires { 1 ≤ workers }
-    ensures count { IfOk result (λ keys. length keys.items + 1 ≡ workers) }
+    requires { 1 ≤ ranges }
+    ensures count { IfOk result (λ keys. length keys.items + 1 ≡ ranges) }
     ensures rising { IfOk result (λ keys. AreRising keys.items) }
 {
     let larger = if left.block_count() < right.block_count() {
@@ -60,10 +77,10 @@ fn cut_keys(
         left
     };
     let rows = larger.block_count().saturating_mul(ROWS_OF_BLOCK);
-    let mut keys = Vec::with_capacity(alloc, workers)?;
+    let mut keys = Vec::with_capacity(alloc, ranges)?;
     let mut last = [0u8; 34];
-    for part in 1..workers {
-        let key = larger.key_at((rows / workers).saturating_mul(part));
+    for part in 1..ranges {
+        let key = larger.key_at((rows / ranges).saturating_mul(part));
         let next = later_key(last, key.unwrap_or([255; 34]));
         keys.push(next)?;
         last = next;
@@ -82,34 +99,35 @@ fn later_key(before: [u8; 34], key: [u8; 34]) -> [u8; 34]
     }
 }
 
-/// What is merged of each range between the keys, side by side, each in a leaf of its own.
+/// What is merged of each range between the keys, by as many leaves as there are workers.
 fn merge_ranges<R: Threads + Sync, G: Gate>(
     rt: &R,
     alloc: Global,
     left: &Segment,
     right: &Segment,
     keys: &[[u8; 34]],
+    workers: usize,
     gate: &G,
 ) -> Result<Vec<Result<PackedRows, AllocError>>, AllocError>
     requires spans { CanJoin left.now right.now }
-    requires few { length keys.now < 2 ^ 32 }
+    requires few_workers { workers ≤ 16 }
     ensures count { IfOk result (λ parts. length parts.items ≡ length keys.now + 1) }
     ensures parts { IfOk result (λ parts.
         (n : ℕ) (d : Result PackedRows AllocError) → n < length keys.now + 1
         → IfOk (slice_index_or parts.items n d) (λ packed. packed.rows
         ≡ slice_index_or (ranges_of_both keys.now left.now right.now) n [])) }
 {
+    let enter = |leaf: usize|
+        requires { leaf < 16 }
+    {
+        gate.pass(leaf + 1);
+    };
     let range = |n: usize| -> Result<PackedRows, AllocError>
-        requires { (n ≤ length keys.now) × (n < 2 ^ 63) × CanJoin left.now right.now }
+        requires { (n ≤ length keys.now) × CanJoin left.now right.now }
         ensures { IfOk result (λ packed. packed.rows
             ≡ slice_index_or (ranges_of_both keys.entry.now left.entry.now right.entry.now) n []) }
-    {
-        gate.pass(n + 1);
-        merge_range(alloc, left, right, keys, n)
-    };
-    let parts = map_indices(rt, alloc, keys.len() + 1, &range)?;
-    let _count = parts.as_slice().len();
-    Ok(parts)
+    { merge_range(alloc, left, right, keys, n) };
+    map_taken(rt, alloc, workers, keys.len() + 1, &enter, &range)
 }
 
 /// What is merged of range `n` between the keys.

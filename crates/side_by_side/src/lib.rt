@@ -1,8 +1,9 @@
-//! Calls side by side, each in a thread of its own where one can be made.
+//! Calls side by side, each in a thread of its own where one can be made, or as threads get to it.
 //!
 //! The calling thread makes all threads, one after another, and makes the last call itself: no
 //! thread waits for others to be made by one that was just made. Where no thread can be made, the
-//! calls are made in order. Results are moved for each call: this is for a few calls that take long.
+//! calls are made in order. `map_indices` and `map_jobs` start a thread and move all results for
+//! each call: they are for a few calls that take long. `map_taken` is for more calls than threads.
 #![tactic(auto)]
 
 ghost use Rattle.std.specs.Prelude.{◌≡◌, ℕ, ◌+◌, ◌^◌, ◌<◌, ◌≤◌, IfOk, length};

@@ -140,6 +140,6 @@ fn merges_are_equal_where_a_key_fills_many_blocks(rt: HostRuntime) -> Result<(),
     let left = segment_of(rt.alloc(), 0, tally_of_batch(&rt, rt.alloc(), BATCH)?)?;
     let right = segment_of(rt.alloc(), 1, tally_of_batch(&rt, rt.alloc(), BATCH)?)?;
     assert_eq!(rt; (left.block_count(), right.block_count()), (12, 12));
-    // Four keys in 16 ranges: most of the ranges are empty.
+    // Four keys in up to 64 ranges: most of the ranges are empty.
     assert_equal_merges(&rt, rt.alloc(), &left, &right)
 }
