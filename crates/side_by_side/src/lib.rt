@@ -1,14 +1,13 @@
-//! Calls side by side, each in a thread of its own where one can be made, or as threads get to it.
+//! Calls side by side, in threads that take the next call as they get to it.
 //!
-//! The calling thread makes all threads, one after another, and makes the last call itself: no
+//! The calling thread makes all threads, one after another, and is the last of them itself: no
 //! thread waits for others to be made by one that was just made. Where no thread can be made, the
-//! calls are made in order. `map_indices` and `map_jobs` start a thread and move all results for
-//! each call: they are for a few calls that take long. `map_taken` is for more calls than threads.
+//! calls are made in order.
 #![tactic(auto)]
 
 ghost use Rattle.std.specs.Prelude.{◌≡◌, ℕ, ◌+◌, ◌^◌, ◌<◌, ◌≤◌, IfOk, length};
-ghost use Rattle.std.specs.Fork.{AcceptsJobs, GivesEach, GivesJobs};
-ghost use Rattle.std.specs.Fork.Halves.{GivesFor, GivesFrom};
+ghost use Rattle.std.specs.Fork.{GivesEach};
+ghost use Rattle.std.specs.Fork.Halves.{GivesFrom};
 ghost use denote.Param.Send.{IsSend, IsSync};
 
 mod taking;
@@ -18,8 +17,9 @@ use std::marker::{Send, Sync};
 use std::thread::{Threads, join};
 pub use taking::map_taken;
 
-/// What `f` gives for each index below `count`, in order. The calling thread does the last one.
-pub fn map_indices<R: Threads + Sync, X: Send + Drop, F: Fn(usize) -> X + Sync>(
+/// What `f` gives for each leaf below `count`, in order, each in a thread of its own where one can be
+/// made. The calling thread is the last one.
+fn map_leaves<R: Threads + Sync, X: Send + Drop, F: Fn(usize) -> X + Sync>(
     rt: &R,
     alloc: Global,
     count: usize,
@@ -33,20 +33,6 @@ pub fn map_indices<R: Threads + Sync, X: Send + Drop, F: Fn(usize) -> X + Sync>(
         return Ok(Vec::new(alloc));
     }
     calls_from(rt, alloc, 0, count, f)
-}
-
-/// What `f` makes of each job, in their order. The calling thread does the last one.
-pub fn map_jobs<R: Threads + Sync, J: Send + Drop, X: Send + Drop, F: Fn(J) -> X + Sync>(
-    rt: &R,
-    alloc: Global,
-    jobs: Vec<J>,
-    f: &F,
-) -> Result<Vec<X>, AllocError>
-    requires { AcceptsJobs F.Fn f.now jobs.items }
-    ensures len { IfOk result (λ made. length made.items ≡ length jobs.items) }
-    ensures each { IfOk result (λ made. GivesJobs F.Fn f.now jobs.items made.items) }
-{
-    calls_for(rt, alloc, jobs, f)
 }
 
 /// The first call goes to a thread of its own, and then those behind it are made.
@@ -84,52 +70,4 @@ fn calls_from<R: Threads + Sync, X: Send + Drop, F: Fn(usize) -> X + Sync>(
     let mut all = made?;
     all.insert(0, x)?;
     Ok(all)
-}
-
-/// The first job goes to a thread of its own, and then those behind it are done.
-#[cycle(jobs)]
-fn calls_for<R: Threads + Sync, J: Send + Drop, X: Send + Drop, F: Fn(J) -> X + Sync>(
-    rt: &R,
-    alloc: Global,
-    mut rest: Vec<J>,
-    f: &F,
-) -> Result<Vec<X>, AllocError>
-    requires { AcceptsJobs F.Fn f.now rest.items }
-    ensures { IfOk result (λ made. GivesFor F.Fn f.now rest.items made.items) }
-{
-    if rest.len() < 2 {
-        return at_most_one(alloc, rest, f);
-    }
-    let job = rest.remove(0);
-    let first = move || -> X
-        requires { IsSync F.row × IsSend J.row × IsSend X.row × F.pre f.now job }
-        ensures { F.post f.entry.now job result }
-    { f(job) };
-    let behind = move || -> Result<Vec<X>, AllocError>
-        requires { IsSync R.row × IsSync F.row × IsSend J.row × IsSend X.row
-            × AcceptsJobs F.Fn f.now rest.items }
-        ensures { IfOk result (λ made. GivesFor F.Fn f.entry.now rest.items made.items) }
-    { calls_for(rt, alloc, rest, f) };
-    let (x, made) = join(rt, first, behind);
-    let mut done = made?;
-    done.insert(0, x)?;
-    Ok(done)
-}
-
-/// The same of one job, or none.
-fn at_most_one<J: Drop, X: Drop, F: Fn(J) -> X>(
-    alloc: Global,
-    mut jobs: Vec<J>,
-    f: &F,
-) -> Result<Vec<X>, AllocError>
-    requires few { length jobs.items < 2 }
-    requires accepts { AcceptsJobs F.Fn f.now jobs.items }
-    ensures { IfOk result (λ made. GivesFor F.Fn f.now jobs.items made.items) }
-{
-    let mut made = Vec::new(alloc);
-    let Some(job) = jobs.pop() else {
-        return Ok(made);
-    };
-    made.push(f(job))?;
-    Ok(made)
 }

@@ -4,7 +4,7 @@ ghost use Rattle.std.specs.Fork.{GivesEach};
 ghost use Rattle.std.specs.List.{All, flat_map};
 ghost use Rattle.side_by_side.specs.Taking.{AreGiven, IsGiven, TakesGiven, put_all, taken_by};
 
-use crate::map_indices;
+use crate::map_leaves;
 use std::alloc::{AllocError, Global};
 use std::marker::{Send, Sync};
 use std::sync::atomic::{AtomicUsize, Ordering};
@@ -34,7 +34,7 @@ pub fn map_taken<R: Threads + Sync, X: Send + Drop, E: Fn(usize) + Sync, F: Fn(u
         enter(number);
         take_all(alloc, &next, count, f)
     };
-    let leaves = map_indices(rt, alloc, workers, &leaf)?;
+    let leaves = map_leaves(rt, alloc, workers, &leaf)?;
     let slots = slots_of(alloc, count, leaves)?;
     filled(alloc, slots, f)
 }

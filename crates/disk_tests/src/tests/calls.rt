@@ -1,6 +1,8 @@
 //! Calls side by side.
-use side_by_side::{map_indices, map_jobs};
+use side_by_side::map_taken;
 use std::test::Fail;
+
+fn enter(_leaf: usize) {}
 
 fn tenfold(number: usize) -> usize {
     number.wrapping_mul(10)
@@ -20,25 +22,11 @@ fn calls_each_index_once_in_order(rt: HostRuntime) -> Result<(), Fail> {
             ],
         ),
     ];
-    for (count, wanted) in table {
-        let made = map_indices(&rt, rt.alloc(), count, &tenfold)?;
-        assert!(rt; made.as_slice() == wanted);
-    }
-    Ok(())
-}
-
-#[test]
-fn does_each_job_once_in_order(rt: HostRuntime) -> Result<(), Fail> {
-    let table: [(&[usize], &[usize]); 4] = [
-        (&[], &[]),
-        (&[7], &[70]),
-        (&[7, 2], &[70, 20]),
-        (&[5, 5, 1, 9], &[50, 50, 10, 90]),
-    ];
-    for (jobs, wanted) in table {
-        let jobs = Vec::from_slice(rt.alloc(), jobs)?;
-        let made = map_jobs(&rt, rt.alloc(), jobs, &tenfold)?;
-        assert!(rt; made.as_slice() == wanted);
+    for workers in [1usize, 2, 4, 16] {
+        for (count, wanted) in table {
+            let made = map_taken(&rt, rt.alloc(), workers, count, &enter, &tenfold)?;
+            assert!(rt; made.as_slice() == wanted);
+        }
     }
     Ok(())
 }
