@@ -13,6 +13,7 @@ mod DeterminedLemmas
 mod EarlyLemmas
 mod EndedLemmas
 mod FollowLemmas
+mod FollowedLists
 pub mod GroupLemmas
 mod HandLemmas
 mod HoldLemmas

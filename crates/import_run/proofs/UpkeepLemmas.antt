@@ -10,12 +10,13 @@ use Rattle.published_index.specs.Changes.{Change, JoinAt, with_change}
 use Rattle.published_index.specs.Cover.{spans_of}
 use Rattle.published_index.specs.States.{Publishing, publishing}
 use Rattle.ingest_desk.specs.Installs.{Installs, IsGone, IsInstalled, caught_up, list_by}
+use Rattle.ingest_desk.specs.Listing.{JoinsPicked}
 use Rattle.ingest_desk.specs.Picking.{AreAt, HasNoneDue, IsPicked, NoneDueFrom}
 use Rattle.ingest_desk.specs.declared.job.Job.{Job}
 use Rattle.ingest_desk.specs.declared.job.Standing.{Standing}
 use Rattle.import_run.specs.declared.draining.Drained.TheVariants.{Gone}
 use Rattle.import_run.specs.declared.merging.Merging.TheVariants.{Joined, Left}
-use Rattle.import_run.specs.Upkeep.{Finds, IsMerged, JoinsDue, Merges, WhereTold}
+use Rattle.import_run.specs.Upkeep.{Finds, IsMerged, Merges, WhereTold}
 
 -- ---- what is told
 
@@ -118,7 +119,7 @@ module _ (old mid : Publishing) (job : Job) (finds : Finds (Some job) old mid) w
       })
 
   pub joins_due : (new : Publishing) (merged : CountedSpan) (note : List Batch) → IsMergeOf left right merged → IsSegment left
-      → IsInstalled left.span right.span merged (list_by mid) new note → JoinsDue (list_by old) new.list × (new.held ≡ None)
+      → IsInstalled left.span right.span merged (list_by mid) new note → JoinsPicked (list_by old) new.list × (new.held ≡ None)
   unfolding picked
   joins_due new merged note merges segment is =
       let stood = is.stood in
@@ -141,9 +142,9 @@ module _ (old mid : Publishing) (job : Job) (finds : Finds (Some job) old mid) w
 
 -- ---- the list afterwards
 
-pub merged_joined : (old new : Publishing) → JoinsDue (list_by old) new.list → new.held ≡ None → IsMerged (list_by old) (list_by new)
+pub merged_joined : (old new : Publishing) → JoinsPicked (list_by old) new.list → new.held ≡ None → IsMerged (list_by old) (list_by new)
 merged_joined old new joins none =
-    inr (subst (λ (l : List CountedSpan). JoinsDue (list_by old) l) (sym (nothing_held new none)) joins)
+    inr (subst (λ (l : List CountedSpan). JoinsPicked (list_by old) l) (sym (nothing_held new none)) joins)
 
 pub merged_idle : (old new : Publishing) → new ≡ publishing (list_by old) → HasNoneDue new.list → IsMerged (list_by old) (list_by new)
 merged_idle old new is none =

@@ -4,12 +4,10 @@ use Rattle.std.specs.Arc.{arc_value}
 use Rattle.disk_model.specs.Disk.{DiskState}
 use Rattle.explorer_model.specs.declared.archive.Batch.{Batch}
 use Rattle.segment_blocks.specs.Segment.{CountedSpan}
-use Rattle.segment_merge.specs.Merging.{IsMergeOf}
-use Rattle.published_index.specs.Changes.{JoinAt, with_change}
 use Rattle.published_index.specs.Cover.{IsList}
 use Rattle.published_index.specs.States.{Publishing, publishing}
 use Rattle.ingest_desk.specs.Installs.{list_by}
-use Rattle.ingest_desk.specs.Listing.{MakesRoom, PutsBehind}
+use Rattle.ingest_desk.specs.Listing.{JoinsPicked, MakesRoom, PutsBehind}
 use Rattle.ingest_desk.specs.Picking.{HasNoneDue, IsPicked}
 use Rattle.ingest_desk.specs.Stored.{Stored, journal}
 use Rattle.ingest_desk.specs.declared.fault.CommitFault.{CommitFault}
@@ -37,19 +35,10 @@ pub record Finds (found : Option Job) (old new : Publishing) : Type 0 where
   pub picks : MatchOption found (HasNoneDue new.list)
       (λ job. IsPicked new.list (arc_value job.left) (arc_value job.right))
 
--- the last neighbours that are due have become one, and all others are as they were
-pub record JoinsDue (list new : List CountedSpan) : Type 0 where
-  pub left : CountedSpan
-  pub right : CountedSpan
-  pub picked : IsPicked list left right
-  pub joined : CountedSpan
-  pub merged : IsMergeOf left right joined
-  pub list_is : new ≡ with_change list (JoinAt picked.at joined)
-
 -- What a step of merging does: what was held is published, and no neighbours are due, or the last
 -- that are have become one; or memory was wanting.
 abbrev pub Merges : Merging → Publishing → Publishing → Type 0
-Merges Joined old new = JoinsDue (list_by old) new.list × (new.held ≡ None)
+Merges Joined old new = JoinsPicked (list_by old) new.list × (new.held ≡ None)
 Merges (Left Idle) old new = (new ≡ publishing (list_by old)) × HasNoneDue new.list
 Merges (Left Gone) old new = ⊥
 Merges (Left OutOfMemory) old new = ⊤
@@ -63,7 +52,7 @@ pub record StoresSame {D : Type 0} (before after : Stored D) : Type 0 where
 
 -- the last neighbours that are due have become one; where none are due, the list is as it was
 abbrev pub IsMerged : List CountedSpan → List CountedSpan → Type 0
-IsMerged list new = (HasNoneDue list × (new ≡ list)) ⊎ JoinsDue list new
+IsMerged list new = (HasNoneDue list × (new ≡ list)) ⊎ JoinsPicked list new
 
 -- what is published behind the answer to a commit, where memory was not wanting
 abbrev pub MergesBehind : {J : Type 0} → Result (Receipt J) (CommitFault J)

@@ -1,10 +1,15 @@
 //! Laws of imports. Each is the contract of a function that has nothing to do.
-ghost use Rattle.std.specs.Prelude.{◌≡◌, ℕ, List, None, Some, length};
+ghost use Rattle.std.specs.Prelude.{◌≡◌, ℕ, List, ◌++◌, None, Some, length};
+ghost use Rattle.std.specs.List.{All};
 ghost use Rattle.explorer_model.specs.declared.archive.Batch.{Batch};
 ghost use Rattle.explorer_model.specs.declared.archive.Game.{Game};
 ghost use Rattle.explorer_model.specs.Visits.{AreGamesOf};
 ghost use Rattle.manifest.specs.Manifest.{HasJournal, IsWithOrWithoutBatch};
+ghost use Rattle.segment_blocks.specs.Segment.{CountedSpan, IsSegment};
+ghost use Rattle.published_index.specs.Cover.{IsList, journal_of};
+ghost use Rattle.ingest_desk.specs.Alike.{StandAlike};
 ghost use Rattle.ingest_desk.specs.Importers.{call_of};
+ghost use Rattle.ingest_desk.specs.Installs.{list_by};
 ghost use Rattle.ingest_desk.specs.Kept.{Keeps};
 ghost use Rattle.outside.specs.Stream.{Stream};
 ghost use Rattle.ingest_desk.specs.Stored.{Stored, journal};
@@ -14,10 +19,12 @@ ghost use Rattle.ingest_desk.specs.declared.report.End.TheVariants as ends;
 ghost use Rattle.import_run.specs.Alone.{ImportsAlone};
 ghost use Rattle.import_run.specs.Determined.{AreAlike, ImportsBody, IsPlainEnd};
 ghost use Rattle.import_run.specs.Faultless.{CanEnd, EndsWithoutFault, FindRoom, HasNewGames, IsFaultless, StoresAll};
+ghost use Rattle.import_run.specs.Upkeep.{Follows, FollowsAll};
 
 use batch_tally::laws::accounting_is_determined;
 use disk_model::Disk;
 use game_replay::laws::game_is_determined;
+use ingest_desk::laws::listing_is_determined;
 use published_index::Index;
 
 /// An import of a told stream below the bound into a store that is open, of which no read and no
@@ -125,3 +132,38 @@ pub fn a_told_disk_has_the_journal<D: Disk>()
         → store.manifest.fault ≡ Some (before, after)
         → (batch : Batch) × IsWithOrWithoutBatch (journal store) batch file }
 {}
+
+/// A list that followed batches has the journal that it had, with the batches behind it. A list of
+/// segments that cover their journal stays one, and what its segments count stays the tally of their
+/// texts.
+pub fn a_list_that_follows_has_the_journal()
+    ensures journal { (batches : List Batch) (list new : List CountedSpan)
+        → FollowsAll batches list new → journal_of new ≡ journal_of list ++ batches }
+    ensures list { (batches : List Batch) (list new : List CountedSpan) → IsList list
+        → FollowsAll batches list new → IsList new }
+    ensures segments { (batches : List Batch) (list new : List CountedSpan)
+        → All IsSegment list → FollowsAll batches list new → All IsSegment new }
+{}
+
+/// Lists that followed the same batches stand alike, where they were one list or stood alike: they have
+/// as many segments, and these count the same one by one.
+pub fn lists_that_follow_are_alike()
+    ensures one { (batches : List Batch) (list first second : List CountedSpan)
+        → FollowsAll batches list first → FollowsAll batches list second
+        → StandAlike first second }
+    ensures alike { (batches : List Batch) (list other first second : List CountedSpan)
+        → StandAlike list other → FollowsAll batches list first
+        → FollowsAll batches other second → StandAlike first second }
+{
+    listing_is_determined();
+}
+
+/// So of stores that kept up with what was stored behind one store: where they have the same journal,
+/// their published lists stand alike.
+pub fn stores_that_follow_are_alike<D: Disk>()
+    ensures { (before after other : Stored D) → Follows before after → Follows before other
+        → journal after ≡ journal other
+        → StandAlike (list_by after.index) (list_by other.index) }
+{
+    listing_is_determined();
+}

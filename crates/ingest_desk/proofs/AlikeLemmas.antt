@@ -1,5 +1,5 @@
 -- Lists that stand alike come to lists that stand alike.
-use Rattle.std.proofs.Common.{◌≡◌, ◌≤◌, ◌<◌, ◌+◌, ◌*◌, ℕ, zero, suc, Bool, true, false, List, [], ◌∷◌, ◌++◌, length, map, take, drop, Some, refl, sym, ap, ◌∙◌, subst, arith}
+use Rattle.std.proofs.Common.{◌≡◌, ◌≤◌, ◌<◌, ◌+◌, ◌*◌, ℕ, zero, suc, Bool, true, false, List, [], ◌∷◌, ◌++◌, length, map, take, drop, Some, Result, Ok, Err, refl, sym, ap, ◌∙◌, subst, arith}
 use Rattle.std.proofs.lemmas.Bool.Decides.{nat_tests}
 use Rattle.std.proofs.lemmas.List.Elements.{length_all_zip}
 use Rattle.std.specs.Prelude.{nat_lt, slice_get}
@@ -16,9 +16,15 @@ use Rattle.segment_merge.specs.Merged.{merged}
 use Rattle.segment_merge.specs.Merging.{IsMergeOf, rows_of_both}
 use Rattle.published_index.specs.Changes.{JoinAt, with_change}
 use Rattle.published_index.specs.Cover.{journal_of, list_limit, spans_of}
+use Rattle.published_index.specs.States.{Publishing}
 use Rattle.ingest_desk.specs.Alike.{CountAlike, StandAlike}
-use Rattle.ingest_desk.specs.Listing.{JoinsPicked, MakesRoom, PutsBehind}
+use Rattle.ingest_desk.specs.Answers.{HadMemory}
+use Rattle.ingest_desk.specs.Installs.{list_by}
+use Rattle.ingest_desk.specs.Listing.{JoinsPicked, Lists, MakesRoom, PutsBehind}
 use Rattle.ingest_desk.specs.Picking.{AreAt, AreDue, HasNoneDue, IsPicked, NoneDueFrom}
+use Rattle.ingest_desk.specs.declared.fault.CommitFault.{CommitFault}
+use Rattle.ingest_desk.specs.declared.fault.CommitFault.TheVariants as faults
+use Rattle.ingest_desk.specs.declared.receipt.Receipt.{Receipt}
 use Rattle.ingest_desk.proofs.PickingLemmas.{one_picked, picked_or_none, same_place}
 
 -- ---- segments
@@ -252,3 +258,28 @@ puts_alike one batch list other first second alike a b =
     subst (λ (l : List CountedSpan). StandAlike l second) (sym a.list_is)
     (subst (λ (l : List CountedSpan). StandAlike (list ++ s ∷ []) l) (sym b.list_is)
     (zip-append CountAlike list (s ∷ []) other (t ∷ []) alike (segments, tt)))
+
+-- ---- commits
+
+same_alike : (list first second : List CountedSpan) → first ≡ list → second ≡ list
+    → StandAlike first second
+same_alike list first second is also =
+    subst (λ (l : List CountedSpan). StandAlike first l) (is ∙ sym also) (alike_self first)
+
+pub lists_alike : {J : Type 0} → HasOneTally → (answer : Result (Receipt J) (CommitFault J))
+    (batch : Batch) (old : Publishing) (first second : List CountedSpan) → HadMemory answer
+    → Lists answer batch old first → Lists answer batch old second → StandAlike first second
+lists_alike one (Ok receipt) batch old first second had a b =
+    let list = list_by old in
+    puts_alike one batch a.0 b.0 first second
+    (rooms_alike list list a.0 b.0 (alike_self list) a.1 b.1) a.2 b.2
+lists_alike one (Err (faults.Closed before after mark)) batch old first second had a b =
+    same_alike old.list first second a b
+lists_alike one (Err (faults.Clash handed pairs note)) batch old first second had a b =
+    same_alike (list_by old) first second a b
+lists_alike one (Err (faults.Full games bytes note)) batch old first second had a b =
+    same_alike (list_by old) first second a b
+lists_alike one (Err (faults.DiskFault before after mark)) batch old first second had a b =
+    let list = list_by old in
+    rooms_alike list list first second (alike_self list) a b
+lists_alike one (Err (faults.OutOfMemory stored)) batch old first second had a b = absurd had

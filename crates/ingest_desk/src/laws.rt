@@ -10,11 +10,12 @@ ghost use Rattle.tally_rows.specs.Tally.{Counted};
 ghost use Rattle.segment_blocks.specs.Segment.{CountedSpan};
 ghost use Rattle.published_index.specs.Changes.{Change};
 ghost use Rattle.published_index.specs.Cover.{spans_of};
+ghost use Rattle.published_index.specs.States.{Publishing};
 ghost use Rattle.ingest_desk.specs.Alike.{StandAlike};
 ghost use Rattle.ingest_desk.specs.Answers.{HadMemory, IsAnswer};
 ghost use Rattle.ingest_desk.specs.declared.fault.CommitFault.{CommitFault};
 ghost use Rattle.ingest_desk.specs.declared.receipt.Receipt.{Receipt};
-ghost use Rattle.ingest_desk.specs.Listing.{JoinsPicked, MakesRoom, PutsBehind};
+ghost use Rattle.ingest_desk.specs.Listing.{JoinsPicked, Lists, MakesRoom, PutsBehind};
 ghost use Rattle.ingest_desk.specs.Openings.{IsWrong};
 ghost use Rattle.ingest_desk.specs.Picking.{HasNoneDue, IsPicked};
 
@@ -55,6 +56,16 @@ pub fn listing_is_determined()
     ensures puts { (batch : Batch) (list other first second : List CountedSpan)
         → StandAlike list other → PutsBehind batch list first
         → PutsBehind batch other second → StandAlike first second }
+{
+    tallies_are_determined();
+}
+
+/// What is published after a commit is one thing, want of memory aside: by the answer, and by what was
+/// published and held before.
+pub fn what_is_listed_is_determined<J: Index>()
+    ensures { (answer : Result (Receipt J) (CommitFault J)) (batch : Batch) (old : Publishing)
+        (first second : List CountedSpan) → HadMemory answer → Lists answer batch old first
+        → Lists answer batch old second → StandAlike first second }
 {
     tallies_are_determined();
 }
