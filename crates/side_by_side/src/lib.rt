@@ -2,7 +2,8 @@
 //!
 //! The calling thread makes all threads, one after another, and makes the last call itself: no
 //! thread waits for others to be made by one that was just made. Where no thread can be made, the
-//! calls are made in order. Results are moved for each call: this is for a few calls that take long.
+//! calls are made in order. Results are moved for each call: this is for a few calls that take long,
+//! or for a few leaves that take many calls as they get to them (`map_taken`).
 #![tactic(auto)]
 
 ghost use Rattle.std.specs.Prelude.{◌≡◌, ℕ, ◌+◌, ◌^◌, ◌<◌, ◌≤◌, IfOk, length};

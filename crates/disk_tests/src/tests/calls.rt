@@ -1,5 +1,6 @@
 //! Calls side by side.
-use side_by_side::{map_indices, map_jobs};
+use side_by_side::{map_indices, map_jobs, map_taken};
+use std::sync::atomic::{AtomicUsize, Ordering};
 use std::test::Fail;
 
 fn tenfold(number: usize) -> usize {
@@ -23,6 +24,32 @@ fn calls_each_index_once_in_order(rt: HostRuntime) -> Result<(), Fail> {
     for (count, wanted) in table {
         let made = map_indices(&rt, rt.alloc(), count, &tenfold)?;
         assert!(rt; made.as_slice() == wanted);
+    }
+    Ok(())
+}
+
+#[test]
+fn takes_each_index_once_in_order(rt: HostRuntime) -> Result<(), Fail> {
+    let table: [(usize, usize, &[usize]); 4] = [
+        (1, 0, &[]),
+        (1, 3, &[0, 10, 20]),
+        (4, 2, &[0, 10]),
+        (3, 9, &[0, 10, 20, 30, 40, 50, 60, 70, 80]),
+    ];
+    for (workers, count, wanted) in table {
+        let entered = AtomicUsize::new(0);
+        let called = AtomicUsize::new(0);
+        let enter = |_leaf: usize| {
+            entered.fetch_add(1, Ordering::SeqCst);
+        };
+        let give = |index: usize| {
+            called.fetch_add(1, Ordering::SeqCst);
+            tenfold(index)
+        };
+        let made = map_taken(&rt, rt.alloc(), workers, count, &enter, &give)?;
+        assert!(rt; made.as_slice() == wanted);
+        assert_eq!(rt; entered.load(Ordering::SeqCst), workers);
+        assert_eq!(rt; called.load(Ordering::SeqCst), count);
     }
     Ok(())
 }
