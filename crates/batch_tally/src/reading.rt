@@ -40,9 +40,9 @@ pub struct Contents {
 /// that no leaf is long at work when the others have ended.
 const RUN: usize = 8;
 
-/// Each text of at most 65,536 bytes, replayed and counted. As many leaves as there are workers work
-/// side by side, each of which goes through the gate and then takes the next texts, a run at a time,
-/// as long as some are left.
+/// Each text of at most 65,536 bytes, replayed and counted. As many leaves as there are workers
+/// work side by side, each of which goes through the gate and then takes the next texts, a run at
+/// a time, as long as some are left.
 pub fn read_all<R: Threads + Sync, G: Gate>(
     rt: &R,
     alloc: Global,

@@ -28,9 +28,9 @@ pub struct Tallying {
     pub refused: Vec<Refusal>,
 }
 
-/// Replays, accepts and counts up to 512 texts of at most 65,536 bytes each. As many leaves as there
-/// are workers replay them side by side: each goes through the gate, and then takes the next texts
-/// as long as some are left.
+/// Replays, accepts and counts up to 512 texts of at most 65,536 bytes each. As many leaves as
+/// there are workers replay them side by side: each goes through the gate, and then takes the next
+/// texts as long as some are left.
 pub fn tally<R: Threads + Sync, G: Gate>(
     rt: &R,
     alloc: Global,
