@@ -197,6 +197,7 @@ fn batches_told<J: Index, R: Wait>(
         return None;
     }
     pass.learn(ingest.tell());
+    ingest.confirm(pass);
     Some((batches, pass.front()))
 }
 
