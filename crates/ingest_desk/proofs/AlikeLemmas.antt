@@ -1,5 +1,5 @@
 -- Lists that stand alike come to lists that stand alike.
-use Rattle.std.proofs.Common.{◌≡◌, ◌≤◌, ◌<◌, ◌+◌, ◌*◌, ℕ, zero, suc, Bool, true, false, List, [], ◌∷◌, ◌++◌, length, map, take, drop, Some, Result, Ok, Err, refl, sym, ap, ◌∙◌, subst, arith}
+use Rattle.std.proofs.Common.{◌≡◌, ◌≤◌, ◌<◌, ◌+◌, ℕ, zero, suc, Bool, true, false, List, [], ◌∷◌, ◌++◌, length, map, take, drop, Some, Result, Ok, Err, refl, sym, ap, ◌∙◌, subst, arith}
 use Rattle.std.proofs.lemmas.Bool.Decides.{nat_tests}
 use Rattle.std.proofs.lemmas.List.Elements.{length_all_zip}
 use Rattle.std.specs.Prelude.{nat_lt, slice_get}
@@ -13,15 +13,15 @@ use Rattle.tally_rows.specs.Row.{shifted_row}
 use Rattle.tally_rows.specs.Tally.{IsTallyOf}
 use Rattle.segment_blocks.specs.Segment.{CountedSpan, span_of_both}
 use Rattle.segment_merge.specs.Merged.{merged}
-use Rattle.segment_merge.specs.Merging.{IsMergeOf, rows_of_both}
+use Rattle.segment_merge.specs.Merging.{IsMergeOf}
 use Rattle.published_index.specs.Changes.{JoinAt, with_change}
-use Rattle.published_index.specs.Cover.{journal_of, list_limit, spans_of}
+use Rattle.published_index.specs.Cover.{list_limit, spans_of}
 use Rattle.published_index.specs.States.{Publishing}
 use Rattle.ingest_desk.specs.Alike.{CountAlike, StandAlike}
 use Rattle.ingest_desk.specs.Answers.{HadMemory}
 use Rattle.ingest_desk.specs.Installs.{list_by}
 use Rattle.ingest_desk.specs.Listing.{JoinsPicked, Lists, MakesRoom, PutsBehind}
-use Rattle.ingest_desk.specs.Picking.{AreAt, AreDue, HasNoneDue, IsPicked, NoneDueFrom}
+use Rattle.ingest_desk.specs.Picking.{AreDue, HasNoneDue, IsPicked, NoneDueFrom}
 use Rattle.ingest_desk.specs.declared.fault.CommitFault.{CommitFault}
 use Rattle.ingest_desk.specs.declared.fault.CommitFault.TheVariants as faults
 use Rattle.ingest_desk.specs.declared.receipt.Receipt.{Receipt}
@@ -97,7 +97,7 @@ drop_alike (suc n) (x ∷ list) [] alike = absurd alike
 drop_alike (suc n) (x ∷ list) (y ∷ other) alike = drop_alike n list other alike.1
 
 -- a segment of the other list, at the same place, which counts alike
-record Finds (other : List CountedSpan) (at : ℕ) (segment : CountedSpan) : Type 0 where
+record FindsAlike (other : List CountedSpan) (at : ℕ) (segment : CountedSpan) : Type 0 where
   pub there : CountedSpan
   pub is : slice_get other at ≡ Some there
   pub alike : CountAlike segment there
@@ -112,7 +112,7 @@ some_same : (a b : CountedSpan) → Some a ≡ Some b → a ≡ b
 some_same a b e = cc
 
 find : (list other : List CountedSpan) (at : ℕ) (segment : CountedSpan) → StandAlike list other
-    → slice_get list at ≡ Some segment → Finds other at segment
+    → slice_get list at ≡ Some segment → FindsAlike other at segment
 find [] other at segment alike is = no_segment segment _ is
 find (x ∷ list) [] at segment alike is = absurd alike
 find (x ∷ list) (y ∷ other) zero segment alike is = record {
@@ -141,7 +141,7 @@ none_due_alike n list other alike none at left right least stand due =
     (due_alike left right l.there r.there l.alike r.alike due)
 
 -- the neighbours that are picked in the other list
-record Picks (other : List CountedSpan) (at : ℕ) (left right : CountedSpan) : Type 0 where
+record PicksAlike (other : List CountedSpan) (at : ℕ) (left right : CountedSpan) : Type 0 where
   pub first : CountedSpan
   pub second : CountedSpan
   pub picked : IsPicked other first second
@@ -150,7 +150,7 @@ record Picks (other : List CountedSpan) (at : ℕ) (left right : CountedSpan) : 
   pub right_alike : CountAlike right second
 
 pick : (list other : List CountedSpan) (left right : CountedSpan) → StandAlike list other
-    → (p : IsPicked list left right) → Picks other p.at left right
+    → (p : IsPicked list left right) → PicksAlike other p.at left right
 pick list other left right alike p =
     let l = find list other p.at left alike p.stand.left_is in
     let r = find list other (p.at + 1) right alike p.stand.right_is in
