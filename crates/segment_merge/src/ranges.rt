@@ -1,5 +1,5 @@
 //! Ranges of keys, merged side by side.
-ghost use Rattle.std.specs.Prelude.{◌≡◌, ℕ, ◌+◌, ◌<◌, ◌≤◌, ◌^◌, [], Ok, Result, IfOk, length, map, slice_get, slice_index_or};
+ghost use Rattle.std.specs.Prelude.{◌≡◌, ℕ, ◌+◌, ◌<◌, ◌≤◌, [], Ok, Result, IfOk, length, map, slice_get, slice_index_or};
 ghost use Rattle.std.specs.declared.alloc.AllocError.{AllocError};
 ghost use Rattle.segment_blocks.specs.Segment.{CanJoin};
 ghost use Rattle.segment_blocks.specs.declared.packed_rows.PackedRows.{PackedRows};
