@@ -480,10 +480,10 @@ module _ {F G J : Type 0} (source : F → Stream) (service : Service) (workers :
   doors-out = are-out (DoorsOut service.address service.readers service.connections ∷ files_out service.files) before now
       (λ thing. due thing service.files service.readers) outs-hand (λ thing. omega (arith, outs-due thing)) outs-are
 
-  pub doors-worked : (opening journal : List Batch) (first : Option Fault) (lines : Option (List ℕ)) (told : Bool) (after : HostState)
-      → WorksOver service.files opening journal doors first lines told now after
-      → HasWorked service opening journal first lines told before after × GivesBack before after
-  doors-worked opening journal first lines told after over =
+  pub doors-worked : (opening journal : List Batch) (first : Option Fault) (lines : Option (List ℕ)) (after : HostState)
+      → WorksOver service.files opening journal doors first lines now after
+      → HasWorked service opening journal first lines before after × GivesBack before after
+  doors-worked opening journal first lines after over =
       let backs = files_back service.files (map (λ (run : FileRun). run.file) over.files) ++ map (λ (run : DoorRun). DoorBack run.connections) over.doors in
       let even : length (map (λ (run : FileRun). run.file) over.files) ≡ length service.files =
       length-map over.files (λ (run : FileRun). run.file)

@@ -1,7 +1,7 @@
 -- A run of the command `serve`, from the moments between its calls.
 use Rattle.std.proofs.Common.{◌≡◌, ◌⊎◌, Bool, true, false, ℕ, zero, suc, replicate, ◌+◌, ◌-◌, ◌<◌, ◌≤◌, List, [], ◌∷◌, ◌++◌, Option, None, Some, IfSome, length, map, refl, sym, ap, subst, ◌∙◌, append_assoc, inl, inr, arith, string_bytes}
 use Rattle.std.specs.Prelude.{if◌then◌else◌, Result, Ok, Err}
-use Rattle.std.specs.List.{AllByRecursion, AllZip}
+use Rattle.std.specs.List.{All, AllByRecursion, AllZip}
 use Rattle.std.specs.Option.{option_map, option_or}
 use Rattle.std.specs.Str.{bytes_eq}
 use Rattle.std.proofs.lemmas.List.Elements.{All-weaker}
@@ -46,8 +46,8 @@ use Rattle.explorer.specs.declared.fault.Fault.{Fault}
 use Rattle.explorer.specs.declared.fault.Fault.TheVariants as faults
 use Rattle.explorer.specs.Concluding.{Concludes, EndsBy, TellsLonger}
 use Rattle.explorer.specs.Lines.{Ending, Stopped}
-use Rattle.explorer.specs.Serve.{GoesOn, HasNoStore, HasStore, IsFull, IsServed, IsWorkedTo, Listens, RefusesAddress, RefusesOneFile, Reports, Serves, ServesBy, listening_line}
-use Rattle.explorer.specs.Served.{DoorRun, FileRun, FindsFull, IsFullBy, IsGivenUp, IsImported, IsSeenIn, IsServedIn, IsStoredIn, IsWorked, Service, fault_of_door, fault_of_doors, fault_of_import, file_at, files_back, files_out, first_fault, serve_report}
+use Rattle.explorer.specs.Serve.{GoesOn, HasNoStore, HasStore, IsServed, IsWorkedTo, LacksLines, Listens, RefusesAddress, RefusesOneFile, Reports, Serves, ServesBy, listening_line}
+use Rattle.explorer.specs.Served.{DoorRun, FileRun, FindsFull, IsFullBy, IsGivenUp, IsImported, IsKeptIn, IsSeenIn, IsServedIn, IsStoredIn, IsWorked, Service, fault_of_door, fault_of_doors, fault_of_import, file_at, files_back, files_out, first_fault, serve_report}
 use Rattle.explorer.specs.Serving.{AreCounted, FilesServed, HasGivenUp, HasWorked, IsGivenUpSo, IsToldBy, ListensSo, WroteLine, lines_told}
 use Rattle.explorer.specs.Workers.{name_at}
 use Rattle.explorer.specs.World.{World, world}
@@ -234,10 +234,10 @@ module _ (service : Service) (before lent used after : HostState) (given returns
       (inl (service.files, prefix-self service.files, no-memory h same, refl))
 
   -- doors were handed out and served
-  pub is-worked : (opening journal : List Batch) (first : Option Fault) (lines : Option (List ℕ)) (told : Bool)
-      → HasWorked service opening journal first lines told lent used → IfSome given.content (HasJournal opening)
+  pub is-worked : (opening journal : List Batch) (first : Option Fault) (lines : Option (List ℕ))
+      → HasWorked service opening journal first lines lent used → IfSome given.content (HasJournal opening)
       → IsWorked service before after
-  is-worked opening journal first lines told w read =
+  is-worked opening journal first lines w read =
       let files : w.middle.files ≡ before.files = w.files ∙ ap (λ (h : HostState). h.files) hands.rest in
       let fs : List HostCall = files_back service.files (map (λ (run : FileRun). run.file) w.over.files) in
       let ds : List HostCall = map (λ (run : DoorRun). DoorBack run.connections) w.over.doors in
@@ -300,6 +300,12 @@ repeat-longer cuts place (Repeated number) front journal p r = record {
   same_id = r.same_id;
 }
 
+repeats-longer : (cuts : List Cut) (refused : List Refusal) (front journal : List Batch) → IsPrefix front journal
+    → All (λ r. IsRepeatOf cuts front r.place r.why) refused → All (λ r. IsRepeatOf cuts journal r.place r.why) refused
+repeats-longer cuts refused front journal p each =
+    All-weaker (λ r. IsRepeatOf cuts front r.place r.why) (λ r. IsRepeatOf cuts journal r.place r.why)
+    (λ r. repeat-longer cuts r.place r.why front journal p) refused each
+
 body-longer : (front journal : List Batch) (body : List ℕ) (games : ℕ) (refused : List Refusal) → IsPrefix front journal
     → HasStoredBody front body games refused → HasStoredBody journal body games refused
 body-longer front journal body games refused p h = record {
@@ -307,9 +313,22 @@ body-longer front journal body games refused p h = record {
   stand = stands-longer 0 front journal h.batches p h.stand;
   count = h.count;
   accounted = h.accounted;
-  repeats = All-weaker (λ r. IsRepeatOf (cuts body) front r.place r.why) (λ r. IsRepeatOf (cuts body) journal r.place r.why)
-      (λ r. repeat-longer (cuts body) r.place r.why front journal p) refused h.repeats;
+  repeats = repeats-longer (cuts body) refused front journal p h.repeats;
 }
+
+kept-longer : (front journal : List Batch) (files : List Stream) (runs : List FileRun) → IsPrefix front journal
+    → AllZip (IsKeptIn front) files runs → AllZip (IsKeptIn journal) files runs
+kept-longer front journal [] [] p all = tt
+kept-longer front journal [] (r ∷ rs) p all = absurd all
+kept-longer front journal (f ∷ fs) [] p all = absurd all
+kept-longer front journal (f ∷ fs) (r ∷ rs) p all = (
+  record {
+    imported = all.0.imported;
+    stand = stands-longer 0 front journal all.0.imported.batches p all.0.stand;
+    repeats = repeats-longer (cuts all.0.imported.stream) r.refused front journal p all.0.repeats;
+  },
+  kept-longer front journal fs rs p all.1,
+)
 
 stored-longer : (front journal : List Batch) (files : List Stream) (runs : List FileRun) → IsPrefix front journal
     → AllZip (IsStoredIn front) files runs → AllZip (IsStoredIn journal) files runs
@@ -463,7 +482,6 @@ pub record SeesAll (service : Service) (before after : HostState) (worked : IsWo
   pub goes_on : GoesOn service before after worked
   pub stored : first ≡ None → AllZip (IsStoredIn goes_on.journal) (map (file_at before) service.files) worked.files
   pub served : first ≡ None → AllZip (IsServedIn worked.opening goes_on.journal) worked.handed worked.doors
-  pub full : AllZip (FindsFull goes_on.journal) (map (file_at before) service.files) worked.files
 
 reported-by : (lines : List ℕ) (old new : Stream) → Wrote lines old new → Writes (lines ∷ []) old new
 reported-by lines old new (inl takes) = writes-takes lines old new takes
@@ -475,23 +493,10 @@ listens-by line (Ok written) old new wrote = writes-takes line old new wrote
 listens-by line (Err failed) old new wrote = writes-fails line old new wrote
 
 module _ (service : Service) (before after : World) (worked : IsWorked service before.host after.host)
-    (store : HasStore service after.host) (same_input : after.input ≡ before.input) (reports : Reports service worked.files before after) where
+    (same_input : after.input ≡ before.input) (reports : Reports service worked.files before after) where
   to-first : (first : Option Fault) → first ≡ first_fault worked.files worked.doors → GoesOn service before.host after.host worked
       → after.host.disk_faults ≡ before.host.disk_faults → IsWorkedTo service first before after
   to-first first is goes_on disk = record { worked = worked; goes_on = goes_on; reports = reports; first = is; disk = disk }
-
-  -- memory was wanting
-  starved : ServesBy service before after (Stopped faults.OutOfMemory)
-  starved = inr (worked, store, reports.listens, inr reports)
-
-  is-full : (games bytes : ℕ) → Some (faults.Full games bytes) ≡ first_fault worked.files worked.doors
-      → after.host.disk_faults ≡ before.host.disk_faults → SeesAll service before.host after.host worked (Some (faults.Full games bytes))
-      → IsFull service games bytes before after
-  unfolding to-first
-  is-full games bytes is disk sees = record {
-    to = to-first (Some (faults.Full games bytes)) is sees.goes_on disk;
-    full = sees.full;
-  }
 
   -- a worker had a fault
   by-worker : (fault : Fault) → IsWorkers fault → Some fault ≡ first_fault worked.files worked.doors
@@ -499,10 +504,10 @@ module _ (service : Service) (before after : World) (worked : IsWorked service b
       → SeesAll service before.host after.host worked (Some fault)
       → ServesBy service before after (Stopped fault)
   by-worker faults.ReadFault is first disk counted sees = (to-first (Some faults.ReadFault) first sees.goes_on disk, counted.files refl)
-  by-worker (faults.Full games bytes) is first disk counted sees = is-full games bytes first disk sees
+  by-worker (faults.Full games bytes) is first disk counted sees = to-first (Some (faults.Full games bytes)) first sees.goes_on disk
   by-worker faults.TooMuchInput is first disk counted sees = to-first (Some faults.TooMuchInput) first sees.goes_on disk
   by-worker faults.CannotAccept is first disk counted sees = (to-first (Some faults.CannotAccept) first sees.goes_on disk, counted.doors refl)
-  by-worker faults.OutOfMemory is first disk counted sees = starved
+  by-worker faults.OutOfMemory is first disk counted sees = inr (inl (to-first (Some faults.OutOfMemory) first sees.goes_on disk))
   by-worker faults.Usage is first disk counted sees = absurd is
   by-worker (faults.BadParameter p) is first disk counted sees = absurd is
   by-worker faults.WriteFault is first disk counted sees = absurd is
@@ -526,7 +531,7 @@ module _ (service : Service) (before after : World) (worked : IsWorked service b
   same_reads = ap (λ (s : Stream). s.read_faults) same_input
 
   by-sinks : {A E : Type 0} (listens : Result A E) (lines : List ℕ) → WroteLine (listening_line service.address) listens before.output after.output
-      → IsServed service before after → (ending : Ending) → EndsBy true false None listens lines before.errors after.errors ending
+      → IsServed service before after → (ending : Ending) → EndsBy false None listens lines before.errors after.errors ending
       → ServesBy service before after ending
   by-sinks (Err failed) lines wrote served ending is =
       subst (λ (e : Ending). ServesBy service before after e) (sym is)
@@ -544,34 +549,32 @@ module _ (service : Service) (before after : World) (worked : IsWorked service b
       subst (λ (e : Ending). ServesBy service before after e) (sym fails.1)
       (served, record { reads = same_reads; rises = inr fails.0.rises })
 
-  ends-by : {A E : Type 0} (told failed : Bool) (first : Option Fault) (listens : Result A E) (lines : List ℕ)
+  ends-by : {A E : Type 0} (failed : Bool) (first : Option Fault) (listens : Result A E) (lines : List ℕ)
       → WroteLine (listening_line service.address) listens before.output after.output
       → (failed ≡ true → Rises before.host.disk_faults after.host.disk_faults)
       → (failed ≡ false → after.host.disk_faults ≡ before.host.disk_faults)
       → first ≡ first_fault worked.files worked.doors
       → AreCounted first before.host after.host
-      → (told ≡ true → SeesAll service before.host after.host worked first)
-      → (ending : Ending) → EndsBy told failed first listens lines before.errors after.errors ending
+      → SeesAll service before.host after.host worked first
+      → (ending : Ending) → EndsBy failed first listens lines before.errors after.errors ending
       → ServesBy service before after ending
-  ends-by false failed first listens lines wrote rises stays is counted sees ending by =
-      subst (λ (e : Ending). ServesBy service before after e) (sym by) starved
-  ends-by true true first listens lines wrote rises stays is counted sees ending by =
-      subst (λ (e : Ending). ServesBy service before after e) (sym by) (rises refl, inr (worked, reports, (sees refl).goes_on))
-  ends-by true false (Some fault) listens lines wrote rises stays is counted sees ending by =
+  ends-by true first listens lines wrote rises stays is counted sees ending by =
+      subst (λ (e : Ending). ServesBy service before after e) (sym by) (rises refl, inr (worked, reports, sees.goes_on))
+  ends-by false (Some fault) listens lines wrote rises stays is counted sees ending by =
       subst (λ (e : Ending). ServesBy service before after e) (sym by)
       (by-worker fault (subst (λ (o : Option Fault). IfSome o IsWorkers) (sym is) (of-workers worked.files worked.doors))
-      is (stays refl) counted (sees refl))
-  ends-by true false None listens lines wrote rises stays is counted sees ending by =
-      by-sinks listens lines wrote (is-served is (stays refl) (sees refl)) ending by
+      is (stays refl) counted sees)
+  ends-by false None listens lines wrote rises stays is counted sees ending by =
+      by-sinks listens lines wrote (is-served is (stays refl) sees) ending by
 
 module _ {A E : Type 0} (service : Service) (before after : World) (worked : IsWorked service before.host after.host)
-    (store : HasStore service after.host) (same_input : after.input ≡ before.input) (told failed : Bool) (first : Option Fault) (listens : Result A E)
+    (same_input : after.input ≡ before.input) (failed : Bool) (first : Option Fault) (listens : Result A E)
     (wrote : WroteLine (listening_line service.address) listens before.output after.output)
     (rises : failed ≡ true → Rises before.host.disk_faults after.host.disk_faults)
     (stays : failed ≡ false → after.host.disk_faults ≡ before.host.disk_faults)
     (first_is : first ≡ first_fault worked.files worked.doors)
     (counted : AreCounted first before.host after.host)
-    (sees : told ≡ true → SeesAll service before.host after.host worked first) where
+    (sees : SeesAll service before.host after.host worked first) where
   listened : Listens service before after
   listened = record {
     input = same_input;
@@ -579,50 +582,47 @@ module _ {A E : Type 0} (service : Service) (before after : World) (worked : IsW
   }
 
   pub concludes : (lines : Option (List ℕ)) → IfSome lines (λ told. told ≡ serve_report service.files worked.files)
-      → (ending : Ending) → Concludes lines told failed first listens before.errors after.errors ending
+      → (ending : Ending) → Concludes lines failed first listens before.errors after.errors ending
       → ServesBy service before after ending
   concludes None are ending by =
-      subst (λ (e : Ending). ServesBy service before after e) (sym by.1) (inr (worked, store, listened, inl by.0))
+      subst (λ (e : Ending). ServesBy service before after e) (sym by.1)
+      (inr (inr (record { worked = worked; goes_on = sees.goes_on; listens = listened; errors = by.0 })))
   concludes (Some lines) are ending by =
       let reports : Reports service worked.files before after = record {
         listens = listened;
         errors = subst (λ (l : List ℕ). Writes (l ∷ []) before.errors after.errors) are (reported-by lines before.errors after.errors by.0);
       } in
-      ends-by service before after worked store same_input reports told failed first listens lines wrote rises stays first_is counted sees ending by.1
+      ends-by service before after worked same_input reports failed first listens lines wrote rises stays first_is counted sees ending by.1
 
 module _ (service : Service) (before lent used after : HostState) (given returns : DiskState)
     (hands : HandsDisk service.store given before lent) (takes : TakesDisk service.store returns used after)
-    (opening journal : List Batch) (first : Option Fault) (lines : Option (List ℕ)) (told : Bool)
-    (w : HasWorked service opening journal first lines told lent used) (read : IfSome given.content (HasJournal opening)) where
-  pub sees-all : 1 ≤ service.readers → TellsLonger journal returns.content → told ≡ true
-      → SeesAll service before after (is-worked service before lent used after given returns hands takes opening journal first lines told w read) first
+    (opening journal : List Batch) (first : Option Fault) (lines : Option (List ℕ))
+    (w : HasWorked service opening journal first lines lent used) (read : IfSome given.content (HasJournal opening)) where
+  pub sees-all : 1 ≤ service.readers → TellsLonger journal returns.content
+      → SeesAll service before after (is-worked service before lent used after given returns hands takes opening journal first lines w read) first
   unfolding is-worked
-  sees-all some l is =
+  sees-all some l =
       let files : w.middle.files ≡ before.files = w.files ∙ ap (λ (h : HostState). h.files) hands.rest in
-      let seen : AllZip (IsSeenIn opening journal) w.handed w.over.doors = w.over.seen is in
+      let seen : AllZip (IsSeenIn opening journal) w.handed w.over.doors = w.over.seen in
       let count : 1 ≤ length w.handed = omega (arith, some, w.are_fresh.number) in
       record {
         goes_on = record {
           journal = l.longer;
           tells = subst (λ (c : Option (List ℕ)). IfSome c (HasJournal l.longer)) (sym (content-back service.store returns used after takes)) l.tells;
           extends = prefix-trans opening journal l.longer (begins-with opening journal w.handed w.over.doors count seen) l.extends;
+          kept = kept-longer journal l.longer (map (file_at before) service.files) w.over.files l.extends
+              (subst (λ (at : List ℕ → Option (List ℕ)). AllZip (IsKeptIn journal) (map (λ (name : List ℕ). source_alone (at name) 0 0) service.files) w.over.files)
+              files w.over.kept);
+          full = full-longer journal l.longer (map (file_at before) service.files) w.over.files l.extends
+              (subst (λ (at : List ℕ → Option (List ℕ)). AllZip (FindsFull journal) (map (λ (name : List ℕ). source_alone (at name) 0 0) service.files) w.over.files)
+              files w.over.full);
           seen = seen-longer opening journal l.longer w.handed w.over.doors l.extends seen;
         };
         stored = λ none. stored-longer journal l.longer (map (file_at before) service.files) w.over.files l.extends
             (subst (λ (at : List ℕ → Option (List ℕ)). AllZip (IsStoredIn journal) (map (λ (name : List ℕ). source_alone (at name) 0 0) service.files) w.over.files)
-            files (w.over.stored none is));
-        served = λ none. served-longer opening journal l.longer w.handed w.over.doors l.extends (w.over.served_in none is);
-        full = full-longer journal l.longer (map (file_at before) service.files) w.over.files l.extends
-            (subst (λ (at : List ℕ → Option (List ℕ)). AllZip (FindsFull journal) (map (λ (name : List ℕ). source_alone (at name) 0 0) service.files) w.over.files)
-            files (w.over.full is));
+            files (w.over.stored none));
+        served = λ none. served-longer opening journal l.longer w.handed w.over.doors l.extends (w.over.served_in none);
       }
-
-  -- what comes back is a store
-  pub still-store : TellsLonger journal returns.content → HasStore service after
-  still-store l = record {
-    journal = l.longer;
-    told = subst (λ (c : Option (List ℕ)). IfSome c (HasJournal l.longer)) (sym (content-back service.store returns used after takes)) l.tells;
-  }
 
   -- a count that rose over the workers rose in the run
   pub worked-counted : AreCounted first before after
@@ -719,28 +719,27 @@ gives-up-so service before lent used after given returns hands takes input outpu
 -- doors were served
 pub served-so : {A E : Type 0} (service : Service) (before lent used after : HostState) (given returns : DiskState)
     (hands : HandsDisk service.store given before lent) (takes : TakesDisk service.store returns used after)
-    (opening journal : List Batch) (first : Option Fault) (lines : Option (List ℕ)) (told : Bool)
-    → HasWorked service opening journal first lines told lent used → IfSome given.content (HasJournal opening)
+    (opening journal : List Batch) (first : Option Fault) (lines : Option (List ℕ))
+    → HasWorked service opening journal first lines lent used → IfSome given.content (HasJournal opening)
     → 1 ≤ service.readers → TellsLonger journal returns.content → GivesBack lent used
     → (failed : Bool) → (failed ≡ true → 0 < returns.faults) → (failed ≡ false → returns.faults ≡ 0)
     → (input output written errors reported : Stream) (listens : Result A E)
     → WroteLine (listening_line service.address) listens output written
-    → (ending : Ending) → Concludes lines told failed first listens errors reported ending
+    → (ending : Ending) → Concludes lines failed first listens errors reported ending
     → Serves service (world input output errors before) (world input written reported after) ending
 unfolding is-worked
-served-so service before lent used after given returns hands takes opening journal first lines told w read some l g failed some_faults no_faults
+served-so service before lent used after given returns hands takes opening journal first lines w read some l g failed some_faults no_faults
     input output written errors reported listens wrote ending by =
-    let disk = worked-disk service before lent used after given returns hands takes opening journal first lines told w read in
+    let disk = worked-disk service before lent used after given returns hands takes opening journal first lines w read in
     record {
       by = concludes service (world input output errors before) (world input written reported after)
-          (is-worked service before lent used after given returns hands takes opening journal first lines told w read)
-          (still-store service before lent used after given returns hands takes opening journal first lines told w read l)
-          refl told failed first listens wrote
+          (is-worked service before lent used after given returns hands takes opening journal first lines w read)
+          refl failed first listens wrote
           (λ is. disk-rises service before lent used after given returns hands takes disk (some_faults is))
           (λ is. disk-stays service before lent used after given returns hands takes disk (no_faults is))
           w.over.first_is
-          (worked-counted service before lent used after given returns hands takes opening journal first lines told w read)
-          (sees-all service before lent used after given returns hands takes opening journal first lines told w read some l)
+          (worked-counted service before lent used after given returns hands takes opening journal first lines w read)
+          (sees-all service before lent used after given returns hands takes opening journal first lines w read some l)
           lines w.over.lines_are ending by;
       gives_back = rounds service before lent used after given returns hands takes g;
     }
@@ -784,7 +783,7 @@ silent-so line outcome why old new is listens = subst (λ (o : Outcome). Listens
 
 pub files-worked : (service : Service) (opening journal : List Batch) (outcome : Outcome) (done : came.Done) (before after : HostState)
     → outcome ≡ outcomes.Worked done → FilesServed service opening journal outcome before after
-    → HasWorked service opening journal done.first (lines_told done.lines) done.told before after
+    → HasWorked service opening journal done.first (lines_told done.lines) before after
 files-worked service opening journal outcome done before after is served =
     subst (λ (o : Outcome). FilesServed service opening journal o before after) is served
 

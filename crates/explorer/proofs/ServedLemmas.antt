@@ -1,5 +1,5 @@
 -- What files and doors came to, from what the workers did and were told.
-use Rattle.std.proofs.Common.{◌≡◌, ◌⊎◌, Bool, true, ℕ, zero, suc, ◌+◌, ◌<◌, ◌≤◌, List, [], ◌∷◌, ◌++◌, Option, None, Some, IfSome, length, map, slice_index_or, refl, sym, ap, subst, ◌∙◌, append_assoc, inl, inr, arith}
+use Rattle.std.proofs.Common.{◌≡◌, ◌⊎◌, ℕ, zero, suc, ◌+◌, ◌<◌, ◌≤◌, List, [], ◌∷◌, ◌++◌, Option, None, Some, IfSome, length, map, slice_index_or, refl, sym, ap, subst, ◌∙◌, append_assoc, inl, inr, arith}
 use Rattle.std.specs.List.{AllByRecursion, AllZip}
 use Rattle.std.specs.Option.{option_or}
 use Rattle.std.specs.Prelude.{sum_by, Result, Ok, Err, IfOk, Vec}
@@ -31,7 +31,7 @@ use Rattle.session.specs.declared.doors.DoorEnd.TheVariants as door_ends
 use Rattle.session.specs.Doors.{AreServed, DoorServed, EndsDoor}
 use Rattle.session.specs.Exchanges.{Backend, backend}
 use Rattle.session.specs.Steps.{KnowsEnd}
-use Rattle.session.proofs.StoredLemmas.{has-stored-body}
+use Rattle.session.proofs.StoredLemmas.{has-stored-body, receipts-stand, repeats-known}
 use Rattle.explorer.proofs.HostCalls.{if_some}
 use Rattle.explorer.proofs.WorkerLists.{zip-length}
 use Rattle.explorer.specs.declared.fault.Fault.{Fault}
@@ -40,9 +40,9 @@ use Rattle.explorer.specs.declared.workers.FileWork.{FileWork}
 use Rattle.explorer.specs.declared.workers.ReaderWork.{ReaderWork}
 use Rattle.explorer.specs.declared.workers.Worker.{Worker}
 use Rattle.explorer.specs.declared.workers.Worker.TheVariants.{File, Reader, Merger}
-use Rattle.explorer.specs.Served.{AccountsSo, DoorRun, FileRun, FindsFull, IsFullBy, IsImported, IsSeenIn, IsServedFrom, IsServedIn, IsStoredIn, ReadsSo, fault_of_door, fault_of_doors, fault_of_import, file_at, file_lines, files_back, first_fault, new_importer, serve_report}
+use Rattle.explorer.specs.Served.{AccountsSo, DoorRun, FileRun, FindsFull, IsFullBy, IsImported, IsKeptIn, IsSeenIn, IsServedFrom, IsServedIn, IsStoredIn, ReadsSo, fault_of_door, fault_of_doors, fault_of_import, file_at, file_lines, files_back, first_fault, new_importer, serve_report}
 use Rattle.explorer.specs.Serving.{AreOut, WorksOver, due, lines_told}
-use Rattle.explorer.specs.Workers.{AreNamed, CanReturn, GivenBack, HasReaders, TakesWorker, HasReport, ImportsFile, IsFileOf, IsReaderOf, IsTold, ServesDoor, Works, call_of, calls_of, fault_in, fault_of, lines_in, lines_of, name_at}
+use Rattle.explorer.specs.Workers.{AreNamed, CanReturn, GivenBack, HasReader, HasReaders, HasReport, HaveReaders, TakesWorker, ImportsFile, IsFileOf, IsReaderOf, IsTold, ServesDoor, Works, call_of, calls_of, fault_in, fault_of, lines_in, lines_of, name_at}
 
 -- ---- one file
 
@@ -117,6 +117,16 @@ stored-in {J} journal before after report i has none =
       stored = has-stored-body i.stream report journal i.comes.reports accounts has.0 has.1;
     }
 
+-- what an import stored stands in a journal that has all that was told
+kept-in : {J : Type 0} (journal : List Batch) (before after : Stream) (report : Report J) → ImportsBeside before after report
+    → HasReport journal (Some report) → IsKeptIn journal before (run_of after report)
+unfolding imported
+kept-in journal before after report i has = record {
+  imported = imported before after report i;
+  stand = receipts-stand 0 report.receipts.items i.comes.reports.batches journal i.comes.reports.are_receipts has.0;
+  repeats = repeats-known (cuts i.stream) report.clashes.items report.refused.items journal has.1 i.comes.reports.repeats;
+}
+
 -- where an import found no room, a journal that has all that was told has none
 full-by : {J : Type 0} (end : End J) (journal : List Batch) (file : Stream) (run : FileRun) (stream : List ℕ) (batches : List Batch)
     → Reads stream file run.file → KnowsEnd end journal → AccountsTo end (groups (cuts stream)) batches run.refused
@@ -168,9 +178,11 @@ module _ {F G J : Type 0} (source : F → Stream) (door : G → Connections) (al
     pub lines : lines_in names (files ++ others) ≡ serve_report names runs
     pub first : (doors : List DoorRun) → fault_in others ≡ fault_of_doors doors
         → fault_in (files ++ others) ≡ first_fault runs doors
-    pub stored : (journal : List Batch) → AllByRecursion (IsTold journal journal) files → fault_in (files ++ others) ≡ None
+    pub kept : (journal : List Batch) → AllByRecursion (IsTold journal) files
+        → AllZip (IsKeptIn journal) (map (file_at host) names) runs
+    pub stored : (journal : List Batch) → AllByRecursion (IsTold journal) files → fault_in (files ++ others) ≡ None
         → AllZip (IsStoredIn journal) (map (file_at host) names) runs
-    pub full : (journal : List Batch) → AllByRecursion (IsTold journal journal) files
+    pub full : (journal : List Batch) → AllByRecursion (IsTold journal) files
         → AllZip (FindsFull journal) (map (file_at host) names) runs
 
   no-files : (at : ℕ) (others : List (Worker F G J)) → FileRuns [] at [] others
@@ -181,6 +193,7 @@ module _ {F G J : Type 0} (source : F → Stream) (door : G → Connections) (al
         calls = ap (λ (n : ℕ). calls_of source door all n others) same;
         lines = no-lines others;
         first = λ doors is. is;
+        kept = λ journal told. tt;
         stored = λ journal told none. tt;
         full = λ journal told. tt;
       }
@@ -204,6 +217,11 @@ module _ {F G J : Type 0} (source : F → Stream) (door : G → Connections) (al
             ∙ ap (λ (l : List ℕ). file_lines name i.report.refused.items ++ l) rest.lines;
         first = λ doors is. ap (λ (o : Option Fault). option_or o (fault_in (files ++ others))) fault
             ∙ ap (λ (o : Option Fault). option_or (fault_of_import run.ending) o) (rest.first doors is);
+        kept = λ journal told. (
+          kept-in journal (file_at host name) (source file'.source) i.report imports
+              (subst (λ (r : Option (Report J)). HasReport journal r) i.report_is told.0),
+          rest.kept journal told.1,
+        );
         stored = λ journal told none.
             let both = or-none (fault_of {F = F} {G = G} {J = J} (File file')) (fault_in (files ++ others)) none in (
               stored-in journal (file_at host name) (source file'.source) i.report imports
@@ -258,9 +276,9 @@ module _ {F G J : Type 0} (source : F → Stream) (door : G → Connections) (al
     pub served : AllZip (IsServedFrom opening) handed runs
     pub calls : calls_of source door all at (readers ++ Merger ∷ []) ≡ map (λ run. DoorBack run.connections) runs
     pub first : fault_in (readers ++ Merger ∷ []) ≡ fault_of_doors runs
-    pub served_in : (journal : List Batch) → AllByRecursion (IsTold journal journal) readers
+    pub served_in : (journal : List Batch) → AllByRecursion (IsTold journal) readers
         → fault_in (readers ++ Merger ∷ []) ≡ None → AllZip (IsServedIn opening journal) handed runs
-    pub seen : (journal : List Batch) → AllByRecursion (IsTold journal journal) readers → AllZip (IsSeenIn opening journal) handed runs
+    pub seen : (journal : List Batch) → AllByRecursion (IsTold journal) readers → AllZip (IsSeenIn opening journal) handed runs
 
   one-door : (handed : Connections) (others : List Connections) (at : ℕ) (reader reader' : ReaderWork G J) (readers : List (Worker F G J))
       → door reader.door ≡ handed → reader.pass ≡ watching opening → ServesDoor door reader reader'
@@ -505,6 +523,19 @@ merger-alone source door (Merger ∷ w ∷ ws) works = absurd works.1
 merger-alone source door (File f ∷ ws) works = absurd works.0
 merger-alone source door (Reader r ∷ ws) works = absurd works.0
 
+reader-behind : {F G J : Type 0} (workers others : List (Worker F G J)) → HasReader others → HasReader (workers ++ others)
+reader-behind [] others has = has
+reader-behind (File f ∷ ws) others has = reader-behind ws others has
+reader-behind (Reader r ∷ ws) others has = tt
+reader-behind (Merger ∷ ws) others has = reader-behind ws others has
+
+-- where a reader stands behind each file of the others, one stands behind each file before them
+have-readers : {F G J : Type 0} (workers others : List (Worker F G J)) → HasReader others → HaveReaders others → HaveReaders (workers ++ others)
+have-readers [] others has have = have
+have-readers (File f ∷ ws) others has have = (reader-behind ws others has, have-readers ws others has have)
+have-readers (Reader r ∷ ws) others has have = have-readers ws others has have
+have-readers (Merger ∷ ws) others has have = have-readers ws others has have
+
 module _ {F G J : Type 0} (source : F → Stream) (door : G → Connections) (names : List (List ℕ)) (host : HostState)
     (opening : List Batch) (handed : List Connections) where
   -- the workers when they have returned: those with the files, those with the doors, and the one that merges
@@ -515,6 +546,7 @@ module _ {F G J : Type 0} (source : F → Stream) (door : G → Connections) (na
     pub file_runs : FileRuns source door names host names 0 files (readers ++ Merger ∷ [])
     pub door_runs : DoorRuns source door names opening handed (0 + length names) readers
     pub named : AreNamed names 0 workers
+    pub have : 1 ≤ length handed → HaveReaders workers
     pub long : length names ≤ length workers
     pub read_failed : fault_in workers ≡ Some faults.ReadFault → ReadFailed source workers
     pub accept_failed : fault_in workers ≡ Some faults.CannotAccept → AcceptFailed door workers
@@ -546,6 +578,29 @@ module _ {F G J : Type 0} (source : F → Stream) (door : G → Connections) (na
   named-files at (n ∷ ns) (Reader r ∷ ws) (w' ∷ ws') others is are works named = absurd are.0
   named-files at (n ∷ ns) (Merger ∷ ws) (w' ∷ ws') others is are works named = absurd are.0
 
+  reader-among : (readers readers' : List (Worker F G J)) (ds : List Connections) → AllZip (IsReaderOf door opening) ds readers
+      → AllZip (Works source door) readers readers' → 1 ≤ length ds → HasReader (readers' ++ Merger ∷ [])
+  reader-among readers readers' [] are works some = absurd (omega (arith, some))
+  reader-among [] readers' (d ∷ ds) are works some = absurd are
+  reader-among (w ∷ ws) [] (d ∷ ds) are works some = absurd works
+  reader-among (Reader r ∷ ws) (Reader r' ∷ ws') (d ∷ ds) are works some = tt
+  reader-among (Reader r ∷ ws) (File f ∷ ws') (d ∷ ds) are works some = absurd works.0
+  reader-among (Reader r ∷ ws) (Merger ∷ ws') (d ∷ ds) are works some = absurd works.0
+  reader-among (File f ∷ ws) (w' ∷ ws') (d ∷ ds) are works some = absurd are.0
+  reader-among (Merger ∷ ws) (w' ∷ ws') (d ∷ ds) are works some = absurd are.0
+
+  have-others : (readers readers' : List (Worker F G J)) (ds : List Connections) → AllZip (IsReaderOf door opening) ds readers
+      → AllZip (Works source door) readers readers' → HaveReaders (readers' ++ Merger ∷ [])
+  have-others [] [] ds are works = tt
+  have-others [] (w ∷ ws) ds are works = absurd works
+  have-others (w ∷ ws) [] ds are works = absurd works
+  have-others (w ∷ ws) (w' ∷ ws') [] are works = absurd are
+  have-others (Reader r ∷ ws) (Reader r' ∷ ws') (d ∷ ds) are works = have-others ws ws' ds are.1 works.1
+  have-others (Reader r ∷ ws) (File f ∷ ws') (d ∷ ds) are works = absurd works.0
+  have-others (Reader r ∷ ws) (Merger ∷ ws') (d ∷ ds) are works = absurd works.0
+  have-others (File f ∷ ws) (w' ∷ ws') (d ∷ ds) are works = absurd are.0
+  have-others (Merger ∷ ws) (w' ∷ ws') (d ∷ ds) are works = absurd are.0
+
   pub returned-workers : (files all all' : List (Worker F G J)) → AllZip (IsFileOf source host) names files
       → HasReaders door opening handed files all → AllZip (Works source door) all all' → Returned all'
   returned-workers files all all' are h works =
@@ -563,6 +618,8 @@ module _ {F G J : Type 0} (source : F → Stream) (door : G → Connections) (na
         door_runs = door-runs source door names opening handed (0 + length names) h.readers t.front h.are_readers t.fronts;
         named = rw is (named-files 0 names files s.front (t.front ++ Merger ∷ []) (omega arith) are s.fronts
             (λ n. named-others n h.readers t.front handed h.are_readers t.fronts));
+        have = λ some. rw is (have-readers s.front (t.front ++ Merger ∷ [])
+            (reader-among h.readers t.front handed h.are_readers t.fronts some) (have-others h.readers t.front handed h.are_readers t.fronts));
         long = rw is (omega (arith, count, length-append s.front (t.front ++ Merger ∷ [])));
         read_failed = read-failed source door all all' works;
         accept_failed = accept-failed source door all all' works;
@@ -670,16 +727,17 @@ module _ {F G J : Type 0} (source : F → Stream) (door : G → Connections) (na
       let count : length r.door_runs.runs ≡ length handed_doors = zip-length (IsServedFrom opening) handed_doors r.door_runs.runs r.door_runs.served in
       rw (due-is thing names (map (λ (run : FileRun). run.file) r.file_runs.runs) r.door_runs.runs (length handed_doors) even count) (out thing))
 
-  pub works-over : (journal : List Batch) (after : HostState) (first : Option Fault) (lines : Option (List ℕ)) (told : Bool)
+  pub works-over : (journal : List Batch) (after : HostState) (first : Option Fault) (lines : Option (List ℕ))
       → first ≡ fault_in workers → IfSome lines (λ l. l ≡ lines_in names workers)
-      → (told ≡ true → AllByRecursion (IsTold journal journal) workers)
+      → AllByRecursion (IsTold journal) workers
       → GivenBack source door names 0 workers host after
-      → WorksOver names opening journal handed_doors first lines told host after
-  works-over journal after first lines told first_is lines_are knows back =
+      → WorksOver names opening journal handed_doors first lines host after
+  works-over journal after first lines first_is lines_are told back =
       let given = given-rest source door names 0 workers host after back in
       let fault : fault_in workers ≡ fault_in (r.files ++ (r.readers ++ Merger ∷ [])) = ap (λ (ws : List (Worker F G J)). fault_in ws) r.are in
-      let known = λ (t : told ≡ true). all-both (IsTold journal journal) r.files (r.readers ++ Merger ∷ [])
-      (subst (λ (ws : List (Worker F G J)). AllByRecursion (IsTold journal journal) ws) r.are (knows t)) in
+      let known = all-both (IsTold journal) r.files (r.readers ++ Merger ∷ [])
+      (subst (λ (ws : List (Worker F G J)). AllByRecursion (IsTold journal) ws) r.are told) in
+      let saw = (all-both (IsTold journal) r.readers (Merger ∷ []) known.1).0 in
       let none = λ (n : first ≡ None). sym fault ∙ (sym first_is ∙ n) in
       record {
         files = r.file_runs.runs;
@@ -695,9 +753,9 @@ module _ {F G J : Type 0} (source : F → Stream) (door : G → Connections) (na
           doors = λ is. doors-rise source door names 0 workers host after back (r.accept_failed (sym first_is ∙ is));
         };
         lines_are = if_some lines _ _ (λ l is. is ∙ (ap (λ (ws : List (Worker F G J)). lines_in names ws) r.are ∙ r.file_runs.lines)) lines_are;
-        stored = λ n t. r.file_runs.stored journal (known t).0 (none n);
-        served_in = λ n t. r.door_runs.served_in journal (all-both (IsTold journal journal) r.readers (Merger ∷ []) (known t).1).0
-            (or-all r.files (r.readers ++ Merger ∷ []) (none n));
-        seen = λ t. r.door_runs.seen journal (all-both (IsTold journal journal) r.readers (Merger ∷ []) (known t).1).0;
-        full = λ t. r.file_runs.full journal (known t).0;
+        kept = r.file_runs.kept journal known.0;
+        stored = λ n. r.file_runs.stored journal known.0 (none n);
+        served_in = λ n. r.door_runs.served_in journal saw (or-all r.files (r.readers ++ Merger ∷ []) (none n));
+        seen = r.door_runs.seen journal saw;
+        full = r.file_runs.full journal known.0;
       }

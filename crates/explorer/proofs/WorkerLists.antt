@@ -1,7 +1,7 @@
 -- Lists of workers.
 use Rattle.std.proofs.Common.{◌≡◌, ℕ, zero, suc, ◌+◌, ◌<◌, ◌≤◌, List, [], ◌∷◌, ◌++◌, Option, None, Some, IfSome, length, map, take, drop, slice_index_or, refl, sym, ap, subst, ◌∙◌, append_assoc, append-nil, arith}
 use Rattle.std.proofs.lemmas.Grind.{common_steps}
-use Rattle.std.specs.Prelude.{sum_by}
+use Rattle.std.specs.Prelude.{IsSome, sum_by}
 use Rattle.std.specs.List.{AllByRecursion, AllZip}
 use Rattle.std.specs.Option.{option_map}
 use Rattle.std.proofs.lemmas.List.{length-append, nil_from_length}
@@ -12,7 +12,7 @@ use Rattle.host.specs.Hosts.{ADisk, ADoor, AFile, DoorBack, FileBack, HostCall, 
 use Rattle.explorer_model.specs.declared.archive.Batch.{Batch}
 use Rattle.explorer_model.specs.Timeline.{IsPrefix}
 use Rattle.explorer_model.proofs.Timelines.{prefix-trans}
-use Rattle.published_index.specs.Changes.{AddOf, Change, JoinAt, with_held, with_put}
+use Rattle.published_index.specs.States.{Watching}
 use Rattle.ingest_desk.specs.declared.receipt.Receipt.{Receipt}
 use Rattle.ingest_desk.specs.declared.report.End.{End}
 use Rattle.ingest_desk.specs.declared.report.End.TheVariants as ends
@@ -20,7 +20,7 @@ use Rattle.ingest_desk.specs.declared.report.Report.{Report}
 use Rattle.session.specs.Steps.{KnowsEnd, KnowsNotes, KnowsReceipts}
 use Rattle.explorer.specs.declared.workers.Worker.{Worker}
 use Rattle.explorer.specs.declared.workers.Worker.TheVariants.{File, Reader, Merger}
-use Rattle.explorer.specs.Workers.{AreNamed, CanReturn, GivenBack, HasReport, IsTold, TakesWorker, call_of, calls_of, lines_in, lines_of, name_at}
+use Rattle.explorer.specs.Workers.{AreNamed, CanReturn, GivenBack, HasReader, HasReport, HaveReaders, IsHeard, IsTold, TakesWorker, call_of, calls_of, lines_in, lines_of, name_at}
 use Rattle.explorer.proofs.HostCalls.{if_some}
 
 -- facts at each place of two lists
@@ -69,58 +69,54 @@ report-grows None old new p h = tt
 report-grows (Some report) old new p h =
     (receipts-grow report.receipts.items old new p h.0, notes-grow report.clashes.items old new p h.1, end-grows report.end old new p h.2)
 
-told-grows : {F G J : Type 0} (worker : Worker F G J) (old new journal : List Batch) → IsPrefix old new
-    → IsTold old journal worker → IsTold new journal worker
-told-grows (File file) old new journal p t = report-grows file.report old new p t
-told-grows (Reader reader) old new journal p t = t
-told-grows Merger old new journal p t = tt
-
-pub all-told-grow : {F G J : Type 0} (workers : List (Worker F G J)) (old new journal : List Batch)
-    → IsPrefix old new → AllByRecursion (IsTold old journal) workers → AllByRecursion (IsTold new journal) workers
-all-told-grow [] old new journal p t = tt
-all-told-grow (w ∷ ws) old new journal p t = (told-grows w old new journal p t.0, all-told-grow ws old new journal p t.1)
-
--- what is not on the list any more was told
-pub record HasKnown {F G J : Type 0} (all rest : List (Worker F G J)) (told : Type 0) (seen journal : List Batch)
+-- what is not on the list any more was told, and a reader of it has left its pass
+pub record HasKnown {F G J : Type 0} (all rest : List (Worker F G J)) (last : Option Watching) (journal : List Batch)
     : Type 0 where
   pub done : List (Worker F G J)
   pub all_are : all ≡ rest ++ done
-  pub known : told → AllByRecursion (IsTold seen journal) done
+  pub found : HasReader done → IsSome last
+  pub known : HaveReaders done → AllByRecursion (IsTold journal) done
 
-pub known-none : {F G J : Type 0} (all : List (Worker F G J)) (told : Type 0) (seen journal : List Batch)
-    → HasKnown all all told seen journal
-known-none all told seen journal = record { done = []; all_are = sym (append-nil all); known = λ t. tt }
-
-pub known-more : {F G J : Type 0} (all rest less : List (Worker F G J)) (worker : Worker F G J) (told told' : Type 0)
-    (old new journal : List Batch) → rest ≡ less ++ worker ∷ [] → IsPrefix old new
-    → (told' → told × IsTold new journal worker) → HasKnown all rest told old journal
-    → HasKnown all less told' new journal
-known-more all rest less worker told told' old new journal e p both k = record {
-  done = worker ∷ k.done;
-  all_are = k.all_are ∙ (ap (λ l. l ++ k.done) e ∙ append_assoc less (worker ∷ []) k.done);
-  known = λ t. let b = both t in (b.1, all-told-grow k.done old new journal p (k.known b.0));
+pub known-none : {F G J : Type 0} (all : List (Worker F G J)) (last : Option Watching) (journal : List Batch)
+    → HasKnown all all last journal
+known-none all last journal = record {
+  done = [];
+  all_are = sym (append-nil all);
+  found = λ has. absurd has;
+  known = λ have. tt;
 }
 
-pub known-all : {F G J : Type 0} (all rest : List (Worker F G J)) (told : Type 0) (seen journal : List Batch)
-    → rest ≡ [] → HasKnown all rest told seen journal → told → AllByRecursion (IsTold seen journal) all
-known-all all rest told seen journal e k t = rw (k.all_are ∙ ap (λ l. l ++ k.done) e) (k.known t)
+found-more : {F G J : Type 0} (worker : Worker F G J) (done : List (Worker F G J)) (old new : Option Watching)
+    → (IsSome old → IsSome new) → (HasReader (worker ∷ []) → IsSome new) → (HasReader done → IsSome old)
+    → HasReader (worker ∷ done) → IsSome new
+found-more (File file) done old new kept found earlier has = kept (earlier has)
+found-more (Reader reader) done old new kept found earlier has = found tt
+found-more Merger done old new kept found earlier has = kept (earlier has)
 
-put-grows : (published : List Batch) (change : Change) → IsPrefix published (with_put published change)
-put-grows published (AddOf segment) = record { rest = segment.span.batches; is = refl }
-put-grows published (JoinAt at segment) = record { rest = []; is = sym (append-nil published) }
+told-more : {F G J : Type 0} (worker : Worker F G J) (done : List (Worker F G J)) (old : Option Watching) (journal : List Batch)
+    → (IsHeard old worker → IsTold journal worker) → (HasReader done → IsSome old)
+    → (HaveReaders done → AllByRecursion (IsTold journal) done)
+    → HaveReaders (worker ∷ done) → AllByRecursion (IsTold journal) (worker ∷ done)
+told-more (File file) done old journal told earlier known have = (told (earlier have.0), known have.1)
+told-more (Reader reader) done old journal told earlier known have = (told tt, known have)
+told-more Merger done old journal told earlier known have = (told tt, known have)
 
-held-grows : (published : List Batch) (held : Option Change) → IsPrefix published (with_held published held)
-held-grows published None = record { rest = []; is = sym (append-nil published) }
-held-grows published (Some change) = put-grows published change
+pub known-more : {F G J : Type 0} (all rest less : List (Worker F G J)) (worker : Worker F G J) (old new : Option Watching)
+    (journal : List Batch) → rest ≡ less ++ worker ∷ [] → (IsSome old → IsSome new) → (HasReader (worker ∷ []) → IsSome new)
+    → (IsHeard old worker → IsTold journal worker) → HasKnown all rest old journal → HasKnown all less new journal
+known-more all rest less worker old new journal e kept found told k = record {
+  done = worker ∷ k.done;
+  all_are = k.all_are ∙ (ap (λ l. l ++ k.done) e ∙ append_assoc less (worker ∷ []) k.done);
+  found = found-more worker k.done old new kept found k.found;
+  known = told-more worker k.done old journal told k.found k.known;
+}
 
--- what is as long as what is published, and begins with it, is a front of what is stored
-pub as_published : (published seen : List Batch) (held : Option Change) → IsPrefix published seen → length seen ≡ length published
-    → IsPrefix seen (with_held published held)
-as_published published seen held p even =
-    let none : p.rest ≡ [] = nil_from_length p.rest
-    (omega (arith, even, ap (λ (l : List Batch). length l) p.is, length-append published p.rest)) in
-    let same : seen ≡ published = p.is ∙ (ap (λ (l : List Batch). published ++ l) none ∙ append-nil published) in
-    subst (λ (l : List Batch). IsPrefix l (with_held published held)) (sym same) (held-grows published held)
+pub known-all : {F G J : Type 0} (all rest : List (Worker F G J)) (last : Option Watching) (journal : List Batch)
+    → rest ≡ [] → HasKnown all rest last journal → HaveReaders all → AllByRecursion (IsTold journal) all
+known-all all rest last journal e k have =
+    let is : all ≡ k.done = k.all_are ∙ ap (λ l. l ++ k.done) e in
+    subst (λ (ws : List (Worker _ _ _)). AllByRecursion (IsTold journal) ws) (sym is)
+    (k.known (subst (λ (ws : List (Worker _ _ _)). HaveReaders ws) is have))
 
 -- ---- what goes back
 

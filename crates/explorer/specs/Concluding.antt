@@ -8,26 +8,24 @@ use Rattle.explorer.specs.declared.fault.Fault.{Fault}
 use Rattle.explorer.specs.declared.fault.Fault.TheVariants.{DiskFault, OutOfMemory, WriteFault}
 use Rattle.explorer.specs.Lines.{Ending, Done, Stopped}
 
--- The ending of a run whose lines had memory: for want of memory where the journal is not known to
--- have all that was told and seen, else by a fault of the disk, else by the first fault of a
+-- The ending of a run whose lines had memory: by a fault of the disk, else by the first fault of a
 -- worker, else by a fault of a sink.
-abbrev pub EndsBy : {A E : Type 0} → Bool → Bool → Option Fault → Result A E → List ℕ
+abbrev pub EndsBy : {A E : Type 0} → Bool → Option Fault → Result A E → List ℕ
     → Stream → Stream → Ending → Type 0
-EndsBy false failed first listens lines old new ending = ending ≡ Stopped OutOfMemory
-EndsBy true true first listens lines old new ending = ending ≡ Stopped DiskFault
-EndsBy true false (Some fault) listens lines old new ending = ending ≡ Stopped fault
-EndsBy true false None (Err failed) lines old new ending = ending ≡ Stopped WriteFault
-EndsBy true false None (Ok listening) lines old new ending =
+EndsBy true first listens lines old new ending = ending ≡ Stopped DiskFault
+EndsBy false (Some fault) listens lines old new ending = ending ≡ Stopped fault
+EndsBy false None (Err failed) lines old new ending = ending ≡ Stopped WriteFault
+EndsBy false None (Ok listening) lines old new ending =
     (Takes lines old new × (ending ≡ Done))
     ⊎ (FailsToTake lines old new × (ending ≡ Stopped WriteFault))
 
 -- the lines were written, or their write failed, and the run ended; or memory was wanting for them
-abbrev pub Concludes : {A E : Type 0} → Option (List ℕ) → Bool → Bool → Option Fault → Result A E
+abbrev pub Concludes : {A E : Type 0} → Option (List ℕ) → Bool → Option Fault → Result A E
     → Stream → Stream → Ending → Type 0
-Concludes None told failed first listens old new ending =
+Concludes None failed first listens old new ending =
     (new ≡ old) × (ending ≡ Stopped OutOfMemory)
-Concludes (Some lines) told failed first listens old new ending =
-    Wrote lines old new × EndsBy told failed first listens lines old new ending
+Concludes (Some lines) failed first listens old new ending =
+    Wrote lines old new × EndsBy failed first listens lines old new ending
 
 -- what is told of a disk is a journal that begins with this one
 pub record TellsLonger (journal : List Batch) (content : Option (List ℕ)) : Type 0 where

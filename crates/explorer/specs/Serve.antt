@@ -12,7 +12,7 @@ use Rattle.ingest_desk.specs.Openings.{IsWrong}
 use Rattle.explorer.specs.declared.fault.Fault.{Fault}
 use Rattle.explorer.specs.declared.fault.Fault.TheVariants.{CannotAccept, CannotOpen, Damaged, DiskFault, Full, NotAStore, OtherFormat, OutOfMemory, ReadFault, TooMuchInput, WriteFault}
 use Rattle.explorer.specs.Lines.{Ending, Done, Stopped}
-use Rattle.explorer.specs.Served.{FileRun, FindsFull, IsGivenUp, IsSeenIn, IsServedIn, IsStoredIn, IsWorked, Service, file_at, first_fault, serve_report}
+use Rattle.explorer.specs.Served.{FileRun, FindsFull, IsGivenUp, IsKeptIn, IsSeenIn, IsServedIn, IsStoredIn, IsWorked, Service, file_at, first_fault, serve_report}
 use Rattle.explorer.specs.World.{World, IsFaultless, WriteFails}
 
 -- ---- what is written
@@ -36,13 +36,16 @@ pub record Reports (service : Service) (files : List FileRun) (before after : Wo
 
 -- ---- the endings
 
--- The disk given back has a journal that begins with the one that it had, and all that any reader
--- saw is a front of it.
+-- The disk given back has a journal that begins with the one that it had. All that was stored of the
+-- files stands in it, a file that found no room found none in it, and all that any reader saw is a
+-- front of it.
 pub record GoesOn (service : Service) (before after : HostState)
     (worked : IsWorked service before after) : Type 0 where
   pub journal : List Batch
   pub tells : IfSome (after.disks service.store) (HasJournal journal)
   pub extends : IsPrefix worked.opening journal
+  pub kept : AllZip (IsKeptIn journal) (map (file_at before) service.files) worked.files
+  pub full : AllZip (FindsFull journal) (map (file_at before) service.files) worked.files
   pub seen : AllZip (IsSeenIn worked.opening journal) worked.handed worked.doors
 
 -- doors were served, and this was the first fault of the workers
@@ -53,13 +56,6 @@ pub record IsWorkedTo (service : Service) (fault : Option Fault) (before after :
   pub reports : Reports service worked.files before after
   pub first : fault ≡ first_fault worked.files worked.doors
   pub disk : after.host.disk_faults ≡ before.host.disk_faults
-
--- A file found no room, and that was the first fault. There is none in the journal of the disk given
--- back.
-pub record IsFull (service : Service) (games bytes : ℕ) (before after : World) : Type 0 where
-  pub to : IsWorkedTo service (Some (Full games bytes)) before after
-  pub full : AllZip (FindsFull to.goes_on.journal) (map (file_at before.host) service.files)
-      to.worked.files
 
 -- No worker had a fault. Each file is stored in the journal of the disk given back, and no door has
 -- a connection left.
@@ -120,15 +116,19 @@ DiskFails service before after =
     ⊎ ((worked : IsWorked service before.host after.host)
     × Reports service worked.files before after × GoesOn service before.host after.host worked))
 
--- Memory was wanting: before doors were handed out, or for the lines, or for a worker. The disk
--- given back is a store.
+-- doors were served, and memory was wanting for the lines of what is refused
+pub record LacksLines (service : Service) (before after : World) : Type 0 where
+  pub worked : IsWorked service before.host after.host
+  pub goes_on : GoesOn service before.host after.host worked
+  pub listens : Listens service before after
+  pub errors : after.errors ≡ before.errors
+
+-- memory was wanting: before doors were handed out, or for a worker, or for the lines
 abbrev pub LacksMemory : Service → World → World → Type 0
 LacksMemory service before after =
     ((names : List (List ℕ)) × IsPrefix names service.files
     × IsGivenUp service names [] before.host after.host × IsSilent before after)
-    ⊎ ((worked : IsWorked service before.host after.host) × HasStore service after.host
-    × Listens service before after
-    × ((after.errors ≡ before.errors) ⊎ Reports service worked.files before after))
+    ⊎ (IsWorkedTo service (Some OutOfMemory) before after ⊎ LacksLines service before after)
 
 -- a run of `serve`, by its ending; no other can be
 abbrev pub ServesBy : Service → World → World → Ending → Type 0
@@ -139,7 +139,7 @@ ServesBy service before after (Stopped ReadFault) =
     IsWorkedTo service (Some ReadFault) before after
     × Rises before.host.file_faults after.host.file_faults
 ServesBy service before after (Stopped (Full games bytes)) =
-    IsFull service games bytes before after
+    IsWorkedTo service (Some (Full games bytes)) before after
 ServesBy service before after (Stopped TooMuchInput) =
     IsWorkedTo service (Some TooMuchInput) before after
 ServesBy service before after (Stopped CannotAccept) =

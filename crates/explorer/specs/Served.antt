@@ -1,6 +1,6 @@
 -- Statement: what files and doors come to while a store is served, and what is asked of the host.
 use Rattle.std.specs.Prelude.{◌≡◌, ⊤, ◌<◌, ℕ, List, [], ◌∷◌, ◌++◌, length, map, reverse, take, Option, None, Some, IfSome, codes}
-use Rattle.std.specs.List.{AllZip, flat_map}
+use Rattle.std.specs.List.{All, AllZip, flat_map}
 use Rattle.std.specs.Option.{option_or}
 use Rattle.std.specs.Io.KnownBytes.{IsAtEnd}
 use Rattle.outside.specs.Doors.{Connections}
@@ -22,7 +22,7 @@ use Rattle.session.specs.declared.doors.DoorEnd.{DoorEnd}
 use Rattle.session.specs.declared.doors.DoorEnd.TheVariants as ends
 use Rattle.session.specs.Doors.{DoorServed, EndsDoor}
 use Rattle.session.specs.Exchanges.{Backend, backend}
-use Rattle.session.specs.Imports.{HasNoRoom, HasStoredBody}
+use Rattle.session.specs.Imports.{HasNoRoom, HasStoredBody, IsRepeatOf, StandFrom}
 use Rattle.explorer.specs.declared.fault.Fault.{Fault}
 use Rattle.explorer.specs.declared.fault.Fault.TheVariants.{CannotAccept, Full, OutOfMemory, ReadFault, TooMuchInput}
 use Rattle.explorer.specs.Report.{report_line}
@@ -80,6 +80,14 @@ pub record IsImported (file : Stream) (run : FileRun) : Type 0 where
   pub read_so : ReadsSo run.ending stream file run.file
   pub batches : List Batch
   pub accounts : AccountsSo run.ending (groups (cuts stream)) batches run.refused
+
+-- The batches that the import of the file stored stand in the journal in their order, and what is
+-- refused of it as a repeat repeats a game of the journal.
+pub record IsKeptIn (journal : List Batch) (file : Stream) (run : FileRun) : Type 0 where
+  pub imported : IsImported file run
+  pub stand : StandFrom 0 journal imported.batches
+  pub repeats : All (λ refusal. IsRepeatOf (cuts imported.stream) journal refusal.place refusal.why)
+      run.refused
 
 -- The file was read to its end. Batches that stand in the journal in their order account it
 -- together with what is refused, and what is refused as a repeat repeats a game of the journal.

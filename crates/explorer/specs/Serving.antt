@@ -1,5 +1,5 @@
 -- Bridge: how far the serving of a store has come, between the calls of the host.
-use Rattle.std.specs.Prelude.{◌≡◌, ⊤, ◌<◌, ◌≤◌, ◌+◌, ℕ, Bool, true, List, [], ◌∷◌, ◌++◌, length, map, sum_by, string_bytes, Option, None, Some, IfSome, Result, Ok, Err, String, Vec}
+use Rattle.std.specs.Prelude.{◌≡◌, ⊤, ◌<◌, ◌≤◌, ◌+◌, ℕ, List, [], ◌∷◌, ◌++◌, length, map, sum_by, string_bytes, Option, None, Some, IfSome, Result, Ok, Err, String, Vec}
 use Rattle.std.specs.Global.{Global}
 use Rattle.std.specs.List.{AllZip}
 use Rattle.outside.specs.Doors.{Connections}
@@ -15,7 +15,7 @@ use Rattle.explorer.specs.declared.serving.Outcome.TheVariants.{GivenUp, Worked}
 use Rattle.explorer.specs.declared.serving.Unserved.{Unserved}
 use Rattle.explorer.specs.declared.serving.Unserved.TheVariants.{NoFile, NoAddress, NoMemory}
 use Rattle.explorer.specs.Serve.{IsMaybe}
-use Rattle.explorer.specs.Served.{DoorRun, FileRun, FindsFull, IsImported, IsSeenIn, IsServedFrom, IsServedIn, IsStoredIn, Service, file_at, files_back, files_out, first_fault, serve_report}
+use Rattle.explorer.specs.Served.{DoorRun, FileRun, FindsFull, IsImported, IsKeptIn, IsSeenIn, IsServedFrom, IsServedIn, IsStoredIn, Service, file_at, files_back, files_out, first_fault, serve_report}
 use Rattle.explorer.specs.Workers.{name_at}
 
 abbrev pub service_of : Order → Service
@@ -52,10 +52,10 @@ pub record AreCounted (first : Option Fault) (before after : HostState) : Type 0
   pub doors : first ≡ Some CannotAccept → Rises before.door_faults after.door_faults
 
 -- The workers did what they had to with the files of these names and these doors, and all came back.
--- These are the first fault, the lines of what is refused, and whether the journal begins with all
+-- These are the first fault and the lines of what is refused; and the journal, which begins with all
 -- that was told and seen.
 pub record WorksOver (names : List (List ℕ)) (opening journal : List Batch)
-    (handed : List Connections) (first : Option Fault) (lines : Option (List ℕ)) (told : Bool)
+    (handed : List Connections) (first : Option Fault) (lines : Option (List ℕ))
     (before after : HostState) : Type 0 where
   pub files : List FileRun
   pub imported : AllZip IsImported (map (file_at before) names) files
@@ -68,11 +68,11 @@ pub record WorksOver (names : List (List ℕ)) (opening journal : List Batch)
   pub first_is : first ≡ first_fault files doors
   pub counted : AreCounted first before after
   pub lines_are : IfSome lines (λ lines. lines ≡ serve_report names files)
-  pub stored : first ≡ None → told ≡ true
-      → AllZip (IsStoredIn journal) (map (file_at before) names) files
-  pub served_in : first ≡ None → told ≡ true → AllZip (IsServedIn opening journal) handed doors
-  pub seen : told ≡ true → AllZip (IsSeenIn opening journal) handed doors
-  pub full : told ≡ true → AllZip (FindsFull journal) (map (file_at before) names) files
+  pub kept : AllZip (IsKeptIn journal) (map (file_at before) names) files
+  pub stored : first ≡ None → AllZip (IsStoredIn journal) (map (file_at before) names) files
+  pub served_in : first ≡ None → AllZip (IsServedIn opening journal) handed doors
+  pub seen : AllZip (IsSeenIn opening journal) handed doors
+  pub full : AllZip (FindsFull journal) (map (file_at before) names) files
 
 -- ---- files and doors are asked for, and come back
 
@@ -117,7 +117,7 @@ pub record HasGivenUp (service : Service) (why : Unserved) (before after : HostS
 
 -- the doors were handed out and worked over with the files
 pub record HasWorked (service : Service) (opening journal : List Batch) (first : Option Fault)
-    (lines : Option (List ℕ)) (told : Bool) (before after : HostState) : Type 0 where
+    (lines : Option (List ℕ)) (before after : HostState) : Type 0 where
   pub handed : List Connections
   pub are_fresh : AreFresh service.readers service.connections (before.links service.address) handed
   pub middle : HostState
@@ -128,7 +128,7 @@ pub record HasWorked (service : Service) (opening journal : List Batch) (first :
   pub disk_faults : middle.disk_faults ≡ before.disk_faults
   pub file_faults : middle.file_faults ≡ before.file_faults
   pub door_faults : middle.door_faults ≡ before.door_faults
-  pub over : WorksOver service.files opening journal handed first lines told middle after
+  pub over : WorksOver service.files opening journal handed first lines middle after
 
 -- what became of files and doors that were asked for
 abbrev pub FilesServed : Service → List Batch → List Batch → Outcome
@@ -136,7 +136,7 @@ abbrev pub FilesServed : Service → List Batch → List Batch → Outcome
 FilesServed service opening journal (GivenUp why) before after =
     HasGivenUp service why before after
 FilesServed service opening journal (Worked done) before after =
-    HasWorked service opening journal done.first (lines_told done.lines) done.told before after
+    HasWorked service opening journal done.first (lines_told done.lines) before after
 
 abbrev pub IsGivenUpSo : Outcome → Type 0
 IsGivenUpSo (GivenUp why) = ⊤

@@ -1,5 +1,5 @@
 -- Bridge: the workers of a store that is served, and what is known of them when they have returned.
-use Rattle.std.specs.Prelude.{◌≡◌, ⊤, ◌<◌, ◌≤◌, ◌+◌, ℕ, List, [], ◌∷◌, ◌++◌, length, sum_by, slice_index_or, Option, None, Some, IfSome}
+use Rattle.std.specs.Prelude.{◌≡◌, ⊤, ◌<◌, ◌≤◌, ◌+◌, ℕ, List, [], ◌∷◌, ◌++◌, length, sum_by, slice_index_or, Option, None, Some, IfSome, IsSome}
 use Rattle.std.specs.List.{AllZip}
 use Rattle.std.specs.Option.{option_or}
 use Rattle.outside.specs.Doors.{Connections}
@@ -84,21 +84,36 @@ fault_in (worker ∷ workers) = option_or (fault_of worker) (fault_in workers)
 
 -- the journal begins with all that a report tells of what is published
 abbrev pub HasReport : {J : Type 0} → List Batch → Option (Report J) → Type 0
-HasReport seen None = ⊤
-HasReport seen (Some report) =
-    KnowsReceipts report.receipts.items seen × KnowsNotes report.clashes.items seen
-    × KnowsEnd report.end seen
+HasReport journal None = ⊤
+HasReport journal (Some report) =
+    KnowsReceipts report.receipts.items journal × KnowsNotes report.clashes.items journal
+    × KnowsEnd report.end journal
 
--- what a pass has seen, if there is one
-abbrev pub seen_by : Option Watching → List Batch
-seen_by None = []
-seen_by (Some pass) = pass.seen
+-- the journal begins with all that a worker was told of what is published, and saw
+abbrev pub IsTold : {F G J : Type 0} → List Batch → Worker F G J → Type 0
+IsTold journal (File file) = HasReport journal file.report
+IsTold journal (Reader reader) = IsPrefix reader.pass.seen journal
+IsTold journal Merger = ⊤
 
--- a pass has seen what the report of a file tells, and the journal begins with what a reader saw
-abbrev pub IsTold : {F G J : Type 0} → List Batch → List Batch → Worker F G J → Type 0
-IsTold seen journal (File file) = HasReport seen file.report
-IsTold seen journal (Reader reader) = IsPrefix reader.pass.seen journal
-IsTold seen journal Merger = ⊤
+-- a reader is among workers
+abbrev pub HasReader : {F G J : Type 0} → List (Worker F G J) → Type 0
+HasReader [] = ⊥
+HasReader (File file ∷ workers) = HasReader workers
+HasReader (Reader reader ∷ workers) = ⊤
+HasReader (Merger ∷ workers) = HasReader workers
+
+-- a reader stands behind each file
+abbrev pub HaveReaders : {F G J : Type 0} → List (Worker F G J) → Type 0
+HaveReaders [] = ⊤
+HaveReaders (File file ∷ workers) = HasReader workers × HaveReaders workers
+HaveReaders (Reader reader ∷ workers) = HaveReaders workers
+HaveReaders (Merger ∷ workers) = HaveReaders workers
+
+-- a pass is there for the report of a file
+abbrev pub IsHeard : {F G J : Type 0} → Option Watching → Worker F G J → Type 0
+IsHeard pass (File file) = IsSome pass
+IsHeard pass (Reader reader) = ⊤
+IsHeard pass Merger = ⊤
 
 -- ---- what goes back
 

@@ -190,22 +190,18 @@ fn listening_line(alloc: Global, address: &str) -> Result<Vec<u8>, AllocError>
 /// Reports what is refused of the files, and says how the run ends: by a fault of the store's disk,
 /// else by the first fault of a worker, else by one of the sinks.
 fn conclude<E: Sink>(errors: &mut E, done: Done, failed: bool) -> Result<(), Fault>
-    ensures { Concludes (lines_told done.lines) done.told failed done.first done.listens
+    ensures { Concludes (lines_told done.lines) failed done.first done.listens
         (E.sink errors.old) (E.sink errors.new) (ending_of result) }
 {
     let Done {
         first,
         lines,
-        told,
         listens,
     } = done;
     let Ok(lines) = lines else {
         return Err(Fault::OutOfMemory);
     };
     let reported = write_lines(errors, lines.as_slice());
-    if !told {
-        return Err(Fault::OutOfMemory);
-    }
     if failed {
         return Err(Fault::DiskFault);
     }

@@ -49,8 +49,6 @@ pub struct Done {
     pub first: Option<Fault>,
     /// The lines of what is refused.
     pub lines: Result<Vec<u8>, AllocError>,
-    /// Whether the stored journal begins with all that the workers were told of it, and saw.
-    pub told: bool,
     /// Whether the address could be told.
     pub listens: Result<(), Failed>,
 }
@@ -152,7 +150,7 @@ pub fn serve_files<R: Wait + Threads + Sync, O: Sink, H: Host, J: Index + Send +
     let names = order.files.as_slice();
     if !open_files(host, names, &mut list) {
         let at = list.len();
-        let _told = give_back(host, names, &mut ingest, list);
+        give_back(host, names, &mut ingest, list);
         return (ingest, Outcome::GivenUp(Unserved::NoFile { at }));
     }
     let stop = match host.doors(order.address.as_str(), order.readers, order.connections) {
@@ -164,7 +162,7 @@ pub fn serve_files<R: Wait + Threads + Sync, O: Sink, H: Host, J: Index + Send +
         }
         Err(stop) => stop,
     };
-    let _told = give_back(host, names, &mut ingest, list);
+    give_back(host, names, &mut ingest, list);
     match stop {
         Stop::Fault(Failed) => (ingest, Outcome::GivenUp(Unserved::NoAddress)),
         Stop::OutOfMemory => (ingest, Outcome::GivenUp(Unserved::NoMemory)),
@@ -184,6 +182,7 @@ fn serve_doors<R: Wait + Threads + Sync, O: Sink, H: Host, J: Index + Send + Syn
     passes: Vec<Pass<J>>,
     list: Vec<Worker<H::File, H::Door, J>>,
 ) -> (Ingest<H::Disk, J>, Done)
+    requires some { 1 ≤ vec_len doors }
     requires even { vec_len doors ≡ vec_len passes }
     requires room { vec_len list + vec_len doors + 1 ≤ vec_capacity list }
     requires files { AllZip (IsFileOf H.File.source (H.host host.old))
@@ -193,8 +192,7 @@ fn serve_doors<R: Wait + Threads + Sync, O: Sink, H: Host, J: Index + Send + Syn
     requires opening { AllByRecursion (λ pass. pass ≡ watching (journal ingest)) passes.items }
     ensures over { WorksOver (map string_bytes order.now.files.items) (journal ingest)
         (journal result.0) (map H.Door.door doors.items) result.1.first
-        (lines_told result.1.lines) result.1.told
-        (H.host host.old) (H.host host.new) }
+        (lines_told result.1.lines) (H.host host.old) (H.host host.new) }
     ensures told { OnOk result.1.listens (Takes line.now (O.sink output.old) (O.sink output.new)) }
     ensures untold { OnErr result.1.listens
         (FailsToTake line.now (O.sink output.old) (O.sink output.new)) }
@@ -205,11 +203,10 @@ fn serve_doors<R: Wait + Threads + Sync, O: Sink, H: Host, J: Index + Send + Syn
     let first = first_fault(list.as_slice());
     let names = order.files.as_slice();
     let lines = report_lines(alloc, names, list.as_slice());
-    let told = give_back(host, names, &mut ingest, list);
+    give_back(host, names, &mut ingest, list);
     let done = Done {
         first,
         lines,
-        told,
         listens,
     };
     (ingest, done)

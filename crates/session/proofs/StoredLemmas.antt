@@ -24,7 +24,7 @@ use Rattle.session.specs.Steps.{KnowsEnd, KnowsNotes, KnowsReceipts}
 use Rattle.session.proofs.FrontLemmas.{get-prefix}
 
 -- the batches of receipts stand in a journal that begins with their notes
-receipts-stand : {J : Type 0} (least : ℕ) (receipts : List (Receipt J)) (batches journal : List Batch)
+pub receipts-stand : {J : Type 0} (least : ℕ) (receipts : List (Receipt J)) (batches journal : List Batch)
     → AreReceipts least receipts batches → KnowsReceipts receipts journal
     → StandFrom least journal batches
 receipts-stand least [] [] journal are knows = tt
@@ -78,7 +78,7 @@ repeat-known cuts notes place (Repeated number) journal knows r =
     let told = All-contains (λ note. IsPrefix note journal) notes r.0 (All-from_recursion (λ note. IsPrefix note journal) notes knows) r.1 in
     repeats-grow cuts place r.0 journal number told r.2
 
-repeats-known : (cuts : List Cut) (notes : List (List Batch)) (refused : List Refusal) (journal : List Batch)
+pub repeats-known : (cuts : List Cut) (notes : List (List Batch)) (refused : List Refusal) (journal : List Batch)
     → KnowsNotes notes journal → All (λ r. RepeatsBy cuts notes r.place r.why) refused
     → All (λ r. IsRepeatOf cuts journal r.place r.why) refused
 repeats-known cuts notes refused journal knows each =

@@ -1,11 +1,9 @@
-use Rattle.std.proofs.Common.{rules, ◌≡◌, ◌+◌, ◌∷◌, ◌++◌, [], List, map, string_bytes, length, refl, sym, ap, subst, ◌∙◌, arith}
+use Rattle.std.proofs.Common.{rules, ◌≡◌, ◌+◌, ◌∷◌, ◌++◌, [], List, None, map, string_bytes, length, refl, sym, ap, subst, ◌∙◌, arith}
 use Rattle.host.specs.Hosts.{HostCall}
-use Rattle.explorer_model.specs.Timeline.{IsPrefix}
-use Rattle.explorer_model.proofs.Timelines.{prefix-trans}
 use Rattle.ingest_desk.specs.Stored.{Stored, journal}
 use Rattle.explorer.specs.declared.workers.Worker.{Worker}
-use Rattle.explorer.specs.Workers.{AreNamed, CanReturn, GivenBack, IsTold, call_of, calls_of, name_at, seen_by}
-use Rattle.explorer.proofs.WorkerLists.{all-told-grow, calls-last, can-front, can-last, given-last, known-all, known-more, known-none, named-front, named-last}
+use Rattle.explorer.specs.Workers.{AreNamed, CanReturn, GivenBack, IsTold, call_of, calls_of, name_at}
+use Rattle.explorer.proofs.WorkerLists.{calls-last, can-front, can-last, given-last, known-all, known-more, known-none, named-front, named-last}
 use Rattle.explorer.proofs.returning.give_back.Goals as goal
 use Rattle.explorer.proofs.returning.give_back.Goals.{After-len, In_default}
 use Rattle.explorer.proofs.returning.give_back.Given.{Over}
@@ -44,17 +42,17 @@ loop-worker-init g c = record {
   out = c.requires.out;
   same = refl;
   back = λ end given. given;
-  known = known-none c.args.list.items _ [] (journal c.args.ingest.now);
+  known = known-none c.args.list.items None (journal c.args.ingest.now);
 }
 
-pub take_back-pass-requires-clause-named : goal.take_back-pass-requires-clause-named
-take_back-pass-requires-clause-named g c κs within =
-    let at = (goal.at.take_back-pass-requires-clause-named g c).After-len in
+pub take_back-last-requires-clause-named : goal.take_back-last-requires-clause-named
+take_back-last-requires-clause-named g c κs within =
+    let at = (goal.at.take_back-last-requires-clause-named g c).After-len in
     named-last (map string_bytes c.args.names.now) 0 c.len.result c.pop.new.self.items c.in-Some.worker (place g at) (named-all g at)
 
-pub take_back-pass-requires-clause-out : goal.take_back-pass-requires-clause-out
-take_back-pass-requires-clause-out g c κs within =
-    let at = (goal.at.take_back-pass-requires-clause-out g c).After-len in
+pub take_back-last-requires-clause-out : goal.take_back-last-requires-clause-out
+take_back-last-requires-clause-out g c κs within =
+    let at = (goal.at.take_back-last-requires-clause-out g c).After-len in
     can-last (calls_of g.H.File.Source.source g.H.Door.Door.door (map string_bytes c.args.names.now) 0 c.pop.new.self.items) _
     (g.H.Host.host c.loop-worker.host) (out-all g at)
 
@@ -68,40 +66,20 @@ loop-worker-preserved g c =
     record {
       named = named-front names 0 rest c.in-Some.worker (named-all g at);
       out = can-front source door (calls_of source door names 0 rest) (name_at names c.len.result) c.in-Some.worker
-          (g.H.Host.host c.loop-worker.host) (g.H.Host.host c.take_back-pass.new.host) (out-all g at) c.take_back-pass.ensures.back;
-      same = c.take_back-pass.ensures.same ∙ c.loop-worker.invariant.same;
+          (g.H.Host.host c.loop-worker.host) (g.H.Host.host c.take_back-last.new.host) (out-all g at) c.take_back-last.ensures.back;
+      same = c.take_back-last.ensures.same ∙ c.loop-worker.invariant.same;
       back = λ end given. c.loop-worker.invariant.back end
           (subst (λ (ws : List (Worker g.row.H-File.Denot g.row.H-Door.Denot g.row.J.Denot)). GivenBack source door names 0 ws (g.H.Host.host c.loop-worker.host) end) (sym c.in-Some.ensures.items)
           (given-last source door names 0 c.len.result rest c.in-Some.worker (g.H.Host.host c.loop-worker.host)
-          (g.H.Host.host c.take_back-pass.new.host) end (place g at) c.take_back-pass.ensures.back given));
-      known = known-more c.args.list.items c.loop-worker.list.items rest c.in-Some.worker _ _
-          (seen_by c.loop-worker.last) (seen_by c.take_back-pass.result.0) (journal c.args.ingest.now)
-          c.in-Some.ensures.items c.take_back-pass.ensures.grew
-          (λ t. let b = c.both-told.ensures t in (
-            b.0,
-            subst (λ (i : Stored g.row.H-Disk.Denot). IsTold (seen_by c.take_back-pass.result.0) (journal i) c.in-Some.worker) c.loop-worker.invariant.same
-                (c.take_back-pass.ensures.told b.1),
-          ))
+          (g.H.Host.host c.take_back-last.new.host) end (place g at) c.take_back-last.ensures.back given));
+      known = known-more c.args.list.items c.loop-worker.list.items rest c.in-Some.worker c.loop-worker.last c.take_back-last.result
+          (journal c.args.ingest.now) c.in-Some.ensures.items c.take_back-last.ensures.kept c.take_back-last.ensures.found
+          (λ heard. subst (λ (i : Stored g.row.H-Disk.Denot). IsTold (journal i) c.in-Some.worker) c.loop-worker.invariant.same
+          (c.take_back-last.ensures.told heard))
           c.loop-worker.invariant.known;
     }
 
-pub returns-in-Some-last-clause-told : goal.returns-in-Some-last-clause-told
-returns-in-Some-last-clause-told g c = λ told.
-    let b = c.both.ensures told in
-    let J = journal c.args.ingest.now in
-    let known = known-all c.args.list.items c.loop-worker.list.items _ (seen_by c.loop-worker.last) J (left-none g (goal.at.returns-in-Some-last-clause-told g c).In_default)
-    c.loop-worker.invariant.known b.0 in
-    let has : IsPrefix c.catches_up-has.new.pass.seen J =
-    subst (λ (i : Stored g.row.H-Disk.Denot). IsPrefix c.catches_up-has.new.pass.seen (journal i)) c.loop-worker.invariant.same
-    (c.catches_up-has.ensures.told b.1) in
-    let all : IsPrefix (seen_by c.loop-worker.last) J =
-    rw c.in-Some-last.is (prefix-trans c.in-Some-last.pass.seen c.catches_up-has.new.pass.seen J c.catches_up-has.ensures.grew has) in
-    all-told-grow c.args.list.items (seen_by c.loop-worker.last) J J all known
-
-pub returns-in-None-clause-told : goal.returns-in-None-clause-told
-returns-in-None-clause-told g c = λ told.
-    let J = journal c.args.ingest.now in
-    let known = known-all c.args.list.items c.loop-worker.list.items _ (seen_by c.loop-worker.last) J (left-none g (goal.at.returns-in-None-clause-told g c).In_default)
-    c.loop-worker.invariant.known told in
-    let nothing : IsPrefix (seen_by c.loop-worker.last) J = rw c.in-None.is (record { rest = J; is = refl }) in
-    all-told-grow c.args.list.items (seen_by c.loop-worker.last) J J nothing known
+pub returns-clause-told : goal.returns-clause-told
+returns-clause-told g c =
+    known-all c.args.list.items c.loop-worker.list.items c.loop-worker.last (journal c.args.ingest.now)
+    (left-none g (goal.at.returns-clause-told g c).In_default) c.loop-worker.invariant.known

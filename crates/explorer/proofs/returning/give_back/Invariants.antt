@@ -1,7 +1,7 @@
-use Rattle.std.proofs.Common.{◌≡◌, true, map, string_bytes}
+use Rattle.std.proofs.Common.{◌≡◌, map, string_bytes}
 use Rattle.host.specs.Hosts.{HostState}
 use Rattle.ingest_desk.specs.Stored.{journal}
-use Rattle.explorer.specs.Workers.{AreNamed, CanReturn, GivenBack, calls_of, seen_by}
+use Rattle.explorer.specs.Workers.{AreNamed, CanReturn, GivenBack, calls_of}
 use Rattle.explorer.proofs.WorkerLists.{HasKnown}
 use Rattle.explorer.proofs.returning.give_back.Given as goal
 
@@ -14,7 +14,7 @@ invariant-loop-worker g l = record {
   back : (end : HostState)
       → GivenBack g.H.File.Source.source g.H.Door.Door.door (map string_bytes l.names) 0 l.list.items (g.H.Host.host l.host) end
       → GivenBack g.H.File.Source.source g.H.Door.Door.door (map string_bytes l.names) 0 l.fn.list.items (g.H.Host.host l.fn.host) end;
-  known : HasKnown l.fn.list.items l.list.items (l.told ≡ true) (seen_by l.last) (journal l.fn.ingest);
+  known : HasKnown l.fn.list.items l.list.items l.last (journal l.fn.ingest);
 }
 
 abbrev pub decreases-loop-worker : goal.decreases-loop-worker

@@ -1,6 +1,4 @@
 use Rattle.std.proofs.Common.{◌≡◌, List, ℕ, refl, sym, ap, subst, ◌∙◌, map, string_bytes}
-use Rattle.explorer_model.proofs.Timelines.{prefix-self, prefix-trans}
-use Rattle.ingest_desk.specs.Stored.{journal}
 use Rattle.host.specs.Hosts.{AFile, IsOut, TakesFile}
 use Rattle.explorer.specs.Workers.{name_at}
 use Rattle.explorer.proofs.HostCalls.{door_is_out, file_is_out, name_is}
@@ -27,17 +25,3 @@ returns-in-File-clause-back g c = rw c.in-File.is
 
 pub close_door-requires : goal.close_door-requires
 close_door-requires g c = door_is_out _ (g.H.Host.host c.args.host.now) (rw c.in-Reader.is at c.requires.out)
-
-pub returns-in-Some-clause-grew : goal.returns-in-Some-clause-grew
-returns-in-Some-clause-grew g c = rw c.in-Some.is (prefix-self c.in-Some.last.seen)
-
-pub returns-in-Some-clause-told : goal.returns-in-Some-clause-told
-returns-in-Some-clause-told g c = λ has. rw c.in-Reader.is
-    (prefix-trans c.in-Reader.reader.pass.seen c.catches_up-has.new.pass.seen (journal c.args.ingest.now) c.catches_up-has.ensures.grew (c.catches_up-has.ensures.told has))
-
-pub returns-in-None-clause-grew : goal.returns-in-None-clause-grew
-returns-in-None-clause-grew g c = rw c.in-None.is (record { rest = c.catches_up-has.new.pass.seen; is = refl })
-
-pub returns-in-None-clause-told : goal.returns-in-None-clause-told
-returns-in-None-clause-told g c = λ has. rw c.in-Reader.is
-    (prefix-trans c.in-Reader.reader.pass.seen c.catches_up-has.new.pass.seen (journal c.args.ingest.now) c.catches_up-has.ensures.grew (c.catches_up-has.ensures.told has))

@@ -70,7 +70,7 @@ returns-in-Worked g c = λ given earlier input hands read same.
     c.in-Worked.is c.serve_files-ingest.ensures.served in
     served-so (service_of c.args.order) earlier (g.H.Host.host c.args.host.now) (g.H.Host.host c.serve_files-ingest.new.host)
     (g.H.Host.host c.close-2.new.self) given (g.H.Disk.Disk.disk c.disk_of-disk.result) hands (rw c.as_str-name.ensures.value at c.close-2.ensures)
-    (journal c.in-Ok-named.named.0) (journal c.serve_files-ingest.result.0) c.in-Worked.done.first (lines_told c.in-Worked.done.lines) c.in-Worked.done.told w
+    (journal c.in-Ok-named.named.0) (journal c.serve_files-ingest.result.0) c.in-Worked.done.first (lines_told c.in-Worked.done.lines) w
     (subst (λ (j : List Batch). IfSome given.content (HasJournal j)) (sym (journal-named c.in-Ok-named.named.0 c.args.store c.in-Ok-named.ensures.ingest)) read)
     c.args.order.some_readers
     c.disk_of-disk.ensures.tells

@@ -27,13 +27,13 @@ report_lines-lines-requires g c =
       ap (λ (ws : List (Worker g.row.H-File.Denot g.row.H-Door.Denot g.row.J.Denot)). length ws) c.as_slice-2.ensures.value,
     )
 
-pub give_back-told-requires-clause-named : goal.give_back-told-requires-clause-named
-give_back-told-requires-clause-named g c = λ κs within.
-    rw c.as_slice-names.ensures.value (returned g (goal.at.give_back-told-requires-clause-named g c).After-work_all-ingest).named
+pub give_back-requires-clause-named : goal.give_back-requires-clause-named
+give_back-requires-clause-named g c = λ κs within.
+    rw c.as_slice-names.ensures.value (returned g (goal.at.give_back-requires-clause-named g c).After-work_all-ingest).named
 
-pub give_back-told-requires-clause-out : goal.give_back-told-requires-clause-out
-give_back-told-requires-clause-out g c = λ κs within.
-    let r = returned g (goal.at.give_back-told-requires-clause-out g c).After-work_all-ingest in
+pub give_back-requires-clause-out : goal.give_back-requires-clause-out
+give_back-requires-clause-out g c = λ κs within.
+    let r = returned g (goal.at.give_back-requires-clause-out g c).After-work_all-ingest in
     let count : c.args.doors.len ≡ length (map g.H.Door.Door.door c.args.doors.items) = c.args.doors.ok.0 ∙ sym (length-map c.args.doors.items g.H.Door.Door.door) in
     rw c.as_slice-names.ensures.value (can-return g.H.File.Source.source g.H.Door.Door.door (map string_bytes c.args.order.now.files.items) (g.H.Host.host c.args.host.now)
     (journal c.args.ingest) (map g.H.Door.Door.door c.args.doors.items) c.work_all-ingest.result.1.items r (g.H.Host.host c.args.host.now)
@@ -50,11 +50,12 @@ returns-clause-over g c =
     let lines = ok-lines c.report_lines-lines.result _
     (subst (λ (ns : List (List ℕ)). IfOk c.report_lines-lines.result (λ l. l.items ≡ lines_in ns list)) same
     (subst (λ (ws : List (Worker g.row.H-File.Denot g.row.H-Door.Denot g.row.J.Denot)). IfOk c.report_lines-lines.result (λ l. l.items ≡ lines_in told-names ws)) c.as_slice-2.ensures.value c.report_lines-lines.ensures)) in
+    let same-ingest = λ (i : Stored g.row.H-Disk.Denot). AllByRecursion (IsTold (journal i)) list in
+    let doors : length (map g.H.Door.Door.door c.args.doors.items) ≡ c.args.doors.len =
+    length-map c.args.doors.items g.H.Door.Door.door ∙ sym c.args.doors.ok.0 in
     works-over g.H.File.Source.source g.H.Door.Door.door names (g.H.Host.host c.args.host.now) (journal c.args.ingest)
-    (map g.H.Door.Door.door c.args.doors.items) list r (journal c.give_back-told.new.ingest) (g.H.Host.host c.give_back-told.new.host)
-    c.first_fault-first.result (lines_told c.report_lines-lines.result) c.give_back-told.result first lines
-    (λ all.
-    subst (λ (i : Stored g.row.H-Disk.Denot). AllByRecursion (IsTold (journal i) (journal i)) list) (sym c.give_back-told.ensures.same)
-    (c.give_back-told.ensures.told all))
-    (subst (λ (ns : List (List ℕ)). GivenBack g.H.File.Source.source g.H.Door.Door.door ns 0 list (g.H.Host.host c.args.host.now) (g.H.Host.host c.give_back-told.new.host)) same
-    c.give_back-told.ensures.back)
+    (map g.H.Door.Door.door c.args.doors.items) list r (journal c.give_back.new.ingest) (g.H.Host.host c.give_back.new.host)
+    c.first_fault-first.result (lines_told c.report_lines-lines.result) first lines
+    (subst same-ingest (sym c.give_back.ensures.same) (c.give_back.ensures.told (r.have (omega (arith, c.requires.some, doors)))))
+    (subst (λ (ns : List (List ℕ)). GivenBack g.H.File.Source.source g.H.Door.Door.door ns 0 list (g.H.Host.host c.args.host.now) (g.H.Host.host c.give_back.new.host)) same
+    c.give_back.ensures.back)

@@ -9,31 +9,31 @@ use Rattle.explorer.proofs.serving.serve_files.Goals as goal
 use Rattle.explorer.proofs.serving.serve_files.Goals.{After-drop-passes, After-drop-passes-in-Fault, After-serve_doors-ingest, In-OutOfMemory}
 use Rattle.explorer.proofs.serving.serve_files.Given.{Over}
 
-pub give_back-told-requires-clause-named : goal.give_back-told-requires-clause-named
-give_back-told-requires-clause-named g c = λ κs within.
+pub give_back-requires-clause-named : goal.give_back-requires-clause-named
+give_back-requires-clause-named g c = λ κs within.
     rw c.as_slice-names.ensures.value (file-refused-named g.H.File.Source.source g.H.Door.Door.door (service_of c.args.order.now) _ (g.H.Host.host c.args.host.now)
     (g.H.Host.host c.open_files.new.host) (rw c.as_slice-names.ensures.value at (c.open_files.ensures.refused c.if-not-open_files.true)))
 
-pub give_back-told-requires-clause-out : goal.give_back-told-requires-clause-out
-give_back-told-requires-clause-out g c = λ κs within.
+pub give_back-requires-clause-out : goal.give_back-requires-clause-out
+give_back-requires-clause-out g c = λ κs within.
     rw c.as_slice-names.ensures.value (file-refused-can g.H.File.Source.source g.H.Door.Door.door (service_of c.args.order.now) _ (g.H.Host.host c.args.host.now)
     (g.H.Host.host c.open_files.new.host) (rw c.as_slice-names.ensures.value at (c.open_files.ensures.refused c.if-not-open_files.true)))
 
-pub give_back-told-requires-2-clause-named : goal.give_back-told-requires-2-clause-named
-give_back-told-requires-2-clause-named g c = λ κs within.
+pub give_back-requires-2-clause-named : goal.give_back-requires-2-clause-named
+give_back-requires-2-clause-named g c = λ κs within.
     rw c.as_slice-names.ensures.value (stopped-named g.H.File.Source.source g.H.Door.Door.door (service_of c.args.order.now) _ (g.H.Host.host c.args.host.now)
     (g.H.Host.host c.doors.new.self) c.in-Err.stop (g.H.Host.host c.open_files.new.host)
     (rw c.as_slice-names.ensures.value at (c.open_files.ensures.opened c.if-not-open_files.false)) (rw c.as_str.ensures.value at c.in-Err.ensures.fails))
 
-pub give_back-told-requires-2-clause-out : goal.give_back-told-requires-2-clause-out
-give_back-told-requires-2-clause-out g c = λ κs within.
+pub give_back-requires-2-clause-out : goal.give_back-requires-2-clause-out
+give_back-requires-2-clause-out g c = λ κs within.
     rw c.as_slice-names.ensures.value (stopped-can g.H.File.Source.source g.H.Door.Door.door (service_of c.args.order.now) _ (g.H.Host.host c.args.host.now)
     (g.H.Host.host c.doors.new.self) c.in-Err.stop (g.H.Host.host c.open_files.new.host)
     (rw c.as_slice-names.ensures.value at (c.open_files.ensures.opened c.if-not-open_files.false)) (rw c.as_str.ensures.value at c.in-Err.ensures.fails))
 
 given-up : (g : Over) (c : After-drop-passes g)
-    → HasGivenUp (service_of c.args.order.now) (NoFile c.len-at.result) (g.H.Host.host c.args.host.now) (g.H.Host.host c.give_back-told.new.host)
-    × GivesBack (g.H.Host.host c.args.host.now) (g.H.Host.host c.give_back-told.new.host)
+    → HasGivenUp (service_of c.args.order.now) (NoFile c.len-at.result) (g.H.Host.host c.args.host.now) (g.H.Host.host c.give_back.new.host)
+    × GivesBack (g.H.Host.host c.args.host.now) (g.H.Host.host c.give_back.new.host)
 given-up g c =
     let r = rw c.as_slice-names.ensures.value at (c.open_files.ensures.refused c.if-not-open_files.true) in
     let list = c.open_files.new.list.items in
@@ -41,7 +41,7 @@ given-up g c =
     omega (arith, rw c.as_slice-names.ensures.value at (c.open_files.ensures.few c.if-not-open_files.true), c.len-at.ensures, length-map c.args.order.now.files.items string_bytes) in
     let place : length list ≡ c.len-at.result = omega (arith, c.len-at.ensures, c.open_files.new.list.ok.0) in
     file-given-up g.H.File.Source.source g.H.Door.Door.door (service_of c.args.order.now) list (g.H.Host.host c.args.host.now)
-    (g.H.Host.host c.open_files.new.host) (g.H.Host.host c.give_back-told.new.host) c.len-at.result r (rw c.as_slice-names.ensures.value at c.give_back-told.ensures.back) few place
+    (g.H.Host.host c.open_files.new.host) (g.H.Host.host c.give_back.new.host) c.len-at.result r (rw c.as_slice-names.ensures.value at c.give_back.ensures.back) few place
 
 pub returns-then-not-open_files-clause-served : goal.returns-then-not-open_files-clause-served
 returns-then-not-open_files-clause-served g c = (given-up g (goal.at.returns-then-not-open_files-clause-served g c).After-drop-passes).0
@@ -51,14 +51,14 @@ returns-then-not-open_files-clause-gives_back g c = (given-up g (goal.at.returns
 
 worked : (g : Over) (c : After-serve_doors-ingest g)
     → HasWorked (service_of c.args.order.now) (journal c.args.ingest) (journal c.serve_doors-ingest.result.0) c.serve_doors-ingest.result.1.first
-    (lines_told c.serve_doors-ingest.result.1.lines) c.serve_doors-ingest.result.1.told (g.H.Host.host c.args.host.now) (g.H.Host.host c.serve_doors-ingest.new.host)
+    (lines_told c.serve_doors-ingest.result.1.lines) (g.H.Host.host c.args.host.now) (g.H.Host.host c.serve_doors-ingest.new.host)
     × GivesBack (g.H.Host.host c.args.host.now) (g.H.Host.host c.serve_doors-ingest.new.host)
 worked g c =
     doors-worked g.H.File.Source.source (service_of c.args.order.now) c.open_files.new.list.items (map g.H.Door.Door.door c.in-Ok.doors.items)
     (g.H.Host.host c.args.host.now) (g.H.Host.host c.open_files.new.host) (g.H.Host.host c.doors.new.self)
     (rw c.as_slice-names.ensures.value at (c.open_files.ensures.opened c.if-not-open_files.false)) (rw c.as_str.ensures.value at c.in-Ok.ensures.hands)
     (journal c.args.ingest) (journal c.serve_doors-ingest.result.0) c.serve_doors-ingest.result.1.first (lines_told c.serve_doors-ingest.result.1.lines)
-    c.serve_doors-ingest.result.1.told (g.H.Host.host c.serve_doors-ingest.new.host) c.serve_doors-ingest.ensures.over
+    (g.H.Host.host c.serve_doors-ingest.new.host) c.serve_doors-ingest.ensures.over
 
 pub returns-in-Ok-clause-served : goal.returns-in-Ok-clause-served
 returns-in-Ok-clause-served g c = (worked g (goal.at.returns-in-Ok-clause-served g c).After-serve_doors-ingest).0
@@ -67,12 +67,12 @@ pub returns-in-Ok-clause-gives_back : goal.returns-in-Ok-clause-gives_back
 returns-in-Ok-clause-gives_back g c = (worked g (goal.at.returns-in-Ok-clause-gives_back g c).After-serve_doors-ingest).1
 
 refused : (g : Over) (c : After-drop-passes-in-Fault g)
-    → HasGivenUp (service_of c.args.order.now) NoAddress (g.H.Host.host c.args.host.now) (g.H.Host.host c.give_back-told-2.new.host)
-    × GivesBack (g.H.Host.host c.args.host.now) (g.H.Host.host c.give_back-told-2.new.host)
+    → HasGivenUp (service_of c.args.order.now) NoAddress (g.H.Host.host c.args.host.now) (g.H.Host.host c.give_back-2.new.host)
+    × GivesBack (g.H.Host.host c.args.host.now) (g.H.Host.host c.give_back-2.new.host)
 refused g c =
     doors-given-up g.H.File.Source.source g.H.Door.Door.door (service_of c.args.order.now) c.open_files.new.list.items (g.H.Host.host c.args.host.now)
-    (g.H.Host.host c.doors.new.self) (g.H.Host.host c.open_files.new.host) (g.H.Host.host c.give_back-told-2.new.host)
-    (rw c.as_slice-names.ensures.value at (c.open_files.ensures.opened c.if-not-open_files.false)) (rw c.as_str.ensures.value at (rw c.in-Fault.is at c.in-Err.ensures.fails)) (rw c.as_slice-names.ensures.value at c.give_back-told-2.ensures.back)
+    (g.H.Host.host c.doors.new.self) (g.H.Host.host c.open_files.new.host) (g.H.Host.host c.give_back-2.new.host)
+    (rw c.as_slice-names.ensures.value at (c.open_files.ensures.opened c.if-not-open_files.false)) (rw c.as_str.ensures.value at (rw c.in-Fault.is at c.in-Err.ensures.fails)) (rw c.as_slice-names.ensures.value at c.give_back-2.ensures.back)
 
 pub returns-in-Fault-clause-served : goal.returns-in-Fault-clause-served
 returns-in-Fault-clause-served g c = (refused g (goal.at.returns-in-Fault-clause-served g c).After-drop-passes-in-Fault).0
@@ -81,12 +81,12 @@ pub returns-in-Fault-clause-gives_back : goal.returns-in-Fault-clause-gives_back
 returns-in-Fault-clause-gives_back g c = (refused g (goal.at.returns-in-Fault-clause-gives_back g c).After-drop-passes-in-Fault).1
 
 lacking : (g : Over) (c : In-OutOfMemory g)
-    → HasGivenUp (service_of c.args.order.now) NoMemory (g.H.Host.host c.args.host.now) (g.H.Host.host c.give_back-told-2.new.host)
-    × GivesBack (g.H.Host.host c.args.host.now) (g.H.Host.host c.give_back-told-2.new.host)
+    → HasGivenUp (service_of c.args.order.now) NoMemory (g.H.Host.host c.args.host.now) (g.H.Host.host c.give_back-2.new.host)
+    × GivesBack (g.H.Host.host c.args.host.now) (g.H.Host.host c.give_back-2.new.host)
 lacking g c =
     starved g.H.File.Source.source g.H.Door.Door.door (service_of c.args.order.now) c.open_files.new.list.items (g.H.Host.host c.args.host.now)
-    (g.H.Host.host c.doors.new.self) (g.H.Host.host c.open_files.new.host) (g.H.Host.host c.give_back-told-2.new.host)
-    (rw c.as_slice-names.ensures.value at (c.open_files.ensures.opened c.if-not-open_files.false)) (rw c.in-OutOfMemory.is at c.in-Err.ensures.fails) (rw c.as_slice-names.ensures.value at c.give_back-told-2.ensures.back)
+    (g.H.Host.host c.doors.new.self) (g.H.Host.host c.open_files.new.host) (g.H.Host.host c.give_back-2.new.host)
+    (rw c.as_slice-names.ensures.value at (c.open_files.ensures.opened c.if-not-open_files.false)) (rw c.in-OutOfMemory.is at c.in-Err.ensures.fails) (rw c.as_slice-names.ensures.value at c.give_back-2.ensures.back)
 
 pub returns-clause-served : goal.returns-clause-served
 returns-clause-served g c = (lacking g (goal.at.returns-clause-served g c).In-OutOfMemory).0
