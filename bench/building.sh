@@ -11,6 +11,8 @@ if [ "${1:-}" = --help ]; then
 fi
 top=$(cd "$(dirname "${BASH_SOURCE[0]}")/.." && pwd)
 rt=${RT:-rt}
+# malloc is set as the launcher sets it.
+eval "$(grep '^export GLIBC_TUNABLES=' "$top/explorer")"
 copy=$(mktemp -d)
 litter=("$copy")
 trap 'rm -rf "${litter[@]}"' EXIT

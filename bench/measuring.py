@@ -29,12 +29,24 @@ def work_folder():
     return folder
 
 
+def program():
+    """Where the program is that is measured: that of the variable EXPLORER, or the one that ./explorer has built."""
+    return pathlib.Path(os.environ.get("EXPLORER", TOP / "crates/explorer/out/explorer"))
+
+
 def explorer():
-    """The program that is measured: that of the variable EXPLORER, or the one that ./explorer has built."""
-    found = pathlib.Path(os.environ.get("EXPLORER", TOP / "crates/explorer/out/explorer"))
+    """The program that is measured, where it is there."""
+    found = program()
     if not os.access(found, os.X_OK):
         raise Trouble(f"there is no program {found}: build it by ./explorer, or name it in EXPLORER")
     return str(found)
+
+
+def environment(words):
+    """What a program runs in. For the explorer malloc is set as its launcher sets it, where nobody has set it otherwise."""
+    launcher = (TOP / "explorer").read_text(encoding="utf-8")
+    settings = {"GLIBC_TUNABLES": re.search(r"GLIBC_TUNABLES-([^}]*)}", launcher)[1]}
+    return {**settings, **os.environ} if str(words[0]) == str(program()) else None
 
 
 def has(*names):
@@ -56,7 +68,7 @@ class Ran:
         timed = [need("/usr/bin/time", "time"), "--quiet", "-f", "%e %U %S %M", "-o", figures]
         with open(stdin or os.devnull, "rb") as given, open(work_folder() / "output", "wb+") as taken:
             process = subprocess.run([str(word) for word in (*timed, *words)], stdin=given, stdout=taken,
-                                     stderr=subprocess.STDOUT, cwd=cwd, check=False)
+                                     stderr=subprocess.STDOUT, cwd=cwd, env=environment(words), check=False)
             taken.seek(0)
             self.output = taken.read().decode(errors="replace")
         if process.returncode not in statuses:
@@ -142,7 +154,7 @@ def free_port():
 @contextlib.contextmanager
 def running(words, ready=None, **how):
     """A server that runs meanwhile; it is ready with its first line, or once a port is open."""
-    process = subprocess.Popen(list(map(str, words)), stdout=subprocess.PIPE, stderr=subprocess.DEVNULL, **how)
+    process = subprocess.Popen(list(map(str, words)), stdout=subprocess.PIPE, stderr=subprocess.DEVNULL, env=environment(words), **how)
     try:
         if ready is None:
             process.stdout.readline()
