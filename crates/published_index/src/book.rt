@@ -98,7 +98,7 @@ impl Plain<NoEntry, Batch, u64> for NoEntry {
     ghost state = { λ entry. None };
 }
 
-/// AddsBatch a cell behind so many that are away, and gives its pen. It does not where another number of
+/// Adds a cell behind so many that are away, and gives its pen. It does not where another number of
 /// them is away.
 pub fn add_cell(word: &BookWord, seen: &mut BookSeen, away: u64) -> Option<Pen>
     requires word { word.now ≡ word_of seen.old.book }
@@ -125,7 +125,7 @@ pub fn add_cell(word: &BookWord, seen: &mut BookSeen, away: u64) -> Option<Pen>
     Some(pen)
 }
 
-/// AddsBatch a batch of a segment by the pen of the first of two cells that are away, and says whether it
+/// Adds a batch of a segment by the pen of the first of two cells that are away, and says whether it
 /// did. It does not where another number of them is away.
 pub fn add_batch(
     word: &BookWord,
