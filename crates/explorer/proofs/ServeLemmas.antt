@@ -46,7 +46,7 @@ use Rattle.explorer.specs.declared.fault.Fault.{Fault}
 use Rattle.explorer.specs.declared.fault.Fault.TheVariants as faults
 use Rattle.explorer.specs.Concluding.{Concludes, EndsBy, TellsLonger}
 use Rattle.explorer.specs.Lines.{Ending, Stopped}
-use Rattle.explorer.specs.Serve.{GoesOn, HasNoStore, HasStore, IsServed, IsWorkedTo, LacksLines, Listens, RefusesAddress, RefusesOneFile, Reports, Serves, ServesBy, listening_line}
+use Rattle.explorer.specs.Serve.{GoesOn, HasNoStore, HasStore, IsServed, IsWorkedTo, Listens, RefusesAddress, RefusesOneFile, Reports, Serves, ServesBy, listening_line}
 use Rattle.explorer.specs.Served.{DoorRun, FileRun, FindsFull, IsFullBy, IsGivenUp, IsImported, IsKeptIn, IsSeenIn, IsServedIn, IsStoredIn, IsWorked, Service, fault_of_door, fault_of_doors, fault_of_import, file_at, files_back, files_out, first_fault, serve_report}
 use Rattle.explorer.specs.Serving.{AreCounted, FilesServed, HasGivenUp, HasWorked, IsGivenUpSo, IsToldBy, ListensSo, WroteLine, lines_told}
 use Rattle.explorer.specs.Workers.{name_at}

@@ -13,8 +13,8 @@ use ingest_desk::{End, Ingest, Report};
 use published_index::{Index, Pass};
 use session::{learn_notes, learn_receipts};
 
-/// Takes the workers off the list, the last first, and gives back what they hold. The stored journal
-/// begins with all that they saw, and with all that files were told that stood before a reader.
+/// Takes the workers off the list, the last first, and gives back what they hold. Where a reader
+/// stands behind each file, the stored journal begins with all that they were told of it, and saw.
 pub fn give_back<H: Host, J: Index>(
     host: &mut H,
     names: &[String],
@@ -38,7 +38,8 @@ pub fn give_back<H: Host, J: Index>(
 }
 
 /// Gives back what a worker holds that stood at this place. The pass learns what the report of a
-/// file tells; without a pass, that of a reader is the one that goes on learning.
+/// file tells; without a pass, that of a reader is the one that goes on learning. What it has seen
+/// is stored.
 fn take_back<H: Host, J: Index>(
     host: &mut H,
     names: &[String],

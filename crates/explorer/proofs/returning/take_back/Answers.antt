@@ -1,4 +1,4 @@
-use Rattle.std.proofs.Common.{◌≡◌, List, ℕ, refl, sym, ap, subst, ◌∙◌, map, string_bytes}
+use Rattle.std.proofs.Common.{◌≡◌, List, ℕ, sym, ap, subst, ◌∙◌, map, string_bytes}
 use Rattle.host.specs.Hosts.{AFile, IsOut, TakesFile}
 use Rattle.explorer.specs.Workers.{name_at}
 use Rattle.explorer.proofs.HostCalls.{door_is_out, file_is_out, name_is}
