@@ -1,8 +1,8 @@
 -- Lists that follow batches: their journals, and that they stand alike.
-use Rattle.std.proofs.Common.{◌≡◌, ◌≤◌, ◌<◌, ◌+◌, ◌^◌, ℕ, zero, suc, Bool, true, false, List, [], ◌∷◌, ◌++◌, length, take, drop, Some, inl, inr, ◌⊎◌, refl, sym, ap, ◌∙◌, subst, arith, length-append, append_assoc, append-nil}
+use Rattle.std.proofs.Common.{◌≡◌, ◌≤◌, ◌<◌, ◌+◌, ℕ, zero, suc, Bool, true, false, List, [], ◌∷◌, ◌++◌, length, take, drop, Some, inl, inr, refl, sym, ap, ◌∙◌, subst, arith, length-append, append_assoc, append-nil}
 use Rattle.std.proofs.lemmas.Bool.Decides.{nat_tests}
 use Rattle.std.proofs.lemmas.List.{append_cancel_left}
-use Rattle.std.proofs.lemmas.List.Elements.{All-append, All-cons, All-drop, All-nil, All-push, All-take, recursion_from_All}
+use Rattle.std.proofs.lemmas.List.Elements.{All-append, All-cons, All-drop, All-push, All-take, recursion_from_All}
 use Rattle.std.proofs.lemmas.Option.{slice_get_within}
 use Rattle.std.specs.List.{All, AllByRecursion}
 use Rattle.std.specs.Prelude.{nat_lt, slice_get}
@@ -10,7 +10,7 @@ use Rattle.explorer_model.specs.declared.archive.Batch.{Batch}
 use Rattle.explorer_model.specs.Journal.{IsBatch}
 use Rattle.explorer_model.specs.Spans.{Span}
 use Rattle.explorer_model.specs.Visits.{texts_of}
-use Rattle.segment_blocks.specs.Segment.{CanJoin, CountedSpan, IsSegment, segment_limit}
+use Rattle.segment_blocks.specs.Segment.{CanJoin, CountedSpan, IsSegment}
 use Rattle.segment_merge.specs.Merging.{IsMergeOf}
 use Rattle.tally_rows.specs.Tally.{IsTallyOf}
 use Rattle.published_index.specs.Changes.{JoinAt, with_change}
