@@ -4,7 +4,7 @@ use Rattle.std.proofs.lemmas.List.{append-nil, length-replicate}
 use Rattle.std.proofs.lemmas.Bool.Decides.{nat_tests}
 use mathlib.Core.List.{IsPrefix}
 use prog.Atomic.{either}
-use Rattle.logbook.specs.Pages.{Cell, cell, Nib, nib, keeps, gives, adds, may_make, may_write, no_nib, step, Away, Moves, Goes}
+use Rattle.logbook.specs.Pages.{Cell, cell, nib, keeps, gives, adds, may_make, may_write, no_nib, step, Away, Moves, Goes}
 use Rattle.explorer_model.specs.declared.archive.Batch.{Batch}
 use Rattle.published_index.specs.History.{cells_of, key_behind, IsKept, AddsBatch, AddsCell, SeesAll}
 use Rattle.published_index.proofs.PrefixLemmas.{begins-length, begins-whole}

@@ -1,7 +1,6 @@
 -- Beginnings of one list.
-use Rattle.std.proofs.Common.{◌≡◌, ℕ, ◌≤◌, Bool, true, false, List, [], ◌∷◌, ◌++◌, length, refl, sym, ap, ◌∙◌, arith, append-nil, append_assoc, length-append}
+use Rattle.std.proofs.Common.{◌≡◌, ◌↔◌, ℕ, ◌≤◌, Bool, IsTrue, true≢false, true, false, List, [], ◌∷◌, ◌++◌, length, refl, sym, ap, ◌∙◌, arith, append-nil, append_assoc, length-append}
 use Rattle.std.proofs.lemmas.Bool.Decides.{nat_tests}
-use Rattle.std.specs.Bool.{OnTrue}
 use Rattle.std.proofs.Common.{leb}
 use mathlib.Core.List.{IsPrefix as Begins}
 use Rattle.explorer_model.specs.Timeline.{IsPrefix}
@@ -45,11 +44,15 @@ begins-whole (x ∷ xs) [] p le = absurd (cc (p.1))
 begins-whole (x ∷ xs) (y ∷ ys) p le =
     let rest = begins-whole xs ys (p.0, cc (p.1)) (omega arith) in cc (p.1, rest)
 
--- where one count is tested to be no more than the other
+-- of two beginnings of one list one begins the other exactly where its count is no more
 pub where-shorter : {A : Type 0} (m n : ℕ) (xs ys zs : List A) → Begins xs zs → Begins ys zs → m ≡ length xs → n ≡ length ys
-    → OnTrue (leb m n) (IsPrefix xs ys)
-where-shorter m n xs ys zs p q m-is n-is = by (leb m n) refl
+    → IsTrue (leb m n) ↔ IsPrefix xs ys
+where-shorter m n xs ys zs p q m-is n-is = (begins (leb m n) refl, is_no_more (leb m n) refl)
   where
-    by : (test : Bool) → leb m n ≡ test → OnTrue test (IsPrefix xs ys)
-    by true is = prefix-shorter xs ys zs p q (grind (arith, nat_tests))
-    by false is = tt
+    begins : (test : Bool) → leb m n ≡ test → IsTrue test → IsPrefix xs ys
+    begins true is h = prefix-shorter xs ys zs p q (grind (arith, nat_tests))
+    begins false is h = absurd (true≢false (sym h))
+
+    is_no_more : (test : Bool) → leb m n ≡ test → IsPrefix xs ys → IsTrue test
+    is_no_more true is h = refl
+    is_no_more false is h = absurd (grind (arith, nat_tests, prefix-length xs ys h))

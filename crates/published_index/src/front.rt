@@ -1,6 +1,5 @@
 //! Beginnings of a history.
-ghost use Rattle.std.specs.Prelude.{◌≡◌, length};
-ghost use Rattle.std.specs.Bool.{OnTrue};
+ghost use Rattle.std.specs.Prelude.{◌≡◌, ◌↔◌, IsTrue, length};
 ghost use Rattle.explorer_model.specs.Timeline.{IsPrefix, longer};
 
 use crate::book::BookSeen;
@@ -56,10 +55,10 @@ impl Front {
         }
     }
 
-    /// Whether the other begins with this one, which it does where it is no shorter.
+    /// Whether the other begins with this one, which it does exactly where it is no shorter.
     pub fn begins(&self, other: &Front) -> bool
         requires { other.now.book ≡ self.now.book }
-        ensures { OnTrue result (IsPrefix self.now.log other.now.log) }
+        ensures { IsTrue result ↔ IsPrefix self.now.log other.now.log }
     {
         let mut both = self.seen.again();
         both.learn(&other.seen);

@@ -1,5 +1,4 @@
 use Rattle.std.proofs.Common.{◌≡◌, ap, sym, ◌∙◌}
-use Rattle.published_index.specs.History.{batch_at}
 use Rattle.published_index.proofs.HistoryLemmas.{add-moves}
 use Rattle.published_index.proofs.book.add_batch.Goals as goal
 
