@@ -1,3 +1,12 @@
+//! The plain types of the explorer, and in `specs` the definitions that all contracts cite: the
+//! rules of chess, notation, archives and their games, queries and answers, stores, and the wire.
+//!
+//! ```rust
+//! // The knight's move from g1 to f3, and whether the side to move may still castle short.
+//! let (from, to) = (Square { index: 6 }, Square { index: 21 });
+//! let m = Move { from, to, promotion: None };
+//! let open = position.rights.has(position.turn, Side::Short);
+//! ```
 #![tactic(auto)]
 
 pub mod answer;

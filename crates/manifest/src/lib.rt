@@ -1,5 +1,12 @@
 //! The journal of batches on a disk, which a crash at any moment leaves with the batches that were
 //! acknowledged.
+//!
+//! ```rust
+//! let mut manifest = create(disk)?;
+//! // Behind an Ok every file that a crash may leave has the batch behind those before it.
+//! manifest.store(alloc, &batch)?;
+//! let Opened { manifest, journal } = open(alloc, manifest.into_disk())?;
+//! ```
 #![tactic(auto)]
 
 mod creating;

@@ -7,7 +7,7 @@ use std::alloc::Global;
 use std::process::Abort;
 use std::sync::atomic::{AtomicU64, Ordering};
 use std::test::Fail;
-use std::thread::Threads;
+use std::thread::{Threads, yield_now};
 
 /// A gate that marks each leaf and counts how often it is passed. It holds leaf 1 until leaf 2 has
 /// come, or a million turns are over.
@@ -35,6 +35,7 @@ impl Gate for HoldingGate {
                     self.leaves.fetch_or(1, Ordering::SeqCst);
                     break;
                 }
+                yield_now();
             }
         }
         self.passes.fetch_add(1, Ordering::SeqCst);
@@ -115,7 +116,25 @@ fn have_same_rows(a: &Segment, b: &Segment) -> bool {
     others.advance().is_none()
 }
 
-/// Asserts that the rows of both are the same for every number of workers, each of which is a leaf.
+/// Whether both segments have games of the same ids.
+fn have_same_games(a: &Segment, b: &Segment) -> bool {
+    if a.games() != b.games() {
+        return false;
+    }
+    for n in 0..a.games() {
+        if a.classes(n).id != b.classes(n).id {
+            return false;
+        }
+    }
+    true
+}
+
+/// Whether both segments have the same span, games and rows.
+fn are_same(a: &Segment, b: &Segment) -> bool {
+    a.span() == b.span() && have_same_games(a, b) && have_same_rows(a, b)
+}
+
+/// Asserts that the merge of both is the same for every number of workers, each of which is a leaf.
 pub(super) fn assert_equal_merges<R: Threads + Abort + Sync>(
     rt: &R,
     alloc: Global,
@@ -129,7 +148,7 @@ pub(super) fn assert_equal_merges<R: Threads + Abort + Sync>(
         let both = merged(rt, alloc, left, right, workers, &gate)?;
         assert_eq!(rt; gate.passes.load(Ordering::SeqCst), workers as u64);
         assert_eq!(rt; gate.leaves.load(Ordering::SeqCst) & !1, leaves);
-        assert!(rt; have_same_rows(&both, &alone), "with {workers} workers");
+        assert!(rt; are_same(&both, &alone), "with {workers} workers");
     }
     Ok(())
 }
