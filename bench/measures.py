@@ -420,12 +420,12 @@ def perft(options):
 
 
 def gate(options):
-    """The time of `rt ci`, with what it keeps on this machine."""
+    """The time of `rt ci`, which proves every crate from nothing."""
     ran = Ran(["rt", "ci"], cwd=measuring.TOP)
     last = ran.output.strip().splitlines()[-1]
     return [table("The gate, `rt ci`", ["minutes", "processor minutes", "its last line"],
                   [[f"{ran.seconds / 60:.1f}", f"{ran.processor_seconds / 60:.1f}", last]],
-                  "What an earlier run has passed on this machine is not proved again.")]
+                  "Every crate is proved from nothing, and every test and program is run.")]
 
 
 def printed(name, *words):
