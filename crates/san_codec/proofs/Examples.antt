@@ -12,7 +12,7 @@ use Rattle.explorer_model.specs.declared.notation.SanForm.TheVariants.{Castling,
 use Rattle.explorer_model.specs.declared.notation.Start.TheVariants.{Unnamed, File}
 use Rattle.explorer_model.specs.declared.square.Square.{Square}
 use Rattle.explorer_model.specs.Board.{piece_at, piece_of}
-use Rattle.explorer_model.specs.Chess.{all_rights, is_pawn_at, quiet, start, start_squares}
+use Rattle.explorer_model.specs.Chess.{is_pawn_at, quiet, start, start_squares}
 use Rattle.explorer_model.specs.San.{captures, san_form, MoveText, SanReads}
 
 -- ---- the grammar
@@ -52,9 +52,14 @@ mark-in-the-middle = refl
 
 -- ---- moves as they are written
 
--- squares from a1 on, as they are given
-abbrev white_to_move : List (Option Piece) → Option Square → Position
-white_to_move squares en_passant = record { squares = squares; turn = White; rights = all_rights; en_passant = en_passant }
+-- the squares from a1 on, and whether the king may castle toward its rook on h1, which is the only right
+abbrev white_to_move : List (Option Piece) → Bool → Option Square → Position
+white_to_move squares short en_passant = record {
+  squares = squares;
+  turn = White;
+  rights = record { white_short = short; white_long = false; black_short = false; black_long = false };
+  en_passant = en_passant;
+}
 
 -- a pawn that takes nothing has no letter
 pawn-goes-to-e4 : MoveText start (quiet (record { index = 12; on_board = lit< tt }) (record { index = 28; on_board = lit< tt })) (codes "e4")
@@ -63,9 +68,9 @@ pawn-goes-to-e4 = inr (refl, (Pawn, Unnamed, refl, refl, refl))
 -- the king from e1 to g1, with its rook on h1
 abbrev can_castle : Position
 can_castle =
-    white_to_move (
-        replicate 4 None ++ piece_of White King ∷ None ∷ None ∷ piece_of White Rook ∷ replicate 52 None ++ piece_of Black King ∷ replicate 3 None
-        ) None
+    let squares : List (Option Piece) =
+    replicate 4 None ++ piece_of White King ∷ None ∷ None ∷ piece_of White Rook ∷ replicate 52 None ++ piece_of Black King ∷ replicate 3 None in
+    white_to_move squares true None
 
 castling-is-written : MoveText can_castle (quiet (record { index = 4; on_board = lit< tt }) (record { index = 6; on_board = lit< tt })) (codes "O-O")
 castling-is-written = inl (refl, refl)
@@ -73,9 +78,9 @@ castling-is-written = inl (refl, refl)
 -- a pawn on e5 takes one that has gone from d7 to d5: its file is named, and the square that it goes to
 abbrev can_take_en_passant : Position
 can_take_en_passant =
-    white_to_move (
-        replicate 4 None ++ piece_of White King ∷ replicate 30 None ++ piece_of Black Pawn ∷ piece_of White Pawn ∷ replicate 23 None ++ piece_of Black King ∷ replicate 3 None
-        ) (Some (record { index = 43; on_board = lit< tt }))
+    let squares : List (Option Piece) =
+    replicate 4 None ++ piece_of White King ∷ replicate 30 None ++ piece_of Black Pawn ∷ piece_of White Pawn ∷ replicate 23 None ++ piece_of Black King ∷ replicate 3 None in
+    white_to_move squares false (Some (record { index = 43; on_board = lit< tt }))
 
 en-passant-is-written : MoveText can_take_en_passant (quiet (record { index = 36; on_board = lit< tt }) (record { index = 43; on_board = lit< tt })) (codes "exd6")
 en-passant-is-written = inr (refl, (Pawn, File, refl, refl, refl))
@@ -83,9 +88,9 @@ en-passant-is-written = inr (refl, (Pawn, File, refl, refl, refl))
 -- a pawn on e7 takes the rook on d8 and becomes a queen
 abbrev can_promote : Position
 can_promote =
-    white_to_move (
-        replicate 4 None ++ piece_of White King ∷ replicate 47 None ++ piece_of White Pawn ∷ replicate 6 None ++ piece_of Black Rook ∷ replicate 3 None ++ piece_of Black King ∷ []
-        ) None
+    let squares : List (Option Piece) =
+    replicate 4 None ++ piece_of White King ∷ replicate 47 None ++ piece_of White Pawn ∷ replicate 6 None ++ piece_of Black Rook ∷ replicate 3 None ++ piece_of Black King ∷ [] in
+    white_to_move squares false None
 
 promotion-is-written : MoveText can_promote (record { from = record { index = 52; on_board = lit< tt }; to = record { index = 59; on_board = lit< tt }; promotion = Some Queen }) (codes "exd8=Q")
 promotion-is-written = inr (refl, (Pawn, File, refl, refl, refl))
