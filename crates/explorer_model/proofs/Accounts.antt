@@ -1,9 +1,9 @@
 -- Imports alone, apart and beside others; numbers of stored games.
 use Rattle.std.proofs.Common.{◌≡◌, ℕ, suc, ◌+◌, Bool, true, false, List, [], ◌∷◌, ◌++◌, map, length, bytes_eq, slice_get, Option, Some, None, IfSome, unwrap_or, if◌then◌else◌, refl, sym, ap, ◌∙◌, subst, arith}
-use Rattle.std.specs.List.{AllZip, AllByRecursion}
+use Rattle.std.specs.List.{AllByRecursion}
 use Rattle.explorer_model.specs.declared.archive.Game.{Game}
 use Rattle.explorer_model.specs.Cuts.{Cut}
-use Rattle.explorer_model.specs.Imports.{Examination, IsExaminationOf, AreExaminations, Candidate, Verdict, Accepted, Refused, Numbering, number_from, numbers_of, verdict_behind, verdicts, verdicts_behind, verdicts_by, verdicts_in_turn, candidates}
+use Rattle.explorer_model.specs.Imports.{Examination, AreExaminations, Verdict, Accepted, Refused, Numbering, number_from, numbers_of, verdict_behind, verdicts, verdicts_behind, verdicts_by, verdicts_in_turn, candidates}
 
 -- ---- alone is beside
 

@@ -1,5 +1,5 @@
 -- The moves of a game are legal, each in its turn.
-use Rattle.std.proofs.Common.{◌≡◌, ◌+◌, ℕ, List, [], ◌∷◌, Option, Some, None, Result, Ok, Err, sym, subst, inl, inr}
+use Rattle.std.proofs.Common.{◌+◌, ℕ, List, [], ◌∷◌, Option, Some, None, Result, Ok, Err, sym, subst, inl, inr}
 use Rattle.explorer_model.specs.declared.archive.Game.{Game}
 use Rattle.explorer_model.specs.declared.archive.Token.{Token}
 use Rattle.explorer_model.specs.declared.chess.Move.{Move}

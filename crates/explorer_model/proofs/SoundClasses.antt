@@ -7,14 +7,11 @@ use Rattle.std.specs.Char.{is_ascii_alphanumeric}
 use Rattle.std.specs.List.{list_all, list_any, after_last}
 use Rattle.std.specs.Result.{result_map_both}
 use Rattle.std.specs.Str.{IsAscii, byte}
-use Rattle.explorer_model.specs.declared.archive.Classes.{Classes}
 use Rattle.explorer_model.specs.declared.archive.Game.{Game}
 use Rattle.explorer_model.specs.declared.archive.GameId.{GameId}
-use Rattle.explorer_model.specs.declared.archive.Month.{Month}
 use Rattle.explorer_model.specs.declared.archive.Tag.{Tag}
 use Rattle.explorer_model.specs.declared.fault.GameFault.{GameFault}
 use Rattle.explorer_model.specs.declared.fault.GameFault.TheVariants as faults
-use Rattle.explorer_model.specs.declared.fault.TagFault.{TagFault}
 use Rattle.explorer_model.specs.declared.fault.TagFault.TheVariants.{NotStandard, SetUp, Bad}
 use Rattle.explorer_model.specs.declared.fault.TagName.{TagName}
 use Rattle.explorer_model.specs.declared.fault.TagName.TheVariants as names

@@ -1,6 +1,6 @@
 -- Forsyth-Edwards notation (PGN 16.1), as the explorer reads and writes it: six fields, or the
 -- first four alone.
-use Rattle.std.specs.Prelude.{◌≡◌, ℕ, zero, suc, ◌+◌, ◌-◌, ◌*◌, ◌<◌, ◌==◌, ◌&&◌, ◌||◌, ◌↔◌, Bool, true, false, IsTrue, nat_le, nat_lt, List, [], ◌∷◌, ◌++◌, length, replicate, filter, count_by, take, drop, slice_index_or, codes, Option, Some, None, option_map, option_and_then, Result, Ok, Err, if◌then◌else◌}
+use Rattle.std.specs.Prelude.{◌≡◌, ℕ, zero, suc, ◌+◌, ◌-◌, ◌*◌, ◌<◌, ◌≤◌, ◌==◌, ◌&&◌, ◌||◌, ◌↔◌, Bool, true, false, IsTrue, nat_le, nat_lt, List, [], ◌∷◌, ◌++◌, length, replicate, filter, count_by, take, drop, slice_index_or, codes, Option, Some, None, option_map, option_and_then, Result, Ok, Err, if◌then◌else◌}
 use Rattle.std.specs.List.{slice_split, list_all}
 use Rattle.explorer_model.specs.declared.chess.Color.{Color}
 use Rattle.explorer_model.specs.declared.chess.Color.TheVariants.{White, Black}
@@ -169,6 +169,7 @@ has_number text =
 
 -- What a text says.
 
+-- each field keeps its rule
 abbrev pub GivesPosition : List ℕ → Position → Type 0
 GivesPosition text p =
     PlacesPieces text p.squares
@@ -178,26 +179,25 @@ GivesPosition text p =
     × IsTrue (has_clock text)
     × IsTrue (has_number text)
 
--- the field of this number breaks its rule, where the fields before it keep theirs
-abbrev pub IsFaulty : List ℕ → ℕ → Type 0
-IsFaulty text zero = ⊥
-IsFaulty text (suc zero) = (squares : List (Option Piece)) → ¬ PlacesPieces text squares
-IsFaulty text (suc (suc zero)) =
-    (squares : List (Option Piece)) (turn : Color) → PlacesPieces text squares
-    → ¬ GivesTurn text squares turn
-IsFaulty text (suc (suc (suc zero))) = rights_named (field 3 text) ≡ None
-IsFaulty text (suc (suc (suc (suc zero)))) =
-    (turn : Color) → turn_named (field 2 text) ≡ Some turn
-    → en_passant_named turn (field 4 text) ≡ None
-IsFaulty text (suc (suc (suc (suc (suc zero))))) = has_clock text ≡ false
-IsFaulty text (suc (suc (suc (suc (suc (suc zero)))))) = has_number text ≡ false
-IsFaulty text (suc (suc (suc (suc (suc (suc (suc number))))))) = ⊥
+-- the position keeps the rules of the fields up to this number
+abbrev pub KeepsUpTo : ℕ → List ℕ → Position → Type 0
+KeepsUpTo number text p =
+    (1 ≤ number → PlacesPieces text p.squares)
+    × (2 ≤ number → GivesTurn text p.squares p.turn)
+    × (3 ≤ number → GivesRights text p.squares p.rights)
+    × (4 ≤ number → GivesEnPassant text p.squares p.turn p.en_passant)
+    × (5 ≤ number → IsTrue (has_clock text))
+    × (6 ≤ number → IsTrue (has_number text))
+
+-- the first faulty field is the least number at which no position is left
+pub record IsFirstFault (number : ℕ) (text : List ℕ) : Type 0 where
+  pub left : (before : ℕ) → before < number → (p : Position) × KeepsUpTo before text p
+  pub none : (p : Position) → ¬ KeepsUpTo number text p
 
 -- the text is read as this position, or refused for its first faulty field
 abbrev pub FenReads : List ℕ → Result Position FenFault → Type 0
 FenReads text (Ok p) = GivesPosition text p
-FenReads text (Err fault) =
-    IsFaulty text fault.field × ((number : ℕ) → number < fault.field → ¬ IsFaulty text number)
+FenReads text (Err fault) = IsFirstFault fault.field text
 
 -- The written form.
 

@@ -73,12 +73,12 @@ fault_same f g e = λ i. record { field = e i }
 
 readings_same : (text : List ℕ) (r s : Result Position FenFault) → FenReads text r → FenReads text s → r ≡ s
 readings_same text (Ok p) (Ok q) a b = ap (λ (x : Position). Ok x) (position_same text p q a b)
-readings_same text (Ok p) (Err g) a (ill, before) = absurd (never_faulty text p a g.field ill)
-readings_same text (Err f) (Ok q) (ill, before) b = absurd (never_faulty text q b f.field ill)
-readings_same text (Err f) (Err g) (ill, before) (ill', before') = elim (cases_order f.field g.field) [
+readings_same text (Ok p) (Err g) a first = absurd (never_faulty text p a g.field first)
+readings_same text (Err f) (Ok q) first b = absurd (never_faulty text q b f.field first)
+readings_same text (Err f) (Err g) first other = elim (cases_order f.field g.field) [
   | inl e ↦ ap (λ (x : FenFault). Err x) (fault_same f g e)
-  | inr (inl less) ↦ absurd (before' f.field less ill)
-  | inr (inr more) ↦ absurd (before g.field more ill')
+  | inr (inl less) ↦ let (p, kept) = other.left f.field less in absurd (first.none p kept)
+  | inr (inr more) ↦ let (p, kept) = first.left g.field more in absurd (other.none p kept)
 ]
 
 pub one_position : (text : List ℕ) (r s : Result Position FenFault) → FenReads text r → FenReads text s → r ≡ s

@@ -1,4 +1,4 @@
--- The first faulty field of a text is the least at which no position is left.
+-- The first faulty field of a text is the first that breaks its own rule.
 use Rattle.std.proofs.Common.{◌≡◌, ℕ, zero, suc, ◌<◌, ◌≤◌, ◌+◌, ◌-◌, ◌↔◌, ◌⊎◌, inl, inr, Bool, true, false, IsTrue, List, Option, Some, None, Ok, Err, refl, sym, subst, ◌∙◌, arith}
 use Rattle.std.proofs.lemmas.Bool.{cases_eq, cases_lt, false_from_ne_true}
 use Rattle.std.proofs.lemmas.Option.{same_Some}
@@ -15,9 +15,9 @@ use Rattle.explorer_model.specs.declared.square.Square.{Square}
 use Rattle.explorer_model.specs.declared.notation.FenFault.{FenFault}
 use Rattle.explorer_model.specs.Board.{rank_of, opponent, piece_at, IsEmpty, IsPiece, InCheck}
 use Rattle.explorer_model.specs.Chess.{king_home, rook_home, has_right, start, HasPieces, HasPawnsInside, HasCrossed}
-use Rattle.explorer_model.specs.Fen.{field, placement, PlacesPieces, turn_named, GivesTurn, rights_named, GivesRights, en_passant_named, GivesEnPassant, has_clock, has_number, IsFaulty, FenReads}
-use Rattle.fen_uci.specs.Faults.{KeepsUpTo, IsLeastWithout}
-use Rattle.fen_uci.proofs.Positions.{Keeps, keeps_all, keep_none, keep_1, keep_2, keep_3, keep_4, keep_5, keep_any, keep_less, kept_not_faulty}
+use Rattle.explorer_model.specs.Fen.{field, placement, PlacesPieces, turn_named, GivesTurn, rights_named, GivesRights, en_passant_named, GivesEnPassant, has_clock, has_number, KeepsUpTo, IsFirstFault, FenReads}
+use Rattle.fen_uci.specs.Faults.{IsFaulty}
+use Rattle.fen_uci.proofs.Positions.{Keeps, keeps_all, keep_none, keep_1, keep_2, keep_3, keep_4, keep_5, keep_any, keep_less}
 
 -- What is not impossible holds, of numbers and of pieces on their squares.
 
@@ -163,6 +163,20 @@ en_passant_left text squares turn (Some s) e = elim (crossed_decided squares tur
   | inr not ↦ (None, (Some s, e, λ t. (λ none. absurd none, λ both. absurd (not (subst (λ (n : ℕ). HasCrossed squares turn n) both.0 both.1)))))
 ]
 
+-- a field is not faulty whose rule a position keeps, with those before it
+kept_not_faulty : (text : List ℕ) (p : Position) (number : ℕ) → KeepsUpTo number text p → ¬ IsFaulty text number
+kept_not_faulty text p zero kept ill = ill
+kept_not_faulty text p (suc zero) kept ill = ill p.squares (kept.0 (omega arith))
+kept_not_faulty text p (suc (suc zero)) kept ill = ill p.squares p.turn (kept.0 (omega arith)) (kept.1 (omega arith))
+kept_not_faulty text p (suc (suc (suc zero))) kept ill = let (named, is, keeps) = kept.2 (omega arith) in cc
+kept_not_faulty text p (suc (suc (suc (suc zero)))) kept ill =
+    let (named, is, keeps) = kept.3 (omega arith) in
+    let turn = kept.1 (omega arith) in
+    let none = ill p.turn turn.0 in cc
+kept_not_faulty text p (suc (suc (suc (suc (suc zero))))) kept ill = let clock = kept.4 (omega arith) in cc
+kept_not_faulty text p (suc (suc (suc (suc (suc (suc zero)))))) kept ill = let count = kept.5 (omega arith) in cc
+kept_not_faulty text p (suc (suc (suc (suc (suc (suc (suc number))))))) kept ill = ill
+
 -- where the next field is not faulty either, a position is left
 next_left : (text : List ℕ) (number : ℕ) (p : Position) → KeepsUpTo number text p → ¬ IsFaulty text (suc number) → (q : Position) × KeepsUpTo (suc number) text q
 next_left text zero p kept some =
@@ -205,51 +219,54 @@ left_at text (suc number) none =
     let (p, kept) = left_at text number (λ before le. none before (omega (arith, le))) in
     next_left text number p kept (none (suc number) (omega arith))
 
-refused_leaves_none : (text : List ℕ) (number : ℕ) → IsFaulty text number → ((before : ℕ) → before < number → ¬ IsFaulty text before) → IsLeastWithout number text
-refused_leaves_none text number ill first = (
-  λ before less. left_at text before (λ other le. first other (omega (arith, less, le))),
-  λ p kept. kept_not_faulty text p number kept ill,
-)
+-- this field breaks its rule, and none before it does
+abbrev pub IsFaultyFirst : List ℕ → ℕ → Type 0
+IsFaultyFirst text number = IsFaulty text number × ((before : ℕ) → before < number → ¬ IsFaulty text before)
+
+faulty_is_first : (text : List ℕ) (number : ℕ) → IsFaultyFirst text number → IsFirstFault number text
+faulty_is_first text number (ill, first) = record {
+  left = λ before less. left_at text before (λ other le. first other (omega (arith, less, le)));
+  none = λ p kept. kept_not_faulty text p number kept ill;
+}
 
 -- where no position is left, this field is faulty
-none_left_is_faulty : (text : List ℕ) (number : ℕ) → IsLeastWithout number text → IsFaulty text number
-none_left_is_faulty text zero (left, none) = absurd (none start (keep_none text start))
-none_left_is_faulty text (suc zero) (left, none) = λ squares places.
+first_is_faulty : (text : List ℕ) (number : ℕ) → IsFirstFault number text → IsFaulty text number
+first_is_faulty text zero first = absurd (first.none start (keep_none text start))
+first_is_faulty text (suc zero) first = λ squares places.
     let p : Position = record start { squares = squares } in
-    none p (keep_1 text p places)
-none_left_is_faulty text (suc (suc zero)) (left, none) = λ squares turn places gives.
+    first.none p (keep_1 text p places)
+first_is_faulty text (suc (suc zero)) first = λ squares turn places gives.
     let p : Position = record start { squares = squares; turn = turn } in
-    none p (keep_2 text p places gives)
-none_left_is_faulty text (suc (suc (suc zero))) (left, none) =
-    let (p, kept) = left 2 (omega arith) in
+    first.none p (keep_2 text p places gives)
+first_is_faulty text (suc (suc (suc zero))) first =
+    let (p, kept) = first.left 2 (omega arith) in
     none_unless (rights_named (field 3 text)) (λ named e.
     let (rights, gives) = rights_left text p.squares named e in
     let q : Position = record p { rights = rights } in
-    none q (keep_3 text q (kept.0 (omega arith)) (kept.1 (omega arith)) gives))
-none_left_is_faulty text (suc (suc (suc (suc zero)))) (left, none) = λ turn is.
-    let (p, kept) = left 3 (omega arith) in
+    first.none q (keep_3 text q (kept.0 (omega arith)) (kept.1 (omega arith)) gives))
+first_is_faulty text (suc (suc (suc (suc zero)))) first = λ turn is.
+    let (p, kept) = first.left 3 (omega arith) in
     let turns = kept.1 (omega arith) in
     let same : turn ≡ p.turn = same_Some turn p.turn (sym is ∙ turns.0) in
     none_unless (en_passant_named turn (field 4 text)) (λ named e.
     let here = subst (λ (c : Color). en_passant_named c (field 4 text) ≡ Some named) same e in
     let (en_passant, gives) = en_passant_left text p.squares p.turn named here in
     let q : Position = record p { en_passant = en_passant } in
-    none q (keep_4 text q (kept.0 (omega arith)) turns (kept.2 (omega arith)) gives))
-none_left_is_faulty text (suc (suc (suc (suc (suc zero))))) (left, none) =
-    let (p, kept) = left 4 (omega arith) in
-    false_from_ne_true (has_clock text) (λ clock. none p (keep_5 text p kept clock))
-none_left_is_faulty text (suc (suc (suc (suc (suc (suc zero)))))) (left, none) =
-    let (p, kept) = left 5 (omega arith) in
-    false_from_ne_true (has_number text) (λ count. none p (keep_any text 6 p kept count))
-none_left_is_faulty text (suc (suc (suc (suc (suc (suc (suc number))))))) (left, none) =
-    let (p, kept) = left 6 (omega arith) in
-    absurd (none p (keep_any text (suc (suc (suc (suc (suc (suc (suc number))))))) p (keep_less text p 5 6 (omega arith) kept) (kept.5 (omega arith))))
+    first.none q (keep_4 text q (kept.0 (omega arith)) turns (kept.2 (omega arith)) gives))
+first_is_faulty text (suc (suc (suc (suc (suc zero))))) first =
+    let (p, kept) = first.left 4 (omega arith) in
+    false_from_ne_true (has_clock text) (λ clock. first.none p (keep_5 text p kept clock))
+first_is_faulty text (suc (suc (suc (suc (suc (suc zero)))))) first =
+    let (p, kept) = first.left 5 (omega arith) in
+    false_from_ne_true (has_number text) (λ count. first.none p (keep_any text 6 p kept count))
+first_is_faulty text (suc (suc (suc (suc (suc (suc (suc number))))))) first =
+    let (p, kept) = first.left 6 (omega arith) in
+    absurd (first.none p (keep_any text (suc (suc (suc (suc (suc (suc (suc number))))))) p (keep_less text p 5 6 (omega arith) kept) (kept.5 (omega arith))))
 
-none_left_is_refused : (text : List ℕ) (number : ℕ) → IsLeastWithout number text
-    → IsFaulty text number × ((before : ℕ) → before < number → ¬ IsFaulty text before)
-none_left_is_refused text number least = (
-  none_left_is_faulty text number least,
-  λ before less ill. let (p, kept) = least.0 before less in kept_not_faulty text p before kept ill,
+first_is_faulty_first : (text : List ℕ) (number : ℕ) → IsFirstFault number text → IsFaultyFirst text number
+first_is_faulty_first text number first = (
+  first_is_faulty text number first,
+  λ before less ill. let (p, kept) = first.left before less in kept_not_faulty text p before kept ill,
 )
 
 pub reads-kept : (text : List ℕ) (p : Position) → FenReads text (Ok p) ↔ KeepsUpTo 6 text p
@@ -258,5 +275,5 @@ reads-kept text p = (
   λ kept. (kept.0 (omega arith), kept.1 (omega arith), kept.2 (omega arith), kept.3 (omega arith), kept.4 (omega arith), kept.5 (omega arith)),
 )
 
-pub refused-least : (text : List ℕ) (fault : FenFault) → FenReads text (Err fault) ↔ IsLeastWithout fault.field text
-refused-least text fault = (λ refused. refused_leaves_none text fault.field refused.0 refused.1, none_left_is_refused text fault.field)
+pub refused-faulty : (text : List ℕ) (fault : FenFault) → FenReads text (Err fault) ↔ IsFaultyFirst text fault.field
+refused-faulty text fault = (first_is_faulty_first text fault.field, faulty_is_first text fault.field)

@@ -1,5 +1,6 @@
 -- What the fields of a text say together, and which of them is faulty first.
-use Rattle.std.proofs.Common.{◌≡◌, ℕ, zero, suc, ◌<◌, ◌≤◌, ◌↔◌, Bool, true, IsTrue, List, Option, arith}
+use Rattle.std.proofs.Common.{◌≡◌, ℕ, suc, ◌≤◌, ◌↔◌, Bool, true, false, IsTrue, List, Option, Some, None, sym, subst, ◌∙◌, arith}
+use Rattle.std.proofs.lemmas.Option.{same_Some}
 use Rattle.explorer_model.specs.declared.chess.Color.{Color}
 use Rattle.explorer_model.specs.declared.chess.Color.TheVariants.{White, Black}
 use Rattle.explorer_model.specs.declared.chess.Side.{Side}
@@ -10,9 +11,8 @@ use Rattle.explorer_model.specs.declared.chess.Rights.{Rights}
 use Rattle.explorer_model.specs.declared.chess.Position.{Position}
 use Rattle.explorer_model.specs.declared.square.Square.{Square}
 use Rattle.explorer_model.specs.Board.{piece_at, IsPiece}
-use Rattle.explorer_model.specs.Chess.{king_home, rook_home, has_right, IsValid}
-use Rattle.explorer_model.specs.Fen.{PlacesPieces, GivesTurn, KeepsRights, GivesRights, GivesEnPassant, GivesPosition, field, has_clock, has_number, IsFaulty}
-use Rattle.fen_uci.specs.Faults.{KeepsUpTo}
+use Rattle.explorer_model.specs.Chess.{king_home, rook_home, has_right, start, IsValid}
+use Rattle.explorer_model.specs.Fen.{PlacesPieces, GivesTurn, rights_named, KeepsRights, GivesRights, en_passant_named, GivesEnPassant, GivesPosition, KeepsUpTo, IsFirstFault, field, has_clock, has_number}
 use Rattle.fen_uci.proofs.Ranks.{placement_size}
 
 -- whether one right is kept
@@ -79,40 +79,59 @@ keep_less text p less more le kept = (
   λ at. kept.5 (omega (arith, le, at)),
 )
 
--- a field is not faulty whose rule a position keeps, with those before it
-pub kept_not_faulty : (text : List ℕ) (p : Position) (number : ℕ) → KeepsUpTo number text p → ¬ IsFaulty text number
-kept_not_faulty text p zero kept ill = ill
-kept_not_faulty text p (suc zero) kept ill = ill p.squares (kept.0 (omega arith))
-kept_not_faulty text p (suc (suc zero)) kept ill = ill p.squares p.turn (kept.0 (omega arith)) (kept.1 (omega arith))
-kept_not_faulty text p (suc (suc (suc zero))) kept ill = let (named, is, keeps) = kept.2 (omega arith) in cc
-kept_not_faulty text p (suc (suc (suc (suc zero)))) kept ill =
-    let (named, is, keeps) = kept.3 (omega arith) in
-    let turn = kept.1 (omega arith) in
-    let none = ill p.turn turn.0 in cc
-kept_not_faulty text p (suc (suc (suc (suc (suc zero))))) kept ill = let clock = kept.4 (omega arith) in cc
-kept_not_faulty text p (suc (suc (suc (suc (suc (suc zero)))))) kept ill = let count = kept.5 (omega arith) in cc
-kept_not_faulty text p (suc (suc (suc (suc (suc (suc (suc number))))))) kept ill = ill
-
--- no field up to the fourth is faulty
-pub none_before_clock : (text : List ℕ) (squares : List (Option Piece)) (turn : Color) (rights : Rights) (en_passant : Option Square)
-    → PlacesPieces text squares → GivesTurn text squares turn → GivesRights text squares rights → GivesEnPassant text squares turn en_passant
-    → (number : ℕ) → number < 5 → ¬ IsFaulty text number
-none_before_clock text squares turn rights en_passant pieces moves castles crosses number below =
-    let p : Position = record { squares = squares; turn = turn; rights = rights; en_passant = en_passant } in
-    kept_not_faulty text p number (keep_less text p number 4 (omega (arith, below)) (keep_4 text p pieces moves castles crosses))
-
--- no field up to the fifth is faulty
-pub none_before_number : (text : List ℕ) (squares : List (Option Piece)) (turn : Color) (rights : Rights) (en_passant : Option Square)
-    → PlacesPieces text squares → GivesTurn text squares turn → GivesRights text squares rights → GivesEnPassant text squares turn en_passant → has_clock text ≡ true
-    → (number : ℕ) → number < 6 → ¬ IsFaulty text number
-none_before_number text squares turn rights en_passant pieces moves castles crosses clock number below =
-    let p : Position = record { squares = squares; turn = turn; rights = rights; en_passant = en_passant } in
-    kept_not_faulty text p number (keep_less text p number 5 (omega (arith, below)) (keep_5 text p (keep_4 text p pieces moves castles crosses) clock))
-
 -- no field of a text that gives a position is faulty
-pub never_faulty : (text : List ℕ) (p : Position) → GivesPosition text p → (number : ℕ) → ¬ IsFaulty text number
-never_faulty text p (pieces, moves, castles, crosses, clock, count) number =
-    kept_not_faulty text p number (keep_any text number p (keep_5 text p (keep_4 text p pieces moves castles crosses) clock) count)
+pub never_faulty : (text : List ℕ) (p : Position) → GivesPosition text p → (number : ℕ) → ¬ IsFirstFault number text
+never_faulty text p (pieces, moves, castles, crosses, clock, count) number first =
+    first.none p (keep_any text number p (keep_5 text p (keep_4 text p pieces moves castles crosses) clock) count)
+
+-- The first faulty field: a position keeps the rules of those before it, and none keeps its own too.
+
+first_fault : (text : List ℕ) (number : ℕ) (p : Position) → KeepsUpTo number text p → ((q : Position) → ¬ KeepsUpTo (suc number) text q) → IsFirstFault (suc number) text
+first_fault text number p kept none = record {
+  left = λ before less. (p, keep_less text p before number (omega (arith, less)) kept);
+  none = none;
+}
+
+pub first_1 : (text : List ℕ) → ((squares : List (Option Piece)) → ¬ PlacesPieces text squares) → IsFirstFault 1 text
+first_1 text none = first_fault text 0 start (keep_none text start) (λ q kept. none q.squares (kept.0 (omega arith)))
+
+pub first_2 : (text : List ℕ) (squares : List (Option Piece)) → PlacesPieces text squares → ((turn : Color) → ¬ GivesTurn text squares turn) → IsFirstFault 2 text
+first_2 text squares pieces none =
+    let p : Position = record start { squares = squares } in
+    first_fault text 1 p (keep_1 text p pieces) (λ q kept.
+    let others = kept.0 (omega arith) in
+    let same : q.squares ≡ squares = same_Some q.squares squares (sym others.0 ∙ pieces.0) in
+    none q.turn (subst (λ (xs : List (Option Piece)). GivesTurn text xs q.turn) same (kept.1 (omega arith))))
+
+pub first_3 : (text : List ℕ) (squares : List (Option Piece)) (turn : Color) → PlacesPieces text squares → GivesTurn text squares turn
+    → rights_named (field 3 text) ≡ None → IsFirstFault 3 text
+first_3 text squares turn pieces moves none =
+    let p : Position = record start { squares = squares; turn = turn } in
+    first_fault text 2 p (keep_2 text p pieces moves) (λ q kept. let (named, is, keeps) = kept.2 (omega arith) in cc)
+
+pub first_4 : (text : List ℕ) (squares : List (Option Piece)) (turn : Color) (rights : Rights) → PlacesPieces text squares → GivesTurn text squares turn
+    → GivesRights text squares rights → en_passant_named turn (field 4 text) ≡ None → IsFirstFault 4 text
+first_4 text squares turn rights pieces moves castles none =
+    let p : Position = record start { squares = squares; turn = turn; rights = rights } in
+    first_fault text 3 p (keep_3 text p pieces moves castles) (λ q kept.
+    let (named, is, keeps) = kept.3 (omega arith) in
+    let turns = kept.1 (omega arith) in
+    let same : q.turn ≡ turn = same_Some q.turn turn (sym turns.0 ∙ moves.0) in
+    let here = subst (λ (c : Color). en_passant_named c (field 4 text) ≡ Some named) same is in cc)
+
+pub first_5 : (text : List ℕ) (squares : List (Option Piece)) (turn : Color) (rights : Rights) (en_passant : Option Square)
+    → PlacesPieces text squares → GivesTurn text squares turn → GivesRights text squares rights → GivesEnPassant text squares turn en_passant
+    → has_clock text ≡ false → IsFirstFault 5 text
+first_5 text squares turn rights en_passant pieces moves castles crosses none =
+    let p : Position = record { squares = squares; turn = turn; rights = rights; en_passant = en_passant } in
+    first_fault text 4 p (keep_4 text p pieces moves castles crosses) (λ q kept. let clock = kept.4 (omega arith) in cc)
+
+pub first_6 : (text : List ℕ) (squares : List (Option Piece)) (turn : Color) (rights : Rights) (en_passant : Option Square)
+    → PlacesPieces text squares → GivesTurn text squares turn → GivesRights text squares rights → GivesEnPassant text squares turn en_passant
+    → has_clock text ≡ true → has_number text ≡ false → IsFirstFault 6 text
+first_6 text squares turn rights en_passant pieces moves castles crosses clock none =
+    let p : Position = record { squares = squares; turn = turn; rights = rights; en_passant = en_passant } in
+    first_fault text 5 p (keep_5 text p (keep_4 text p pieces moves castles crosses) clock) (λ q kept. let count = kept.5 (omega arith) in cc)
 
 -- a position that a text gives is valid
 pub gives_valid : (text : List ℕ) (p : Position) → GivesPosition text p → IsValid p

@@ -1,21 +1,20 @@
--- The first faulty field of a text, by the positions that are left: those that keep the rules of
--- the fields up to a number.
-use Rattle.std.specs.Prelude.{ℕ, ◌<◌, ◌≤◌, IsTrue, List}
-use Rattle.explorer_model.specs.declared.chess.Position.{Position}
-use Rattle.explorer_model.specs.Fen.{PlacesPieces, GivesTurn, GivesRights, GivesEnPassant, has_clock, has_number}
+-- Bridge: the rule that a faulty field breaks, field by field.
+use Rattle.std.specs.Prelude.{◌≡◌, ℕ, zero, suc, false, List, Option, Some, None}
+use Rattle.explorer_model.specs.declared.chess.Color.{Color}
+use Rattle.explorer_model.specs.declared.chess.Piece.{Piece}
+use Rattle.explorer_model.specs.Fen.{field, PlacesPieces, turn_named, GivesTurn, rights_named, en_passant_named, has_clock, has_number}
 
--- the position keeps the rules of the fields up to this number
-abbrev pub KeepsUpTo : ℕ → List ℕ → Position → Type 0
-KeepsUpTo number text p =
-    (1 ≤ number → PlacesPieces text p.squares)
-    × (2 ≤ number → GivesTurn text p.squares p.turn)
-    × (3 ≤ number → GivesRights text p.squares p.rights)
-    × (4 ≤ number → GivesEnPassant text p.squares p.turn p.en_passant)
-    × (5 ≤ number → IsTrue (has_clock text))
-    × (6 ≤ number → IsTrue (has_number text))
-
--- the least number at which no position is left
-abbrev pub IsLeastWithout : ℕ → List ℕ → Type 0
-IsLeastWithout number text =
-    ((before : ℕ) → before < number → (p : Position) × KeepsUpTo before text p)
-    × ((p : Position) → ¬ KeepsUpTo number text p)
+-- the field of this number breaks its rule, where the fields before it keep theirs
+abbrev pub IsFaulty : List ℕ → ℕ → Type 0
+IsFaulty text zero = ⊥
+IsFaulty text (suc zero) = (squares : List (Option Piece)) → ¬ PlacesPieces text squares
+IsFaulty text (suc (suc zero)) =
+    (squares : List (Option Piece)) (turn : Color) → PlacesPieces text squares
+    → ¬ GivesTurn text squares turn
+IsFaulty text (suc (suc (suc zero))) = rights_named (field 3 text) ≡ None
+IsFaulty text (suc (suc (suc (suc zero)))) =
+    (turn : Color) → turn_named (field 2 text) ≡ Some turn
+    → en_passant_named turn (field 4 text) ≡ None
+IsFaulty text (suc (suc (suc (suc (suc zero))))) = has_clock text ≡ false
+IsFaulty text (suc (suc (suc (suc (suc (suc zero)))))) = has_number text ≡ false
+IsFaulty text (suc (suc (suc (suc (suc (suc (suc number))))))) = ⊥

@@ -1,13 +1,13 @@
 //! What holds of the written forms and of their reading.
-ghost use Rattle.std.specs.Prelude.{◌≡◌, ◌↔◌, ℕ, List, Result, Ok, Err};
+ghost use Rattle.std.specs.Prelude.{◌≡◌, ◌<◌, ◌↔◌, ℕ, List, Result, Ok, Err};
 ghost use Rattle.explorer_model.specs.declared.chess.Position.{Position as APosition};
 ghost use Rattle.explorer_model.specs.declared.chess.Move.{Move as AMove};
 ghost use Rattle.explorer_model.specs.declared.notation.FenFault.{FenFault as AFenFault};
 ghost use Rattle.explorer_model.specs.declared.notation.UciFault.{UciFault as AUciFault};
 ghost use Rattle.explorer_model.specs.Chess.{IsValid, Legal};
-ghost use Rattle.explorer_model.specs.Fen.{FenReads, fen_text};
+ghost use Rattle.explorer_model.specs.Fen.{KeepsUpTo, FenReads, fen_text};
 ghost use Rattle.explorer_model.specs.Uci.{UciReads, uci_text};
-ghost use Rattle.fen_uci.specs.Faults.{KeepsUpTo, IsLeastWithout};
+ghost use Rattle.fen_uci.specs.Faults.{IsFaulty};
 
 /// What is written of a valid position is read as that position.
 pub fn written_fen_is_read()
@@ -31,10 +31,12 @@ pub fn uci_is_determined()
         → UciReads p text r → UciReads p text s → r ≡ s }
 {}
 
-/// The first faulty field is the least at which no position is left: some position keeps the rules
-/// of the fields before it, and none keeps those of this field too. What is read keeps them all.
-pub fn first_fault_leaves_no_position()
+/// What is read keeps the rules of all six fields. What is refused is told field by field: the
+/// field that is told breaks its rule, and none before it does.
+pub fn faults_are_told_field_by_field()
     ensures read { (text : List ℕ) (p : APosition) → FenReads text (Ok p) ↔ KeepsUpTo 6 text p }
     ensures refused { (text : List ℕ) (fault : AFenFault)
-        → FenReads text (Err fault) ↔ IsLeastWithout fault.field text }
+        → FenReads text (Err fault)
+        ↔ (IsFaulty text fault.field
+        × ((before : ℕ) → before < fault.field → ¬ IsFaulty text before)) }
 {}
