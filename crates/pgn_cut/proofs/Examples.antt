@@ -1,7 +1,7 @@
 -- The definition of cuts, worked out on small streams.
-use Rattle.std.specs.Prelude.{◌≡◌, ℕ, List, [], ◌∷◌, codes}
-use Rattle.std.proofs.Common.{refl}
-use Rattle.explorer_model.specs.Cuts.{Cut, Text, Preamble, cuts, is_white_space, preamble, cuts_from, cuts_of, cut_at, parted, onto}
+use Rattle.std.specs.Prelude.{◌≡◌, ℕ, List, [], ◌∷◌, length, nat_le, cond, codes}
+use Rattle.std.proofs.Common.{refl, ap}
+use Rattle.explorer_model.specs.Cuts.{Cut, Text, TooLong, Preamble, cuts, is_white_space, preamble, cuts_from, cuts_of, cut_at, parted, onto}
 
 text_at : ℕ → List ℕ → Cut
 text_at place bytes = Text (record { place = place; bytes = bytes })
@@ -30,3 +30,12 @@ behind-a-mark = refl
 white-space : cuts (codes " \n\t\n") ≡ []
 unfolding cuts cuts_from preamble parted onto is_white_space cuts_of
 white-space = refl
+
+-- a text of 65536 bytes is read, and one of a byte more is told by its place and its length
+longest-text : (text : List ℕ) → length text ≡ 65536 → cut_at 3 text ≡ text_at 3 text
+unfolding text_at cut_at
+longest-text text size = ap (λ (n : ℕ). cond (nat_le n 65536) (text_at 3 text) (TooLong 3 n)) size
+
+too-long : (text : List ℕ) → length text ≡ 65537 → cut_at 3 text ≡ TooLong 3 65537
+unfolding text_at cut_at
+too-long text size = ap (λ (n : ℕ). cond (nat_le n 65536) (text_at 3 text) (TooLong 3 n)) size

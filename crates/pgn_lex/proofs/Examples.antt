@@ -48,6 +48,11 @@ tags-tokens-termination :
 unfolding parts meaning items items_from lead_of comment_of remark_of nag_of pair_item_of pair_of name_at string_len unescaped symbol_of ending_of
 tags-tokens-termination = refl
 
+-- a word goes on to its end, but it may begin behind the digits of a NAG
+word-behind-a-nag : parts (codes "e4 $12-0") ≡ Ok (record { tags = []; tokens = record { place = 0; text = codes "e4" } ∷ record { place = 6; text = codes "-0" } ∷ []; termination = None })
+unfolding parts meaning items items_from lead_of nag_of symbol_of ending_of
+word-behind-a-nag = refl
+
 -- a text may end without a termination
 no-termination : parts (codes "e4 e5") ≡ Ok (record { tags = []; tokens = record { place = 0; text = codes "e4" } ∷ record { place = 3; text = codes "e5" } ∷ []; termination = None })
 unfolding parts meaning items items_from lead_of symbol_of ending_of

@@ -6,6 +6,7 @@ pub mod Spans
 pub mod Steps
 pub mod Strings
 pub mod Symbols
+pub mod Words
 pub mod Export
 pub mod Examples
 mod ByteTables

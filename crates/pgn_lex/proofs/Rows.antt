@@ -19,7 +19,7 @@ fault_at item = record { place = item.place }
 
 -- ---- items
 
-length-item_at : (text : List ℕ) (at : ℕ) → at < length text → (0 < length (item_at at text).text) × (at + length (item_at at text).text ≤ length text)
+pub length-item_at : (text : List ℕ) (at : ℕ) → at < length text → (0 < length (item_at at text).text) × (at + length (item_at at text).text ≤ length text)
 unfolding item_at
 length-item_at text at lt =
     let shape : Shape = shape_at (begins_line at text) (drop at text) in
@@ -30,7 +30,7 @@ length-item_at text at lt =
 take-length-take : (n : ℕ) (bytes : List ℕ) → n ≤ length bytes → take (length (take n bytes)) bytes ≡ take n bytes
 take-length-take n bytes le = ap (λ (k : ℕ). take k bytes) (omega (arith, le, length-take n bytes))
 
-item_at-stands : (text : List ℕ) (at : ℕ) → at < length text → ((item_at at text).place ≡ at) × StandsAt text at (item_at at text).text
+pub item_at-stands : (text : List ℕ) (at : ℕ) → at < length text → ((item_at at text).place ≡ at) × StandsAt text at (item_at at text).text
 unfolding item_at
 item_at-stands text at lt =
     let shape : Shape = shape_at (begins_line at text) (drop at text) in
