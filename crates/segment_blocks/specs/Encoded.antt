@@ -71,12 +71,6 @@ abbrev pub HasOwnKey : List ℕ → List Mark → List ℕ → Type 0
 HasOwnKey key [] tails = ⊥
 HasOwnKey key (mark ∷ marks) tails = key_behind key mark tails ≡ key
 
--- a place in filled rows, where the key may be known to be that of the first row
-pub record IsPlace (is_own : Bool) (key : List ℕ) (marks : List Mark) (tails : List ℕ)
-    (whole : List Row) : Type 0 where
-  pub filled : IsFilled marks tails whole
-  pub own : IsTrue is_own → HasOwnKey key marks tails
-
 -- the key of the last row, or the one before where there is none
 unfoldable pub key_after : List ℕ → List Row → List ℕ
 key_after before [] = before
