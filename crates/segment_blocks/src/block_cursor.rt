@@ -100,9 +100,8 @@ impl<'a> BlockCursor<'a> {
             if self.place.is_own {
                 return Some(row_key_at(*self.place.before.key(), mark));
             }
-            let mut key = KeyRoom::of(self.place.before.key());
-            key.complete(mark, self.place.tails);
-            return Some(row_key_at(*key.key(), mark));
+            let key = completed(&self.place.before, mark, self.place.tails);
+            return Some(row_key_at(key, mark));
         }
         let (row, _whole) = self.place.whole.split_first()?;
         Some(row.row_key())
@@ -238,6 +237,18 @@ fn complete(key: &mut KeyRoom, is_own: bool, mark: &Mark, tails: &[u8])
     if !is_own {
         key.complete(mark, tails);
     }
+}
+
+/// The key of a mark behind another key. Kept apart, since the key of a next row is mostly its own
+/// already.
+#[inline(never)]
+fn completed(before: &KeyRoom, mark: &Mark, tails: &[u8]) -> [u8; 34]
+    requires { own_len mark.now ≤ length tails.now }
+    ensures { result ≡ key_behind before.now mark.now tails.now }
+{
+    let mut key = KeyRoom::of(before.key());
+    key.complete(mark, tails);
+    *key.key()
 }
 
 /// The game of a mark in the position of a key.

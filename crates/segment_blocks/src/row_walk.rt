@@ -77,11 +77,16 @@ impl<'a> RowWalk<'a> {
     pub fn next_row_key(&self) -> Option<RowKey>
         ensures { result ≡ next_row_key self.now }
     {
-        let row_key = self.rest.next_row_key()?;
-        if self.until.goes_over(&row_key.key) {
-            Some(row_key)
-        } else {
-            None
+        let next = self.rest.next_row_key();
+        match &next {
+            Some(row_key) => {
+                if self.until.goes_over(&row_key.key) {
+                    next
+                } else {
+                    None
+                }
+            }
+            None => None,
         }
     }
 

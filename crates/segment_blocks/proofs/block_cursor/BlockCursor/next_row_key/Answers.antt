@@ -25,9 +25,7 @@ returns-in-Some c =
     let p = c.self.inside.place in
     let mark = c.in_ok-mark.mark.now in
     let outcome = c.in-Some._outcome in
-    let key : c.key-in-Some-2.result.now ≡ key_behind p.before mark p.tails.now =
-    c.key-in-Some-2.ensures.key ∙ c.complete.ensures ∙ ap (λ k. key_behind k mark p.tails.now) (c.of-key.ensures ∙ c.key-in-Some.ensures.key) in
-    ap Some (c.row_key_at-in-Some.ensures ∙ ap (λ k. row_key_at k mark) key ∙ sym (row_key-game (key_behind p.before mark p.tails.now) mark outcome))
+    ap Some (c.row_key_at-in-Some.ensures ∙ ap (λ k. row_key_at k mark) c.completed-key.ensures ∙ sym (row_key-game (key_behind p.before mark p.tails.now) mark outcome))
     ∙ ap next_row_key (sym (rows_behind-game mark p.marks.now c.in_ok-mark._marks.now p.before p.tails.now p.whole.now c.in_ok-mark.ensures.cases.0 outcome c.in-Some.is) ∙ c.self.view_is)
 
 pub returns : goal.returns
