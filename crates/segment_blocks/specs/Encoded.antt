@@ -1,5 +1,5 @@
 -- Rows as marks, the ends of keys, and whole rows.
-use Rattle.std.specs.Prelude.{◌≡◌, ℕ, Bool, IsTrue, ◌-◌, List, [], ◌∷◌, ◌++◌, length, take, drop, Option, Some, None, is_none}
+use Rattle.std.specs.Prelude.{◌≡◌, ℕ, ◌-◌, List, [], ◌∷◌, ◌++◌, length, take, drop, Option, Some, None, is_none}
 use Rattle.std.specs.List.{sum_by, count_by}
 use Rattle.explorer_model.specs.declared.archive.Outcome.{Outcome}
 use Rattle.tally_rows.specs.declared.row.Row.{Row}
