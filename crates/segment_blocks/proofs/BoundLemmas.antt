@@ -1,5 +1,5 @@
 -- Rows before a bound, and where a walk ends.
-use Rattle.std.proofs.Common.{◌≡◌, ℕ, ◌<◌, true, false, None, Some, is_none, is_some, unwrap_or, List, [], ◌∷◌, ◌++◌, length, refl, sym, ap, ◌∙◌, true≢false, arith}
+use Rattle.std.proofs.Common.{◌≡◌, ℕ, ◌<◌, true, false, None, Some, is_none, unwrap_or, List, [], ◌∷◌, ◌++◌, length, refl, sym, ap, ◌∙◌, true≢false, arith}
 use Rattle.std.specs.declared.cmp.Ordering.{Ordering}
 use Rattle.std.specs.declared.cmp.Ordering.TheVariants.{Less, Equal, Greater}
 use Rattle.std.specs.Ordering.{nat_cmp, is_lt, is_gt, ordering_reverse}
@@ -108,8 +108,3 @@ pub record First (rows : List Row) (k : RowKey) : Type 0 where
 pub next-first : (rows : List Row) (k : RowKey) → next_row_key rows ≡ Some k → First rows k
 next-first [] k e = absurd (true≢false (ap is_none e))
 next-first (row ∷ rows) k e = record { row = row; rest = rows; parts = refl; has = ap (λ o. unwrap_or o k) e }
-
-pub next-in_block : (place block more : List Row) → is_some (next_row_key place) ≡ false → 0 < length block → next_row_key (place ++ (block ++ more)) ≡ next_row_key block
-next-in_block [] [] more e some = absurd (omega arith)
-next-in_block [] (row ∷ rows) more e some = refl
-next-in_block (row ∷ rows) block more e some = absurd (true≢false e)

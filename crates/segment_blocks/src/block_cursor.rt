@@ -92,6 +92,7 @@ impl<'a> BlockCursor<'a> {
     }
 
     /// What the games of the next row have in common, or None at the end.
+    #[inline(always)]
     pub fn next_row_key(&self) -> Option<RowKey>
         ensures { result ≡ next_row_key self.now }
     {
@@ -229,6 +230,7 @@ fn shared_with(last: &[u8; 34], key: &[u8; 34], follows: bool, shared: u8) -> u8
 
 /// Makes the key of a mark from the key before it and the bytes of its own, the first ones of
 /// `tails`, where it is not yet its own key.
+#[inline(always)]
 fn complete(key: &mut KeyRoom, is_own: bool, mark: &Mark, tails: &[u8])
     requires own { own_len mark.now ≤ length tails.now }
     requires is_own { IsTrue is_own → key_behind key.old mark.now tails.now ≡ key.old }

@@ -77,16 +77,11 @@ impl<'a> RowWalk<'a> {
     pub fn next_row_key(&self) -> Option<RowKey>
         ensures { result ≡ next_row_key self.now }
     {
-        let next = self.rest.next_row_key();
-        match &next {
-            Some(row_key) => {
-                if self.until.goes_over(&row_key.key) {
-                    next
-                } else {
-                    None
-                }
-            }
-            None => None,
+        let row_key = self.rest.next_row_key()?;
+        if self.until.goes_over(&row_key.key) {
+            Some(row_key)
+        } else {
+            None
         }
     }
 

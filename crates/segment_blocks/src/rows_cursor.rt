@@ -58,9 +58,8 @@ impl<'a> RowsCursor<'a> {
         if let Some(held) = &self.front {
             return Some(held.row_key());
         }
-        let next = self.place.next_row_key();
-        if next.is_some() {
-            return next;
+        if let Some(row_key) = self.place.next_row_key() {
+            return Some(row_key);
         }
         let (block, _blocks) = self.blocks.split_first()?;
         // A block has some row, as its length says.
