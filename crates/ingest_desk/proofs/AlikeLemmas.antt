@@ -70,7 +70,7 @@ alike_back (x ∷ list) [] alike = absurd alike
 alike_back (x ∷ list) (y ∷ other) alike =
     (count_back x y alike.0, alike_back list other alike.1)
 
-spans_alike : (list other : List CountedSpan) → StandAlike list other
+pub spans_alike : (list other : List CountedSpan) → StandAlike list other
     → spans_of list ≡ spans_of other
 spans_alike [] [] alike = refl
 spans_alike [] (y ∷ other) alike = absurd alike

@@ -8,3 +8,4 @@ pub mod RecountLemmas
 pub mod SoundLemmas
 pub mod ListingLemmas
 pub mod AlikeLemmas
+pub mod InstallLemmas

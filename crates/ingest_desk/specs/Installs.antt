@@ -1,5 +1,5 @@
 -- Statement: what becomes of two neighbours that were merged apart from the list.
-use Rattle.std.specs.Prelude.{◌≡◌, ℕ, List, length, map, Option, None, Some, Result, Ok, Err}
+use Rattle.std.specs.Prelude.{◌≡◌, ⊤, ℕ, List, length, map, Option, None, Some, Result, Ok, Err}
 use Rattle.explorer_model.specs.declared.archive.Batch.{Batch}
 use Rattle.explorer_model.specs.Spans.{Span}
 use Rattle.segment_blocks.specs.Segment.{CountedSpan}
@@ -64,3 +64,8 @@ Installs left right merged old new (Ok note) =
 Installs left right merged old new (Err (faults.Gone spans)) =
     IsGone left right (list_by old) new spans.items
 Installs left right merged old new (Err faults.OutOfMemory) = Unit {0}
+
+-- memory was there
+abbrev pub IsDecided : Result (List Batch) InstallFault → Type 0
+IsDecided (Err faults.OutOfMemory) = ⊥
+IsDecided _ = ⊤

@@ -1,20 +1,23 @@
 //! Laws of commits and of jobs. Each is the contract of a function that has nothing to do.
-ghost use Rattle.std.specs.Prelude.{◌≡◌, ℕ, List, Option, Result};
+ghost use Rattle.std.specs.Prelude.{◌≡◌, ◌<◌, ℕ, List, Option, Result, length};
 ghost use Rattle.explorer_model.specs.declared.archive.Batch.{Batch};
 ghost use Rattle.explorer_model.specs.declared.archive.Game.{Game};
 ghost use Rattle.explorer_model.specs.declared.store.LogFault.{LogFault};
 ghost use Rattle.explorer_model.specs.Journal.{IsSound};
+ghost use Rattle.explorer_model.specs.Spans.{Span};
 ghost use Rattle.manifest.specs.Manifest.{HasJournal};
 ghost use Rattle.record_log.specs.Log.{Log};
 ghost use Rattle.tally_rows.specs.Tally.{Counted};
 ghost use Rattle.segment_blocks.specs.Segment.{CountedSpan};
 ghost use Rattle.published_index.specs.Changes.{Change};
 ghost use Rattle.published_index.specs.Cover.{spans_of};
-ghost use Rattle.published_index.specs.States.{Publishing};
-ghost use Rattle.ingest_desk.specs.Alike.{StandAlike};
+ghost use Rattle.published_index.specs.States.{IsPublishing, Publishing};
+ghost use Rattle.ingest_desk.specs.Alike.{CountAlike, StandAlike};
 ghost use Rattle.ingest_desk.specs.Answers.{HadMemory, IsAnswer};
 ghost use Rattle.ingest_desk.specs.declared.fault.CommitFault.{CommitFault};
+ghost use Rattle.ingest_desk.specs.declared.fault.InstallFault.{InstallFault};
 ghost use Rattle.ingest_desk.specs.declared.receipt.Receipt.{Receipt};
+ghost use Rattle.ingest_desk.specs.Installs.{Installs, IsDecided};
 ghost use Rattle.ingest_desk.specs.Listing.{JoinsPicked, Lists, MakesRoom, PutsBehind};
 ghost use Rattle.ingest_desk.specs.Openings.{IsWrong};
 ghost use Rattle.ingest_desk.specs.Picking.{HasNoneDue, IsPicked};
@@ -69,6 +72,23 @@ pub fn what_is_listed_is_determined<J: Index>()
 {
     tallies_are_determined();
 }
+
+/// What becomes of two neighbours that were merged is one thing, want of memory aside: their segment
+/// stands in their one place, or they are gone. Segments that count alike leave lists that stand
+/// alike.
+pub fn installing_is_determined()
+    ensures same { (left right : Span) (merged : CountedSpan) (old new after : Publishing)
+        (answer other : Result (List Batch) InstallFault) → IsPublishing old
+        → 0 < length left.batches → Installs left right merged old new answer
+        → Installs left right merged old after other → IsDecided answer → IsDecided other
+        → (answer ≡ other) × (new ≡ after) }
+    ensures alike { (left right : Span) (merged joined : CountedSpan)
+        (old new after : Publishing) (answer other : Result (List Batch) InstallFault)
+        → IsPublishing old → 0 < length left.batches → CountAlike merged joined
+        → Installs left right merged old new answer
+        → Installs left right joined old after other → IsDecided answer → IsDecided other
+        → (answer ≡ other) × StandAlike new.list after.list }
+{}
 
 /// A file is opened with one answer, want of memory and faults of the disk aside: with this journal,
 /// or with this fault. A file whose journal is sound has no fault.
