@@ -14,7 +14,7 @@ use Rattle.segment_blocks.specs.declared.until.Until.{Until}
 use Rattle.segment_blocks.specs.declared.until.Until.TheVariants.{End, Key, Below, Done}
 use Rattle.segment_blocks.specs.Moving.{next_row_key, key_of_bound, is_before, AreBefore}
 use Rattle.segment_blocks.specs.Walk.{until_key, rows_until}
-use Rattle.segment_blocks.proofs.KeyLemmas.{key_order, first-less, below-chain, until_key-below, until_key-nil}
+use Rattle.segment_blocks.proofs.KeyLemmas.{AreBelow, key_order, first-less, below-chain, until_key-below, until_key-nil}
 use Rattle.segment_blocks.proofs.KeyOrderLemmas.{row_order-by-key}
 
 -- ---- one row
@@ -22,7 +22,7 @@ use Rattle.segment_blocks.proofs.KeyOrderLemmas.{row_order-by-key}
 -- the keys tell it where they differ
 pub before-by-key : (bound : Bound) (row : Row) (o : Ordering) → slice_cmp nat_cmp row.key (key_of_bound bound) ≡ o → (o ≡ Equal → ⊥)
     → is_before bound row ≡ is_lt o
-before-by-key (bounds.Row r) row o e h = ap is_lt (row_order-by-key (row_key_of row) r o e h)
+before-by-key (bounds.Row r) row o e h = ap is_lt (row_order-by-key (row_key_of row) r.now o e h)
 before-by-key (bounds.Key k) row o e h = ap is_lt e
 
 less-not_gt : (o : Ordering) → is_lt o ≡ true → is_gt o ≡ false
@@ -53,17 +53,17 @@ below-raise a b c h k = by (key_order b c) refl k
     by Greater e k = absurd (true≢false k)
 
 not_gt-of-less : (bound : Bound) (row : Row) → is_before bound row ≡ true → is_gt (key_order row.key (key_of_bound bound)) ≡ false
-not_gt-of-less (bounds.Row r) row e = first-less (row_key_of row) r (is_less (row_order (row_key_of row) r) e)
-not_gt-of-less (bounds.Key k) row e = less-not_gt (key_order row.key k) e
+not_gt-of-less (bounds.Row r) row e = first-less (row_key_of row) r.now (is_less (row_order (row_key_of row) r.now) e)
+not_gt-of-less (bounds.Key k) row e = less-not_gt (key_order row.key k.now) e
 
 module _ (bound : Bound) (key : List ℕ) where
   -- rows before a bound that stands below the key
-  pub before-nearer : is_lt (key_order (key_of_bound bound) key) ≡ true → (rows : List Row) → AreBefore bound rows → AreBefore (bounds.Key key) rows
+  pub before-nearer : is_lt (key_order (key_of_bound bound) key) ≡ true → (rows : List Row) → AreBefore bound rows → AreBelow key rows
   before-nearer e [] h = tt
   before-nearer e (row ∷ rows) h = (below-chain row.key (key_of_bound bound) key (not_gt-of-less bound row h.0) e, before-nearer e rows h.1)
 
   -- rows below a key that is not behind the bound
-  pub before-farther : is_lt (key_order (key_of_bound bound) key) ≡ false → (rows : List Row) → AreBefore (bounds.Key key) rows → AreBefore bound rows
+  pub before-farther : is_lt (key_order (key_of_bound bound) key) ≡ false → (rows : List Row) → AreBelow key rows → AreBefore bound rows
   before-farther e [] h = tt
   before-farther e (row ∷ rows) h = (
     before-by-key bound row Less (below-raise row.key key (key_of_bound bound) h.0 (turned (key_order (key_of_bound bound) key) refl e)) (λ d. cc),
@@ -75,7 +75,7 @@ module _ (bound : Bound) (key : List ℕ) where
 
 -- ---- where a walk ends
 
-pub until-before : (key : List ℕ) (rows rest : List Row) → AreBefore (bounds.Key key) rows → until_key key (rows ++ rest) ≡ rows ++ until_key key rest
+pub until-before : (key : List ℕ) (rows rest : List Row) → AreBelow key rows → until_key key (rows ++ rest) ≡ rows ++ until_key key rest
 until-before key [] rest h = refl
 until-before key (row ∷ rows) rest h = until_key-below key row (rows ++ rest) h.0 ∙ ap (λ l. row ∷ l) (until-before key rows rest h.1)
 

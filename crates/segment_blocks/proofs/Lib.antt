@@ -11,4 +11,5 @@ pub mod MovingLemmas
 pub mod OrderLemmas
 pub mod PackedLemmas
 pub mod SegmentLemmas
+pub mod SharedLemmas
 pub mod PartLemmas

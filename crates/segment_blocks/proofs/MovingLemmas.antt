@@ -95,12 +95,6 @@ module _ (by : ℕ) (bound : Bound) (first last new_last : List ℕ) (walk rest 
   IsBlock-moved (Ok false) room h = unmoved-block h
   IsBlock-moved (Err e) room h = unmoved-block h
 
-  pub IfMoved-block : (result : Result Bool AllocError) → IfMoved result (HasMovedBehind by bound walk rest last new_last rows new) Unmoved
-      → IfMoved result (HasMoved by bound walk rest (rows_of rows first) (rows_of new first)) ((rest ≡ walk) × (rows_of new first ≡ rows_of rows first))
-  IfMoved-block (Ok true) h = HasMoved-block h
-  IfMoved-block (Ok false) h = (h.0, ap (λ r. rows_of r first) h.2)
-  IfMoved-block (Err e) h = (h.0, ap (λ r. rows_of r first) h.2)
-
 -- ---- blocks
 
 rows_in-more : (blocks : List (List Row)) (n : ℕ) (more : List Row) → suc n ≡ length blocks

@@ -1,5 +1,5 @@
 -- Rows as marks, the ends of keys, and whole rows.
-use Rattle.std.specs.Prelude.{◌≡◌, ℕ, Bool, IsTrue, ◌-◌, List, [], ◌∷◌, ◌++◌, length, take, drop, Option, Some, None, is_none}
+use Rattle.std.specs.Prelude.{◌≡◌, ℕ, ◌-◌, List, [], ◌∷◌, ◌++◌, length, take, drop, Option, Some, None, is_none}
 use Rattle.std.specs.List.{sum_by, count_by}
 use Rattle.explorer_model.specs.declared.archive.Outcome.{Outcome}
 use Rattle.tally_rows.specs.declared.row.Row.{Row}
@@ -70,12 +70,6 @@ pub record IsFilled (marks : List Mark) (tails : List ℕ) (whole : List Row) : 
 abbrev pub HasOwnKey : List ℕ → List Mark → List ℕ → Type 0
 HasOwnKey key [] tails = ⊥
 HasOwnKey key (mark ∷ marks) tails = key_behind key mark tails ≡ key
-
--- a place in filled rows, where the key may be known to be that of the first row
-pub record IsPlace (is_own : Bool) (key : List ℕ) (marks : List Mark) (tails : List ℕ)
-    (whole : List Row) : Type 0 where
-  pub filled : IsFilled marks tails whole
-  pub own : IsTrue is_own → HasOwnKey key marks tails
 
 -- the key of the last row, or the one before where there is none
 unfoldable pub key_after : List ℕ → List Row → List ℕ

@@ -1,4 +1,5 @@
 pub mod Encoded
+pub mod Place
 pub mod HeldRow
 pub mod Block
 pub mod Walk

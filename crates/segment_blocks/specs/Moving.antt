@@ -18,13 +18,13 @@ next_row_key [] = None
 next_row_key (row ∷ rows) = Some (row_key_of row)
 
 abbrev pub key_of_bound : Bound → List ℕ
-key_of_bound (bounds.Row row_key) = row_key.key
-key_of_bound (bounds.Key key) = key
+key_of_bound (bounds.Row row_key) = row_key.now.key
+key_of_bound (bounds.Key key) = key.now
 
 -- the row stands before the bound
 abbrev pub is_before : Bound → Row → Bool
-is_before (bounds.Row row_key) row = is_lt (row_order (row_key_of row) row_key)
-is_before (bounds.Key key) row = is_below key row
+is_before (bounds.Row row_key) row = is_lt (row_order (row_key_of row) row_key.now)
+is_before (bounds.Key key) row = is_below key.now row
 
 abbrev pub AreBefore : Bound → List Row → Type 0
 AreBefore bound rows = AllByRecursion (λ row. is_before bound row ≡ true) rows

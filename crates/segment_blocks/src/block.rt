@@ -3,7 +3,7 @@ ghost use Rattle.std.specs.Prelude.{◌≡◌, ℕ, List, ◌<◌, ◌≤◌, �
 ghost use Rattle.segment_blocks.specs.Block.{block_limit};
 ghost use Rattle.segment_blocks.specs.Encoded.{key_first};
 ghost use Rattle.segment_blocks.specs.HeldRow.{row_in};
-ghost use Rattle.segment_blocks.specs.Moving.{IfMoved, HasMoved, HaveMoved, Tells};
+ghost use Rattle.segment_blocks.specs.Moving.{HaveMoved, Tells};
 
 use crate::block_cursor::BlockCursor;
 use crate::bound::Bound;
@@ -100,35 +100,23 @@ impl Block {
     /// as long as they stand before the bound. It may stop early. Says whether it has moved any.
     pub fn take_games(
         &mut self,
-        place: &mut BlockCursor<'_>,
+        from: &mut BlockCursor<'_>,
         by: u32,
-        bound: &Bound,
+        bound: &Bound<'_>,
     ) -> Result<bool, AllocError>
-        ensures moved { HaveMoved by bound.now place.old place.new self.old self.new }
-        ensures told { Tells result (length place.new < length place.old)
-            ((place.new ≡ place.old) × (self.new ≡ self.old)) }
+        ensures moved { HaveMoved by bound.now from.old from.new self.old self.new }
+        ensures told { Tells result (length from.new < length from.old)
+            ((from.new ≡ from.old) × (self.new ≡ self.old)) }
     {
         let mut some = false;
-        while self.take_game(place, by, bound)? {
+        while self.rows.len() < BLOCK_LIMIT
+            && from
+                .place
+                .move_game(&mut self.rows, &mut self.last, by, bound, some)?
+        {
             some = true;
         }
         Ok(some)
-    }
-
-    /// Moves the next row of a place, if it is such a row and there is room. Says whether it did.
-    fn take_game(
-        &mut self,
-        place: &mut BlockCursor<'_>,
-        by: u32,
-        bound: &Bound,
-    ) -> Result<bool, AllocError>
-        ensures { IfMoved result (HasMoved by bound.now place.old place.new self.old self.new)
-            ((place.new ≡ place.old) × (self.new ≡ self.old)) }
-    {
-        if self.rows.len() >= BLOCK_LIMIT {
-            return Ok(false);
-        }
-        place.move_game(&mut self.rows, &mut self.last, by, bound)
     }
 
     /// A block with the first row behind this one, in the room that this one had, which then takes

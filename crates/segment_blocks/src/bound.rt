@@ -10,21 +10,31 @@ use tally_rows::RowKey;
 
 /// Where rows end that are moved at once.
 #[derive(Clone, Copy, Debug)]
-pub enum Bound {
+pub enum Bound<'a> {
     /// Before a row whose games have this in common.
-    Row(RowKey),
+    Row(&'a RowKey),
     /// Before rows of this key and all behind it.
-    Key([u8; 34]),
+    Key(&'a [u8; 34]),
 }
 
-impl Bound {
+impl<'a> Bound<'a> {
     /// The key at which or in which the rows end.
-    pub fn key(&self) -> &[u8; 34]
+    pub fn key(&self) -> &'a [u8; 34]
         ensures { result.now ≡ key_of_bound self.now }
     {
-        match self {
+        match *self {
             Bound::Row(row_key) => &row_key.key,
             Bound::Key(key) => key,
+        }
+    }
+
+    /// The same bound.
+    pub fn again(&self) -> Bound<'_>
+        ensures { result ≡ self.now }
+    {
+        match self {
+            Bound::Row(row_key) => Bound::Row(row_key),
+            Bound::Key(key) => Bound::Key(key),
         }
     }
 
@@ -32,7 +42,7 @@ impl Bound {
     pub fn is_behind(&self, row_key: &RowKey) -> bool
         ensures { (row : Row) → row_key_of row ≡ row_key.now → result ≡ is_before self.now row }
     {
-        match self {
+        match *self {
             Bound::Row(other) => row_key.cmp(other).is_lt(),
             Bound::Key(key) => order_of_keys(&row_key.key, key).is_lt(),
         }

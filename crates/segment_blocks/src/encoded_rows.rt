@@ -1,10 +1,10 @@
 //! Rows in few bytes.
-ghost use Rattle.std.specs.Prelude.{◌≡◌, ◌≤◌, [], ℕ, List, false, is_none, IfOk, IfSome, OnOk, OnErr, length, take};
+ghost use Rattle.std.specs.Prelude.{◌≡◌, ◌≤◌, ◌-◌, ◌*◌, ◌/◌, ◌^◌, [], ℕ, List, false, is_none, IfOk, IfSome, OnOk, OnErr, length, take};
 ghost use Rattle.segment_blocks.specs.Encoded.{IsMarkOf, IsAppended, rows_of};
 ghost use Rattle.tally_rows.specs.declared.row.Row.{Row};
 ghost use Rattle.segment_blocks.specs.HeldRow.{row_in};
 
-use crate::block_cursor::BlockCursor;
+use crate::block_cursor::{BlockCursor, Place};
 use crate::held_row::HeldRow;
 use crate::key_room::KeyRoom;
 use crate::mark::Mark;
@@ -12,7 +12,7 @@ use explorer_model::archive::{Group, Month, Speed};
 use std::alloc::{AllocError, Global};
 use std::marker::Model;
 use std::mem::replace;
-use tally_rows::Row;
+use tally_rows::{Row, word_at};
 
 /// How many marks a block has at most.
 const MARKS: usize = 128;
@@ -127,25 +127,53 @@ impl EncodedRows {
         ensures { result ≡ rows_of self.now before }
     {
         BlockCursor {
-            before: KeyRoom::of(&before),
-            is_own: false,
-            marks: self.marks.as_slice(),
-            tails: self.tails.as_slice(),
-            whole: self.whole.as_slice(),
+            place: Place {
+                before: KeyRoom::of(&before),
+                is_own: false,
+                marks: self.marks.as_slice(),
+                tails: self.tails.as_slice(),
+                whole: self.whole.as_slice(),
+            },
         }
     }
 }
 
-/// How many bytes both keys begin with alike.
+/// How many bytes both keys begin with alike. Machine words tell it far faster than bytes do.
 pub fn shared_len(a: &[u8; 34], b: &[u8; 34]) -> u8
     ensures within { result ≤ 34 }
     ensures same { take result a.now ≡ take result b.now }
     ensures long { length b.now ≡ 34 }
 {
-    for at in 0..34u8 {
-        if a[usize::from(at)] != b[usize::from(at)] {
-            return at;
+    for word in 0..4u8 {
+        let at = 8 * word;
+        let first = word_at(a, usize::from(at));
+        let second = word_at(b, usize::from(at));
+        if first != second {
+            return at + shared_bytes(first, second);
         }
+    }
+    shared_end(a, b)
+}
+
+/// How many of their eight bytes two words begin with alike.
+fn shared_bytes(first: u64, second: u64) -> u8
+    ensures within { result ≤ 8 }
+    ensures same { first / 2 ^ (64 - 8 * result) ≡ second / 2 ^ (64 - 8 * result) }
+{
+    (first ^ second).leading_zeros() as u8 / 8
+}
+
+/// How many bytes two keys begin with alike that have their first 32 bytes in common.
+fn shared_end(a: &[u8; 34], b: &[u8; 34]) -> u8
+    requires { take 32 a.now ≡ take 32 b.now }
+    ensures within { result ≤ 34 }
+    ensures same { take result a.now ≡ take result b.now }
+{
+    if a[32] != b[32] {
+        return 32;
+    }
+    if a[33] != b[33] {
+        return 33;
     }
     34
 }

@@ -43,6 +43,7 @@ impl KeyRoom {
 
     /// Makes the key of a mark from the key before it and the bytes of its own, the first ones of
     /// `tails`.
+    #[inline(always)]
     pub fn complete(&mut self, mark: &Mark, tails: &[u8])
         requires { own_len mark.now ≤ length tails.now }
         ensures { self.new ≡ key_behind self.old mark.now tails.now }
@@ -81,6 +82,7 @@ fn front_of(bytes: &[u8; 68]) -> &[u8; 34]
 }
 
 /// Puts the bytes of a mark's own behind those that its key shares.
+#[inline(always)]
 fn put_behind(bytes: &mut [u8; 68], mark: &Mark, tails: &[u8])
     requires { own_len mark.now ≤ length tails.now }
     ensures { take 34 bytes.new ≡ key_behind (take 34 bytes.old) mark.now tails.now }

@@ -130,7 +130,7 @@ impl PackedRows {
         &mut self,
         walk: &mut RowWalk<'_>,
         by: u32,
-        bound: &Bound,
+        bound: &Bound<'_>,
     ) -> Result<bool, AllocError>
         requires in_order { AreInOrder (self.old.rows ++ map (shifted_row by) walk.old) }
         ensures moved { HaveMoved by bound.now walk.old walk.new self.old.rows self.new.rows }

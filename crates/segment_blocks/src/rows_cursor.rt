@@ -72,7 +72,7 @@ impl<'a> RowsCursor<'a> {
         &mut self,
         block: &mut Block,
         by: u32,
-        bound: &Bound,
+        bound: &Bound<'_>,
     ) -> Result<bool, AllocError>
         ensures moved { HaveMoved by bound.now self.old self.new block.old block.new }
         ensures told { Tells result (length self.new < length self.old)

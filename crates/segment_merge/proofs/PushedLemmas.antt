@@ -3,6 +3,7 @@ use Rattle.std.proofs.Common.{◌≡◌, ◌+◌, ◌<◌, ◌⊎◌, inl, inr, 
 use Rattle.std.specs.declared.cmp.Ordering.{Ordering}
 use Rattle.std.specs.declared.cmp.Ordering.TheVariants.{Less, Equal, Greater}
 use Rattle.std.specs.Ordering.{is_lt, ordering_reverse}
+use Rattle.std.specs.List.{AllByRecursion}
 use Rattle.std.specs.List.Sorted.{IsStrictlySortedBy}
 use Rattle.std.proofs.lemmas.List.{length-append}
 use Rattle.tally_rows.specs.declared.row_key.RowKey.{RowKey}
@@ -12,8 +13,7 @@ use Rattle.tally_rows.specs.Row.{row_key_of}
 use Rattle.tally_rows.proofs.Combining.{combined-row_key}
 use Rattle.tally_rows.proofs.RowOrder.{row_order-IsAntisymmetric}
 use Rattle.segment_blocks.specs.declared.bound.Bound.{Bound}
-use Rattle.segment_blocks.specs.declared.bound.Bound.TheVariants as bounds
-use Rattle.segment_blocks.specs.Moving.{next_row_key, AreBefore}
+use Rattle.segment_blocks.specs.Moving.{next_row_key, is_before, AreBefore}
 use Rattle.segment_blocks.specs.PackedRows.{AreInOrder}
 use Rattle.segment_merge.specs.Merged.{merged, next_order}
 use Rattle.segment_merge.specs.Pushed.{HavePushed}
@@ -26,13 +26,17 @@ is_less Less e = refl
 is_less Equal e = absurd (true≢false (sym e))
 is_less Greater e = absurd (true≢false (sym e))
 
-run-left : (pushed rest : List Row) (r : Row) (rs : List Row) → AreBefore (bounds.Row (row_key_of r)) pushed
+-- each of the rows stands before this one
+abbrev AreBeforeRow : Row → List Row → Type 0
+AreBeforeRow r rows = AllByRecursion (λ row. is_lt (row_order (row_key_of row) (row_key_of r)) ≡ true) rows
+
+run-left : (pushed rest : List Row) (r : Row) (rs : List Row) → AreBeforeRow r pushed
     → merged (pushed ++ rest) (r ∷ rs) ≡ pushed ++ merged rest (r ∷ rs)
 run-left [] rest r rs h = refl
 run-left (p ∷ ps) rest r rs h =
     merged-less p (ps ++ rest) r rs (is_less (row_order (row_key_of p) (row_key_of r)) h.0) ∙ ap (λ l. p ∷ l) (run-left ps rest r rs h.1)
 
-run-right : (l : Row) (ls pushed rest : List Row) → AreBefore (bounds.Row (row_key_of l)) pushed
+run-right : (l : Row) (ls pushed rest : List Row) → AreBeforeRow l pushed
     → merged (l ∷ ls) (pushed ++ rest) ≡ pushed ++ merged (l ∷ ls) rest
 run-right l ls [] rest h = refl
 run-right l ls (p ∷ ps) rest h =
@@ -41,7 +45,12 @@ run-right l ls (p ∷ ps) rest h =
 
 -- the bound is the next row of the other side, where it has one
 abbrev pub Bounds : List Row → Bound → Type 0
-Bounds other bound = (row_key : RowKey) → next_row_key other ≡ Some row_key → bound ≡ bounds.Row row_key
+Bounds other bound =
+    (row_key : RowKey) → next_row_key other ≡ Some row_key → (row : Row) → is_before bound row ≡ is_lt (row_order (row_key_of row) row_key)
+
+before-row : (bound : Bound) (r : Row) (rs rows : List Row) → Bounds (r ∷ rs) bound → AreBefore bound rows → AreBeforeRow r rows
+before-row bound r rs [] b h = tt
+before-row bound r rs (row ∷ rows) b h = (sym (b (row_key_of r) refl row) ∙ h.0, before-row bound r rs rows b h.1)
 
 rest-is : (l : Row) (ls pushed rest : List Row) → l ∷ ls ≡ pushed ++ rest → pushed ≡ l ∷ [] → rest ≡ ls
 rest-is l ls pushed rest parts one = sym (ap (drop 1) (parts ∙ ap (λ p. p ++ rest) one))
@@ -58,7 +67,7 @@ module _ (bound : Bound) (rows new_rows : List Row) where
 
       run : (rs : List Row) → Bounds rs bound → AreBefore bound h.pushed → merged (h.pushed ++ rest) rs ≡ h.pushed ++ merged rest rs
       run [] b before = merged-nil_right (h.pushed ++ rest) ∙ ap (λ l. h.pushed ++ l) (sym (merged-nil_right rest))
-      run (r ∷ rs) b before = run-left h.pushed rest r rs (subst (λ x. AreBefore x h.pushed) (b (row_key_of r) refl) before)
+      run (r ∷ rs) b before = run-left h.pushed rest r rs (before-row bound r rs h.pushed b before)
 
       by : (h.pushed ≡ take 1 ls) ⊎ AreBefore bound h.pushed → merged ls rs ≡ h.pushed ++ merged rest rs
       by (inl is) = one ls e h.parts is
@@ -75,7 +84,7 @@ module _ (bound : Bound) (rows new_rows : List Row) where
 
       run : (ls : List Row) → Bounds ls bound → AreBefore bound h.pushed → merged ls (h.pushed ++ rest) ≡ h.pushed ++ merged ls rest
       run [] b before = merged-nil_left (h.pushed ++ rest) ∙ ap (λ l. h.pushed ++ l) (sym (merged-nil_left rest))
-      run (l ∷ ls) b before = run-right l ls h.pushed rest (subst (λ x. AreBefore x h.pushed) (b (row_key_of l) refl) before)
+      run (l ∷ ls) b before = run-right l ls h.pushed rest (before-row bound l ls h.pushed b before)
 
       by : (h.pushed ≡ take 1 rs) ⊎ AreBefore bound h.pushed → merged ls rs ≡ h.pushed ++ merged ls rest
       by (inl is) = one rs e h.parts is

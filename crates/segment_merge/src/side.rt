@@ -1,13 +1,15 @@
 //! One side of a merge.
 ghost use Rattle.std.specs.Prelude.{◌≡◌, [], ◌∷◌, ◌++◌, Some, MatchOption, OnOk, map};
 ghost use Rattle.std.specs.List.{AllByRecursion};
-ghost use Rattle.segment_blocks.specs.declared.bound.Bound.TheVariants as bounds;
-ghost use Rattle.segment_blocks.specs.Moving.{next_row_key};
+ghost use Rattle.std.specs.Ordering.{is_lt};
+ghost use Rattle.segment_blocks.specs.Moving.{next_row_key, is_before};
 ghost use Rattle.segment_blocks.specs.PackedRows.{AreInOrder};
 ghost use Rattle.segment_merge.specs.Pushed.{HavePushed};
 ghost use Rattle.segment_merge.specs.Room.{HasRoom, IsSmall};
+ghost use Rattle.tally_rows.specs.declared.row.Row.{Row};
 ghost use Rattle.tally_rows.specs.declared.row_key.RowKey.{RowKey};
-ghost use Rattle.tally_rows.specs.Row.{shifted_row};
+ghost use Rattle.tally_rows.specs.Row.{row_key_of, shifted_row};
+ghost use Rattle.tally_rows.specs.RowKey.{row_order};
 
 use crate::shifting::{push_shifted, shifted};
 use segment_blocks::{Bound, PackedRows, RowWalk};
@@ -57,13 +59,13 @@ impl<'a> Side<'a> {
     }
 
     /// Before which rows those of the other side stand that come first.
-    pub fn bound(&self) -> Bound
-        ensures { (row_key : RowKey) → next_row_key self.now ≡ Some row_key
-            → result ≡ bounds.Row row_key }
+    pub fn bound(&self) -> Bound<'_>
+        ensures { (row_key : RowKey) → next_row_key self.now ≡ Some row_key → (row : Row)
+            → is_before result row ≡ is_lt (row_order (row_key_of row) row_key) }
     {
         match &self.next {
-            Some(row_key) => Bound::Row(*row_key),
-            None => Bound::Key([255; 34]),
+            Some(row_key) => Bound::Row(row_key),
+            None => Bound::Key(&[255; 34]),
         }
     }
 
@@ -73,7 +75,7 @@ impl<'a> Side<'a> {
         &mut self,
         alloc: Global,
         packed: &mut PackedRows,
-        bound: &Bound,
+        bound: &Bound<'_>,
     ) -> Result<(), AllocError>
         requires in_order { AreInOrder (packed.old.rows ++ self.old) }
         ensures { OnOk result

@@ -1,11 +1,28 @@
-use Rattle.segment_blocks.proofs.MovingLemmas.{HaveMoved-step, fewer-after, said-so}
+use Rattle.std.proofs.Common.{◌<◌, length, arith}
+use Rattle.segment_blocks.specs.Encoded.{rows_of}
+use Rattle.segment_blocks.specs.Place.{rows_left}
+use Rattle.segment_blocks.proofs.MovingLemmas.{HasMoved-block, IsBlock-moved, HaveMoved-step, fewer-after, said-so}
 use Rattle.segment_blocks.proofs.block.Block.take_games.Goals as goal
 
-pub loop-some-preserved : goal.loop-some-preserved
-loop-some-preserved c =
-    let l = c.loop-some in
-    let one = said-so _ _ c.if-branch.true c.in_ok-take_game.ensures in
+pub loop-from-preserved : goal.loop-from-preserved
+loop-from-preserved c =
+    let by = c.args.by in
+    let bound = c.args.bound.now in
+    let b = c.loop-from.self-inside in
+    let before = c.loop-from.invariant in
+    let walk = rows_left c.from.inside.place in
+    let mid = rows_left c.loop-from.from-inside.place in
+    let rest = rows_left c.move_game.new.self in
+    let old = rows_of c.self.inside.rows c.self.inside.first in
+    let rows = rows_of b.rows b.first in
+    let last = c.move_game.new.last in
+    let new = c.move_game.new.rows in
+    let room : length rows < 128 = omega (arith, c.len.ensures b.first, c.loop-from-test.true) in
+    let one = HasMoved-block by bound b.first b.last last mid rest b.rows new before.block (said-so _ _ c.if-branch.true c.in_ok-move_game.ensures.moved) in
     record {
-      moved = HaveMoved-step c.args.by c.args.bound.now c.args.place.now l.place c.take_game.new.place c.args.self.now l.self c.take_game.new.self l.invariant.moved one;
-      told = fewer-after c.args.by c.args.bound.now c.args.place.now l.place c.take_game.new.place c.args.self.now l.self c.take_game.new.self l.invariant.moved one;
+      filled = c.move_game.ensures.filled;
+      block = IsBlock-moved by bound b.first b.last last mid rest b.rows new before.block c.move_game.result room c.move_game.ensures.moved;
+      known = λ h. said-so _ _ c.if-branch.true c.in_ok-move_game.ensures.behind;
+      moved = HaveMoved-step by bound walk mid rest old rows (rows_of new b.first) before.moved one;
+      told = fewer-after by bound walk mid rest old rows (rows_of new b.first) before.moved one;
     }

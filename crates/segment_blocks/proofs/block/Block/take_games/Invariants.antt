@@ -1,12 +1,23 @@
-use Rattle.std.proofs.Common.{◌≡◌, ◌<◌, length}
+use Rattle.std.proofs.Common.{◌≡◌, ◌<◌, length, IsTrue}
+use Rattle.segment_blocks.specs.Block.{IsBlock}
+use Rattle.segment_blocks.specs.Encoded.{rows_of}
 use Rattle.segment_blocks.specs.Moving.{HaveMoved, Says}
+use Rattle.segment_blocks.specs.Place.{rows_left, IsPlace}
 use Rattle.segment_blocks.proofs.block.Block.take_games.Given as goal
 
-abbrev pub invariant-loop-some : goal.invariant-loop-some
-invariant-loop-some l = record {
-  moved : HaveMoved l.by l.bound l.initial.place l.place l.initial.self l.self;
-  told : Says l.some (length l.place < length l.initial.place) ((l.place ≡ l.initial.place) × (l.self ≡ l.initial.self));
-}
+abbrev pub invariant-loop-from : goal.invariant-loop-from
+invariant-loop-from l =
+    let place = l.from-inside.place in
+    let walk = rows_left l.initial.from-inside.place in
+    let b = l.self-inside in
+    let old = rows_of l.initial.self-inside.rows l.initial.self-inside.first in
+    record {
+      filled : IsPlace place;
+      block : IsBlock b.first b.last (rows_of b.rows b.first);
+      known : IsTrue l.some → b.last ≡ place.before;
+      moved : HaveMoved l.by l.bound walk (rows_left place) old (rows_of b.rows b.first);
+      told : Says l.some (length (rows_left place) < length walk) ((rows_left place ≡ walk) × (rows_of b.rows b.first ≡ old));
+    }
 
-abbrev pub decreases-loop-some : goal.decreases-loop-some
-decreases-loop-some l = length l.place
+abbrev pub decreases-loop-from : goal.decreases-loop-from
+decreases-loop-from l = length (rows_left l.from-inside.place)

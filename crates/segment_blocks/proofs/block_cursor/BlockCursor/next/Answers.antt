@@ -11,7 +11,7 @@ returns-in_err-mark c =
 
 pub returns-in-Some : goal.returns-in-Some
 returns-in-Some c =
-    let p = c.self.inside in
+    let p = c.self.inside.place in
     let mark = c.in_ok-mark.mark.now in
     let key : key_behind p.before mark p.tails.now ≡ c.complete.new.key = sym c.complete.ensures in
     let rest : drop (own_len mark) p.tails.now ≡ c.split_at.result.1.now =
@@ -24,7 +24,7 @@ returns-in-Some c =
 
 pub returns-in_ok-row : goal.returns-in_ok-row
 returns-in_ok-row c =
-    let p = c.self.inside in
+    let p = c.self.inside.place in
     let mark = c.in_ok-mark.mark.now in
     let row = c.in_ok-row.row.now in
     let rest : drop (own_len mark) p.tails.now ≡ c.split_at.result.1.now =

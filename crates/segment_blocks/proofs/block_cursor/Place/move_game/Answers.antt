@@ -4,11 +4,11 @@ use Rattle.segment_blocks.specs.Encoded.{own_len, key_behind, single_of, rows_be
 use Rattle.segment_blocks.specs.Moving.{is_before}
 use Rattle.segment_blocks.proofs.EncodedLemmas.{rows_behind-game, rows_behind-own, own-first, own-behind, key-game}
 use Rattle.segment_blocks.proofs.MovingLemmas.{game-shifted, shifted-key, unmoved-err}
-use Rattle.segment_blocks.proofs.block_cursor.BlockCursor.move_game.Goals as goal
+use Rattle.segment_blocks.proofs.block_cursor.Place.move_game.Goals as goal
 
-pub returns : goal.returns
-returns c =
-    let p = c.self.inside in
+pub returns-clause-moved : goal.returns-clause-moved
+returns-clause-moved c =
+    let p = c.args.self.now in
     let by = c.args.by in
     let mark = c.in-Some.mark.now in
     let moved = c.renumbered.result in
@@ -28,8 +28,7 @@ returns c =
     ap row_of (c.renumbered.ensures.single key outcome ∙ (λ i. record game { number = number i })) ∙ game-shifted by game in
     record {
       row = row;
-      first = sym c.self.view_is
-          ∙ rows_behind-game mark p.marks.now marks p.before p.tails.now p.whole.now c.in-Some.ensures.cases.0 outcome c.in-Some-outcome.is
+      first = rows_behind-game mark p.marks.now marks p.before p.tails.now p.whole.now c.in-Some.ensures.cases.0 outcome c.in-Some-outcome.is
           ∙ (λ i. row_of (single_of (key_is i) mark outcome) ∷ rows_behind marks (key_is i) (rest i) p.whole.now);
       appended = c.in_ok-push_game.ensures.ok c.args.last.now (shifted_row by row) row_key
           (subst (λ n. take n c.args.last.now ≡ take n key) (sym c.renumbered.ensures.shared) (c.shared_with-shared.ensures.same ∙ ap (take c.shared_with-shared.result) c.key-3.ensures.key))
@@ -46,46 +45,44 @@ returns c =
 
 pub shared_with-shared-requires-clause-same : goal.shared_with-shared-requires-clause-same
 shared_with-shared-requires-clause-same c h =
-    let p = c.self.inside in
+    let p = c.args.self.now in
     let mark = c.in-Some.mark.now in
     let own = take (own_len mark) p.tails.now in
     let fits : mark.shared ≤ length p.before = omega (arith, mark.in_key, c.key.ensures.long) in
     ap (take mark.shared) (c.is_last-follows.ensures h ∙ c.key.ensures.key)
     ∙ sym (ap (take mark.shared) (c.key-3.ensures.key ∙ c.complete.ensures) ∙ own-first p.before mark p.tails.now mark.shared fits own)
 
-pub invariant_of-self : goal.invariant_of-self
-invariant_of-self c =
-    let p = c.self.inside in
+pub returns-then-not-stands_before-clause-filled : goal.returns-then-not-stands_before-clause-filled
+returns-then-not-stands_before-clause-filled c =
+    let p = c.args.self.now in
     let mark = c.in-Some.mark.now in
     record {
-      filled = c.self.invariant.filled;
+      filled = c.requires.filled.filled;
       own = λ h. subst (λ k. HasOwnKey k p.marks.now p.tails.now) (sym c.complete.ensures)
           (own-behind p.before mark p.tails.now p.marks.now c.in-Some.marks.now c.in-Some.ensures.cases.0 c.key.ensures.long mark.in_key);
     }
 
-pub returns-then-not-stands_before : goal.returns-then-not-stands_before
-returns-then-not-stands_before c =
-    let p = c.self.inside in
+pub returns-then-not-stands_before-clause-moved : goal.returns-then-not-stands_before-clause-moved
+returns-then-not-stands_before-clause-moved c =
+    let p = c.args.self.now in
     let mark = c.in-Some.mark.now in
     let key_is : key_behind p.before mark p.tails.now ≡ c.complete.new.key =
     sym c.complete.ensures in (
       ap (λ k. rows_behind p.marks.now k p.tails.now p.whole.now) (sym key_is)
           ∙ rows_behind-own p.before mark p.tails.now p.marks.now c.in-Some.marks.now c.in-Some.ensures.cases.0 p.whole.now c.in-Some-outcome._outcome
-          c.in-Some-outcome.is c.key.ensures.long mark.in_key
-          ∙ c.self.view_is,
+          c.in-Some-outcome.is c.key.ensures.long mark.in_key,
       refl,
       refl,
     )
 
-pub returns-in_err-push_game : goal.returns-in_err-push_game
-returns-in_err-push_game c =
-    let p = c.self.inside in
+pub returns-in_err-push_game-clause-moved : goal.returns-in_err-push_game-clause-moved
+returns-in_err-push_game-clause-moved c =
+    let p = c.args.self.now in
     let mark = c.in-Some.mark.now in
     let key_is : key_behind p.before mark p.tails.now ≡ c.complete.new.key =
     sym c.complete.ensures in
     let same =
     ap (λ k. rows_behind p.marks.now k p.tails.now p.whole.now) (sym key_is)
     ∙ rows_behind-own p.before mark p.tails.now p.marks.now c.in-Some.marks.now c.in-Some.ensures.cases.0 p.whole.now c.in-Some-outcome._outcome
-    c.in-Some-outcome.is c.key.ensures.long mark.in_key
-    ∙ c.self.view_is in
+    c.in-Some-outcome.is c.key.ensures.long mark.in_key in
     unmoved-err _ c.from_residual.result c.from_residual.ensures.0 (same, refl, c.in_err-push_game.ensures.err)

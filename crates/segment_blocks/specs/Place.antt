@@ -1,0 +1,14 @@
+-- Places in blocks.
+use Rattle.std.specs.Prelude.{List, IsTrue}
+use Rattle.tally_rows.specs.declared.row.Row.{Row}
+use Rattle.segment_blocks.specs.Encoded.{rows_behind, IsFilled, HasOwnKey}
+use Rattle.segment_blocks.specs.declared.block_cursor.Place.{Place}
+
+-- the rows from a place on
+abbrev pub rows_left : Place → List Row
+rows_left place = rows_behind place.marks.now place.before place.tails.now place.whole.now
+
+-- a place in filled rows, where the key may be known to be that of the first row
+pub record IsPlace (place : Place) : Type 0 where
+  pub filled : IsFilled place.marks.now place.tails.now place.whole.now
+  pub own : IsTrue place.is_own → HasOwnKey place.before place.marks.now place.tails.now
