@@ -5,7 +5,7 @@ use Rattle.disk_model.specs.Disk.{DiskState, IsQuiet}
 use Rattle.outside.specs.Stream.{Rises, Stream, Writes}
 use Rattle.explorer_model.specs.declared.archive.Batch.{Batch}
 use Rattle.explorer_model.specs.declared.store.LogFault.TheVariants as log
-use Rattle.explorer_model.specs.Journal.{game_count}
+use Rattle.explorer_model.specs.Journal.{IsSound, game_count}
 use Rattle.manifest.specs.Manifest.{HasJournal}
 use Rattle.record_log.specs.declared.fault.OpenFault.{OpenFault}
 use Rattle.record_log.specs.declared.fault.OpenFault.TheVariants as opening
@@ -38,8 +38,8 @@ module _ {D : Type 0} (disk : D → DiskState) (left_since : D → ℕ → List 
   kept : (disk new).content ≡ (disk old).content
   kept = ap (λ (s : DiskState). s.content) quiet.rest
 
-  pub opens_to : (journal : List Batch) → IfSome (disk old).content (HasJournal journal) → (disk new).faults ≡ (disk old).faults → OpensTo journal (disk old) (disk new)
-  opens_to journal read no_fault = record { read = read; kept = kept; no_fault = no_fault }
+  pub opens_to : (journal : List Batch) → IfSome (disk old).content (HasJournal journal) → IsSound journal → (disk new).faults ≡ (disk old).faults → OpensTo journal (disk old) (disk new)
+  opens_to journal read sound no_fault = record { read = read; sound = sound; kept = kept; no_fault = no_fault }
 
   pub refused_by : (fault : OpenFault) → IsNotOpened disk fault old new → NotOpened fault (disk old) (disk new)
   refused_by (opening.Log fault) is = record { wrong = is; kept = kept }

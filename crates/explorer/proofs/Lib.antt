@@ -23,3 +23,6 @@ mod NewGameLemmas
 mod LastGameLemmas
 mod DefaultQueryLemmas
 mod TrialLemmas
+mod ToldStoreLemmas
+mod CreationLemmas
+mod QuestionLemmas

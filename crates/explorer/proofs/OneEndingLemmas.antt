@@ -177,14 +177,14 @@ done_or_full stream all games bytes batches others refused other one accounts st
 
 -- ---- what is written
 
-no_rise : (old new : ℕ) → new ≡ old → old < 2 ^ 64 - 1 → Rises old new → ⊥
+pub no_rise : (old new : ℕ) → new ≡ old → old < 2 ^ 64 - 1 → Rises old new → ⊥
 no_rise old new same low rises = by_rise rises.rose
   where
     by_rise : (old < new) ⊎ (new ≡ 2 ^ 64 - 1) → ⊥
     by_rise (inl less) = omega (arith, same, less)
     by_rise (inr most) = omega (arith, same, low, most)
 
-appended : (old new : Option (List ℕ)) (chunk : List ℕ) → IsSome old → Appends old new chunk → new ≡ append_known old chunk
+pub appended : (old new : Option (List ℕ)) (chunk : List ℕ) → IsSome old → Appends old new chunk → new ≡ append_known old chunk
 appended None new chunk told appends = cc
 appended (Some bytes) None chunk told appends = absurd appends
 appended (Some bytes) (Some more) chunk told appends = ap Some appends

@@ -47,3 +47,17 @@ IsOther _ = ⊤
 -- the cut is not refused as a repeat of a stored game
 abbrev pub IsNoRepeat : Refusal → Type 0
 IsNoRepeat refusal = IsOther refusal.why
+
+-- The disk of a name is told, and so is what was written. No count stands at its greatest number.
+pub record IsToldStore (name file : List ℕ) (world : World) : Type 0 where
+  pub disk : world.host.disks name ≡ Some file
+  pub output : IsSome world.output.written
+  pub writes : world.output.write_faults < 2 ^ 64 - 1
+  pub refusals : world.host.own_faults < 2 ^ 64 - 1
+  pub faults : world.host.disk_faults < 2 ^ 64 - 1
+
+-- no write failed, the host refused nothing, and no disk came back with faults
+pub record GoesWell (before after : World) : Type 0 where
+  pub writes : after.output.write_faults ≡ before.output.write_faults
+  pub refusals : after.host.own_faults ≡ before.host.own_faults
+  pub faults : after.host.disk_faults ≡ before.host.disk_faults

@@ -4,6 +4,7 @@ use Rattle.disk_model.specs.Disk.{DiskState}
 use Rattle.outside.specs.Stream.{Rises}
 use Rattle.explorer_model.specs.declared.archive.Batch.{Batch}
 use Rattle.explorer_model.specs.declared.store.LogFault.{LogFault}
+use Rattle.explorer_model.specs.Journal.{IsSound}
 use Rattle.manifest.specs.Manifest.{HasJournal}
 use Rattle.record_log.specs.declared.fault.OpenFault.{OpenFault}
 use Rattle.record_log.specs.declared.fault.OpenFault.TheVariants as opening
@@ -25,9 +26,10 @@ pub record FailsUnread (handed returned : DiskState) : Type 0 where
   pub kept : returned.content ≡ handed.content
   pub rises : Rises handed.faults returned.faults
 
--- the disk has this journal, where it tells its bytes, and was opened without a fault
+-- the disk has this journal, where it tells its bytes, and was opened without a fault; it is sound
 pub record OpensTo (journal : List Batch) (handed opened : DiskState) : Type 0 where
   pub read : IfSome handed.content (HasJournal journal)
+  pub sound : IsSound journal
   pub kept : opened.content ≡ handed.content
   pub no_fault : opened.faults ≡ handed.faults
 

@@ -12,14 +12,18 @@ ghost use Rattle.explorer_model.specs.declared.query.Query.{Query};
 ghost use Rattle.import_run.specs.Ending.{IsCutOff, IsTooMuch};
 ghost use Rattle.import_run.specs.SoFar.{AreInGroups};
 ghost use Rattle.explorer.specs.Count.{Answers};
+ghost use Rattle.explorer.specs.Create.{CreatesBy};
 ghost use Rattle.explorer.specs.Imported.{new_store};
 ghost use Rattle.command_line.specs.Task.{task_of};
-ghost use Rattle.explorer.specs.Laws.{CountsAtMost, IsFullIn, IsNoRepeat, IsTold, WroteAlike};
+ghost use Rattle.explorer.specs.Laws.{CountsAtMost, GoesWell, IsFullIn, IsNoRepeat, IsTold, IsToldStore, WroteAlike};
+ghost use Rattle.explorer.specs.Lines.{Ending, status_of};
+ghost use Rattle.explorer.specs.QueryStore.{QueriesBy};
 ghost use Rattle.explorer.specs.Run.{Runs};
 ghost use Rattle.explorer.specs.World.{World, IsFaultless};
 
 use batch_tally::laws::accounting_is_determined;
 use game_replay::laws::game_is_determined;
+use ingest_desk::laws::opening_is_determined;
 use lookup::laws::answers_are_determined;
 use query_params::laws::query_is_determined;
 
@@ -82,5 +86,29 @@ pub fn a_run_is_determined()
     game_is_determined();
     accounting_is_determined();
     answers_are_determined();
+    query_is_determined();
+}
+
+/// Runs of `create` over one told disk have one ending, and come to the same, where no call fails and
+/// the disk is told still.
+pub fn a_creation_is_determined()
+    ensures { (store file : List ℕ) (before after other : World) (ending ending' : Ending)
+        → IsToldStore store file before → GoesWell before after → GoesWell before other
+        → IsSome (after.host.disks store) → IsSome (other.host.disks store)
+        → CreatesBy store before after ending → CreatesBy store before other ending'
+        → (ending ≡ ending') × (after ≡ other) }
+{}
+
+/// Runs of `query` over one told store have one ending, and come to the same, where no call fails and
+/// memory is there.
+pub fn a_question_is_determined()
+    ensures { (store file text : List ℕ) (before after other : World) (ending ending' : Ending)
+        → IsToldStore store file before → GoesWell before after → GoesWell before other
+        → status_of ending ≢ 9 → status_of ending' ≢ 9
+        → QueriesBy store text before after ending → QueriesBy store text before other ending'
+        → (ending ≡ ending') × (after ≡ other) }
+{
+    answers_are_determined();
+    opening_is_determined();
     query_is_determined();
 }

@@ -14,6 +14,7 @@ use Rattle.tally_rows.specs.RowKey.{row_order, row_order-total}
 use Rattle.tally_rows.specs.Row.{row_key_of, is_white, is_draw, is_black}
 use Rattle.tally_rows.specs.Tallied.{entries, has_move, mover_rating, rating_sum, track_month, IsTally, Tallied}
 use Rattle.tally_rows.specs.Track.{Track, has}
+use Rattle.tally_rows.specs.Within.{TalliedWithin}
 use Rattle.tally_rows.proofs.Members.{IsIn, All-IsIn, recursion-IsIn, Found-map, IsIn-from_Contains}
 
 -- the row of games is determined by its parts
@@ -105,3 +106,20 @@ pub Tallied-determined : (tracks : List Track) (xs ys : List Row) → Tallied tr
 Tallied-determined tracks xs ys h k =
     rows-are tracks xs ys (recursion_from_All (IsTally tracks) xs h.each) (recursion_from_All (IsTally tracks) ys k.each) h.ordered k.ordered
     (among tracks xs ys h k) (among tracks ys xs k h)
+
+-- ---- the rows whose keys pass a test
+
+among-within : (test : List ℕ → Bool) (tracks : List Track) (xs ys : List Row) → TalliedWithin test tracks xs → TalliedWithin test tracks ys → Among xs ys
+among-within test tracks xs ys h k p m =
+    let row = Found-map row_key_of xs p m in
+    let any : Any (λ t. has p t ≡ true) tracks =
+    subst (λ q. Any (λ t. has q t ≡ true) tracks) row.holds (All-IsIn (λ r. Any (λ t. has (row_key_of r) t ≡ true) tracks) xs h.some row.value row.is_in) in
+    let passes : test p.key ≡ true =
+    subst (λ (q : RowKey). test q.key ≡ true) row.holds (All-IsIn (λ r. test r.key ≡ true) xs h.within row.value row.is_in) in
+    IsIn-from_Contains (map row_key_of ys) p (k.every p passes any)
+
+pub TalliedWithin-determined : (test : List ℕ → Bool) (tracks : List Track) (xs ys : List Row)
+    → TalliedWithin test tracks xs → TalliedWithin test tracks ys → xs ≡ ys
+TalliedWithin-determined test tracks xs ys h k =
+    rows-are tracks xs ys (recursion_from_All (IsTally tracks) xs h.each) (recursion_from_All (IsTally tracks) ys k.each) h.ordered k.ordered
+    (among-within test tracks xs ys h k) (among-within test tracks ys xs k h)

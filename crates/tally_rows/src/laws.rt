@@ -44,6 +44,12 @@ pub fn tallied_rows_are_determined()
         → Tallied tracks others → rows ≡ others }
 {}
 
+/// So it has one list of the rows whose keys pass a test.
+pub fn rows_within_are_determined()
+    ensures { (test : List ℕ → Bool) (tracks : List Track) (rows others : List Row)
+        → TalliedWithin test tracks rows → TalliedWithin test tracks others → rows ≡ others }
+{}
+
 /// A row that is added to a grid is in its sums exactly where its speed and group are chosen.
 pub fn grid_sums_rows()
     ensures zeros { (speeds groups : List Bool) (s r : ℕ)

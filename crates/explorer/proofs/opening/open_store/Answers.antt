@@ -6,7 +6,7 @@ pub returns-in-Ok-clause-sized : goal.returns-in-Ok-clause-sized
 returns-in-Ok-clause-sized g c = is_sized g.D.Disk.disk g.met.D.Disk.told_size c.args.disk
 
 pub returns-in-Ok-clause-opened : goal.returns-in-Ok-clause-opened
-returns-in-Ok-clause-opened g c = opens_to g.D.Disk.disk g.D.Disk.left_since c.args.disk _ c.in-Ok.ensures.quiet _ c.in-Ok.ensures.read c.in-Ok.ensures.no_fault
+returns-in-Ok-clause-opened g c = opens_to g.D.Disk.disk g.D.Disk.left_since c.args.disk _ c.in-Ok.ensures.quiet _ c.in-Ok.ensures.read c.in-Ok.ensures.recounted c.in-Ok.ensures.no_fault
 
 pub returns-in-Err-clause-sized : goal.returns-in-Err-clause-sized
 returns-in-Err-clause-sized g c = is_sized g.D.Disk.disk g.met.D.Disk.told_size c.args.disk
