@@ -229,12 +229,8 @@ fn shared_with(last: &[u8; 34], key: &[u8; 34], follows: bool, shared: u8) -> u8
 }
 
 /// Makes the key of a mark from the key before it and the bytes of its own, the first ones of
-<<<<<<< HEAD
-/// `tails`, where it is not yet its own key.
-=======
 /// `tails`, where it is not yet its own key. A call of its own for each row that moves would cost more
 /// than the copy.
->>>>>>> ff5278a8b6a1cf61b97aafb792a0b647d22acbb1
 #[inline(always)]
 fn complete(key: &mut KeyRoom, is_own: bool, mark: &Mark, tails: &[u8])
     requires own { own_len mark.now ≤ length tails.now }
