@@ -6,7 +6,7 @@ ghost use Rattle.tally_rows.specs.Within.{FollowFrom};
 ghost use Rattle.tally_rows.specs.declared.key_range.KeyRange.{KeyRange};
 ghost use Rattle.tally_rows.specs.declared.row.Row.{Row};
 ghost use Rattle.batch_tally.specs.Accepting.{IsCounted};
-ghost use Rattle.batch_tally.specs.Singles.{AreRowsIn, AreRowsOf, is_kept, numbered, singles_in, word_of};
+ghost use Rattle.batch_tally.specs.Singles.{AreRowsIn, AreRowsOf, is_kept, numbered, singles_in, singles_of, word_of, words_of};
 ghost use Rattle.std.specs.declared.alloc.AllocError.{AllocError};
 ghost use Rattle.std.specs.declared.alloc.Global.{Global};
 
@@ -132,12 +132,12 @@ fn push_within(
     range: KeyRange,
     number: u32,
 ) -> Result<(), AllocError>
-    requires { count.now.words.items ≡ map word_of count.now.singles.items }
+    requires { words_of count.now ≡ map word_of (singles_of count.now) }
     ensures { OnOk result (singles.new.items ≡ singles.old.items
-        ++ filter (is_kept range) (map (numbered number) count.now.singles.items)) }
+        ++ filter (is_kept range) (map (numbered number) (singles_of count.now))) }
 {
-    let of_game = count.singles.as_slice();
-    let words = count.words.as_slice();
+    let of_game = count.singles();
+    let words = count.words();
     for place in 0..words.len() {
         let single = &of_game[place];
         if range.contains_word(words[place]) {
@@ -161,7 +161,7 @@ fn room_of(games: &[Accepted], ranges: usize) -> usize
 fn count_singles(games: &[Accepted]) -> usize {
     let mut count = 0usize;
     for accepted in games {
-        count = count.saturating_add(accepted.count.words.len());
+        count = count.saturating_add(accepted.count.number);
     }
     count
 }
@@ -195,7 +195,7 @@ fn sample_of(alloc: Global, games: &[Accepted], ranges: usize) -> Result<Vec<u64
         return Ok(sample);
     }
     for (number, accepted) in games.iter().enumerate() {
-        let words = accepted.count.words.iter();
+        let words = accepted.count.words().iter();
         sample.extend(words.skip(number % SAMPLE_STEP).step_by(SAMPLE_STEP))?;
     }
     sample.sort_unstable();
