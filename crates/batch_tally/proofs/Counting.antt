@@ -1,5 +1,5 @@
 -- The singles of one game.
-use Rattle.std.proofs.Common.{◌≡◌, ◌++◌, ◌≤◌, ℕ, zero, suc, true, false, if◌then◌else◌, List, [], ◌∷◌, map, take, length, ap, refl, arith}
+use Rattle.std.proofs.Common.{◌≡◌, ◌++◌, ◌≤◌, ℕ, zero, suc, true, false, if◌then◌else◌, List, [], ◌∷◌, map, take, length, ap, ◌∙◌, refl, arith}
 use Rattle.std.specs.List.{AllZip, list_any}
 use Rattle.std.proofs.lemmas.List.{length-map}
 use Rattle.explorer_model.specs.declared.archive.Game.{Game}
@@ -10,8 +10,8 @@ use Rattle.tally_rows.specs.Tally.{IsStepOf}
 use Rattle.tally_rows.specs.Track as tracks
 use Rattle.tally_rows.specs.Track.{Track}
 use Rattle.batch_tally.specs.declared.step.Step.{Step}
-use Rattle.batch_tally.specs.declared.singles.Count.{Count}
-use Rattle.batch_tally.specs.Singles.{IsCountOf, word_of}
+use Rattle.tally_rows.specs.declared.single.Single.{Single}
+use Rattle.batch_tally.specs.Singles.{ArePushed, AreSinglesOf}
 use Rattle.batch_tally.specs.Steps.{step_as, IsStepAt, stages_within}
 
 are-steps : (stages : List Stage) (steps : List Step) → AllZip IsStepAt stages steps → AllZip IsStepOf stages (map step_as steps)
@@ -40,10 +40,9 @@ first-steps-le earlier (step ∷ steps) =
       | false ↦ omega (arith, rest)
     ]
 
-pub count-of : (game : Game) (steps : List Step) (count : Count) → AllZip IsStepAt (stages_within stage_limit start game.moves) steps
-    → count.singles.items ≡ map (single_at game.classes 0) (first_steps [] (map step_as steps))
-    → count.words.items ≡ map word_of count.singles.items → IsCountOf game count
-count-of game steps count stepped are words =
+pub singles-of : (game : Game) (steps : List Step) (singles : List Single) → AllZip IsStepAt (stages_within stage_limit start game.moves) steps
+    → singles ≡ map (single_at game.classes 0) (first_steps [] (map step_as steps)) → AreSinglesOf game singles
+singles-of game steps singles stepped are =
     let track : Track = record { classes = game.classes; steps = map step_as steps } in
     let steps_few : length steps ≤ 51 = (let e = few-steps (stages_within stage_limit start game.moves) steps stepped in
     let f = length-take-le stage_limit (stages start game.moves) in omega (arith, e, f)) in
@@ -55,5 +54,12 @@ count-of game steps count stepped are words =
       track = track;
       counts = record { is_track = record { classes = refl; steps = are-steps (counted_stages game) steps stepped }; singles_are = are };
       few = omega (arith, many, of_firsts, firsts, mapped, steps_few);
-      words = words;
     }
+
+pub singles-pushed : (game : Game) (steps lent : List Step) (before after : List Single) → AllZip IsStepAt (stages_within stage_limit start game.moves) steps → lent ≡ steps
+    → after ≡ before ++ map (single_at game.classes 0) (first_steps [] (map step_as lent)) → ArePushed game before after
+singles-pushed game steps lent before after stepped same pushed = record {
+  own = map (single_at game.classes 0) (first_steps [] (map step_as steps));
+  are_own = singles-of game steps (map (single_at game.classes 0) (first_steps [] (map step_as steps))) stepped refl;
+  pushed = pushed ∙ ap (λ l. before ++ map (single_at game.classes 0) (first_steps [] (map step_as l))) same;
+}

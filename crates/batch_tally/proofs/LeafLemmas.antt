@@ -31,6 +31,6 @@ made-each {L} {V} P leaves results made ok count each =
 
 -- ---- a call's answer
 
-pub if-ok : {V : Type 0} (P Q : V → Type 0) (result : Result V AllocError) → ((v : V) → P v → Q v) → IfOk result P → IfOk result Q
+pub if-ok : {V E : Type 0} (P Q : V → Type 0) (result : Result V E) → ((v : V) → P v → Q v) → IfOk result P → IfOk result Q
 if-ok P Q (Ok v) more is = more v is
 if-ok P Q (Err e) more is = tt

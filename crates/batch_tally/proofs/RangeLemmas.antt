@@ -15,7 +15,7 @@ use Rattle.tally_rows.specs.Track.{Track}
 use Rattle.tally_rows.specs.Within.{TalliedWithin, is_in_range, is_word_in, FollowFrom}
 use Rattle.batch_tally.specs.declared.accepting.Accepted.{Accepted}
 use Rattle.batch_tally.specs.Accepting.{IsCounted}
-use Rattle.batch_tally.specs.Singles.{AreTracksOf, AreRowsIn, AreRowsOf, numbered, is_kept, singles_in, word_of}
+use Rattle.batch_tally.specs.Singles.{AreTracksOf, AreRowsIn, AreRowsOf, numbered, is_kept, singles_in, singles_of, word_of}
 use Rattle.batch_tally.proofs.Stages.{next-place}
 
 -- ---- the singles in a range are those of the games' tracks
@@ -30,7 +30,7 @@ singles-in range first [] [] each = refl
 singles-in range first [] (t ∷ tracks) each = absurd each
 singles-in range first (a ∷ games) [] each = absurd each
 singles-in range first (a ∷ games) (t ∷ tracks) each =
-    let one : map (numbered first) a.count.singles.items ≡ game_singles first t =
+    let one : map (numbered first) (singles_of a.count) ≡ game_singles first t =
     ap (map (numbered first)) each.0.singles_are ∙ numbered-each t first _ in
     (λ i. filter (is_kept range) (one i) ++ singles-in range (first + 1) games tracks each.1 i)
     ∙ sym (filter-append (is_kept range) (game_singles first t) (singles_from (first + 1) tracks))
@@ -82,18 +82,18 @@ one-left range number words of_game before now place single tells left are =
 -- ---- one game more
 
 in-push : (range : KeyRange) (first : ℕ) (games : List Accepted) (a : Accepted)
-    → singles_in range first (games ++ a ∷ []) ≡ singles_in range first games ++ filter (is_kept range) (map (numbered (first + length games)) a.count.singles.items)
+    → singles_in range first (games ++ a ∷ []) ≡ singles_in range first games ++ filter (is_kept range) (map (numbered (first + length games)) (singles_of a.count))
 in-push range first [] a =
-    append-nil (filter (is_kept range) (map (numbered first) a.count.singles.items))
-    ∙ ap (λ n. filter (is_kept range) (map (numbered n) a.count.singles.items)) (place first)
+    append-nil (filter (is_kept range) (map (numbered first) (singles_of a.count)))
+    ∙ ap (λ n. filter (is_kept range) (map (numbered n) (singles_of a.count))) (place first)
   where
     place : (n : ℕ) → n ≡ n + length {A = Accepted} []
     place n = omega arith
 in-push range first (g ∷ games) a =
-    let here = filter (is_kept range) (map (numbered first) g.count.singles.items) in
+    let here = filter (is_kept range) (map (numbered first) (singles_of g.count)) in
     ap (λ l. here ++ l) (in-push range (first + 1) games a)
-    ∙ sym (append_assoc here (singles_in range (first + 1) games) (filter (is_kept range) (map (numbered (first + 1 + length games)) a.count.singles.items)))
-    ∙ ap (λ n. (here ++ singles_in range (first + 1) games) ++ filter (is_kept range) (map (numbered n) a.count.singles.items)) (place first (length games))
+    ∙ sym (append_assoc here (singles_in range (first + 1) games) (filter (is_kept range) (map (numbered (first + 1 + length games)) (singles_of a.count))))
+    ∙ ap (λ n. (here ++ singles_in range (first + 1) games) ++ filter (is_kept range) (map (numbered n) (singles_of a.count))) (place first (length games))
   where
     place : (n k : ℕ) → n + 1 + k ≡ n + suc k
     place n k = omega arith
@@ -120,11 +120,11 @@ starts-keeping range games singles none =
 
 pub one-game : (range : KeyRange) (games : List Accepted) → All IsCounted games → (singles more : List Single) (number next index : ℕ) (a : Accepted)
     → index < length games → get_or games index a ≡ a
-    → more ≡ singles ++ filter (is_kept range) (map (numbered number) a.count.singles.items) → next ≡ number + 1
+    → more ≡ singles ++ filter (is_kept range) (map (numbered number) (singles_of a.count)) → next ≡ number + 1
     → Keeping range games singles number index → Keeping range games more next (index + 1)
 one-game range games counted singles more number next index a below is pushed grown keeping =
-    let short : length a.count.singles.items ≤ 51 = subst (λ (x : Accepted). length x.count.singles.items ≤ 51) is (counted index a below).few in
-    let new = filter (is_kept range) (map (numbered number) a.count.singles.items) in
+    let short : length (singles_of a.count) ≤ 51 = subst (λ (x : Accepted). length (singles_of x.count) ≤ 51) is (counted index a below).singles.few in
+    let new = filter (is_kept range) (map (numbered number) (singles_of a.count)) in
     let taken : take (index + 1) games ≡ take index games ++ a ∷ [] =
     ap (λ n. take n games) (sym (next-place index)) ∙ take-suc games index a below ∙ ap (λ x. take index games ++ x ∷ []) is in
     let long : length (take index games) ≡ index = length-take-le index games (omega (arith, below)) in
@@ -132,15 +132,15 @@ one-game range games counted singles more number next index a below is pushed gr
     record {
       singles_are = pushed
           ∙ ap (λ l. l ++ new) keeping.singles_are
-          ∙ ap (λ n. singles_in range 0 (take index games) ++ filter (is_kept range) (map (numbered n) a.count.singles.items)) by
+          ∙ ap (λ n. singles_in range 0 (take index games) ++ filter (is_kept range) (map (numbered n) (singles_of a.count))) by
           ∙ sym (in-push range 0 (take index games) a)
           ∙ ap (singles_in range 0) (sym taken);
       numbered_by = (let n = keeping.numbered_by in omega (arith, grown, n));
       within = omega (arith, below);
       few = (let e = ap (λ l. length l) pushed in
           let f = length-append singles new in
-          let h = filter-le (is_kept range) (map (numbered number) a.count.singles.items) in
-          let m = length-map a.count.singles.items (numbered number) in
+          let h = filter-le (is_kept range) (map (numbered number) (singles_of a.count)) in
+          let m = length-map (singles_of a.count) (numbered number) in
           let g = keeping.few in omega (arith, e, f, g, h, m, short));
     }
 
@@ -155,7 +155,7 @@ some-by : (games : List Accepted) → AllByRecursion IsCounted games → SomeTra
 some-by [] each = record { tracks = []; are_tracks = tt }
 some-by (a ∷ games) each =
     let rest = some-by games each.1 in
-    record { tracks = each.0.track ∷ rest.tracks; are_tracks = (each.0.counts, rest.are_tracks) }
+    record { tracks = each.0.singles.track ∷ rest.tracks; are_tracks = (each.0.singles.counts, rest.are_tracks) }
 
 are-of-games : (games : List Accepted) (tracks : List Track) → AreTracksOf games tracks → AllZip IsTrackOf (map (λ a. a.game) games) tracks
 are-of-games [] [] each = tt

@@ -1,5 +1,5 @@
 -- Texts that are replayed.
-use Rattle.std.specs.Prelude.{◌≡◌, ℕ, ◌*◌, ◌<◌, ◌≤◌, Result, Vec, IfOk, List, [], ◌∷◌, length, take, drop, slice_index_or}
+use Rattle.std.specs.Prelude.{◌≡◌, ℕ, ◌+◌, ◌*◌, ◌<◌, ◌++◌, ◌≤◌, Result, Vec, IfOk, List, [], ◌∷◌, length, take, drop, slice_index_or}
 use Rattle.std.specs.List.{All, AllZip}
 use Rattle.std.specs.declared.alloc.AllocError.{AllocError}
 use Rattle.std.specs.declared.alloc.Global.{Global}
@@ -9,7 +9,9 @@ use Rattle.explorer_model.specs.Games.{GameOf}
 use Rattle.explorer_model.specs.Imports.{Replayed, Examination, Read}
 use Rattle.batch_tally.specs.declared.reading.Contents.{Contents}
 use Rattle.batch_tally.specs.declared.reading.Reading.{Reading}
-use Rattle.batch_tally.specs.Singles.{IsCountOf}
+use Rattle.batch_tally.specs.declared.reading.RunPart.{RunPart}
+use Rattle.tally_rows.specs.declared.single.Single.{Single}
+use Rattle.batch_tally.specs.Singles.{AreSinglesOf, IsCountOf, part_of}
 
 abbrev pub replayed_as : Reading → Replayed
 replayed_as reading = record { place = reading.place; text = reading.text; game = reading.game }
@@ -32,6 +34,18 @@ pub record IsReadingOf (text : Placed) (reading : Reading) : Type 0 where
 pub record AreContentsOf (text : Placed) (contents : Contents) : Type 0 where
   pub game : GameOf text.bytes contents.game
   pub counted : IfOk contents.game (λ game. IsCountOf game contents.count)
+
+-- the part has the game of the text, whose singles stand among these
+pub record IsPartOf (singles : List Single) (text : Placed) (part : RunPart) : Type 0 where
+  pub game : GameOf text.bytes part.game
+  pub within : part.from + part.number ≤ length singles
+  pub counted : IfOk part.game (λ game. AreSinglesOf game (part_of singles part.from part.number))
+
+-- and they stand behind those that were there before
+pub record IsReadBehind (before after : List Single) (text : Placed) (part : RunPart) : Type 0 where
+  pub own : List Single
+  pub pushed : after ≡ before ++ own
+  pub is_part : IsPartOf after text part
 
 -- the text with its contents
 abbrev pub reading_of : Placed → Contents → Reading

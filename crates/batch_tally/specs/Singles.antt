@@ -1,5 +1,6 @@
 -- The singles of the games of a batch.
-use Rattle.std.specs.Prelude.{◌≡◌, ℕ, ◌+◌, ◌≤◌, Bool, List, [], ◌∷◌, ◌++◌, length, map}
+use Rattle.std.specs.Prelude.{◌≡◌, ℕ, ◌+◌, ◌≤◌, Bool, List, [], ◌∷◌, ◌++◌, length, map, take, drop}
+use Rattle.std.specs.Arc.{arc_value}
 use Rattle.std.specs.List.{AllZip, filter}
 use Rattle.explorer_model.specs.declared.archive.Game.{Game}
 use Rattle.explorer_model.specs.Visits.{stage_limit}
@@ -23,17 +24,39 @@ pub record CountsBy (track : Track) (game : Game) (singles : List Single) : Type
 abbrev pub word_of : Single → ℕ
 word_of single = first_word single.row_key.key
 
--- the singles are those of the game, under the number 0, and the words are theirs
-pub record IsCountOf (game : Game) (count : Count) : Type 0 where
+-- the singles are those of the game, under the number 0
+pub record AreSinglesOf (game : Game) (singles : List Single) : Type 0 where
   pub track : Track
-  pub counts : CountsBy track game count.singles.items
-  pub few : length count.singles.items ≤ stage_limit
-  pub words : count.words.items ≡ map word_of count.singles.items
+  pub counts : CountsBy track game singles
+  pub few : length singles ≤ stage_limit
+
+-- the singles of the game stand behind the others
+pub record ArePushed (game : Game) (before after : List Single) : Type 0 where
+  pub own : List Single
+  pub are_own : AreSinglesOf game own
+  pub pushed : after ≡ before ++ own
+
+-- so many items from a place on
+abbrev pub part_of : {A : Type 0} → List A → ℕ → ℕ → List A
+part_of items from number = take number (drop from items)
+
+-- the singles of a game, of those of its run
+abbrev pub singles_of : Count → List Single
+singles_of count = part_of (arc_value count.of_run).singles.items count.from count.number
+
+-- and their words
+abbrev pub words_of : Count → List ℕ
+words_of count = part_of (arc_value count.of_run).words.items count.from count.number
+
+-- the count has the singles of the game, and their words
+pub record IsCountOf (game : Game) (count : Count) : Type 0 where
+  pub singles : AreSinglesOf game (singles_of count)
+  pub words : words_of count ≡ map word_of (singles_of count)
 
 -- the tracks are those of the games, by which they are counted
 abbrev pub AreTracksOf : List Accepted → List Track → Type 0
 AreTracksOf games tracks =
-    AllZip (λ a track. CountsBy track a.game a.count.singles.items) games tracks
+    AllZip (λ a track. CountsBy track a.game (singles_of a.count)) games tracks
 
 -- the single of the game of another number
 abbrev pub numbered : ℕ → Single → Single
@@ -47,7 +70,7 @@ is_kept range single = is_in_range range single.row_key.key
 abbrev pub singles_in : KeyRange → ℕ → List Accepted → List Single
 singles_in range first [] = []
 singles_in range first (a ∷ games) =
-    filter (is_kept range) (map (numbered first) a.count.singles.items)
+    filter (is_kept range) (map (numbered first) (singles_of a.count))
     ++ singles_in range (first + 1) games
 
 -- the rows are those of the games in the range of keys

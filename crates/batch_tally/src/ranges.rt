@@ -6,7 +6,7 @@ ghost use Rattle.tally_rows.specs.Within.{FollowFrom};
 ghost use Rattle.tally_rows.specs.declared.key_range.KeyRange.{KeyRange};
 ghost use Rattle.tally_rows.specs.declared.row.Row.{Row};
 ghost use Rattle.batch_tally.specs.Accepting.{IsCounted};
-ghost use Rattle.batch_tally.specs.Singles.{AreRowsIn, AreRowsOf, is_kept, numbered, singles_in, word_of};
+ghost use Rattle.batch_tally.specs.Singles.{AreRowsIn, AreRowsOf, is_kept, numbered, singles_in, singles_of, word_of, words_of};
 ghost use Rattle.std.specs.declared.alloc.AllocError.{AllocError};
 ghost use Rattle.std.specs.declared.alloc.Global.{Global};
 
@@ -18,8 +18,8 @@ use std::alloc::{AllocError, Global};
 use std::thread::Threads;
 use tally_rows::{KeyRange, Row, Single, rows_of};
 
-/// One of so many singles of a game is in the sample that ranges are cut by: two of most games.
-const SAMPLE_STEP: usize = 25;
+/// One of so many singles of a game is in the sample that ranges are cut by: one of most games.
+const SAMPLE_STEP: usize = 50;
 
 /// The rows of games, whose numbers are their places, in parts, one after another. There are as many
 /// leaves as workers; they work side by side, and each makes the rows of a range of keys after those
@@ -39,13 +39,13 @@ pub fn row_parts<R: Threads + Sync>(
     tally_rows::laws::ranges_are_tallied();
     let count = count_ranges(workers);
     let ranges = ranges_of(alloc, games, count)?;
-    let room = room_of(games, count);
-    let results = rows_of_ranges(rt, alloc, games, ranges, workers, room)?;
+    let singles = count_singles(games);
+    let results = rows_of_ranges(rt, alloc, games, ranges, workers, singles)?;
     all_made(alloc, results)
 }
 
-/// How many ranges there are for so many workers: two for each, so that none waits long for the one
-/// that ends last, and one where no other works.
+/// How many ranges there are for so many workers: two for each, a long one and a short one, and one
+/// where no other works.
 fn count_ranges(workers: usize) -> usize
     requires { 1 ≤ workers }
     ensures { 1 ≤ result }
@@ -56,14 +56,14 @@ fn count_ranges(workers: usize) -> usize
     workers.saturating_mul(2)
 }
 
-/// The rows in each range, of which each is likely to have no more than so many singles.
+/// The rows in each range, where all games have so many singles.
 fn rows_of_ranges<R: Threads + Sync>(
     rt: &R,
     alloc: Global,
     games: &[Accepted],
     ranges: Vec<KeyRange>,
     workers: usize,
-    room: usize,
+    singles: usize,
 ) -> Result<Vec<Result<Vec<Row>, AllocError>>, AllocError>
     requires counted { All IsCounted games.now }
     requires few { length games.now ≤ group_limit }
@@ -80,7 +80,7 @@ fn rows_of_ranges<R: Threads + Sync>(
             × (n < length ranges.now) }
         ensures { IfOk result (λ rows. (r : KeyRange)
             → AreRowsIn games.entry.now (slice_index_or ranges.entry.now n r) rows.items) }
-    { rows_within(alloc, games, ranges[n], room) };
+    { rows_within(alloc, games, ranges[n], room_of(singles, n, ranges.len())) };
     let results = map_taken(rt, alloc, workers, ranges.len(), &enter, &within)?;
     let _count = results.as_slice().len();
     Ok(results)
@@ -132,12 +132,12 @@ fn push_within(
     range: KeyRange,
     number: u32,
 ) -> Result<(), AllocError>
-    requires { count.now.words.items ≡ map word_of count.now.singles.items }
+    requires { words_of count.now ≡ map word_of (singles_of count.now) }
     ensures { OnOk result (singles.new.items ≡ singles.old.items
-        ++ filter (is_kept range) (map (numbered number) count.now.singles.items)) }
+        ++ filter (is_kept range) (map (numbered number) (singles_of count.now))) }
 {
-    let of_game = count.singles.as_slice();
-    let words = count.words.as_slice();
+    let of_game = count.singles();
+    let words = count.words();
     for place in 0..words.len() {
         let single = &of_game[place];
         if range.contains_word(words[place]) {
@@ -147,26 +147,36 @@ fn push_within(
     Ok(())
 }
 
-/// How many singles each of so many ranges is likely to have at the most: a quarter more than the
-/// mean of all, but no more than there are.
-fn room_of(games: &[Accepted], ranges: usize) -> usize
-    requires { 1 ≤ ranges }
+/// How many of all singles a range is likely to have at the most: a quarter more than its share, but
+/// no more than there are.
+fn room_of(singles: usize, range: usize, count: usize) -> usize
+    requires { 1 ≤ count }
 {
-    let all = count_singles(games);
-    let mean = all.div_ceil(ranges);
-    mean.saturating_add(mean / 4).min(all)
+    let behind = left_from(singles, range.saturating_add(1), count);
+    let share = left_from(singles, range, count).saturating_sub(behind);
+    share.saturating_add(share / 4).min(singles)
+}
+
+/// How many of all are left for the ranges from this one on: the first ranges have the most, and
+/// those that are taken last are short, so that none works long when the others have ended.
+fn left_from(all: usize, range: usize, count: usize) -> usize
+    requires { 1 ≤ count }
+{
+    let ranges = count.saturating_sub(range);
+    let some = all.saturating_mul(ranges) / count;
+    some.saturating_mul(ranges) / count
 }
 
 /// How many singles all games have.
 fn count_singles(games: &[Accepted]) -> usize {
     let mut count = 0usize;
     for accepted in games {
-        count = count.saturating_add(accepted.count.words.len());
+        count = count.saturating_add(accepted.count.number);
     }
     count
 }
 
-/// So many ranges of keys that follow one another. Any do; these have about as many singles each.
+/// So many ranges of keys that follow one another. Any do; the sample tells how many singles each has.
 fn ranges_of(alloc: Global, games: &[Accepted], count: usize) -> Result<Vec<KeyRange>, AllocError>
     requires { 1 ≤ count }
     ensures { IfOk result (λ ranges. FollowFrom 0 ranges.items) }
@@ -175,7 +185,9 @@ fn ranges_of(alloc: Global, games: &[Accepted], count: usize) -> Result<Vec<KeyR
     let mut ranges = Vec::with_capacity(alloc, count)?;
     let mut from = 0;
     for part in 1..count {
-        let place = words.len().saturating_mul(part) / count;
+        let place = words
+            .len()
+            .saturating_sub(left_from(words.len(), part, count));
         let below = words.get(place).copied().unwrap_or(from).max(from);
         ranges.push(KeyRange {
             from,
@@ -195,7 +207,7 @@ fn sample_of(alloc: Global, games: &[Accepted], ranges: usize) -> Result<Vec<u64
         return Ok(sample);
     }
     for (number, accepted) in games.iter().enumerate() {
-        let words = accepted.count.words.iter();
+        let words = accepted.count.words().iter();
         sample.extend(words.skip(number % SAMPLE_STEP).step_by(SAMPLE_STEP))?;
     }
     sample.sort_unstable();

@@ -3,19 +3,22 @@ ghost use Rattle.std.specs.Prelude.{◌≡◌, ◌+◌, ◌*◌, ◌^◌, ◌<�
 ghost use Rattle.std.specs.List.{All, AllZip, flat_map};
 ghost use Rattle.std.specs.Vec.Iter.{into_iter_items};
 ghost use Rattle.explorer_model.specs.Cuts.{text_limit};
-ghost use Rattle.batch_tally.specs.Reading.{AreContentsOf, AreRunsOf, AreShort, IsReadingOf, readings_of, run_length, run_of};
+ghost use Rattle.batch_tally.specs.Reading.{AreContentsOf, AreRunsOf, AreShort, IsPartOf, IsReadBehind, IsReadingOf, readings_of, run_length, run_of};
 ghost use Rattle.batch_tally.specs.declared.reading.Contents.{Contents};
 
 use crate::leaves::all_made;
-use crate::singles::{Count, count_of};
+use crate::singles::{Count, push_singles, run_count};
+use crate::steps::STAGE_LIMIT;
 use explorer_model::archive::{Bytes, Game, Placed};
 use explorer_model::fault::{GameFault, Stop};
 use game_replay::replay;
 use outside::Gate;
 use side_by_side::map_taken;
 use std::alloc::{AllocError, Global};
+use std::sync::Arc;
 use std::thread::Threads;
 use std::vec::IntoIter;
+use tally_rows::Single;
 
 /// A text with its game, or the first of its faults.
 #[derive(Debug, Drop)]
@@ -34,6 +37,15 @@ pub struct Contents {
     pub game: Result<Game, GameFault>,
     /// Nothing without a game.
     pub count: Count,
+}
+
+/// What a text of a run holds, where the singles of its run are one list.
+#[derive(Debug, Drop)]
+pub struct RunPart {
+    pub game: Result<Game, GameFault>,
+    /// The place of the first single of the game, and how many there are.
+    pub from: usize,
+    pub number: usize,
 }
 
 /// So many texts are read at a time: enough that taking them costs nothing beside, and few enough
@@ -98,35 +110,60 @@ fn read_run(alloc: Global, texts: &[Placed], run: usize) -> Result<Vec<Contents>
 {
     let rest = &texts[run * RUN..];
     let of_run = &rest[..rest.len().min(RUN)];
-    let mut made = Vec::with_capacity(alloc, of_run.len())?;
+    let mut parts = Vec::with_capacity(alloc, of_run.len())?;
+    let mut singles = Vec::with_capacity(alloc, RUN * STAGE_LIMIT)?;
     for text in of_run {
-        made.push(read(alloc, text)?)?;
+        parts.push(read(alloc, &mut singles, text)?)?;
     }
-    Ok(made)
+    contents_of(alloc, parts, singles)
 }
 
-/// What the text holds.
-fn read(alloc: Global, text: &Placed) -> Result<Contents, AllocError>
+/// What the text holds. The singles of its game go behind the others.
+fn read(alloc: Global, singles: &mut Vec<Single>, text: &Placed) -> Result<RunPart, AllocError>
     requires { length text.now.bytes ≤ text_limit }
-    ensures { IfOk result (λ contents. AreContentsOf text.now contents) }
+    ensures { IfOk result (IsReadBehind singles.old.items singles.new.items text.now) }
 {
+    let from = singles.as_slice().len();
     match replay(alloc, text.bytes.as_slice()) {
         Ok(game) => {
-            let count = count_of(alloc, &game)?;
-            Ok(Contents {
+            push_singles(alloc, singles, &game)?;
+            Ok(RunPart {
                 game: Ok(game),
-                count,
+                from,
+                number: singles.as_slice().len() - from,
             })
         }
-        Err(Stop::Fault(fault)) => Ok(Contents {
+        Err(Stop::Fault(fault)) => Ok(RunPart {
             game: Err(fault),
-            count: Count {
-                singles: Vec::new(alloc),
-                words: Vec::new(alloc),
-            },
+            from,
+            number: 0,
         }),
         Err(Stop::OutOfMemory) => Err(AllocError),
     }
+}
+
+/// The contents of texts, whose games have these singles.
+fn contents_of(
+    alloc: Global,
+    parts: Vec<RunPart>,
+    singles: Vec<Single>,
+) -> Result<Vec<Contents>, AllocError>
+    ensures { IfOk result (λ made. (texts : List Placed)
+        → AllZip (IsPartOf singles.items) texts parts.items
+        → AllZip AreContentsOf texts made.items) }
+{
+    let run = run_count(alloc, singles)?;
+    let mut made = Vec::with_capacity(alloc, parts.len())?;
+    for RunPart { game, from, number } in parts {
+        let of_run = Arc::try_clone(&run)?;
+        let count = Count {
+            of_run,
+            from,
+            number,
+        };
+        made.push(Contents { game, count })?;
+    }
+    Ok(made)
 }
 
 /// Each text with its contents, which come in parts.

@@ -1,10 +1,11 @@
 //! What a game counts for in each position that it visits.
-ghost use Rattle.std.specs.Prelude.{◌≡◌, ◌<◌, [], map, IfOk};
+ghost use Rattle.std.specs.Prelude.{◌≡◌, ◌<◌, [], ◌++◌, map, take, drop, IfOk, OnOk};
+ghost use Rattle.std.specs.Arc.{arc_value};
 ghost use Rattle.std.specs.List.{list_any};
 ghost use Rattle.explorer_model.specs.Visits.{AreLegal};
 ghost use Rattle.tally_rows.specs.Games.{has_key, first_steps, single_at};
 ghost use Rattle.tally_rows.specs.Tallied.{mover_rating};
-ghost use Rattle.batch_tally.specs.Singles.{IsCountOf, word_of};
+ghost use Rattle.batch_tally.specs.Singles.{ArePushed, singles_of, word_of, words_of};
 ghost use Rattle.batch_tally.specs.Marks.{mark_of, AreMarked};
 ghost use Rattle.batch_tally.specs.Steps.{step_as};
 
@@ -12,25 +13,66 @@ use crate::step::Step;
 use crate::steps::steps_of;
 use explorer_model::archive::{Classes, Game};
 use std::alloc::{AllocError, Global};
+use std::sync::Arc;
 use tally_rows::{RowKey, Single, first_word};
 
-/// What a game counts for, under the number 0.
+/// What the games of a run count for, those of one game behind those of another: one list for all
+/// costs less than a list for each.
 #[derive(Debug, Drop)]
-pub struct Count {
-    /// A single for each position, at its first visit.
+pub struct RunCount {
+    /// A single for each position of a game, at its first visit, under the number 0.
     pub singles: Vec<Single>,
     /// The first word of the key of each single, which tells whether a range of keys has it.
     pub words: Vec<u64>,
 }
 
-pub fn count_of(alloc: Global, game: &Game) -> Result<Count, AllocError>
+/// What a game counts for: so many singles of its run, from a place on.
+#[derive(Debug, Drop)]
+pub struct Count {
+    pub of_run: Arc<RunCount>,
+    pub from: usize,
+    pub number: usize,
+}
+
+impl Count {
+    pub fn singles(&self) -> &[Single]
+        ensures { result.now ≡ singles_of self.now }
+    {
+        part_of(self.of_run.singles.as_slice(), self.from, self.number)
+    }
+
+    pub fn words(&self) -> &[u64]
+        ensures { result.now ≡ words_of self.now }
+    {
+        part_of(self.of_run.words.as_slice(), self.from, self.number)
+    }
+}
+
+/// So many items from a place on.
+fn part_of<T>(items: &[T], from: usize, number: usize) -> &[T]
+    ensures { result.now ≡ take number (drop from items.now) }
+{
+    let rest = &items[from.min(items.len())..];
+    &rest[..number.min(rest.len())]
+}
+
+/// What the games of a run count for, of which these are the singles.
+pub fn run_count(alloc: Global, singles: Vec<Single>) -> Result<Arc<RunCount>, AllocError>
+    ensures singles { IfOk result (λ run. (arc_value run).singles ≡ singles) }
+    ensures words { IfOk result (λ run. (arc_value run).words.items
+        ≡ map word_of (arc_value run).singles.items) }
+{
+    let words = words_of(alloc, singles.as_slice())?;
+    Ok(Arc::new(alloc, RunCount { singles, words })?)
+}
+
+/// Puts what a game counts for behind the others.
+pub fn push_singles(alloc: Global, singles: &mut Vec<Single>, game: &Game) -> Result<(), AllocError>
     requires { AreLegal game.now }
-    ensures { IfOk result (λ count. IsCountOf game.now count) }
+    ensures { OnOk result (ArePushed game.now singles.old.items singles.new.items) }
 {
     let steps = steps_of(alloc, game.moves.as_slice())?;
-    let singles = first_visits(alloc, &game.classes, steps.as_slice())?;
-    let words = words_of(alloc, singles.as_slice())?;
-    Ok(Count { singles, words })
+    push_first_visits(singles, &game.classes, steps.as_slice())
 }
 
 /// The first word of the key of each single.
@@ -44,12 +86,16 @@ fn words_of(alloc: Global, singles: &[Single]) -> Result<Vec<u64>, AllocError>
     Ok(words)
 }
 
-/// What a game counts for at each of its steps that is the first one to its position.
-fn first_visits(alloc: Global, classes: &Classes, steps: &[Step]) -> Result<Vec<Single>, AllocError>
-    ensures { IfOk result (λ singles. singles.items
-        ≡ map (single_at classes.now 0) (first_steps [] (map step_as steps.now))) }
+/// Puts what a game counts for at each of its steps that is the first one to its position behind
+/// the others.
+fn push_first_visits(
+    singles: &mut Vec<Single>,
+    classes: &Classes,
+    steps: &[Step],
+) -> Result<(), AllocError>
+    ensures { OnOk result (singles.new.items ≡ singles.old.items
+        ++ map (single_at classes.now 0) (first_steps [] (map step_as steps.now))) }
 {
-    let mut singles = Vec::with_capacity(alloc, steps.len())?;
     let mut marks = [false; 256];
     for place in 0..steps.len() {
         let step = &steps[place];
@@ -59,7 +105,7 @@ fn first_visits(alloc: Global, classes: &Classes, steps: &[Step]) -> Result<Vec<
             singles.push(single_of(classes, step))?;
         }
     }
-    Ok(singles)
+    Ok(())
 }
 
 /// Has one of the steps, which are marked, the key of the one that is sought? Most are told apart by their marks.

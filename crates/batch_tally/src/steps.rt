@@ -11,7 +11,7 @@ use explorer_model::chess::Move;
 use std::alloc::{AllocError, Global};
 
 /// The number of positions in which a game is looked for: those of plies 0 to 50.
-const STAGE_LIMIT: usize = 51;
+pub const STAGE_LIMIT: usize = 51;
 
 /// The first 51 positions of the moves, from the starting position.
 pub fn steps_of(alloc: Global, moves: &[Move]) -> Result<Vec<Step>, AllocError>

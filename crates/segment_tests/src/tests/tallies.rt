@@ -3,8 +3,8 @@ ghost use Rattle.std.specs.Prelude.{◌≤◌, length, IsTrue};
 ghost use Rattle.std.specs.List.{All};
 
 use batch_tally::{Tallying, tally};
-use explorer_model::archive::{Bytes, Placed};
-use explorer_model::fault::{GameFault, Refusal, Why};
+use explorer_model::archive::{Bytes, Classes, Placed};
+use explorer_model::fault::{GameFault, Refusal, TagFault, TagName, Why};
 use outside::{FreeGate, Gate};
 use std::alloc::{AllocError, Global};
 use std::sync::atomic::{AtomicU64, Ordering};
@@ -14,10 +14,21 @@ use tally_rows::Row;
 
 /// A worked game with this id, and this movetext, which ends with `1-0`.
 fn text(alloc: Global, place: u64, id: &str, movetext: &str) -> Result<Placed, AllocError> {
+    rated_text(alloc, place, id, (1500, 1400), movetext)
+}
+
+/// The same with these ratings of White and Black.
+fn rated_text(
+    alloc: Global,
+    place: u64,
+    id: &str,
+    (white, black): (u16, u16),
+    movetext: &str,
+) -> Result<Placed, AllocError> {
     let text = format!(in alloc;
         "[Event \"Rated blitz game\"]\n[Site \"https://lichess.org/{id}\"]\n\
          [White \"Ann\"]\n[Black \"Bob\"]\n[Result \"1-0\"]\n[UTCDate \"2020.01.15\"]\n\
-         [WhiteElo \"1500\"]\n[BlackElo \"1400\"]\n[TimeControl \"300+0\"]\n\n{movetext}\n"
+         [WhiteElo \"{white}\"]\n[BlackElo \"{black}\"]\n[TimeControl \"300+0\"]\n\n{movetext}\n"
     )?;
     Ok(Placed {
         place,
@@ -147,16 +158,42 @@ fn repeating(alloc: Global) -> Result<Vec<Placed>, AllocError> {
     Ok(texts)
 }
 
-/// Whether both have the same texts, rows, places and refusals.
+/// Texts with comments, of players at the bounds of rating groups, one that comes twice, and one
+/// with a rating that no player has.
+fn worked(alloc: Global) -> Result<Vec<Placed>, AllocError> {
+    let commented = "1. e4 { [%eval 0.17] [%clk 0:00:30] } 1... c5?! { [%clk 0:00:29] } 1-0";
+    let games = [
+        ("aaaaaaa1", (1500, 1400), commented),
+        ("aaaaaaa2", (2499, 2500), "1. e4 $1 (1. d4 d5) c5 1-0"),
+        ("aaaaaaa1", (1500, 1400), "1. e4 1-0"),
+        ("aaaaaaa3", (999, 1000), commented),
+        ("aaaaaaa4", (4001, 1400), "1. e4 1-0"),
+    ];
+    let mut texts = Vec::new(alloc);
+    for (number, (id, ratings, movetext)) in games.into_iter().enumerate() {
+        texts.push(rated_text(alloc, number as u64, id, ratings, movetext)?)?;
+    }
+    Ok(texts)
+}
+
+/// Whether both have the same texts, ids, rows, places and refusals.
 fn are_same(first: &Tallying, second: &Tallying) -> bool {
     let (Some(tally), Some(other)) = (&first.tally, &second.tally) else {
         return false;
     };
     have_same_rows(tally.row_parts(), other.row_parts())
         && tally.batch() == other.batch()
-        && tally.classes().len() == other.classes().len()
+        && have_same_ids(tally.classes(), other.classes())
         && first.places.as_slice() == second.places.as_slice()
         && first.refused.as_slice() == second.refused.as_slice()
+}
+
+fn have_same_ids(some: &[Classes], others: &[Classes]) -> bool {
+    some.len() == others.len()
+        && some
+            .iter()
+            .zip(others)
+            .all(|(classes, other)| classes.id == other.id)
 }
 
 /// Have parts the same rows as the one part of a tally by one worker?
@@ -186,21 +223,57 @@ fn tallies_alike_with_every_number_of_workers(rt: HostRuntime) -> Result<(), Fai
     // Of 100 texts 20 have no game, and 24 of the last 30 the id of an accepted one.
     assert_eq!(rt; (alone.places.len(), alone.refused.len()), (56, 44));
     for workers in [2, 8, 16] {
+        let texts = repeating(rt.alloc())?;
         assert!(rt;
-            is_tallied_alike(&rt, workers, &alone)?,
+            is_tallied_alike(&rt, texts, workers, &alone)?,
             "with {workers} workers"
         );
     }
     Ok(())
 }
 
-/// Whether so many workers tally the same texts alike.
+#[test]
+fn tallies_worked_games_alike_with_every_number_of_workers(rt: HostRuntime) -> Result<(), Fail> {
+    let texts = worked(rt.alloc())?;
+    let Some(alone) = tallied(&rt, rt.alloc(), texts, 1, &FreeGate)? else {
+        return Err(Fail::from("too much"));
+    };
+    let bad = TagFault::Bad {
+        name: TagName::WhiteElo,
+    };
+    let twice = Refusal {
+        place: 2,
+        why: Why::Twice { first: 0 },
+    };
+    let no_rating = Refusal {
+        place: 4,
+        why: Why::Game(GameFault::Tag(bad)),
+    };
+    assert!(rt; alone.places.as_slice() == [0, 1, 3].as_slice());
+    assert!(rt; alone.refused.as_slice() == [twice, no_rating].as_slice());
+    // The start and e4 in three rating groups each, and the last position in as many.
+    let rows = match &alone.tally {
+        Some(tally) => count_rows(tally.row_parts()),
+        None => 0,
+    };
+    assert_eq!(rt; rows, 9);
+    for workers in [2, 8, 16] {
+        let texts = worked(rt.alloc())?;
+        assert!(rt;
+            is_tallied_alike(&rt, texts, workers, &alone)?,
+            "with {workers} workers"
+        );
+    }
+    Ok(())
+}
+
+/// Whether so many workers tally the texts like this.
 fn is_tallied_alike<R: AllocGlobal + Threads + Sync>(
     rt: &R,
+    texts: Vec<Placed>,
     workers: usize,
     alone: &Tallying,
 ) -> Result<bool, Fail> {
-    let texts = repeating(rt.alloc())?;
     let tallying = tallied(rt, rt.alloc(), texts, workers, &FreeGate)?;
     Ok(matches!(&tallying, Some(t) if are_same(t, alone)))
 }
@@ -242,7 +315,7 @@ fn makes_no_batch_of_refused_texts(rt: HostRuntime) -> Result<(), Fail> {
     Ok(())
 }
 
-/// A gate that counts how often it is passed, and adds up a decimal place for each leaf.
+/// A gate that counts how often it is passed, and sets a bit for each leaf.
 #[derive(Drop)]
 struct CountingGate {
     passes: AtomicU64,

@@ -7,12 +7,12 @@ use Rattle.batch_tally.proofs.ranges.push_within.Goals.{then-contains_word+in_ok
 
 pub loop-place-preserved : goal.loop-place-preserved
 loop-place-preserved c =
-    let words = c.as_slice-words.result.now in
-    let of_game = c.as_slice-of_game.result.now in
+    let words = c.words-words.result.now in
+    let of_game = c.singles-of_game.result.now in
     let place = c.loop-place.place in
     let single = c.index-of_game-place.result in
     let are : words ≡ map word_of of_game =
-    c.as_slice-words.ensures.value ∙ c.requires ∙ ap (λ l. map word_of l) (sym c.as_slice-of_game.ensures.value) in
+    c.words-words.ensures ∙ c.requires ∙ ap (λ l. map word_of l) (sym c.singles-of_game.ensures) in
     let below : place < length of_game =
     (let e = ap (λ l. length l) are in let m = length-map of_game word_of in omega (arith, e, m, c.loop-place-test.true)) in
     let tells : TellsOf words of_game place single = record { words_are = are; below = below; is = sym c.index-of_game-place.is } in

@@ -1,8 +1,8 @@
 use Rattle.std.proofs.Common.{take}
 use Rattle.std.specs.List.{AllZip}
-use Rattle.batch_tally.specs.Reading.{AreContentsOf}
+use Rattle.batch_tally.specs.Reading.{IsPartOf}
 use Rattle.batch_tally.proofs.reading.read_run.Given as goal
 
--- the contents of the texts so far
+-- what the texts so far hold
 abbrev pub invariant-loop-text : goal.invariant-loop-text
-invariant-loop-text l = AllZip AreContentsOf (take l.text-index l.of_run) l.made.items
+invariant-loop-text l = AllZip (IsPartOf l.singles.items) (take l.text-index l.of_run) l.parts.items

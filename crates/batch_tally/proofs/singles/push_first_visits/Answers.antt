@@ -2,8 +2,8 @@ use Rattle.std.proofs.Common.{true, [], ◌∷◌, ◌++◌, sym, ap, ◌∙◌,
 use Rattle.std.proofs.lemmas.List.{length-set}
 use Rattle.batch_tally.proofs.MarkLemmas.{marked_more}
 use Rattle.batch_tally.proofs.Pushing.{known-step, new-step}
-use Rattle.batch_tally.proofs.singles.first_visits.Goals as goal
-use Rattle.batch_tally.proofs.singles.first_visits.Goals.{then-not-known+in_ok-push, else-not-known}
+use Rattle.batch_tally.proofs.singles.push_first_visits.Goals as goal
+use Rattle.batch_tally.proofs.singles.push_first_visits.Goals.{then-not-known+in_ok-push, else-not-known}
 
 pub loop-place-preserved : goal.loop-place-preserved
 loop-place-preserved c = (
