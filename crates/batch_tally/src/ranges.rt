@@ -18,9 +18,6 @@ use std::alloc::{AllocError, Global};
 use std::thread::Threads;
 use tally_rows::{KeyRange, Row, Single, rows_of};
 
-/// One of so many singles of a game is in the sample that ranges are cut by: one of most games.
-const SAMPLE_STEP: usize = 50;
-
 /// The rows of games, whose numbers are their places, in parts, one after another. There are as many
 /// leaves as workers; they work side by side, and each makes the rows of a range of keys after those
 /// of another, as long as a range is left.
@@ -199,16 +196,15 @@ fn ranges_of(alloc: Global, games: &[Accepted], count: usize) -> Result<Vec<KeyR
     Ok(ranges)
 }
 
-/// The first words of the keys of some singles of each game, the lesser ones first. One range, which
-/// has all keys, needs none.
+/// The first word of the key of one single of each game, the lesser ones first. One range, which has
+/// all keys, needs none.
 fn sample_of(alloc: Global, games: &[Accepted], ranges: usize) -> Result<Vec<u64>, AllocError> {
     let mut sample = Vec::new(alloc);
     if ranges == 1 {
         return Ok(sample);
     }
-    for (number, accepted) in games.iter().enumerate() {
-        let words = accepted.count.words().iter();
-        sample.extend(words.skip(number % SAMPLE_STEP).step_by(SAMPLE_STEP))?;
+    for accepted in games {
+        sample.push(accepted.count.sample)?;
     }
     sample.sort_unstable();
     Ok(sample)

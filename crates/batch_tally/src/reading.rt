@@ -156,10 +156,12 @@ fn contents_of(
     let mut made = Vec::with_capacity(alloc, parts.len())?;
     for RunPart { game, from, number } in parts {
         let of_run = Arc::try_clone(&run)?;
+        let sample = run.sample_of(from, number);
         let count = Count {
             of_run,
             from,
             number,
+            sample,
         };
         made.push(Contents { game, count })?;
     }

@@ -26,12 +26,32 @@ pub struct RunCount {
     pub words: Vec<u64>,
 }
 
+impl RunCount {
+    /// The word of one of so many singles from a place on; 0 without one. The word of the last, spread
+    /// by the multiplier 2 to the 64 by the golden ratio, tells which: of each game another one.
+    pub fn sample_of(&self, from: usize, number: usize) -> u64 {
+        if number == 0 {
+            return 0;
+        }
+        let last = self.word_at(from.wrapping_add(number - 1));
+        let spread = last.wrapping_mul(0x9E37_79B9_7F4A_7C15) / 0x1_0000_0000;
+        self.word_at(from.wrapping_add(spread as usize % number))
+    }
+
+    /// The word at a place; 0 behind the last.
+    fn word_at(&self, place: usize) -> u64 {
+        self.words.get(place).copied().unwrap_or(0)
+    }
+}
+
 /// What a game counts for: so many singles of its run, from a place on.
 #[derive(Debug, Drop)]
 pub struct Count {
     pub of_run: Arc<RunCount>,
     pub from: usize,
     pub number: usize,
+    /// The word of one of them, for the sample that ranges of keys are cut by.
+    pub sample: u64,
 }
 
 impl Count {
