@@ -59,8 +59,8 @@ fn count_ranges(workers: usize) -> usize
     }
 }
 
-/// Keys that part the rows of the side with more blocks in so many ranges, of about one length. Any
-/// rising keys serve.
+/// Keys that part the rows of the side with more blocks in so many ranges, of which the first are the
+/// longest. Any rising keys serve.
 fn cut_keys(
     alloc: Global,
     left: &Segment,
@@ -80,12 +80,22 @@ fn cut_keys(
     let mut keys = Vec::with_capacity(alloc, ranges)?;
     let mut last = [0u8; 34];
     for part in 1..ranges {
-        let key = larger.key_at((rows / ranges).saturating_mul(part));
+        let key = larger.key_at(rows.saturating_sub(left_from(rows, part, ranges)));
         let next = later_key(last, key.unwrap_or([255; 34]));
         keys.push(next)?;
         last = next;
     }
     Ok(keys)
+}
+
+/// How many of so many rows are in the ranges from the one of this number on: the share of the ranges
+/// that are left, squared. So the last ranges are short, and at the end no leaf waits long for another.
+fn left_from(rows: usize, range: usize, count: usize) -> usize
+    requires { 1 ≤ count }
+{
+    let ranges = count.saturating_sub(range);
+    let some = rows.saturating_mul(ranges) / count;
+    some.saturating_mul(ranges) / count
 }
 
 /// The key, where it is not below the one before it.
