@@ -67,7 +67,7 @@ AreShort texts = All (λ text. length text.bytes ≤ text_limit) texts
 
 -- so many texts are read at a time
 abbrev pub run_length : ℕ
-run_length = 8
+run_length = 4
 
 -- the texts of a run, of which the last may be shorter
 abbrev pub run_of : List Placed → ℕ → List Placed

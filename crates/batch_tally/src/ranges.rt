@@ -41,8 +41,8 @@ pub fn row_parts<R: Threads + Sync>(
     all_made(alloc, results)
 }
 
-/// How many ranges there are for so many workers: two for each, a long one and a short one, and one
-/// where no other works.
+/// How many ranges there are for so many workers: three for each, of which the first are long and the
+/// last short, and one where no other works.
 fn count_ranges(workers: usize) -> usize
     requires { 1 ≤ workers }
     ensures { 1 ≤ result }
@@ -50,7 +50,7 @@ fn count_ranges(workers: usize) -> usize
     if workers == 1 {
         return 1;
     }
-    workers.saturating_mul(2)
+    workers.saturating_mul(3)
 }
 
 /// The rows in each range, where all games have so many singles.

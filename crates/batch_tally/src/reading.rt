@@ -50,7 +50,7 @@ pub struct RunPart {
 
 /// So many texts are read at a time: enough that taking them costs nothing beside, and few enough
 /// that no leaf is long at work when the others have ended.
-const RUN: usize = 8;
+const RUN: usize = 4;
 
 /// Each text of at most 65,536 bytes, replayed and counted. As many leaves as there are workers
 /// work side by side, each of which goes through the gate and then takes the next texts, a run at
