@@ -1,11 +1,17 @@
 -- A row behind the rows of blocks.
-use Rattle.std.proofs.Common.{◌≡◌, ℕ, zero, suc, ◌-◌, ◌<◌, ◌≤◌, Option, map, slice_get, refl, ◌⊎◌, inl, inr, Result, Ok, Err, List, [], ◌∷◌, ◌++◌, length, get_or, set, sym, ap, subst, ◌∙◌, arith, append_assoc, append-nil}
+use Rattle.std.proofs.Common.{◌≡◌, ℕ, zero, suc, ◌+◌, ◌-◌, ◌<◌, ◌≤◌, Option, map, slice_get, refl, ◌⊎◌, inl, inr, Result, Ok, Err, List, [], ◌∷◌, ◌++◌, length, get_or, set, sym, ap, subst, ◌∙◌, arith, append_assoc, append-nil}
+use Rattle.std.specs.List.Sorted.{IsStrictlySortedBy}
 use Rattle.std.specs.Result.{OnOk, OnErr}
 use Rattle.std.proofs.lemmas.List.{set-get_or, get_or_default}
 use Rattle.std.proofs.lemmas.List.Concat.{flat_map-append}
 use Rattle.tally_rows.specs.declared.row.Row.{Row}
 use Rattle.segment_blocks.specs.Walk.{rows_in}
-use Rattle.segment_blocks.specs.PackedRows.{AreInOrder, AreSome, ArePacked}
+use Rattle.segment_blocks.specs.Encoded.{key_first}
+use Rattle.segment_blocks.specs.PackedRows.{AreInOrder, AreSome, ArePacked, IsFirstKey}
+
+pub ArePacked-none : ArePacked []
+unfolding IsStrictlySortedBy
+ArePacked-none = record { some = tt; ordered = tt }
 
 pub pushed_or_not : {X E : Type 0} (r : Result X E) (old new : List Row) (row : Row) → OnOk r (new ≡ old ++ row ∷ []) → OnErr r (new ≡ old)
     → (new ≡ old ++ row ∷ []) ⊎ (new ≡ old)
@@ -98,3 +104,21 @@ key_in-right (x ∷ xs) ys zero le = absurd (omega arith)
 key_in-right (x ∷ xs) ys (suc n) le =
     let e : n - length xs ≡ suc n - suc (length xs) = omega arith in
     key_in-right xs ys n (omega arith) ∙ ap (key_in ys) e
+
+-- where the first row of a block stands among all rows
+pub first_key-in : (blocks : List (List Row)) (n : ℕ) → AreSome blocks → n < length blocks
+    → IsFirstKey (rows_in blocks) (length blocks) n (key_first [] (get_or blocks n []))
+first_key-in [] n some inside = absurd (omega arith)
+first_key-in ([] ∷ blocks) n some inside = absurd some
+first_key-in ((row ∷ rows) ∷ blocks) zero some inside = record { inside = inside; place = 0; behind = omega arith; is = refl }
+first_key-in ((row ∷ rows) ∷ blocks) (suc n) some inside =
+    let block = row ∷ rows in
+    let next = first_key-in blocks n some (omega arith) in
+    let place = length block + next.place in
+    let back : place - length block ≡ next.place = omega arith in
+    record {
+      inside = inside;
+      place = place;
+      behind = omega (arith, next.behind);
+      is = key_in-right block (rows_in blocks) place (omega arith) ∙ ap (key_in (rows_in blocks)) back ∙ next.is;
+    }

@@ -1,5 +1,5 @@
 -- Rows in blocks.
-use Rattle.std.specs.Prelude.{ℕ, Bool, List, [], ◌∷◌, map}
+use Rattle.std.specs.Prelude.{◌≡◌, ◌<◌, ◌≤◌, ℕ, Bool, Some, List, [], ◌∷◌, map, slice_get}
 use Rattle.std.specs.List.{flat_map}
 use Rattle.std.specs.List.Sorted.{IsStrictlySortedBy}
 use Rattle.std.specs.Ordering.{nat_cmp, is_lt}
@@ -22,6 +22,14 @@ AreInOrder rows = IsStrictlySortedBy row_order (map row_key_of rows)
 -- the rows of parts, one part after another
 abbrev pub rows_of_parts : List Packed → List Row
 rows_of_parts parts = flat_map (λ part. part.rows) parts
+
+-- There is a block `n`, and this is the key of its first row. Since each block has some row, at
+-- least `n` rows stand before that one.
+pub record IsFirstKey (rows : List Row) (blocks n : ℕ) (key : List ℕ) : Type 0 where
+  pub inside : n < blocks
+  pub place : ℕ
+  pub behind : n ≤ place
+  pub is : slice_get (map (λ row. row.key) rows) place ≡ Some key
 
 -- ---- how the rows are held
 

@@ -1,10 +1,10 @@
 //! Rows in little room.
-ghost use Rattle.std.specs.Prelude.{◌≡◌, ℕ, List, ◌+◌, ◌≤◌, ◌<◌, ◌^◌, ◌++◌, ◌∷◌, [], filter, map, not, true, false, length, slice_get, slice_index_or, IfOk, OnOk, OnErr};
+ghost use Rattle.std.specs.Prelude.{◌≡◌, ℕ, List, ◌+◌, ◌≤◌, ◌<◌, ◌^◌, ◌++◌, ◌∷◌, [], filter, map, not, true, false, length, slice_get, slice_index_or, IfOk, MatchOption, OnOk, OnErr};
 ghost use Rattle.std.specs.List.{flat_map};
 ghost use Rattle.segment_blocks.specs.Block.{block_limit};
 ghost use Rattle.segment_blocks.specs.HeldRow.{row_in};
 ghost use Rattle.segment_blocks.specs.Moving.{HaveMoved, Tells};
-ghost use Rattle.segment_blocks.specs.PackedRows.{AreInOrder, ArePacked, is_first_below, rows_of_parts};
+ghost use Rattle.segment_blocks.specs.PackedRows.{AreInOrder, ArePacked, IsFirstKey, is_first_below, rows_of_parts};
 ghost use Rattle.segment_blocks.specs.Walk.{is_below, is_within, has_key, from_key, from_bound, until_bound, rows_in, rows_until, front_rows};
 ghost use Rattle.tally_rows.specs.declared.row.Row.{Row};
 ghost use Rattle.tally_rows.specs.Row.{shifted_row};
@@ -84,10 +84,10 @@ impl PackedRows {
         requires in_order { AreInOrder (rows_of_parts parts.items) }
         ensures { IfOk result (λ packed. packed.rows ≡ rows_of_parts parts.items) }
     {
-        let mut parts = parts;
-        let mut all = PackedRows::new(alloc);
-        while !parts.is_empty() {
-            let part = parts.remove(0);
+        let mut all = PackedRows {
+            blocks: Vec::with_capacity(alloc, count_blocks(parts.as_slice()))?,
+        };
+        for part in parts {
             all.append(part)?;
         }
         Ok(all)
@@ -188,6 +188,19 @@ impl PackedRows {
         self.blocks.len()
     }
 
+    /// The key of the first row of block `n`, from 0, or None where there are not so many blocks.
+    pub fn first_key(&self, n: usize) -> Option<[u8; 34]>
+        ensures { MatchOption result (self.now.blocks ≤ n)
+            (IsFirstKey self.now.rows self.now.blocks n) }
+    {
+        let blocks = self.blocks.as_slice();
+        if n < blocks.len() {
+            Some(*blocks[n].first())
+        } else {
+            None
+        }
+    }
+
     /// The key of row `n`, from 0, or None where there are not so many rows.
     pub fn key_at(&self, n: usize) -> Option<[u8; 34]>
         ensures { result ≡ slice_get (map (λ row. row.key) self.now.rows) n }
@@ -259,6 +272,15 @@ fn key_of(blocks: &[Block], n: usize) -> Option<[u8; 34]>
         before -= block.len();
     }
     None
+}
+
+/// How many blocks all parts have.
+fn count_blocks(parts: &[PackedRows]) -> usize {
+    let mut count = 0usize;
+    for part in parts {
+        count = count.saturating_add(part.block_count());
+    }
+    count
 }
 
 /// The rows from the first one on whose key is not below the key, where no steps are counted.

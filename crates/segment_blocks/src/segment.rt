@@ -1,9 +1,9 @@
 //! Segments.
-ghost use Rattle.std.specs.Prelude.{◌≡◌, ℕ, ◌+◌, ◌<◌, ◌≤◌, ◌^◌, [], ◌∷◌, ◌++◌, Some, IfOk, length, filter, map, not, slice_get};
+ghost use Rattle.std.specs.Prelude.{◌≡◌, ℕ, ◌+◌, ◌<◌, ◌≤◌, ◌^◌, [], ◌∷◌, ◌++◌, Some, IfOk, MatchOption, length, filter, map, not, slice_get};
 ghost use Rattle.explorer_model.specs.Visits.{texts_of};
 ghost use Rattle.segment_blocks.specs.Segment.{IsSegment, CanJoin, IsTallyOfBoth, span_of_both};
 ghost use Rattle.segment_blocks.specs.Block.{block_limit};
-ghost use Rattle.segment_blocks.specs.PackedRows.{rows_of_parts};
+ghost use Rattle.segment_blocks.specs.PackedRows.{IsFirstKey, rows_of_parts};
 ghost use Rattle.segment_blocks.specs.Walk.{has_key, is_below, is_within};
 
 use crate::held_batch::{HeldBatch, game_at, share_all};
@@ -179,6 +179,14 @@ impl Segment {
         ensures { result ≡ self.now.blocks }
     {
         self.rows.block_count()
+    }
+
+    /// The key of the first row of block `n`, from 0, or None where there are not so many blocks.
+    pub fn first_key(&self, n: usize) -> Option<[u8; 34]>
+        ensures { MatchOption result (self.now.blocks ≤ n)
+            (IsFirstKey self.now.rows self.now.blocks n) }
+    {
+        self.rows.first_key(n)
     }
 
     /// The key of row `n`, from 0, or None where there are not so many rows. It passes the blocks
