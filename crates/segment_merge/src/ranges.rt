@@ -14,12 +14,9 @@ use side_by_side::map_taken;
 use std::alloc::{AllocError, Global};
 use std::thread::Threads;
 
-/// How many rows a full block has.
-const ROWS_OF_BLOCK: usize = 128;
-
 /// How many ranges there are for each of several workers. Equal ranges take different times; a leaf
 /// that is done with one takes the next, so that at the end none waits long for another.
-const RANGES_OF_WORKER: usize = 4;
+const RANGES_OF_WORKER: usize = 8;
 
 /// The segment of both spans, made by as many leaves as there are workers, side by side. Each leaf
 /// goes through the gate once, and then merges the rows of one range of keys after another, as long
@@ -59,7 +56,7 @@ fn count_ranges(workers: usize) -> usize
     }
 }
 
-/// Keys that part the rows of the side with more blocks in so many ranges, of which the first are the
+/// Keys that part the blocks of the side that has more in so many ranges, of which the first are the
 /// longest. Any rising keys serve.
 fn cut_keys(
     alloc: Global,
@@ -76,11 +73,11 @@ fn cut_keys(
     } else {
         left
     };
-    let rows = larger.block_count().saturating_mul(ROWS_OF_BLOCK);
+    let blocks = larger.block_count();
     let mut keys = Vec::with_capacity(alloc, ranges)?;
     let mut last = [0u8; 34];
     for part in 1..ranges {
-        let key = larger.key_at(rows.saturating_sub(left_from(rows, part, ranges)));
+        let key = larger.first_key(blocks.saturating_sub(left_from(blocks, part, ranges)));
         let next = later_key(last, key.unwrap_or([255; 34]));
         keys.push(next)?;
         last = next;
@@ -88,14 +85,14 @@ fn cut_keys(
     Ok(keys)
 }
 
-/// How many of so many rows are in the ranges from the one of this number on: the share of the ranges
-/// that are left, squared. So the last ranges are short, and at the end no leaf waits long for another.
-fn left_from(rows: usize, range: usize, count: usize) -> usize
+/// How many of so many blocks are in the ranges from the one of this number on: the share of the
+/// ranges that are left, squared. So the last ranges are short, and at the end no leaf waits long for
+/// another.
+fn left_from(blocks: usize, range: usize, count: usize) -> usize
     requires { 1 ≤ count }
 {
     let ranges = count.saturating_sub(range);
-    let some = rows.saturating_mul(ranges) / count;
-    some.saturating_mul(ranges) / count
+    blocks.saturating_mul(ranges).saturating_mul(ranges) / count / count
 }
 
 /// The key, where it is not below the one before it.
