@@ -14,9 +14,12 @@ use side_by_side::map_taken;
 use std::alloc::{AllocError, Global};
 use std::thread::Threads;
 
-/// How many ranges there are for each of several workers. Equal ranges take different times; a leaf
-/// that is done with one takes the next, so that at the end none waits long for another.
+/// How many ranges there are at most for each of several workers. Equal ranges take different times; a
+/// leaf that is done with one takes the next, so that at the end none waits long for another.
 const RANGES_OF_WORKER: usize = 8;
+
+/// How many blocks a range has in the mean, at least. The last block of a range is not full.
+const BLOCKS_OF_RANGE: usize = 16;
 
 /// The segment of both spans, made by as many leaves as there are workers, side by side. Each leaf
 /// goes through the gate once, and then merges the rows of one range of keys after another, as long
@@ -37,14 +40,25 @@ pub fn merge<R: Threads + Sync, G: Gate>(
     // That each side is a segment, its span tells.
     let _left = left.span();
     let _right = right.span();
-    let keys = cut_keys(alloc, left, right, count_ranges(workers))?;
+    let larger = larger_of(left, right);
+    let keys = cut_keys(alloc, larger, count_ranges(workers, larger.block_count()))?;
     let results = merge_ranges(rt, alloc, left, right, keys.as_slice(), workers, gate)?;
     let parts = all_made(alloc, results)?;
     Segment::of_both(alloc, left, right, parts)
 }
 
-/// In how many ranges so many workers merge. One worker merges all rows in one.
-fn count_ranges(workers: usize) -> usize
+/// The side that has more blocks.
+fn larger_of<'a>(left: &'a Segment, right: &'a Segment) -> &'a Segment {
+    if left.block_count() < right.block_count() {
+        right
+    } else {
+        left
+    }
+}
+
+/// In how many ranges so many workers merge, where the larger side has so many blocks. One worker
+/// merges all rows in one.
+fn count_ranges(workers: usize, blocks: usize) -> usize
     requires some_workers { 1 ≤ workers }
     requires few_workers { workers ≤ 16 }
     ensures { 1 ≤ result }
@@ -52,32 +66,22 @@ fn count_ranges(workers: usize) -> usize
     if workers == 1 {
         1
     } else {
-        workers * RANGES_OF_WORKER
+        (workers * RANGES_OF_WORKER).min(1 + blocks / BLOCKS_OF_RANGE)
     }
 }
 
-/// Keys that part the blocks of the side that has more in so many ranges, of which the first are the
-/// longest. Any rising keys serve.
-fn cut_keys(
-    alloc: Global,
-    left: &Segment,
-    right: &Segment,
-    ranges: usize,
-) -> Result<Vec<[u8; 34]>, AllocError>
+/// Keys that part the blocks of a segment in so many ranges, of which the first are the longest. Any
+/// rising keys serve.
+fn cut_keys(alloc: Global, segment: &Segment, ranges: usize) -> Result<Vec<[u8; 34]>, AllocError>
     requires { 1 ≤ ranges }
     ensures count { IfOk result (λ keys. length keys.items + 1 ≡ ranges) }
     ensures rising { IfOk result (λ keys. AreRising keys.items) }
 {
-    let larger = if left.block_count() < right.block_count() {
-        right
-    } else {
-        left
-    };
-    let blocks = larger.block_count();
+    let blocks = segment.block_count();
     let mut keys = Vec::with_capacity(alloc, ranges)?;
     let mut last = [0u8; 34];
     for part in 1..ranges {
-        let key = larger.first_key(blocks.saturating_sub(left_from(blocks, part, ranges)));
+        let key = segment.first_key(blocks.saturating_sub(left_from(blocks, part, ranges)));
         let next = later_key(last, key.unwrap_or([255; 34]));
         keys.push(next)?;
         last = next;
