@@ -75,3 +75,18 @@ needs_files() {
   usage >&2
   exit 2
 }
+
+# means FILE: of lines that begin with a number of workers and end with microseconds, the mean for each number of workers, and how
+# many times as fast four are as one by the means.
+means() {
+  awk '
+    { count[$1]++; sum[$1] += $(NF - 1); all[$1] = all[$1] " " int($(NF - 1) / 1000 + 0.5) }
+    END {
+      for (workers = 1; workers <= 16; workers++)
+        if (workers in count)
+          printf "%d workers: %.1f ms in the mean of %d runs (%s)\n", workers, sum[workers] / count[workers] / 1000, count[workers],
+            substr(all[workers], 2)
+      if (1 in count && 4 in count)
+        printf "4 workers are %.2f times as fast as 1, by the means\n", sum[1] / count[1] / (sum[4] / count[4])
+    }' "$1"
+}
