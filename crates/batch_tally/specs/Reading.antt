@@ -1,6 +1,6 @@
 -- Texts that are replayed.
 use Rattle.std.specs.Prelude.{◌≡◌, ℕ, ◌+◌, ◌++◌, ◌≤◌, Result, Vec, IfOk, List, [], ◌∷◌, length}
-use Rattle.std.specs.List.{All, AllZip}
+use Rattle.std.specs.List.{All}
 use Rattle.std.specs.declared.alloc.AllocError.{AllocError}
 use Rattle.std.specs.declared.alloc.Global.{Global}
 use Rattle.explorer_model.specs.declared.archive.Placed.{Placed}

@@ -7,10 +7,11 @@ ghost use Rattle.batch_tally.specs.Reading.{AreContentsOf, AreRunsFrom, AreShort
 ghost use Rattle.batch_tally.specs.declared.reading.Contents.{Contents};
 ghost use Rattle.batch_tally.specs.declared.reading.Run.{Run};
 
+use crate::kept_game::KeptGame;
 use crate::leaves::all_made;
 use crate::singles::{Count, part_of, push_singles, run_count};
 use crate::steps::STAGE_LIMIT;
-use explorer_model::archive::{Bytes, Game, Placed};
+use explorer_model::archive::{Bytes, Placed};
 use explorer_model::fault::{GameFault, Stop};
 use game_replay::replay;
 use outside::Gate;
@@ -22,28 +23,28 @@ use std::vec::IntoIter;
 use tally_rows::Single;
 
 /// A text with its game, or the first of its faults.
-#[derive(Debug, Drop)]
+#[derive(Drop)]
 pub struct Reading {
     /// The offset of the text in its stream.
     pub place: u64,
     pub text: Bytes,
-    pub game: Result<Game, GameFault>,
+    pub game: Result<KeptGame, GameFault>,
     /// Nothing without a game.
     pub count: Count,
 }
 
 /// What a text holds: its game, or the first of its faults.
-#[derive(Debug, Drop)]
+#[derive(Drop)]
 pub struct Contents {
-    pub game: Result<Game, GameFault>,
+    pub game: Result<KeptGame, GameFault>,
     /// Nothing without a game.
     pub count: Count,
 }
 
 /// What a text of a run holds, where the singles of its run are one list.
-#[derive(Debug, Drop)]
+#[derive(Drop)]
 pub struct RunPart {
-    pub game: Result<Game, GameFault>,
+    pub game: Result<KeptGame, GameFault>,
     /// The place of the first single of the game, and how many there are.
     pub from: usize,
     pub number: usize,
@@ -174,7 +175,7 @@ fn read(alloc: Global, singles: &mut Vec<Single>, text: &Placed) -> Result<RunPa
         Ok(game) => {
             push_singles(alloc, singles, &game)?;
             Ok(RunPart {
-                game: Ok(game),
+                game: Ok(KeptGame::of(game)),
                 from,
                 number: singles.as_slice().len() - from,
             })
