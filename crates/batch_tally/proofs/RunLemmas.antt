@@ -1,10 +1,11 @@
 -- Texts that are read in runs, and put together with their contents.
-use Rattle.std.proofs.Common.{◌≡◌, ◌+◌, ◌*◌, ◌<◌, ◌≤◌, ℕ, suc, Result, Ok, Err, IfOk, List, [], ◌∷◌, ◌++◌, map, length, get_or, take, drop, refl, sym, ap, ◌∙◌, subst, arith}
+use Rattle.std.proofs.Common.{◌≡◌, ◌+◌, ◌<◌, ◌≤◌, ℕ, Result, Ok, Err, IfOk, List, [], ◌∷◌, ◌++◌, map, length, get_or, take, drop, refl, sym, ap, ◌∙◌, subst, arith}
 use Rattle.std.specs.Arc.{arc_value}
 use Rattle.std.specs.declared.alloc.AllocError.{AllocError}
 use Rattle.std.specs.List.{All, AllByRecursion, AllZip, flat_map}
-use Rattle.std.proofs.lemmas.List.{append_assoc, append-nil, drop-append-le, drop-drop, drop-map, get_or-map, length-append, length-drop, length-map, map_push, nil_from_length, take-append-drop, take-append-le, take-map, take_all, take_more}
+use Rattle.std.proofs.lemmas.List.{append_assoc, append-nil, drop-append-le, drop-drop, drop-map, length-append, length-drop, map_push, nil_from_length, take-append-drop, take-append-le, take-map, take_all, take_more}
 use Rattle.std.proofs.lemmas.List.Elements.{All-push, recursion_from_All}
+use Rattle.std.proofs.Math.ListN.{drop_of_length-le}
 use Rattle.std.proofs.Math.Seq.{drop-append_seam}
 use Rattle.explorer_model.specs.declared.archive.Game.{Game}
 use Rattle.explorer_model.specs.declared.archive.Placed.{Placed}
@@ -14,40 +15,48 @@ use Rattle.explorer_model.proofs.Lists.{zip-append}
 use Rattle.tally_rows.specs.declared.single.Single.{Single}
 use Rattle.batch_tally.specs.declared.reading.Contents.{Contents}
 use Rattle.batch_tally.specs.declared.reading.Reading.{Reading}
+use Rattle.batch_tally.specs.declared.reading.Run.{Run}
 use Rattle.batch_tally.specs.declared.reading.RunPart.{RunPart}
 use Rattle.batch_tally.specs.declared.singles.Count.{Count}
 use Rattle.batch_tally.specs.declared.singles.RunCount.{RunCount}
-use Rattle.batch_tally.specs.Reading.{AreContentsOf, IsPartOf, IsReadBehind, IsReadingOf, readings_of, run_length, run_of}
+use Rattle.batch_tally.specs.Reading.{AreContentsOf, AreRunsFrom, IsPartOf, IsReadBehind, IsReadingOf, readings_of, run_of}
 use Rattle.batch_tally.specs.Singles.{ArePushed, AreSinglesOf, IsCountOf, part_of, word_of}
-use Rattle.batch_tally.proofs.LeafLemmas.{if-ok, ok_part}
+use Rattle.batch_tally.proofs.LeafLemmas.{if-ok, made-each, ok_part}
 
 -- ---- the texts of all runs are all texts
 
-run-behind : (texts : List Placed) (run : ℕ) → run_of (drop run_length texts) run ≡ run_of texts (suc run)
-run-behind texts run = ap (take run_length)
-    (drop-drop (run * run_length) run_length texts ∙ ap (λ n. drop n texts) (omega arith))
+runs-whole : {V : Type 0} (R : Placed → Contents → Type 0) (items : V → List Contents) (texts : List Placed) (from : ℕ) (runs : List Run) (parts : List V)
+    → AreRunsFrom from (length texts) runs → AllZip (λ run part. AllZip R (run_of texts run) (items part)) runs parts
+    → AllZip R (drop from texts) (flat_map items parts)
+runs-whole R items texts from [] [] follow each =
+    subst (λ (l : List Placed). AllZip R l []) (sym (drop_of_length-le texts {i = from} (omega (arith, follow)))) tt
+runs-whole R items texts from [] (part ∷ parts) follow each = absurd each
+runs-whole R items texts from (run ∷ runs) [] follow each = absurd each
+runs-whole {V} R items texts from (run ∷ runs) (part ∷ parts) follow each =
+    let front : AllZip R (take run.number (drop from texts)) (items part) =
+    subst (λ (n : ℕ). AllZip R (take run.number (drop n texts)) (items part)) follow.0 each.0 in
+    let behind : AllZip R (drop run.number (drop from texts)) (flat_map items parts) =
+    subst (λ (l : List Placed). AllZip R l (flat_map items parts)) (sym (drop-drop run.number from texts ∙ ap (λ n. drop n texts) (omega arith)))
+    (runs-whole R items texts (from + run.number) runs parts follow.1 each.1) in
+    subst (λ (l : List Placed). AllZip R l (items part ++ flat_map items parts)) (take-append-drop run.number (drop from texts))
+    (zip-append R (take run.number (drop from texts)) (drop run.number (drop from texts)) (items part) (flat_map items parts) front behind)
 
-runs-whole : {V : Type 0} (R : Placed → Contents → Type 0) (items : V → List Contents) (texts : List Placed) (parts : List V)
-    → length texts ≤ length parts * run_length
-    → ((run : ℕ) (d : V) → run < length parts → AllZip R (run_of texts run) (items (get_or parts run d)))
-    → AllZip R texts (flat_map items parts)
-runs-whole R items texts [] all each = subst (λ (l : List Placed). AllZip R l []) (sym (nil_from_length texts (omega (arith, all)))) tt
-runs-whole {V} R items texts (part ∷ parts) all each =
-    let front = each 0 part (omega arith) in
-    let behind = runs-whole R items (drop run_length texts) parts (omega (arith, all, length-drop run_length texts))
-    (λ run d below. subst (λ (l : List Placed). AllZip R l (items (get_or parts run d))) (sym (run-behind texts run)) (each (suc run) d (omega (arith, below)))) in
-    subst (λ (l : List Placed). AllZip R l (items part ++ flat_map items parts)) (take-append-drop run_length texts)
-    (zip-append R (take run_length texts) (drop run_length texts) (items part) (flat_map items parts) front behind)
+-- ---- runs, one after another
 
--- what holds of each result, which was made, holds of what it holds
-made-at : {V : Type 0} (P : ℕ → V → Type 0) (results : List (Result V AllocError)) (made : List V) → map ok_part made ≡ results
-    → ((n : ℕ) (d : Result V AllocError) → n < length results → IfOk (get_or results n d) (P n))
-    → (n : ℕ) (d : V) → n < length made → P n (get_or made n d)
-made-at {V} P results made ok each n d below =
-    let long : length results ≡ length made = ap length (sym ok) ∙ length-map made ok_part in
-    let here : get_or results n (ok_part d) ≡ ok_part (get_or made n d) =
-    ap (λ l. get_or l n (ok_part d)) (sym ok) ∙ get_or-map ok_part made n d (ok_part d) below in
-    subst (λ (r : Result V AllocError). IfOk r (P n)) here (each n (ok_part d) (omega (arith, below, long)))
+-- runs so far, behind which runs from a place on follow
+abbrev pub LeadTo : ℕ → List Run → ℕ → Type 0
+LeadTo end runs from = (rest : List Run) → AreRunsFrom from end rest → AreRunsFrom 0 end (runs ++ rest)
+
+pub one-run : (end : ℕ) (runs more : List Run) (from next number : ℕ) → more ≡ runs ++ record { from = from; number = number } ∷ []
+    → next ≡ from + number → LeadTo end runs from → LeadTo end more next
+one-run end runs more from next number pushed behind lead rest follow =
+    subst (AreRunsFrom 0 end) (sym (ap (λ l. l ++ rest) pushed ∙ append_assoc runs (record { from = from; number = number } ∷ []) rest))
+    (lead (record { from = from; number = number } ∷ rest) (refl, subst (λ (n : ℕ). AreRunsFrom n end rest) behind follow))
+
+pub last-run : (end : ℕ) (runs more : List Run) (from number : ℕ) → more ≡ runs ++ record { from = from; number = number } ∷ []
+    → from + number ≡ end → LeadTo end runs from → AreRunsFrom 0 end more
+last-run end runs more from number pushed ends lead =
+    subst (AreRunsFrom 0 end) (sym pushed) (lead (record { from = from; number = number } ∷ []) (refl, ends))
 
 -- ---- the singles of a run
 
@@ -202,12 +211,13 @@ readings-are (text ∷ texts) (one ∷ contents) each = (
 )
 
 -- the texts with what was read of them in runs
-pub all-read : {V : Type 0} (items : V → List Contents) (texts : List Placed) (results : List (Result V AllocError)) (made : List V) (readings : List Reading)
-    → map ok_part made ≡ results → length texts ≤ length results * run_length
-    → ((run : ℕ) (d : Result V AllocError) → run < length results → IfOk (get_or results run d) (λ part. AllZip AreContentsOf (run_of texts run) (items part)))
+pub all-read : {V : Type 0} (items : V → List Contents) (texts : List Placed) (runs : List Run) (results : List (Result V AllocError)) (made : List V)
+    (readings : List Reading) → map ok_part made ≡ results → AreRunsFrom 0 (length texts) runs → length results ≡ length runs
+    → ((n : ℕ) (d : Result V AllocError) (r : Run) → n < length runs
+    → IfOk (get_or results n d) (λ part. AllZip AreContentsOf (run_of texts (get_or runs n r)) (items part)))
     → readings ≡ readings_of texts (flat_map items made) → AllZip IsReadingOf texts readings
-all-read {V} items texts results made readings ok all each are =
-    let long : length results ≡ length made = ap length (sym ok) ∙ length-map made ok_part in
-    let whole = runs-whole AreContentsOf items texts made (omega (arith, all, long))
-    (made-at (λ run part. AllZip AreContentsOf (run_of texts run) (items part)) results made ok each) in
+all-read {V} items texts runs results made readings ok follow count each are =
+    let whole : AllZip AreContentsOf texts (flat_map items made) =
+    runs-whole AreContentsOf items texts 0 runs made follow
+    (made-each (λ run part. AllZip AreContentsOf (run_of texts run) (items part)) runs results made ok count each) in
     subst (λ (l : List Reading). AllZip IsReadingOf texts l) (sym are) (readings-are texts (flat_map items made) whole)

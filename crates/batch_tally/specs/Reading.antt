@@ -1,6 +1,6 @@
 -- Texts that are replayed.
-use Rattle.std.specs.Prelude.{◌≡◌, ℕ, ◌+◌, ◌*◌, ◌<◌, ◌++◌, ◌≤◌, Result, Vec, IfOk, List, [], ◌∷◌, length, take, drop, slice_index_or}
-use Rattle.std.specs.List.{All, AllZip}
+use Rattle.std.specs.Prelude.{◌≡◌, ℕ, ◌+◌, ◌++◌, ◌≤◌, Result, Vec, IfOk, List, [], ◌∷◌, length}
+use Rattle.std.specs.List.{All}
 use Rattle.std.specs.declared.alloc.AllocError.{AllocError}
 use Rattle.std.specs.declared.alloc.Global.{Global}
 use Rattle.explorer_model.specs.declared.archive.Placed.{Placed}
@@ -9,6 +9,7 @@ use Rattle.explorer_model.specs.Games.{GameOf}
 use Rattle.explorer_model.specs.Imports.{Replayed, Examination, Read}
 use Rattle.batch_tally.specs.declared.reading.Contents.{Contents}
 use Rattle.batch_tally.specs.declared.reading.Reading.{Reading}
+use Rattle.batch_tally.specs.declared.reading.Run.{Run}
 use Rattle.batch_tally.specs.declared.reading.RunPart.{RunPart}
 use Rattle.tally_rows.specs.declared.single.Single.{Single}
 use Rattle.batch_tally.specs.Singles.{AreSinglesOf, IsCountOf, part_of}
@@ -65,19 +66,16 @@ readings_of (text ∷ texts) (one ∷ contents) = reading_of text one ∷ readin
 abbrev pub AreShort : List Placed → Type 0
 AreShort texts = All (λ text. length text.bytes ≤ text_limit) texts
 
--- so many texts are read at a time
-abbrev pub run_length : ℕ
-run_length = 4
+-- the texts of a run
+abbrev pub run_of : List Placed → Run → List Placed
+run_of texts run = part_of texts run.from run.number
 
--- the texts of a run, of which the last may be shorter
-abbrev pub run_of : List Placed → ℕ → List Placed
-run_of texts run = take run_length (drop (run * run_length) texts)
+-- the runs stand one behind another, from a place on up to an end
+abbrev pub AreRunsFrom : ℕ → ℕ → List Run → Type 0
+AreRunsFrom from end [] = from ≡ end
+AreRunsFrom from end (run ∷ runs) =
+    (run.from ≡ from) × AreRunsFrom (from + run.number) end runs
 
 -- what is made of a run: the contents of its texts, or want of memory
 abbrev pub RunMade : Type 0
 RunMade = Result (Vec Contents Global) AllocError
-
--- each run that was made has the contents of its texts
-abbrev pub AreRunsOf : List Placed → List RunMade → Type 0
-AreRunsOf texts runs = (run : ℕ) (d : RunMade) → run < length runs
-    → IfOk (slice_index_or runs run d) (λ made. AllZip AreContentsOf (run_of texts run) made.items)

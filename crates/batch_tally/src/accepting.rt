@@ -7,32 +7,33 @@ ghost use Rattle.batch_tally.specs.Marks.{id_mark_of, AreIdsMarked};
 ghost use Rattle.tally_rows.specs.SortEntry.{spelled};
 ghost use Rattle.batch_tally.specs.Reading.{HasCount, examination_as};
 
+use crate::kept_game::KeptGame;
 use crate::reading::Reading;
 use crate::singles::Count;
-use explorer_model::archive::{Bytes, Game, GameId};
+use explorer_model::archive::{Bytes, GameId};
 use explorer_model::fault::{Refusal, Why};
 use std::alloc::{AllocError, Global};
 use tally_rows::word_at;
 
 /// A text with its game, whose id no text before it in its group has.
-#[derive(Debug, Drop)]
+#[derive(Drop)]
 pub struct Accepted {
     /// The offset of the text in its stream.
     pub place: u64,
     pub text: Bytes,
-    pub game: Game,
+    pub game: KeptGame,
     pub count: Count,
 }
 
 /// What becomes of one text.
-#[derive(Debug, Drop)]
+#[derive(Drop)]
 pub enum Verdict {
     Accepted(Accepted),
     Refused(Refusal),
 }
 
 /// What becomes of the texts of a group, in their order.
-#[derive(Debug, Drop)]
+#[derive(Drop)]
 pub struct Accepting {
     pub accepted: Vec<Accepted>,
     pub refused: Vec<Refusal>,
@@ -109,7 +110,7 @@ fn place_of_id(
     accepted: &[Accepted],
     words: &[u64],
     marks: &[bool; 4096],
-    game: &Game,
+    game: &KeptGame,
 ) -> Option<u64>
     requires words { words.now ≡ map id_word_of accepted.now }
     requires marks { AreIdsMarked marks.now words.now }
@@ -125,7 +126,7 @@ fn place_of_id(
 }
 
 /// The place of the first accepted text that has the id of the game, which this word is of.
-fn place_among(accepted: &[Accepted], words: &[u64], game: &Game, word: u64) -> Option<u64>
+fn place_among(accepted: &[Accepted], words: &[u64], game: &KeptGame, word: u64) -> Option<u64>
     requires words { words.now ≡ map id_word_of accepted.now }
     requires word { word ≡ spelled game.now.classes.id.bytes 0 8 }
     ensures { result
@@ -142,7 +143,7 @@ fn place_among(accepted: &[Accepted], words: &[u64], game: &Game, word: u64) -> 
 }
 
 /// Have the text and the game one id? These words are those of their ids.
-fn has_id(text: &Accepted, of: u64, game: &Game, word: u64) -> bool
+fn has_id(text: &Accepted, of: u64, game: &KeptGame, word: u64) -> bool
     requires of { of ≡ id_word_of text.now }
     requires word { word ≡ spelled game.now.classes.id.bytes 0 8 }
     ensures { result ≡ has_id_of game.now (candidate_as text.now) }
@@ -150,14 +151,14 @@ fn has_id(text: &Accepted, of: u64, game: &Game, word: u64) -> bool
     if of != word {
         return false;
     }
-    text.game.classes.id == game.classes.id
+    text.game.classes().id == game.classes().id
 }
 
 /// The number that the bytes of a game's id spell.
-fn id_word(game: &Game) -> u64
+fn id_word(game: &KeptGame) -> u64
     ensures { result ≡ spelled game.now.classes.id.bytes 0 8 }
 {
-    word_at(&game.classes.id.bytes, 0)
+    word_at(&game.classes().id.bytes, 0)
 }
 
 /// The mark of an id by its word. The multiplier, 2 to the 64 by the golden ratio, spreads words.

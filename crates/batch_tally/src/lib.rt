@@ -2,6 +2,7 @@
 #![tactic(auto)]
 
 mod accepting;
+mod kept_game;
 mod keyed_board;
 pub mod laws;
 mod leaves;

@@ -1,15 +1,17 @@
 //! Texts and the games that they hold.
-ghost use Rattle.std.specs.Prelude.{◌≡◌, ◌+◌, ◌*◌, ◌^◌, ◌<◌, ◌≤◌, ◌++◌, List, length, IfOk, OnOk};
+ghost use Rattle.std.specs.Prelude.{◌≡◌, ℕ, ◌+◌, ◌^◌, ◌<◌, ◌≤◌, ◌++◌, List, length, slice_index_or, IfOk, OnOk};
 ghost use Rattle.std.specs.List.{All, AllZip, flat_map};
 ghost use Rattle.std.specs.Vec.Iter.{into_iter_items};
 ghost use Rattle.explorer_model.specs.Cuts.{text_limit};
-ghost use Rattle.batch_tally.specs.Reading.{AreContentsOf, AreRunsOf, AreShort, IsPartOf, IsReadBehind, IsReadingOf, readings_of, run_length, run_of};
+ghost use Rattle.batch_tally.specs.Reading.{AreContentsOf, AreRunsFrom, AreShort, IsPartOf, IsReadBehind, IsReadingOf, RunMade, readings_of, run_of};
 ghost use Rattle.batch_tally.specs.declared.reading.Contents.{Contents};
+ghost use Rattle.batch_tally.specs.declared.reading.Run.{Run};
 
+use crate::kept_game::KeptGame;
 use crate::leaves::all_made;
-use crate::singles::{Count, push_singles, run_count};
+use crate::singles::{Count, part_of, push_singles, run_count};
 use crate::steps::STAGE_LIMIT;
-use explorer_model::archive::{Bytes, Game, Placed};
+use explorer_model::archive::{Bytes, Placed};
 use explorer_model::fault::{GameFault, Stop};
 use game_replay::replay;
 use outside::Gate;
@@ -21,36 +23,47 @@ use std::vec::IntoIter;
 use tally_rows::Single;
 
 /// A text with its game, or the first of its faults.
-#[derive(Debug, Drop)]
+#[derive(Drop)]
 pub struct Reading {
     /// The offset of the text in its stream.
     pub place: u64,
     pub text: Bytes,
-    pub game: Result<Game, GameFault>,
+    pub game: Result<KeptGame, GameFault>,
     /// Nothing without a game.
     pub count: Count,
 }
 
 /// What a text holds: its game, or the first of its faults.
-#[derive(Debug, Drop)]
+#[derive(Drop)]
 pub struct Contents {
-    pub game: Result<Game, GameFault>,
+    pub game: Result<KeptGame, GameFault>,
     /// Nothing without a game.
     pub count: Count,
 }
 
 /// What a text of a run holds, where the singles of its run are one list.
-#[derive(Debug, Drop)]
+#[derive(Drop)]
 pub struct RunPart {
-    pub game: Result<Game, GameFault>,
+    pub game: Result<KeptGame, GameFault>,
     /// The place of the first single of the game, and how many there are.
     pub from: usize,
     pub number: usize,
 }
 
-/// So many texts are read at a time: enough that taking them costs nothing beside, and few enough
-/// that no leaf is long at work when the others have ended.
-const RUN: usize = 4;
+/// Texts that are read by one leaf at a time: so many, from a place on.
+#[derive(Clone, Copy, Debug)]
+pub struct Run {
+    pub from: usize,
+    pub number: usize,
+}
+
+/// The most texts that are read at a time: enough that taking them costs nothing beside, and that
+/// few lists are given back.
+const LONGEST: usize = 32;
+
+/// And the fewest, but for the last ones: few enough that no leaf is long at work when the others
+/// have ended.
+const SHORTEST: usize = 2;
 
 /// Each text of at most 65,536 bytes, replayed and counted. As many leaves as there are workers
 /// work side by side, each of which goes through the gate and then takes the next texts, a run at
@@ -66,52 +79,86 @@ pub fn read_all<R: Threads + Sync, G: Gate>(
     requires short { All (λ text. length text.bytes ≤ text_limit) texts.items }
     ensures { IfOk result (λ readings. AllZip IsReadingOf texts.items readings.items) }
 {
-    let runs = read_runs(rt, alloc, texts.as_slice(), workers, gate)?;
-    let parts = all_made(alloc, runs)?;
+    let given = texts.as_slice();
+    let runs = runs_of(alloc, given.len(), workers)?;
+    let results = read_runs(rt, alloc, given, runs, workers, gate)?;
+    let parts = all_made(alloc, results)?;
     readings_of(alloc, texts, parts)
 }
 
-/// The contents of the texts, in runs.
+/// Runs of so many texts, one after another. Any do; the first are long, and the last short.
+fn runs_of(alloc: Global, texts: usize, workers: usize) -> Result<Vec<Run>, AllocError>
+    requires { 1 ≤ workers }
+    ensures { IfOk result (λ runs. AreRunsFrom 0 texts runs.items) }
+{
+    let mut runs = Vec::new(alloc);
+    let mut from = 0;
+    for _ in 0..texts {
+        let left = texts - from;
+        if left <= SHORTEST {
+            break;
+        }
+        let number = share_of(left, workers);
+        runs.push(Run { from, number })?;
+        from += number;
+    }
+    let number = texts - from;
+    runs.push(Run { from, number })?;
+    Ok(runs)
+}
+
+/// How many texts the next run has of those that are left: a third of a worker's share of them. Where
+/// no other works, it has as many as it may.
+fn share_of(left: usize, workers: usize) -> usize
+    requires { 1 ≤ workers }
+    ensures { result ≤ left }
+{
+    if workers == 1 {
+        return LONGEST.min(left);
+    }
+    let share = left / workers.saturating_mul(3);
+    share.max(SHORTEST).min(LONGEST).min(left)
+}
+
+/// The contents of the texts of each run.
 fn read_runs<R: Threads + Sync, G: Gate>(
     rt: &R,
     alloc: Global,
     texts: &[Placed],
+    runs: Vec<Run>,
     workers: usize,
     gate: &G,
 ) -> Result<Vec<Result<Vec<Contents>, AllocError>>, AllocError>
     requires { AreShort texts.now }
-    ensures all { IfOk result (λ runs. length texts.now ≤ length runs.items * run_length) }
-    ensures runs { IfOk result (λ runs. AreRunsOf texts.now runs.items) }
+    ensures count { IfOk result (λ results. length results.items ≡ length runs.items) }
+    ensures results { IfOk result (λ results.
+        (n : ℕ) (d : RunMade) (r : Run) → n < length runs.items
+        → IfOk (slice_index_or results.items n d) (λ made.
+        AllZip AreContentsOf (run_of texts.now (slice_index_or runs.items n r)) made.items)) }
 {
+    let runs = runs.as_slice();
     let enter = |leaf: usize|
         requires { leaf + 1 < 2 ^ 64 }
     { gate.pass(leaf + 1) };
-    let read_one = |run: usize| -> Result<Vec<Contents>, AllocError>
-        requires { AreShort texts.now
-            × (run * run_length < length texts.now) }
-        ensures { IfOk result (λ made.
-            AllZip AreContentsOf (run_of texts.entry.now run) made.items) }
-    { read_run(alloc, texts, run) };
-    map_taken(
-        rt,
-        alloc,
-        workers,
-        texts.len().div_ceil(RUN),
-        &enter,
-        &read_one,
-    )
+    let read_one = |n: usize| -> Result<Vec<Contents>, AllocError>
+        requires { AreShort texts.now × (n < length runs.now) }
+        ensures { IfOk result (λ made. (r : Run)
+            → AllZip AreContentsOf (run_of texts.entry.now (slice_index_or runs.entry.now n r))
+            made.items) }
+    { read_run(alloc, texts, runs[n]) };
+    let results = map_taken(rt, alloc, workers, runs.len(), &enter, &read_one)?;
+    let _count = results.as_slice().len();
+    Ok(results)
 }
 
 /// The contents of the texts of a run.
-fn read_run(alloc: Global, texts: &[Placed], run: usize) -> Result<Vec<Contents>, AllocError>
-    requires short { AreShort texts.now }
-    requires begins { run * run_length < length texts.now }
+fn read_run(alloc: Global, texts: &[Placed], run: Run) -> Result<Vec<Contents>, AllocError>
+    requires { AreShort texts.now }
     ensures { IfOk result (λ made. AllZip AreContentsOf (run_of texts.now run) made.items) }
 {
-    let rest = &texts[run * RUN..];
-    let of_run = &rest[..rest.len().min(RUN)];
+    let of_run = part_of(texts, run.from, run.number);
     let mut parts = Vec::with_capacity(alloc, of_run.len())?;
-    let mut singles = Vec::with_capacity(alloc, RUN * STAGE_LIMIT)?;
+    let mut singles = Vec::with_capacity(alloc, of_run.len().saturating_mul(STAGE_LIMIT))?;
     for text in of_run {
         parts.push(read(alloc, &mut singles, text)?)?;
     }
@@ -128,7 +175,7 @@ fn read(alloc: Global, singles: &mut Vec<Single>, text: &Placed) -> Result<RunPa
         Ok(game) => {
             push_singles(alloc, singles, &game)?;
             Ok(RunPart {
-                game: Ok(game),
+                game: Ok(KeptGame::of(game)),
                 from,
                 number: singles.as_slice().len() - from,
             })

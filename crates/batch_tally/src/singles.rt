@@ -69,7 +69,7 @@ impl Count {
 }
 
 /// So many items from a place on.
-fn part_of<T>(items: &[T], from: usize, number: usize) -> &[T]
+pub fn part_of<T>(items: &[T], from: usize, number: usize) -> &[T]
     ensures { result.now ≡ take number (drop from items.now) }
 {
     let rest = &items[from.min(items.len())..];

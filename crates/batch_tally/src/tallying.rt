@@ -9,7 +9,7 @@ ghost use Rattle.batch_tally.specs.Tallying.{IsTallying, IsTallyMade};
 use crate::accepting::{Accepted, accept};
 use crate::ranges::row_parts;
 use crate::reading::read_all;
-use explorer_model::archive::{Batch, Bytes, Classes, Game, Placed, Texts};
+use explorer_model::archive::{Batch, Bytes, Classes, Placed, Texts};
 use explorer_model::fault::Refusal;
 use explorer_model::list::Items;
 use outside::Gate;
@@ -105,9 +105,8 @@ fn texts_and_classes(
     let mut texts = Vec::with_capacity(alloc, accepted.len())?;
     let mut classes = Vec::with_capacity(alloc, accepted.len())?;
     for Accepted { text, game, .. } in accepted {
-        let Game { classes: tags, .. } = game;
         texts.push(text)?;
-        classes.push(tags)?;
+        classes.push(game.into_classes())?;
     }
     Ok((texts, classes))
 }
