@@ -73,6 +73,12 @@ tells_end one written text fen played game board is also behind valid fen_is =
     subst (λ (g : Game). R fen (position_behind start g.moves)) same
     (subst (λ (p : Position). R fen p) behind (subst (λ (t : List ℕ). R t board) (sym fen_is) (written board valid)))
 
+-- and it is what is written of that position
+pub writes_end : OneGame → (text fen : List ℕ) (played game : Game) (board : Position) → IsTextOf text played → IsTextOf text game → board ≡ position_behind start played.moves → fen ≡ fen_text board
+    → fen ≡ fen_text (position_behind start game.moves)
+writes_end one text fen played game board is also behind fen_is =
+    fen_is ∙ ap fen_text behind ∙ ap (λ (g : Game). fen_text (position_behind start g.moves)) (one_game one text played game is also)
+
 -- ---- the last sample
 
 pub last_readable : ((index : ℕ) (before behind : Lcg) (text : List ℕ) → (sample : IsSample index before text behind) → samples.HasGame index text sample.moves)

@@ -10,10 +10,12 @@ use Rattle.explorer_model.specs.declared.fault.Refusal.{Refusal}
 use Rattle.explorer_model.specs.declared.query.Query.{Query}
 use Rattle.explorer_model.specs.Cuts.{Cut, cuts}
 use Rattle.explorer_model.specs.Finds.{IsFound}
-use Rattle.explorer_model.specs.Imports.{Accounted, groups}
+use Rattle.explorer_model.specs.Imports.{Accounted, Candidate, groups}
 use Rattle.explorer_model.specs.Journal.{IsSound, byte_count, game_count}
 use Rattle.explorer_model.specs.Visits.{AreGamesOf, texts_of}
-use Rattle.import_run.specs.Ending.{IsCutOff, IsTooMuch}
+use Rattle.ingest_desk.specs.Reporting.{FindsNoRoom}
+use Rattle.import_run.specs.Committing.{Known}
+use Rattle.import_run.specs.Ending.{EndsIn, IsCutOff, IsTooMuch}
 use Rattle.import_run.specs.SoFar.{AreInGroups, ended_cuts}
 use Rattle.import_run.proofs.AccountLemmas.{refused_behind, batches_behind}
 use Rattle.import_run.proofs.AloneLemmas.{same_games}
@@ -21,7 +23,6 @@ use Rattle.import_run.proofs.LawLemmas.{same_front, same_settled}
 use Rattle.import_run.proofs.VerdictLemmas.{OneGame}
 use Rattle.explorer.specs.Count.{Answers}
 use Rattle.explorer.specs.Imported.{new_store}
-use Rattle.explorer.specs.Laws.{IsFullIn}
 use Rattle.explorer.specs.World.{World}
 use Rattle.explorer.proofs.NoRoomLemmas.{OneAccount, accounted_by, lost_is, not_stored}
 
@@ -63,41 +64,51 @@ fronts (group ∷ done) rest (other ∷ others) behind all = by_tail (fronts don
     by_tail (inr (inr longer)) =
         inr (inr (longer.0, longer.1, longer.2, ap (λ (l : List (List Cut)). group ∷ l) longer.3 ∙ ap (λ (g : List Cut). g ∷ (others ++ longer.0 ∷ longer.1)) head, longer.4))
 
-pub one_full : (games bytes games' bytes' : ℕ) (so_far : List (List Cut)) (batches others : List Batch) (refused other : List Refusal) → OneGame → OneAccount → IsFullIn games bytes so_far batches refused → IsFullIn games' bytes' so_far others other
-    → IsSound batches → IsSound others → (games ≡ games') × (bytes ≡ bytes') × (batches ≡ others) × (refused ≡ other)
-one_full games bytes games' bytes' so_far batches others refused other one accounts (left, ends, full) (left', ends', full') sound sound' =
-    by_fronts (fronts ends.done (ends.next ∷ ends.rest) ends'.done (ends'.next ∷ ends'.rest) (sym ends.so_far_is ∙ ends'.so_far_is))
-  where
-    by_fronts : Fronts ends.done (ends.next ∷ ends.rest) ends'.done (ends'.next ∷ ends'.rest) → (games ≡ games') × (bytes ≡ bytes') × (batches ≡ others) × (refused ≡ other)
-    by_fronts (inl (done, rest)) =
-        let next : ends.next ≡ ends'.next = cc in
-        let A : List (List Cut) → Type 0 = λ l. Accounted [] l batches ends.earlier in
-        let moved = subst A done ends.settled.accounted in
-        let same = accounts.batches [] ends'.done batches others ends.earlier ends'.earlier moved ends'.settled.accounted in
-        let earlier = accounts.refused [] ends'.done batches others ends.earlier ends'.earlier moved ends'.settled.accounted in
-        let G : List Batch → Type 0 = λ j. AreGamesOf j ends.known.games in
-        let H : List Batch → Type 0 = λ j. AreGamesOf j ends'.known.games in
-        let games_are = same_games one (texts_of others) ends.known.games ends'.known.games (subst G (ends.journal_is ∙ same) ends.known.are_games) (subst H ends'.journal_is ends'.known.are_games) in
-        let P : List Cut → Type 0 = λ g. Accounted ends.known.games (g ∷ []) (batches_behind ends.known.games (ends.examinations ∷ [])) (refused_behind ends.known.games (ends.examinations ∷ [])) in
-        let Q : List Game → Type 0 = λ gs. Accounted gs (ends'.next ∷ []) (batches_behind ends.known.games (ends.examinations ∷ [])) (refused_behind ends.known.games (ends.examinations ∷ [])) in
-        let here = subst Q games_are (subst P next (accounted_by ends.known.games (ends.next ∷ []) (ends.examinations ∷ []) (ends.are_examinations, tt))) in
-        let last = accounts.refused ends'.known.games (ends'.next ∷ []) (batches_behind ends.known.games (ends.examinations ∷ [])) (batches_behind ends'.known.games (ends'.examinations ∷ [])) (refused_behind ends.known.games (ends.examinations ∷ []))
-        (refused_behind ends'.known.games (ends'.examinations ∷ [])) here (accounted_by ends'.known.games (ends'.next ∷ []) (ends'.examinations ∷ []) (ends'.are_examinations, tt)) in (
-          full.games_are ∙ ap game_count same ∙ sym full'.games_are,
-          full.bytes_are ∙ ap byte_count same ∙ sym full'.bytes_are,
-          same,
-          ends.refused_are ∙ ap₂ (λ (a : List Refusal) (b : List Refusal). a ++ b) earlier (lost_is one accounts so_far batches refused left ends ∙ last ∙ sym (lost_is one accounts so_far others other left' ends')) ∙ sym ends'.refused_are,
-        )
-    by_fronts (inr (inl (next, more, later, is, rest))) =
-        let same : ends.next ≡ next = cc in
-        let A : List (List Cut) → Type 0 = λ l. Accounted [] l others ends'.earlier in
-        absurd (not_stored one accounts so_far batches refused left ends games bytes full more others ends'.earlier
-        (subst A (is ∙ ap (λ (g : List Cut). ends.done ++ g ∷ more) (sym same)) ends'.settled.accounted) sound'.within)
-    by_fronts (inr (inr (next, more, later, is, rest))) =
-        let same : ends'.next ≡ next = cc in
-        let A : List (List Cut) → Type 0 = λ l. Accounted [] l batches ends.earlier in
-        absurd (not_stored one accounts so_far others other left' ends' games' bytes' full' more batches ends.earlier
-        (subst A (is ∙ ap (λ (g : List Cut). ends'.done ++ g ∷ more) (sym same)) ends.settled.accounted) sound.within)
+-- a group of a list finds no room behind an open store, by so many games and bytes that are stored
+abbrev pub IsFullBehind : Known → ℕ → ℕ → List (List Cut) → List Batch → List Refusal → Type 0
+IsFullBehind start games bytes so_far batches refused = (left : List Candidate) × EndsIn start so_far batches refused left × FindsNoRoom (start.journal ++ batches) games bytes left
+
+module _ (start : Known) (is_open : start.fault ≡ None) (games bytes games' bytes' : ℕ) (so_far : List (List Cut)) (batches others : List Batch) (refused other : List Refusal) (one : OneGame) (accounts : OneAccount) where
+  pub one_full_behind : IsFullBehind start games bytes so_far batches refused → IsFullBehind start games' bytes' so_far others other → IsSound (start.journal ++ batches) → IsSound (start.journal ++ others)
+      → (games ≡ games') × (bytes ≡ bytes') × (batches ≡ others) × (refused ≡ other)
+  one_full_behind (left, ends, full) (left', ends', full') sound sound' =
+      by_fronts (fronts ends.done (ends.next ∷ ends.rest) ends'.done (ends'.next ∷ ends'.rest) (sym ends.so_far_is ∙ ends'.so_far_is))
+    where
+      by_fronts : Fronts ends.done (ends.next ∷ ends.rest) ends'.done (ends'.next ∷ ends'.rest) → (games ≡ games') × (bytes ≡ bytes') × (batches ≡ others) × (refused ≡ other)
+      by_fronts (inl (done, rest)) =
+          let next : ends.next ≡ ends'.next = cc in
+          let A : List (List Cut) → Type 0 = λ l. Accounted start.games l batches ends.earlier in
+          let moved = subst A done ends.settled.accounted in
+          let same = accounts.batches start.games ends'.done batches others ends.earlier ends'.earlier moved ends'.settled.accounted in
+          let earlier = accounts.refused start.games ends'.done batches others ends.earlier ends'.earlier moved ends'.settled.accounted in
+          let journals : start.journal ++ batches ≡ start.journal ++ others = ap (λ (l : List Batch). start.journal ++ l) same in
+          let G : List Batch → Type 0 = λ j. AreGamesOf j ends.known.games in
+          let H : List Batch → Type 0 = λ j. AreGamesOf j ends'.known.games in
+          let games_are =
+          same_games one (texts_of (start.journal ++ others)) ends.known.games ends'.known.games (subst G (ends.journal_is ∙ journals) ends.known.are_games) (subst H ends'.journal_is ends'.known.are_games) in
+          let P : List Cut → Type 0 = λ g. Accounted ends.known.games (g ∷ []) (batches_behind ends.known.games (ends.examinations ∷ [])) (refused_behind ends.known.games (ends.examinations ∷ [])) in
+          let Q : List Game → Type 0 = λ gs. Accounted gs (ends'.next ∷ []) (batches_behind ends.known.games (ends.examinations ∷ [])) (refused_behind ends.known.games (ends.examinations ∷ [])) in
+          let here = subst Q games_are (subst P next (accounted_by ends.known.games (ends.next ∷ []) (ends.examinations ∷ []) (ends.are_examinations, tt))) in
+          let last = accounts.refused ends'.known.games (ends'.next ∷ []) (batches_behind ends.known.games (ends.examinations ∷ [])) (batches_behind ends'.known.games (ends'.examinations ∷ []))
+          (refused_behind ends.known.games (ends.examinations ∷ [])) (refused_behind ends'.known.games (ends'.examinations ∷ [])) here
+          (accounted_by ends'.known.games (ends'.next ∷ []) (ends'.examinations ∷ []) (ends'.are_examinations, tt)) in (
+            full.games_are ∙ ap game_count journals ∙ sym full'.games_are,
+            full.bytes_are ∙ ap byte_count journals ∙ sym full'.bytes_are,
+            same,
+            ends.refused_are
+                ∙ ap₂ (λ (a : List Refusal) (b : List Refusal). a ++ b) earlier
+                (lost_is one accounts start is_open so_far batches refused left ends ∙ last ∙ sym (lost_is one accounts start is_open so_far others other left' ends')) ∙ sym ends'.refused_are,
+          )
+      by_fronts (inr (inl (next, more, later, is, rest))) =
+          let same : ends.next ≡ next = cc in
+          let A : List (List Cut) → Type 0 = λ l. Accounted start.games l others ends'.earlier in
+          absurd (not_stored one accounts start is_open so_far batches refused left ends games bytes full more others ends'.earlier
+          (subst A (is ∙ ap (λ (g : List Cut). ends.done ++ g ∷ more) (sym same)) ends'.settled.accounted) sound'.within)
+      by_fronts (inr (inr (next, more, later, is, rest))) =
+          let same : ends'.next ≡ next = cc in
+          let A : List (List Cut) → Type 0 = λ l. Accounted start.games l batches ends.earlier in
+          absurd (not_stored one accounts start is_open so_far others other left' ends' games' bytes' full' more batches ends.earlier
+          (subst A (is ∙ ap (λ (g : List Cut). ends'.done ++ g ∷ more) (sym same)) ends.settled.accounted) sound.within)
 
 -- ---- answers
 

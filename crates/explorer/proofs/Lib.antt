@@ -26,3 +26,9 @@ mod TrialLemmas
 mod ToldStoreLemmas
 mod CreationLemmas
 mod QuestionLemmas
+mod ImportHostLemmas
+mod ImportLawLemmas
+mod SegmentLemmas
+mod SizeLemmas
+mod TrialLawLemmas
+mod StoreRunLemmas

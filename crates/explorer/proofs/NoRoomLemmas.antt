@@ -14,6 +14,7 @@ use Rattle.explorer_model.specs.Journal.{IsWithin, byte_count, game_count}
 use Rattle.explorer_model.specs.Visits.{AreGamesOf, texts_of}
 use Rattle.explorer_model.proofs.Lists.{zip-append}
 use Rattle.ingest_desk.specs.Reporting.{FindsNoRoom}
+use Rattle.import_run.specs.Committing.{Known}
 use Rattle.import_run.specs.Ending.{EndsIn}
 use Rattle.import_run.specs.Progress.{and_games, games_after}
 use Rattle.import_run.specs.Rounds.{stored_by}
@@ -25,7 +26,6 @@ use Rattle.import_run.proofs.GroupLemmas.{all_cuts, texts_in}
 use Rattle.import_run.proofs.NextLemmas.{by_batch}
 use Rattle.import_run.proofs.TurnLemmas.{batch_in}
 use Rattle.import_run.proofs.VerdictLemmas.{OneGame}
-use Rattle.explorer.specs.Imported.{new_store}
 
 -- ---- accounts
 
@@ -119,31 +119,37 @@ bytes_of_one [] = refl
 bytes_of_one (first ∷ rest) =
     ap (sum_by (λ (text : List ℕ). length text)) (append-nil (map (λ (candidate : Candidate). candidate.text) (first ∷ rest))) ∙ texts_bytes (first ∷ rest)
 
--- ---- a group that finds no room in a new store
+-- ---- a group that finds no room in an open store
 
-module _ (one : OneGame) (accounts : OneAccount) (so_far : List (List Cut)) (batches : List Batch) (refused : List Refusal) (left : List Candidate) (ends : EndsIn new_store so_far batches refused left) where
+module _ (one : OneGame) (accounts : OneAccount) (start : Known) (is_open : start.fault ≡ None) (so_far : List (List Cut)) (batches : List Batch) (refused : List Refusal) (left : List Candidate)
+    (ends : EndsIn start so_far batches refused left) where
   -- what is stored before it
-  front_batches : (front : List (List Examination)) → AreExaminations ends.done front → batches_behind [] front ≡ batches
-  front_batches front each = accounts.batches [] ends.done (batches_behind [] front) batches (refused_behind [] front) ends.earlier (accounted_by [] ends.done front each) ends.settled.accounted
+  front_batches : (front : List (List Examination)) → AreExaminations ends.done front → batches_behind start.games front ≡ batches
+  front_batches front each =
+      accounts.batches start.games ends.done (batches_behind start.games front) batches (refused_behind start.games front) ends.earlier (accounted_by start.games ends.done front each) ends.settled.accounted
 
-  known_games : AreGamesOf batches ends.known.games
+  known_games : AreGamesOf (start.journal ++ batches) ends.known.games
   known_games = let P : List Batch → Type 0 = λ j. AreGamesOf j ends.known.games in subst P ends.journal_is ends.known.are_games
 
-  front_games : (front : List (List Examination)) → AreExaminations ends.done front → games_after [] front ≡ ends.known.games
+  front_games : (front : List (List Examination)) → AreExaminations ends.done front → games_after start.games front ≡ ends.known.games
   front_games front each =
-      let P : List Batch → Type 0 = λ j. AreGamesOf j (games_after [] front) in
-      same_games one (texts_of batches) (games_after [] front) ends.known.games (subst P (front_batches front each) (games_are [] [] ends.done front tt each)) known_games
+      let P : List Batch → Type 0 = λ b. AreGamesOf (start.journal ++ b) (games_after start.games front) in
+      same_games one (texts_of (start.journal ++ batches)) (games_after start.games front) ends.known.games
+      (subst P (front_batches front each) (games_are start.journal start.games ends.done front start.are_games each)) known_games
 
   -- its candidates that are left, and its refusals, are those behind what is stored
+  none_known : ends.known.fault ≡ None
+  none_known = ends.fault_is ∙ is_open
+
   left_is : left ≡ candidates (verdicts_behind (numbers_of ends.known.games) ends.examinations)
   left_is =
       let P : Option (ℕ × ℕ) → Type 0 = λ f. left ≡ kept (stored_by f ends.known.games) (verdicts ends.examinations) in
-      subst P ends.fault_is ends.left_are
+      subst P none_known ends.left_are
 
   pub lost_is : lost (stored_by ends.known.fault ends.known.games) (verdicts ends.examinations) ≡ refused_behind ends.known.games (ends.examinations ∷ [])
   lost_is =
       let P : Option (ℕ × ℕ) → Type 0 = λ f. lost (stored_by f ends.known.games) (verdicts ends.examinations) ≡ refused_behind ends.known.games (ends.examinations ∷ []) in
-      subst P (sym ends.fault_is) (sym (single_refused ends.known.games ends.examinations))
+      subst P (sym none_known) (sym (single_refused ends.known.games ends.examinations))
 
   batch_is : (group : List Examination) → AllZip IsExaminationOf ends.next group → one_batch ends.known.games group ≡ cons_option (batch_of left) []
   batch_is group each =
@@ -152,46 +158,49 @@ module _ (one : OneGame) (accounts : OneAccount) (so_far : List (List Cut)) (bat
       (refused_behind ends.known.games (ends.examinations ∷ [])) (accounted_by ends.known.games (ends.next ∷ []) (group ∷ []) (each, tt)) (accounted_by ends.known.games (ends.next ∷ []) (ends.examinations ∷ []) (ends.are_examinations, tt))
       ∙ single ends.known.games ends.examinations ∙ ap (λ (cs : List Candidate). cons_option (batch_of cs) []) (sym left_is)
 
-  module _ (games bytes : ℕ) (no_room : FindsNoRoom batches games bytes left) where
-    over : (others last : List Batch) → others ≡ (batches ++ cons_option (batch_of left) []) ++ last → IsWithin others → ⊥
+  module _ (games bytes : ℕ) (no_room : FindsNoRoom (start.journal ++ batches) games bytes left) where
+    over : (others last : List Batch) → others ≡ (batches ++ cons_option (batch_of left) []) ++ last → IsWithin (start.journal ++ others) → ⊥
     over others last is within =
         let more = cons_option (batch_of left) [] in
-        let games_all = ap game_count is ∙ games-append (batches ++ more) last in
-        let bytes_all = ap byte_count is ∙ bytes-append (batches ++ more) last in
+        let all : start.journal ++ others ≡ ((start.journal ++ batches) ++ more) ++ last =
+        ap (λ (l : List Batch). start.journal ++ l) (is ∙ append_assoc batches more last) ∙ sym (append_assoc start.journal batches (more ++ last))
+        ∙ sym (append_assoc (start.journal ++ batches) more last) in
+        let games_all = ap game_count all ∙ games-append ((start.journal ++ batches) ++ more) last in
+        let bytes_all = ap byte_count all ∙ bytes-append ((start.journal ++ batches) ++ more) last in
         no_room.passes (
-          omega (arith, no_room.games_are, games_all, games-append batches more, games_of_one left, within.0),
-          omega (arith, no_room.bytes_are, bytes_all, bytes-append batches more, bytes_of_one left, within.1),
+          omega (arith, no_room.games_are, games_all, games-append (start.journal ++ batches) more, games_of_one left, within.0),
+          omega (arith, no_room.bytes_are, bytes_all, bytes-append (start.journal ++ batches) more, bytes_of_one left, within.1),
         )
 
     -- no batches of it behind those before are within the limits
     behind : (front : List (List Examination)) (group : List Examination) (back : List (List Examination)) (others : List Batch) → AreExaminations ends.done front → AllZip IsExaminationOf ends.next group
-        → others ≡ batches_behind [] (front ++ group ∷ back) → IsWithin others → ⊥
+        → others ≡ batches_behind start.games (front ++ group ∷ back) → IsWithin (start.journal ++ others) → ⊥
     behind front group back others each here is within =
-        let games = games_after [] front in
+        let games = games_after start.games front in
         let rest = batches_behind (and_games games group) back in
         let group_is : one_batch games group ≡ cons_option (batch_of left) [] = ap (λ (g : List Game). one_batch g group) (front_games front each) ∙ batch_is group here in
         over others rest
-        (is ∙ batches_split [] front (group ∷ back)
+        (is ∙ batches_split start.games front (group ∷ back)
         ∙ ap₂ (λ (a : List Batch) (b : List Batch). a ++ b) (front_batches front each) (first_batch games group back ∙ ap (λ (l : List Batch). l ++ rest) group_is)
         ∙ sym (append_assoc batches (cons_option (batch_of left) []) rest))
         within
 
-    pub not_stored : (more : List (List Cut)) (others : List Batch) (other : List Refusal) → Accounted [] (ends.done ++ ends.next ∷ more) others other → IsWithin others → ⊥
+    pub not_stored : (more : List (List Cut)) (others : List Batch) (other : List Refusal) → Accounted start.games (ends.done ++ ends.next ∷ more) others other → IsWithin (start.journal ++ others) → ⊥
     not_stored more others other stored within =
         let parts = zip_front ends.done (ends.next ∷ more) stored.examinations stored.are_examinations in
         by_back parts.0 parts.1 parts.2 parts.3 parts.4
       where
         by_back : (front back : List (List Examination)) → stored.examinations ≡ front ++ back → AreExaminations ends.done front → AreExaminations (ends.next ∷ more) back → ⊥
         by_back front [] is each here = absurd here
-        by_back front (group ∷ back) is each here = behind front group back others each here.0 (stored.yields.batches_are ∙ ap (λ (l : List (List Examination)). batches_behind [] l) is) within
+        by_back front (group ∷ back) is each here = behind front group back others each here.0 (stored.yields.batches_are ∙ ap (λ (l : List (List Examination)). batches_behind start.games l) is) within
 
     -- nor at the end of a stream, where the cuts behind it are of the last group
     pub not_ended : (closed : List (List Cut)) (hand : List Cut) (tail : List (List Cut)) (back : List (List Examination)) (others : List Batch) (other : List Refusal) → closed ++ hand ∷ [] ≡ ends.done ++ ends.next ∷ tail
-        → AllByRecursion IsWhole closed → texts_in hand ≤ 512 → AreExaminations tail back → Accounted [] (groups (all_cuts closed ++ hand)) others other → IsWithin others → ⊥
+        → AllByRecursion IsWhole closed → texts_in hand ≤ 512 → AreExaminations tail back → Accounted start.games (groups (all_cuts closed ++ hand)) others other → IsWithin (start.journal ++ others) → ⊥
     not_ended closed hand tail back others other all whole few each stored within =
         let front = ends.settled.accounted.examinations in
         let examined = zip-append (AllZip IsExaminationOf) ends.done (ends.next ∷ tail) front (ends.examinations ∷ back) ends.settled.accounted.are_examinations (ends.are_examinations, each) in
         let P : List (List Cut) → Type 0 = λ l. AreExaminations l (front ++ ends.examinations ∷ back) in
-        let same = alike [] closed hand (front ++ ends.examinations ∷ back) whole few (subst P (sym all) examined) in
-        let is = accounts.batches [] (groups (all_cuts closed ++ hand)) others (batches_behind [] same.others) other (refused_behind [] same.others) stored (accounted_by [] (groups (all_cuts closed ++ hand)) same.others same.are) in
+        let same = alike start.games closed hand (front ++ ends.examinations ∷ back) whole few (subst P (sym all) examined) in
+        let is = accounts.batches start.games (groups (all_cuts closed ++ hand)) others (batches_behind start.games same.others) other (refused_behind start.games same.others) stored (accounted_by start.games (groups (all_cuts closed ++ hand)) same.others same.are) in
         behind front ends.examinations back others ends.settled.accounted.are_examinations ends.are_examinations (is ∙ same.batches) within

@@ -47,7 +47,7 @@ still_told (Some x) (Some y) bytes told appends = refl
 
 -- ---- the lines of a fault
 
-same_lines : (fault : Fault) (lines others : List (List ℕ)) → (fault ≡ faults.Usage → ⊥) → AreLinesOf fault lines → AreLinesOf fault others → lines ≡ others
+pub same_lines : (fault : Fault) (lines others : List (List ℕ)) → (fault ≡ faults.Usage → ⊥) → AreLinesOf fault lines → AreLinesOf fault others → lines ≡ others
 same_lines faults.Usage lines others differs are are' = absurd (differs refl)
 same_lines (faults.BadParameter name) lines others differs are are' = are ∙ sym are'
 same_lines faults.ReadFault lines others differs are are' = are ∙ sym are'
@@ -64,11 +64,11 @@ same_lines faults.CannotAccept lines others differs are are' = are ∙ sym are'
 same_lines faults.TooMuchInput lines others differs are are' = are ∙ sym are'
 
 -- the bytes with all lines behind them
-abbrev append_all : Option (List ℕ) → List (List ℕ) → Option (List ℕ)
+abbrev pub append_all : Option (List ℕ) → List (List ℕ) → Option (List ℕ)
 append_all written [] = written
 append_all written (line ∷ lines) = append_all (append_known written line) lines
 
-told_behind : (written : Option (List ℕ)) (line : List ℕ) → IsSome written → IsSome (append_known written line)
+pub told_behind : (written : Option (List ℕ)) (line : List ℕ) → IsSome written → IsSome (append_known written line)
 told_behind None line told = cc
 told_behind (Some bytes) line told = refl
 
@@ -115,7 +115,7 @@ told_alike (Stopped fault) ended after ended' other differs told told' low low' 
 
 -- ---- runs
 
-no_memory : (status : ℕ) (ending : Ending) → (status ≡ 9 → ⊥) → status ≡ status_of ending → ending ≡ Stopped faults.OutOfMemory → ⊥
+pub no_memory : (status : ℕ) (ending : Ending) → (status ≡ 9 → ⊥) → status ≡ status_of ending → ending ≡ Stopped faults.OutOfMemory → ⊥
 no_memory status ending differs is starves = differs (is ∙ ap status_of starves)
 
 abbrev OneRun : World → World → ℕ → ℕ → Type 0

@@ -31,7 +31,7 @@ uses name Does handed returned before middle after sized hands does takes = reco
   takes = takes;
 }
 
-above : (before after : ℕ) → before ≡ 0 → Rises before after → 0 < after
+pub above : (before after : ℕ) → before ≡ 0 → Rises before after → 0 < after
 above before after none rises = omega (arith, none, rises.rose)
 
 -- a count of the host rose where a disk came back with a fault

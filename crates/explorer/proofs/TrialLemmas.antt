@@ -13,11 +13,14 @@ use Rattle.explorer_model.specs.declared.fault.Refusal.{Refusal}
 use Rattle.explorer_model.specs.Chess.{start}
 use Rattle.explorer_model.specs.Cuts.{cuts}
 use Rattle.explorer_model.specs.declared.query.Query.{Query}
-use Rattle.explorer_model.specs.Fen.{FenReads}
+use Rattle.explorer_model.specs.Fen.{FenReads, fen_text}
 use Rattle.explorer_model.specs.Finds.{IsFound}
 use Rattle.explorer_model.specs.Imports.{Accounted, groups}
 use Rattle.explorer_model.specs.Visits.{IsTextOf, texts_of}
 use Rattle.ingest_desk.specs.Importers.{ending_of}
+use Rattle.ingest_desk.specs.Installs.{caught_up, list_by}
+use Rattle.ingest_desk.specs.Listing.{JoinsPicked}
+use Rattle.ingest_desk.specs.Picking.{HasNoneDue}
 use Rattle.ingest_desk.specs.Stored.{Stored, journal}
 use Rattle.ingest_desk.specs.declared.report.End.{End}
 use Rattle.ingest_desk.specs.declared.report.End.TheVariants as ends
@@ -28,6 +31,7 @@ use Rattle.import_run.specs.Alone.{ImportsAlone, stored_in}
 use Rattle.import_run.specs.Committing.{Known, Store}
 use Rattle.import_run.specs.Ending.{StandsAt, StoresBy}
 use Rattle.import_run.specs.Faultless.{StoresAll}
+use Rattle.import_run.specs.Upkeep.{Follows}
 use Rattle.published_index.specs.Changes.{Change, with_held}
 use Rattle.published_index.specs.Cover.{journal_of}
 use Rattle.published_index.specs.States.{Publishing}
@@ -37,11 +41,14 @@ use Rattle.sample_games.specs.Samples.{HasGame, IsSample}
 use Rattle.sample_games.specs.Streams.{generator, joined}
 use Rattle.explorer.specs.declared.trial.Tried.{Tried}
 use Rattle.explorer.specs.Imported.{new_store}
-use Rattle.explorer.specs.Trial.{StoresTexts, TellsTrial, position_behind, summary}
+use Rattle.explorer.specs.Segments.{AreJoined, GoAllBehind}
+use Rattle.explorer.specs.Trial.{StoresTexts, TellsTrial, batch_sizes, position_behind, segment_sizes, summary}
 use Rattle.explorer.specs.Trying.{AreDrawn, IsLastOf, IsReadable, IsStreamOf, IsTriedOf}
 use Rattle.explorer.proofs.LastGameLemmas.{last_readable}
 use Rattle.explorer.proofs.NewGameLemmas.{bytes_placed, placed_at}
 use Rattle.explorer.proofs.NewStoreLemmas.{known_is_new}
+use Rattle.explorer.proofs.SegmentLemmas.{joined_more, joined_none}
+use Rattle.explorer.proofs.SizeLemmas.{sizes_apart, sizes_behind, sizes_join}
 
 pub ok_then : {A E : Type 0} (r : Result A E) (P Q : A → Type 0) → ((x : A) → P x → Q x) → IfOk r P → IfOk r Q
 ok_then (Ok x) P Q step p = step x p
@@ -106,6 +113,12 @@ module _ {D J : Type 0} (disk : D → DiskState) (left_since : D → ℕ → Lis
   start_is : is.start ≡ new_store
   start_is = known_is_new is.start start_journal (ap (λ (s : Store). s.fault) is.start_is ∙ open_is)
 
+  -- no call of the disk failed
+  pub still_open : after.manifest.fault ≡ None
+  still_open =
+      let stores = subst (λ (e : End J). StoresBy e (is.start.journal ++ is.batches) is.start.fault (stored_in after)) end_is is.stores in
+      stores.1 ∙ ap (λ (k : Known). k.fault) start_is
+
   -- the texts are stored
   pub stores_texts : StoresTexts texts (journal after)
   stores_texts =
@@ -125,6 +138,30 @@ module _ {D J : Type 0} (disk : D → DiskState) (left_since : D → ℕ → Lis
         texts_are =
             whole_all.1 ∙ ap (λ (j : List Batch). texts_of j ++ map (λ (text : Placed). text.bytes) (placed_at 0 texts)) empty ∙ bytes_placed 0 texts;
       }
+
+-- the segments have as many games as batches of so many come to
+pub goes_behind : {D : Type 0} (before after : Stored D) → journal before ≡ [] → list_by before.index ≡ [] → Follows before after → GoAllBehind (batch_sizes (journal after)) [] (segment_sizes (list_by after.index))
+goes_behind before after empty unlisted follows =
+    let batches : follows.batches ≡ journal after = sym (follows.journal_is ∙ ap (λ (j : List Batch). j ++ follows.batches) empty) in
+    let list = list_by after.index in
+    subst (λ (b : List Batch). GoAllBehind (batch_sizes b) [] (segment_sizes list)) batches
+    (subst (λ (l : List CountedSpan). GoAllBehind (batch_sizes follows.batches) (segment_sizes l) (segment_sizes list)) unlisted
+    (sizes_behind follows.batches (list_by before.index) list follows.lists))
+
+-- ---- joins
+
+-- a list that caught up has nothing held
+pub listed : (list : List CountedSpan) (held : Option Change) → held ≡ None → caught_up list held ≡ list
+listed list held none = ap (caught_up list) none
+
+pub join_first : (old : Publishing) (list : List CountedSpan) (held : Option Change) (new : List ℕ) → JoinsPicked (list_by old) list → held ≡ None → AreJoined (segment_sizes (caught_up list held)) new → AreJoined (segment_sizes (list_by old)) new
+join_first old list held new joins none later =
+    joined_more (segment_sizes (list_by old)) (segment_sizes list) new (sizes_join (list_by old) list joins)
+    (subst (λ (l : List CountedSpan). AreJoined (segment_sizes l) new) (listed list held none) later)
+
+pub join_none : (old : Publishing) (list : List CountedSpan) → list ≡ list_by old → HasNoneDue list → AreJoined (segment_sizes (list_by old)) (segment_sizes list)
+join_none old list is none =
+    subst (λ (l : List CountedSpan). AreJoined (segment_sizes l) (segment_sizes list)) is (joined_none (segment_sizes list) (sizes_apart list none))
 
 -- a count of faults that is 0
 pub zero_fits : 0 < 2 ^ 64 - 1
@@ -166,8 +203,8 @@ module _ (games seed : ℕ) (stream last : List ℕ) (draws : Lcg) (are : AreDra
 
     -- what is told of them
     pub tells_trial : IsReadable last → (tried : Tried) → IsTriedOf are.texts tried → (fen lines : List ℕ) → ((game : Game) → IsTextOf last game → FenReads fen (Ok (position_behind start game.moves)))
-        → lines ≡ summary games tried.batches tried.segments tried.totals fen → TellsTrial games seed lines
-    tells_trial readable tried (batches, stores, over) fen lines reads is = record {
+        → ((game : Game) → IsTextOf last game → fen ≡ fen_text (position_behind start game.moves)) → lines ≡ summary games tried.batches tried.segments tried.totals fen → TellsTrial games seed lines
+    tells_trial readable tried (batches, stores, over) fen lines reads written is = record {
       texts = are.texts;
       are_samples = record { behind = draws; drawn = are.drawn; count = are.count };
       batches = batches;
@@ -177,6 +214,6 @@ module _ (games seed : ℕ) (stream last : List ℕ) (draws : Lcg) (are : AreDra
       found = over.found;
       is_found = over.is_found;
       fen = fen;
-      tells_last = record { earlier = last_of.0; text = last; texts_are = last_of.1; game = readable.game; is_game = readable.is_game; reads = reads readable.game readable.is_game };
+      tells_last = record { earlier = last_of.0; text = last; texts_are = last_of.1; game = readable.game; is_game = readable.is_game; fen_is = written readable.game readable.is_game; reads = reads readable.game readable.is_game };
       lines_are = is ∙ (λ i. summary games (over.batches_are i) (over.segments_are i) (over.totals_are i) fen);
     }

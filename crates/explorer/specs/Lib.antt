@@ -9,6 +9,7 @@ pub mod Run
 pub mod Laws
 pub mod Faults
 pub mod Stores
+pub mod Segments
 pub mod Trial
 pub mod Trying
 pub mod Create

@@ -1,5 +1,5 @@
 -- Statement: how a run of the command `trial` ends.
-use Rattle.std.specs.Prelude.{◌≡◌, ℕ, List, [], ◌∷◌, ◌++◌, Ok, length, codes}
+use Rattle.std.specs.Prelude.{◌≡◌, ℕ, List, [], ◌∷◌, ◌++◌, Ok, length, map, codes}
 use Rattle.std.specs.Fmt.{decimal}
 use Rattle.outside.specs.Stream.{FailsToTake, Takes}
 use Rattle.explorer_model.specs.declared.answer.Found.{Found}
@@ -11,7 +11,7 @@ use Rattle.explorer_model.specs.declared.chess.Position.{Position}
 use Rattle.explorer_model.specs.declared.query.Query.{Query}
 use Rattle.explorer_model.specs.Chess.{after, start}
 use Rattle.explorer_model.specs.Cuts.{cuts}
-use Rattle.explorer_model.specs.Fen.{FenReads}
+use Rattle.explorer_model.specs.Fen.{FenReads, fen_text}
 use Rattle.explorer_model.specs.Finds.{IsFound}
 use Rattle.explorer_model.specs.Imports.{Accounted, groups}
 use Rattle.explorer_model.specs.Query.{QueryReads}
@@ -23,6 +23,7 @@ use Rattle.ingest_desk.specs.Picking.{HasNoneDue}
 use Rattle.sample_games.specs.Streams.{AreSamples, generator, joined}
 use Rattle.explorer.specs.declared.fault.Fault.TheVariants.{OutOfMemory, WriteFault}
 use Rattle.explorer.specs.Lines.{Ending, Done, Stopped}
+use Rattle.explorer.specs.Segments.{AreDrained}
 use Rattle.explorer.specs.World.{World}
 
 -- ---- what a trial comes to
@@ -39,10 +40,19 @@ pub record StoresTexts (texts : List (List ℕ)) (batches : List Batch) : Type 0
   pub accounted : Accounted [] (groups (cuts (joined texts))) batches []
   pub texts_are : texts_of batches ≡ texts
 
--- the segments have the batches, and no neighbours among them are to become one
+-- how many games batches have, and segments
+abbrev pub batch_sizes : List Batch → List ℕ
+batch_sizes batches = map (λ batch. length batch.texts) batches
+
+abbrev pub segment_sizes : List CountedSpan → List ℕ
+segment_sizes segments = map (λ segment. length segment.classes) segments
+
+-- The segments have the batches, and no neighbours among them are to become one. How many games
+-- each has is what batches of so many come to, one behind another.
 pub record IsDrained (batches : List Batch) (segments : List CountedSpan) : Type 0 where
   pub covers : journal_of segments ≡ batches
   pub none_due : HasNoneDue segments
+  pub drained : AreDrained (batch_sizes batches) (segment_sizes segments)
 
 -- what is found over the batches for the query that asks nothing
 pub record IsFoundByDefault (batches : List Batch) (found : Found) : Type 0 where
@@ -55,13 +65,14 @@ abbrev pub position_behind : Position → List Move → Position
 position_behind p [] = p
 position_behind p (m ∷ moves) = position_behind (after p m) moves
 
--- the text reads as the position in which the last of these games ends
+-- the text is the written form of the position in which the last of these games ends
 pub record TellsLast (texts : List (List ℕ)) (fen : List ℕ) : Type 0 where
   pub earlier : List (List ℕ)
   pub text : List ℕ
   pub texts_are : texts ≡ earlier ++ text ∷ []
   pub game : Game
   pub is_game : IsTextOf text game
+  pub fen_is : fen ≡ fen_text (position_behind start game.moves)
   pub reads : FenReads fen (Ok (position_behind start game.moves))
 
 -- ---- what is printed

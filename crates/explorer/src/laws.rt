@@ -1,6 +1,6 @@
 //! Laws of what a run promises. Each is the contract of a function that only cites the laws below
 //! it.
-ghost use Rattle.std.specs.Prelude.{◌≡◌, ◌≢◌, ℕ, List, IsSome};
+ghost use Rattle.std.specs.Prelude.{◌≡◌, ◌≢◌, ℕ, List, Some, IsSome};
 ghost use Rattle.std.specs.List.{AllByRecursion};
 ghost use Rattle.explorer_model.specs.Cuts.{Cut};
 ghost use Rattle.explorer_model.specs.Imports.{Accounted, AccountedApart};
@@ -14,11 +14,13 @@ ghost use Rattle.import_run.specs.SoFar.{AreInGroups};
 ghost use Rattle.explorer.specs.Count.{Answers};
 ghost use Rattle.explorer.specs.Create.{CreatesBy};
 ghost use Rattle.explorer.specs.Imported.{new_store};
-ghost use Rattle.command_line.specs.Task.{task_of};
-ghost use Rattle.explorer.specs.Laws.{CountsAtMost, GoesWell, IsFullIn, IsNoRepeat, IsTold, IsToldStore, WroteAlike};
+ghost use Rattle.explorer.specs.ImportStore.{ImportsBy};
+ghost use Rattle.command_line.specs.Task.{Create, Import, Query as Ask, Trial, task_of};
+ghost use Rattle.explorer.specs.Laws.{CountsAtMost, GoesWell, ImportAlike, IsFullIn, IsNoRepeat, IsTold, IsToldErrors, IsToldFile, IsToldOutput, IsToldStore, ReadsWell, ReportsWell, WritesWell, WroteAlike};
 ghost use Rattle.explorer.specs.Lines.{Ending, status_of};
 ghost use Rattle.explorer.specs.QueryStore.{QueriesBy};
 ghost use Rattle.explorer.specs.Run.{Runs};
+ghost use Rattle.explorer.specs.Trial.{TriesBy};
 ghost use Rattle.explorer.specs.World.{World, IsFaultless};
 
 use batch_tally::laws::accounting_is_determined;
@@ -26,6 +28,7 @@ use game_replay::laws::game_is_determined;
 use ingest_desk::laws::opening_is_determined;
 use lookup::laws::answers_are_determined;
 use query_params::laws::query_is_determined;
+use sample_games::laws::samples_are_determined;
 
 /// Cuts stand in one way in whole groups and a group in hand.
 pub fn groups_are_determined()
@@ -111,4 +114,91 @@ pub fn a_question_is_determined()
     answers_are_determined();
     opening_is_determined();
     query_is_determined();
+}
+
+/// Runs of `import` over one told store and one told file below the bound have one ending, and come
+/// to the same but for how one journal is held, where no call fails and memory is there.
+pub fn an_import_is_determined()
+    ensures { (store image file stream : List ℕ) (before after other : World)
+        (ending ending' : Ending)
+        → IsToldStore store image before → IsToldFile file stream before
+        → IsToldErrors before
+        → GoesWell before after → ReadsWell before after → ReportsWell before after
+        → GoesWell before other → ReadsWell before other → ReportsWell before other
+        → status_of ending ≢ 9 → status_of ending' ≢ 9
+        → ImportsBy store file before after ending → ImportsBy store file before other ending'
+        → (ending ≡ ending') × ImportAlike store (status_of ending) after other }
+{
+    game_is_determined();
+    accounting_is_determined();
+    opening_is_determined();
+}
+
+/// Runs of `trial` of as many games from one seed have one ending, and come to the same, where no
+/// write fails and memory is there.
+pub fn a_trial_is_determined()
+    ensures { (games seed : ℕ) (before after other : World) (ending ending' : Ending)
+        → IsToldOutput before → WritesWell before after → WritesWell before other
+        → status_of ending ≢ 9 → status_of ending' ≢ 9
+        → TriesBy games seed before after ending → TriesBy games seed before other ending'
+        → (ending ≡ ending') × (after ≡ other) }
+{
+    game_is_determined();
+    accounting_is_determined();
+    answers_are_determined();
+    query_is_determined();
+    samples_are_determined();
+}
+
+/// Runs of words that ask for the same, with whatever numbers of workers, have one status and come
+/// to the same, as the laws above say of each command, where memory is there and no call fails.
+pub fn a_run_of_a_command_is_determined()
+    ensures creates { (words words' : List (List ℕ)) (store image : List ℕ)
+        (before after other : World) (status status' : ℕ)
+        → task_of words ≡ Some (Create store) → task_of words' ≡ Some (Create store)
+        → IsToldStore store image before → IsToldErrors before
+        → GoesWell before after → ReportsWell before after
+        → GoesWell before other → ReportsWell before other
+        → IsSome (after.host.disks store) → IsSome (other.host.disks store)
+        → status ≢ 9 → status' ≢ 9
+        → Runs words before after status → Runs words' before other status'
+        → (status ≡ status') × (after ≡ other) }
+    ensures asks { (words words' : List (List ℕ)) (store text image : List ℕ)
+        (workers workers' : ℕ) (before after other : World) (status status' : ℕ)
+        → task_of words ≡ Some (Ask store text workers)
+        → task_of words' ≡ Some (Ask store text workers')
+        → IsToldStore store image before → IsToldErrors before
+        → GoesWell before after → ReportsWell before after
+        → GoesWell before other → ReportsWell before other
+        → status ≢ 9 → status' ≢ 9
+        → Runs words before after status → Runs words' before other status'
+        → (status ≡ status') × (after ≡ other) }
+    ensures imports { (words words' : List (List ℕ)) (store file image stream : List ℕ)
+        (workers workers' : ℕ) (before after other : World) (status status' : ℕ)
+        → task_of words ≡ Some (Import store file workers)
+        → task_of words' ≡ Some (Import store file workers')
+        → IsToldStore store image before → IsToldFile file stream before
+        → IsToldErrors before
+        → GoesWell before after → ReadsWell before after → ReportsWell before after
+        → GoesWell before other → ReadsWell before other → ReportsWell before other
+        → status ≢ 9 → status' ≢ 9
+        → Runs words before after status → Runs words' before other status'
+        → (status ≡ status') × ImportAlike store status after other }
+    ensures tries { (words words' : List (List ℕ)) (games seed workers workers' : ℕ)
+        (before after other : World) (status status' : ℕ)
+        → task_of words ≡ Some (Trial games seed workers)
+        → task_of words' ≡ Some (Trial games seed workers')
+        → IsToldOutput before → IsToldErrors before
+        → WritesWell before after → ReportsWell before after
+        → WritesWell before other → ReportsWell before other
+        → status ≢ 9 → status' ≢ 9
+        → Runs words before after status → Runs words' before other status'
+        → (status ≡ status') × (after ≡ other) }
+{
+    game_is_determined();
+    accounting_is_determined();
+    answers_are_determined();
+    opening_is_determined();
+    query_is_determined();
+    samples_are_determined();
 }

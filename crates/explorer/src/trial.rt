@@ -4,13 +4,17 @@ ghost use Rattle.outside.specs.Stream.{Stream};
 ghost use Rattle.host.specs.Hosts.{HostState};
 ghost use Rattle.explorer_model.specs.declared.archive.Game.{Game as AGame};
 ghost use Rattle.explorer_model.specs.Chess.{IsValid, start};
-ghost use Rattle.explorer_model.specs.Fen.{FenReads};
+ghost use Rattle.explorer_model.specs.Fen.{FenReads, fen_text};
 ghost use Rattle.explorer_model.specs.Query.{QueryReads};
 ghost use Rattle.explorer_model.specs.Visits.{AreLegalFrom, IsTextOf};
 ghost use Rattle.rand_pcg.specs.Lcg.{Lcg};
+ghost use Rattle.ingest_desk.specs.Installs.{list_by};
+ghost use Rattle.ingest_desk.specs.Picking.{HasNoneDue};
 ghost use Rattle.ingest_desk.specs.Stored.{journal};
+ghost use Rattle.import_run.specs.Upkeep.{Follows, StoresSame};
 ghost use Rattle.explorer.specs.Lines.{ending_of};
-ghost use Rattle.explorer.specs.Trial.{StoresTexts, TellsTrial, TriesBy, line, position_behind, summary};
+ghost use Rattle.explorer.specs.Segments.{AreJoined, GoAllBehind};
+ghost use Rattle.explorer.specs.Trial.{StoresTexts, TellsTrial, TriesBy, batch_sizes, line, position_behind, segment_sizes, summary};
 ghost use Rattle.explorer.specs.Trying.{AreDrawn, IsOfSamples, IsReadable, IsStreamOf, IsTriedOf, IsTriedOver};
 ghost use Rattle.explorer.specs.World.{world};
 
@@ -30,7 +34,7 @@ use fen_uci::write_fen;
 use game_replay::laws::game_is_determined;
 use game_replay::replay;
 use import_run::laws::new_games_are_stored;
-use import_run::{Drained, drain_alone, ending_of, import_alone};
+use import_run::{Drained, Merging, ending_of, import_and_tell, merge_due};
 use ingest_desk::{ImportEnding, Ingest, Unnamed};
 use itoa::Buffer;
 use legal_moves::board::Board;
@@ -120,8 +124,10 @@ fn draw_samples(alloc: Global, games: u32, seed: u64) -> Result<Samples, AllocEr
 /// The position in which the game of a text ends, in FEN.
 fn last_fen(alloc: Global, text: &[u8]) -> Result<ArrayVec<u8, 96>, AllocError>
     requires { IsReadable text.now }
-    ensures { IfOk result (λ fen. (game : AGame) → IsTextOf text.now game
+    ensures reads { IfOk result (λ fen. (game : AGame) → IsTextOf text.now game
         → FenReads fen.items (Ok (position_behind start game.moves))) }
+    ensures written { IfOk result (λ fen. (game : AGame) → IsTextOf text.now game
+        → fen.items ≡ fen_text (position_behind start game.moves)) }
 {
     // laws: a text has one game; what is written of a valid position is read
     game_is_determined();
@@ -213,6 +219,7 @@ fn try_in<J: Index, R: AllocGlobal + Wait + Threads + Sync>(
 ) -> Result<Tried, AllocError>
     requires sound { ingest.old.manifest.fault ≡ None }
     requires empty { journal ingest.old ≡ [] }
+    requires unlisted { list_by ingest.old.index ≡ [] }
     requires some_workers { 1 ≤ workers }
     requires few_workers { workers ≤ 16 }
     requires samples { IsOfSamples stream.items }
@@ -235,8 +242,9 @@ fn store_samples<J: Index, R: AllocGlobal + Wait + Threads + Sync>(
     requires some_workers { 1 ≤ workers }
     requires few_workers { workers ≤ 16 }
     requires samples { IsOfSamples stream.items }
-    ensures { OnOk result ((texts : List (List ℕ)) → IsStreamOf texts stream.items
+    ensures stored { OnOk result ((texts : List (List ℕ)) → IsStreamOf texts stream.items
         → StoresTexts texts (journal ingest.new)) }
+    ensures follows { OnOk result (Follows ingest.old ingest.new) }
 {
     // laws: a stream of samples is cut into them; each has a game; no two have one id; an import
     // stores all texts of new games that find room
@@ -245,8 +253,12 @@ fn store_samples<J: Index, R: AllocGlobal + Wait + Threads + Sync>(
     ids_differ();
     new_games_are_stored::<Unkept, J>();
     let mut source = ByteSource::new(stream);
-    let report = import_alone(rt, rt.alloc(), &mut source, ingest, workers, &FreeGate);
-    match ending_of(&report.end) {
+    let told = import_and_tell(rt, rt.alloc(), &mut source, ingest, workers, &FreeGate);
+    // Else the published list followed each batch.
+    if told.lacked {
+        return Err(AllocError);
+    }
+    match ending_of(&told.report.end) {
         ImportEnding::Whole => Ok(()),
         ImportEnding::OutOfMemory => Err(AllocError),
         // No read and no call of the disk fails, and all samples find room.
@@ -262,12 +274,11 @@ fn count_stored<J: Index, R: AllocGlobal + Wait + Threads + Sync>(
 ) -> Result<Tried, AllocError>
     requires some_workers { 1 ≤ workers }
     requires few_workers { workers ≤ 16 }
+    requires behind { GoAllBehind (batch_sizes (journal ingest.old)) []
+        (segment_sizes (list_by ingest.old.index)) }
     ensures { IfOk result (IsTriedOver (journal ingest.old)) }
 {
-    // Nobody else changes the list: where some are left, memory is wanting.
-    let Drained::Idle = drain_alone(rt, rt.alloc(), ingest, workers) else {
-        return Err(AllocError);
-    };
+    merge_all(rt, ingest, workers)?;
     let query = default_query(rt.alloc())?;
     let found = found_in(rt.alloc(), ingest.publisher(), &query)?;
     Ok(Tried {
@@ -275,6 +286,30 @@ fn count_stored<J: Index, R: AllocGlobal + Wait + Threads + Sync>(
         segments: ingest.publisher().list().segments().len(),
         totals: found.totals,
     })
+}
+
+/// Merges neighbours until none are due.
+fn merge_all<J: Index, R: AllocGlobal + Wait + Threads + Sync>(
+    rt: &R,
+    ingest: &mut Ingest<Unkept, J>,
+    workers: usize,
+) -> Result<(), AllocError>
+    requires some_workers { 1 ≤ workers }
+    requires few_workers { workers ≤ 16 }
+    ensures same { StoresSame ingest.old ingest.new }
+    ensures drained { OnOk result
+        ((ingest.new.index.held ≡ None) × HasNoneDue ingest.new.index.list) }
+    ensures joined { OnOk result (AreJoined (segment_sizes (list_by ingest.old.index))
+        (segment_sizes ingest.new.index.list)) }
+{
+    'merging: loop {
+        match merge_due(rt, rt.alloc(), ingest, workers) {
+            Merging::Joined => {}
+            Merging::Left(Drained::Idle) => return Ok(()),
+            // Nobody else changes the list: where some are left, memory is wanting.
+            Merging::Left(_) => return Err(AllocError),
+        }
+    }
 }
 
 /// The query of a query string that gives no parameter.

@@ -1,4 +1,6 @@
-use Rattle.explorer.proofs.LawLemmas.{one_cut_off, one_full, one_too_much}
+use Rattle.std.proofs.Common.{refl}
+use Rattle.explorer.specs.Imported.{new_store}
+use Rattle.explorer.proofs.LawLemmas.{one_cut_off, one_full_behind, one_too_much}
 use Rattle.explorer.proofs.laws.early_ends_are_determined.Goals as goal
 
 pub returns-clause-cut_off : goal.returns-clause-cut_off
@@ -9,4 +11,5 @@ returns-clause-too_much c = λ stream batches others refused other. one_too_much
 
 pub returns-clause-full : goal.returns-clause-full
 returns-clause-full c = λ games bytes games' bytes' so_far batches others refused other.
-    one_full games bytes games' bytes' so_far batches others refused other c.game_is_determined.ensures (record { batches = c.accounting_is_determined.ensures.batches; refused = c.accounting_is_determined.ensures.refused })
+    one_full_behind new_store refl games bytes games' bytes' so_far batches others refused other c.game_is_determined.ensures
+    (record { batches = c.accounting_is_determined.ensures.batches; refused = c.accounting_is_determined.ensures.refused })

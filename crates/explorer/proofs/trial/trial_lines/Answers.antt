@@ -27,6 +27,7 @@ returns g c =
     ok_then c.summary_lines.result _ _
     (λ lines is.
     tells_trial c.args.games c.args.seed samples.stream.items samples.last c.in_ok-samples.ensures.0 are c.requires.some_games readable tried of_texts c.in_ok-fen.fen.items lines.items
-    (λ game told. c.in_ok-fen.ensures game (subst (λ (text : List ℕ). IsTextOf text game) (sym c.as_slice.ensures) told))
+    (λ game told. c.in_ok-fen.ensures.reads game (subst (λ (text : List ℕ). IsTextOf text game) (sym c.as_slice.ensures) told))
+    (λ game told. c.in_ok-fen.ensures.written game (subst (λ (text : List ℕ). IsTextOf text game) (sym c.as_slice.ensures) told))
     (is ∙ ap (λ (fen : List ℕ). summary c.args.games tried.batches tried.segments tried.totals fen) c.as_slice-2.ensures.value))
     c.summary_lines.ensures

@@ -1,0 +1,316 @@
+-- A run that creates, asks, imports or tries comes to one thing, where no call fails and memory is there.
+use Rattle.std.proofs.Common.{◌≡◌, ℕ, ◌-◌, ◌^◌, ◌<◌, ◌≤◌, ◌⊎◌, inl, inr, List, [], ◌∷◌, Option, None, Some, Result, Ok, Err, refl, sym, ap, subst, ◌∙◌, arith}
+use Rattle.std.specs.Prelude.{◌≢◌, IsSome}
+use Rattle.std.specs.Io.KnownBytes.{Appends, append_known}
+use Rattle.outside.specs.Stream.{Grows, Stream, Writes}
+use Rattle.outside.proofs.StreamLemmas.{grows-none, writes-grows}
+use Rattle.explorer_model.specs.declared.query.BadParameter.{BadParameter}
+use Rattle.explorer_model.specs.declared.query.Query.{Query as AQuery}
+use Rattle.host.specs.Hosts.{HostState, put}
+use Rattle.ingest_desk.specs.declared.report.ImportEnding.{ImportEnding}
+use Rattle.ingest_desk.specs.declared.report.ImportEnding.TheVariants as endings
+use Rattle.explorer.specs.declared.fault.Fault.{Fault}
+use Rattle.explorer.specs.declared.fault.Fault.TheVariants as faults
+use Rattle.explorer.specs.Create.{CreatesBy}
+use Rattle.explorer.specs.ImportStore.{ImportsBy, ImportsTo}
+use Rattle.explorer.specs.Laws.{GoesWell, HoldAlike, ImportAlike, IsToldErrors, IsToldFile, IsToldOutput, IsToldStore, ReadsWell, ReportsWell, WritesWell}
+use Rattle.explorer.specs.Lines.{AreLinesOf, Ending, Done, Stopped, Tells, status_of}
+use Rattle.explorer.specs.QueryStore.{AsksBy, QueriesBy}
+use Rattle.explorer.specs.Report.{report}
+use Rattle.explorer.specs.Run.{Ends, Meets, Runs, StartsWithout}
+use Rattle.explorer.specs.Stores.{OnlyHost}
+use Rattle.explorer.specs.Trial.{TriesBy}
+use Rattle.explorer.specs.World.{World}
+use Rattle.command_line.specs.Task.{Task, Create, Import, Query, Trial, task_of}
+use Rattle.import_run.proofs.VerdictLemmas.{OneGame}
+use Rattle.explorer.proofs.CreationLemmas.{one_creation}
+use Rattle.explorer.proofs.ImportLawLemmas.{one_import}
+use Rattle.explorer.proofs.LawLemmas.{OneAnswer}
+use Rattle.explorer.proofs.NoRoomLemmas.{OneAccount}
+use Rattle.explorer.proofs.OneEndingLemmas.{OneQuery, wrote_stream}
+use Rattle.explorer.proofs.QuestionLemmas.{OneOpening, one_question}
+use Rattle.explorer.proofs.RunLawLemmas.{append_all, no_memory, same_lines, told_behind}
+use Rattle.explorer.proofs.TrialLawLemmas.{OneSample, one_trial}
+
+-- ---- how an ending is told
+
+wrote_lines : (lines : List (List ℕ)) (old new : Stream) → IsSome old.written → old.write_faults < 2 ^ 64 - 1 → new.write_faults ≡ old.write_faults → Writes lines old new → new ≡ record old { written = append_all old.written lines }
+wrote_lines [] old new told low same writes = writes
+wrote_lines (line ∷ lines) old new told low same (middle, wrote_line, rest) =
+    let first = (writes-grows (line ∷ []) old middle (middle, wrote_line, refl)).1.never_falls.least in
+    let later = (writes-grows lines middle new rest).1.never_falls.least in
+    let still : middle.write_faults ≡ old.write_faults = omega (arith, first, later, same) in
+    let is = wrote_stream line old middle told low still (middle, wrote_line, refl) in
+    let known : IsSome middle.written = subst (λ (s : Stream). IsSome s.written) (sym is) (told_behind old.written line told) in
+    wrote_lines lines middle new known (omega (arith, low, still)) (omega (arith, same, still)) rest ∙ ap (λ (s : Stream). record s { written = append_all s.written lines }) is
+
+-- nothing but the errors is another
+told_rest : (ending : Ending) (ended after : World) → Tells ending ended after → after ≡ record ended { errors = after.errors }
+told_rest Done ended after tells = tells ∙ (λ i. let w : World = sym tells i in record ended { errors = w.errors })
+told_rest (Stopped fault) ended after tells = tells.1
+
+-- no report failed before the ending was told, nor then
+record IsCalm (before ended after : World) : Type 0 where
+  told : IsSome ended.errors.written
+  low : ended.errors.write_faults < 2 ^ 64 - 1
+  same : after.errors.write_faults ≡ ended.errors.write_faults
+
+still_told : (old new : Option (List ℕ)) (bytes : List ℕ) → IsSome old → Appends old new bytes → IsSome new
+still_told None new bytes told appends = cc
+still_told (Some x) None bytes told appends = absurd appends
+still_told (Some x) (Some y) bytes told appends = refl
+
+least : (ending : Ending) (ended after : World) → Tells ending ended after → ended.errors.write_faults ≤ after.errors.write_faults
+least Done ended after tells = let same = ap (λ (w : World). w.errors.write_faults) tells in omega (arith, same)
+least (Stopped fault) ended after ((lines, are, writes), rest) = (writes-grows lines ended.errors after.errors writes).1.never_falls.least
+
+calm : (ending : Ending) (before ended after : World) (bytes : List ℕ) → IsToldErrors before → ReportsWell before after → Grows bytes before.errors ended.errors → Tells ending ended after → IsCalm before ended after
+calm ending before ended after bytes told well grows tells =
+    let later = least ending ended after tells in
+    let still : ended.errors.write_faults ≡ before.errors.write_faults = omega (arith, grows.never_falls.least, later, well) in
+    record {
+      told = still_told before.errors.written ended.errors.written bytes told.errors grows.appended;
+      low = omega (arith, still, told.reports);
+      same = omega (arith, still, well);
+    }
+
+told_alike : (ending : Ending) (before ended after ended' other : World) → (ending ≡ Stopped faults.Usage → ⊥) → IsCalm before ended after → IsCalm before ended' other → ended.errors ≡ ended'.errors → Tells ending ended after → Tells ending ended' other
+    → after.errors ≡ other.errors
+told_alike Done before ended after ended' other differs fine fine' same tells tells' = ap (λ (w : World). w.errors) tells ∙ same ∙ sym (ap (λ (w : World). w.errors) tells')
+told_alike (Stopped fault) before ended after ended' other differs fine fine' same ((lines, are, writes), rest) ((lines', are', writes'), rest') =
+    let both = same_lines fault lines lines' (λ usage. differs (ap Stopped usage)) are are' in
+    wrote_lines lines ended.errors after.errors fine.told fine.low fine.same writes
+    ∙ (λ i. let s : Stream = same i in record s { written = append_all s.written (both i) })
+    ∙ sym (wrote_lines lines' ended'.errors other.errors fine'.told fine'.low fine'.same writes')
+
+-- ---- what a task writes to the errors
+
+no_more : (before after : Stream) → after ≡ before → Grows [] before after
+no_more before after same = subst (λ (s : Stream). Grows [] before s) (sym same) (grows-none before)
+
+by_host : (before after : World) → OnlyHost before after → after.errors ≡ before.errors
+by_host before after only = ap (λ (w : World). w.errors) only
+
+created_errors : (store : List ℕ) (before after : World) (ending : Ending) → CreatesBy store before after ending → after.errors ≡ before.errors
+created_errors store before after Done by = ap (λ (w : World). w.errors) by.rest
+created_errors store before after (Stopped faults.WriteFault) by = ap (λ (w : World). w.errors) by.rest
+created_errors store before after (Stopped (faults.NotEmpty size)) by = by_host before after by.1
+created_errors store before after (Stopped faults.DiskFault) by = by_host before after by.2
+created_errors store before after (Stopped (faults.CannotOpen name)) by = by_host before after by.2
+created_errors store before after (Stopped faults.Usage) by = absurd by
+created_errors store before after (Stopped (faults.BadParameter name)) by = absurd by
+created_errors store before after (Stopped faults.ReadFault) by = absurd by
+created_errors store before after (Stopped faults.TooMuchInput) by = absurd by
+created_errors store before after (Stopped (faults.Full games bytes)) by = absurd by
+created_errors store before after (Stopped faults.NotAStore) by = absurd by
+created_errors store before after (Stopped (faults.OtherFormat number)) by = absurd by
+created_errors store before after (Stopped (faults.Damaged gate)) by = absurd by
+created_errors store before after (Stopped faults.OutOfMemory) by = absurd by
+created_errors store before after (Stopped faults.CannotAccept) by = absurd by
+
+asked_errors : (store : List ℕ) (r : Result AQuery BadParameter) (before after : World) (ending : Ending) → AsksBy store r before after ending → after.errors ≡ before.errors
+asked_errors store (Err bad) before after ending by = ap (λ (w : World). w.errors) by.1
+asked_errors store (Ok query) before after Done by = ap (λ (w : World). w.errors) by.rest
+asked_errors store (Ok query) before after (Stopped faults.WriteFault) by = ap (λ (w : World). w.errors) by.rest
+asked_errors store (Ok query) before after (Stopped faults.NotAStore) by = by_host before after by.1
+asked_errors store (Ok query) before after (Stopped (faults.OtherFormat number)) by = by_host before after by.1
+asked_errors store (Ok query) before after (Stopped (faults.Damaged gate)) by = by_host before after by.1
+asked_errors store (Ok query) before after (Stopped faults.DiskFault) by = by_host before after by.2
+asked_errors store (Ok query) before after (Stopped (faults.CannotOpen name)) by = by_host before after by.2
+asked_errors store (Ok query) before after (Stopped faults.Usage) by = absurd by
+asked_errors store (Ok query) before after (Stopped (faults.BadParameter name)) by = absurd by
+asked_errors store (Ok query) before after (Stopped faults.ReadFault) by = absurd by
+asked_errors store (Ok query) before after (Stopped faults.TooMuchInput) by = absurd by
+asked_errors store (Ok query) before after (Stopped (faults.Full games bytes)) by = absurd by
+asked_errors store (Ok query) before after (Stopped (faults.NotEmpty size)) by = absurd by
+asked_errors store (Ok query) before after (Stopped faults.OutOfMemory) by = absurd by
+asked_errors store (Ok query) before after (Stopped faults.CannotAccept) by = absurd by
+
+queried_errors : (store text : List ℕ) (before after : World) (ending : Ending) → QueriesBy store text before after ending → after.errors ≡ before.errors
+queried_errors store text before after ending (inl (is, inl same)) = ap (λ (w : World). w.errors) same
+queried_errors store text before after ending (inl (is, inr kept)) = by_host before after kept.1
+queried_errors store text before after ending (inr (r, reads, by)) = asked_errors store r before after ending by
+
+tried_errors : (games seed : ℕ) (before after : World) (ending : Ending) → TriesBy games seed before after ending → after.errors ≡ before.errors
+tried_errors games seed before after Done by = ap (λ (w : World). w.errors) by.rest
+tried_errors games seed before after (Stopped faults.WriteFault) by = ap (λ (w : World). w.errors) by.rest
+tried_errors games seed before after (Stopped faults.OutOfMemory) by = ap (λ (w : World). w.errors) by
+tried_errors games seed before after (Stopped faults.Usage) by = absurd by
+tried_errors games seed before after (Stopped (faults.BadParameter name)) by = absurd by
+tried_errors games seed before after (Stopped faults.ReadFault) by = absurd by
+tried_errors games seed before after (Stopped faults.DiskFault) by = absurd by
+tried_errors games seed before after (Stopped (faults.NotEmpty size)) by = absurd by
+tried_errors games seed before after (Stopped faults.NotAStore) by = absurd by
+tried_errors games seed before after (Stopped (faults.OtherFormat number)) by = absurd by
+tried_errors games seed before after (Stopped (faults.Damaged gate)) by = absurd by
+tried_errors games seed before after (Stopped (faults.Full other bytes)) by = absurd by
+tried_errors games seed before after (Stopped (faults.CannotOpen name)) by = absurd by
+tried_errors games seed before after (Stopped faults.CannotAccept) by = absurd by
+tried_errors games seed before after (Stopped faults.TooMuchInput) by = absurd by
+
+abbrev Grew : World → World → Type 0
+Grew before after = (bytes : List ℕ) × Grows bytes before.errors after.errors
+
+by_import : (end : ImportEnding) (store file : List ℕ) (before after : World) → ImportsTo end store file before after → Grew before after
+by_import end store file before after to = writes-grows (report to.imports.refused ∷ []) before.errors after.errors to.errors
+
+by_none : (before after : World) → OnlyHost before after → Grew before after
+by_none before after only = ([], no_more before.errors after.errors (by_host before after only))
+
+imported_errors : (store file : List ℕ) (before after : World) (ending : Ending) → ImportsBy store file before after ending → Grew before after
+imported_errors store file before after Done by = by_import endings.Whole store file before after by.0
+imported_errors store file before after (Stopped faults.WriteFault) by = by_import endings.Whole store file before after by.0
+imported_errors store file before after (Stopped faults.ReadFault) (first, last, to) = by_import (endings.ReadFault first last) store file before after to
+imported_errors store file before after (Stopped faults.TooMuchInput) (bytes, to) = by_import (endings.TooMuch bytes) store file before after to
+imported_errors store file before after (Stopped (faults.Full games bytes)) by = by_import (endings.Full games bytes) store file before after by
+imported_errors store file before after (Stopped faults.DiskFault) (inl by) = by_none before after by.1
+imported_errors store file before after (Stopped faults.DiskFault) (inr (first, last, to)) = by_import (endings.DiskFault first last) store file before after to
+imported_errors store file before after (Stopped faults.NotAStore) by = by_none before after by.1
+imported_errors store file before after (Stopped (faults.OtherFormat number)) by = by_none before after by.1
+imported_errors store file before after (Stopped (faults.Damaged gate)) by = by_none before after by.1
+imported_errors store file before after (Stopped (faults.CannotOpen name)) (inl by) = by_none before after by.2
+imported_errors store file before after (Stopped (faults.CannotOpen name)) (inr by) = by_none before after by.2
+imported_errors store file before after (Stopped faults.OutOfMemory) (inl by) = by_none before after by.1
+imported_errors store file before after (Stopped faults.OutOfMemory) (inr to) = by_import endings.OutOfMemory store file before after to
+imported_errors store file before after (Stopped faults.Usage) by = absurd by
+imported_errors store file before after (Stopped (faults.BadParameter name)) by = absurd by
+imported_errors store file before after (Stopped (faults.NotEmpty size)) by = absurd by
+imported_errors store file before after (Stopped faults.CannotAccept) by = absurd by
+
+-- no report failed before the ending was told
+reports_before : (ending : Ending) (before ended after : World) (bytes : List ℕ) → ReportsWell before after → Grows bytes before.errors ended.errors → Tells ending ended after → ReportsWell before ended
+reports_before ending before ended after bytes well grows tells =
+    let later = least ending ended after tells in
+    omega (arith, grows.never_falls.least, later, well)
+
+-- a question does not end as words that are refused
+no_usage_by : (store : List ℕ) (r : Result AQuery BadParameter) (before after : World) (ending : Ending) → AsksBy store r before after ending → ending ≡ Stopped faults.Usage → ⊥
+no_usage_by store (Err bad) before after ending by usage = let same : Stopped (faults.BadParameter bad.name) ≡ Stopped faults.Usage = sym by.0 ∙ usage in cc
+no_usage_by store (Ok query) before after ending by usage = subst (λ (e : Ending). AsksBy store (Ok query) before after e) usage by
+
+no_usage_asked : (store text : List ℕ) (before after : World) (ending : Ending) → QueriesBy store text before after ending → ending ≡ Stopped faults.Usage → ⊥
+no_usage_asked store text before after ending (inl (is, starves)) usage = let same : Stopped faults.OutOfMemory ≡ Stopped faults.Usage = sym is ∙ usage in cc
+no_usage_asked store text before after ending (inr (r, reads, by)) usage = no_usage_by store r before after ending by usage
+
+-- ---- runs
+
+-- a run of a task that had memory
+meets_task : (task : Task) (words : List (List ℕ)) (before ended : World) (ending : Ending) (status : ℕ) → task_of words ≡ Some task → status ≢ 9 → status ≡ status_of ending → StartsWithout before ended ending ⊎ Meets (task_of words) before ended ending
+    → Ends task before ended ending
+meets_task task words before ended ending status asks fed is (inl starves) = absurd (no_memory status ending fed is starves.0)
+meets_task task words before ended ending status asks fed is (inr meets) = subst (λ (t : Option Task). Meets t before ended ending) asks meets
+
+fed_by : (status : ℕ) (ending : Ending) → status ≡ status_of ending → status ≢ 9 → status_of ending ≢ 9
+fed_by status ending is fed = λ nine. fed (is ∙ nine)
+
+-- what was written and asked before the ending was told
+goes_before : (ending : Ending) (before ended after : World) → Tells ending ended after → GoesWell before after → GoesWell before ended
+goes_before ending before ended after tells well =
+    let rest = told_rest ending ended after tells in
+    record {
+      writes = sym (ap (λ (w : World). w.output.write_faults) rest) ∙ well.writes;
+      refusals = sym (ap (λ (w : World). w.host.own_faults) rest) ∙ well.refusals;
+      faults = sym (ap (λ (w : World). w.host.disk_faults) rest) ∙ well.faults;
+    }
+
+not_usage : (ending : Ending) (status : ℕ) → status ≡ status_of ending → status ≢ 2 → ending ≡ Stopped faults.Usage → ⊥
+not_usage ending status is differs usage = differs (is ∙ ap status_of usage)
+
+-- what was told of two runs that had come to one thing
+same_end : (ending ending' : Ending) (before ended after ended' other : World) → (ending ≡ Stopped faults.Usage → ⊥) → IsCalm before ended after → IsCalm before ended' other → ending ≡ ending' → ended ≡ ended' → Tells ending ended after → Tells ending' ended' other
+    → after ≡ other
+same_end ending ending' before ended after ended' other differs fine fine' same ends tells tells' =
+    let moved = subst (λ (e : Ending). Tells e ended' other) (sym same) tells' in
+    let errors = told_alike ending before ended after ended' other differs fine fine' (ap (λ (w : World). w.errors) ends) tells moved in
+    told_rest ending ended after tells ∙ (λ i. let w : World = ends i in record w { errors = errors i }) ∙ sym (told_rest ending' ended' other tells')
+
+module _ (words words' : List (List ℕ)) (before after other : World) (status status' : ℕ) (first : Runs words before after status) (second : Runs words' before other status') (errors : IsToldErrors before) (reports : ReportsWell before after)
+    (reports' : ReportsWell before other) where
+  one_run_of : Grew before first.ended → Grew before second.ended → (first.ending ≡ Stopped faults.Usage → ⊥) → (first.ending ≡ second.ending) × (first.ended ≡ second.ended) → (status ≡ status') × (after ≡ other)
+  one_run_of (bytes, grows) (bytes', grows') differs same =
+      let fine = calm first.ending before first.ended after bytes errors reports grows first.tells in
+      let fine' = calm second.ending before second.ended other bytes' errors reports' grows' second.tells in (
+        first.status_is ∙ ap status_of same.0 ∙ sym second.status_is,
+        same_end first.ending second.ending before first.ended after second.ended other differs fine fine' same.0 same.1 first.tells second.tells,
+      )
+
+  -- of a creation
+  pub one_creating : (store image : List ℕ) → task_of words ≡ Some (Create store) → task_of words' ≡ Some (Create store) → IsToldStore store image before → GoesWell before after → GoesWell before other → IsSome (after.host.disks store) → IsSome (other.host.disks store)
+      → status ≢ 9 → status' ≢ 9 → (status ≡ status') × (after ≡ other)
+  one_creating store image asks asks' told well well' still still' fed fed' =
+      let meets = meets_task (Create store) words before first.ended first.ending status asks fed first.status_is first.meets in
+      let meets' = meets_task (Create store) words' before second.ended second.ending status' asks' fed' second.status_is second.meets in
+      let rest = told_rest first.ending first.ended after first.tells in
+      let rest' = told_rest second.ending second.ended other second.tells in
+      let there : IsSome (first.ended.host.disks store) = subst (λ (h : HostState). IsSome (h.disks store)) (ap (λ (w : World). w.host) rest) still in
+      let there' : IsSome (second.ended.host.disks store) = subst (λ (h : HostState). IsSome (h.disks store)) (ap (λ (w : World). w.host) rest') still' in
+      one_run_of ([], no_more before.errors first.ended.errors (created_errors store before first.ended first.ending meets))
+      ([], no_more before.errors second.ended.errors (created_errors store before second.ended second.ending meets'))
+      (λ usage. subst (λ (e : Ending). CreatesBy store before first.ended e) usage meets)
+      (one_creation store image before first.ended second.ended first.ending second.ending told (goes_before first.ending before first.ended after first.tells well)
+      (goes_before second.ending before second.ended other second.tells well') there there' meets meets')
+
+  -- of a question
+  pub one_asking : (store text image : List ℕ) (workers workers' : ℕ) → OneAnswer → OneOpening → OneQuery → task_of words ≡ Some (Query store text workers) → task_of words' ≡ Some (Query store text workers') → IsToldStore store image before → GoesWell before after → GoesWell before other
+      → status ≢ 9 → status' ≢ 9 → (status ≡ status') × (after ≡ other)
+  one_asking store text image workers workers' found once query asks asks' told well well' fed fed' =
+      let meets = meets_task (Query store text workers) words before first.ended first.ending status asks fed first.status_is first.meets in
+      let meets' = meets_task (Query store text workers') words' before second.ended second.ending status' asks' fed' second.status_is second.meets in
+      one_run_of ([], no_more before.errors first.ended.errors (queried_errors store text before first.ended first.ending meets))
+      ([], no_more before.errors second.ended.errors (queried_errors store text before second.ended second.ending meets'))
+      (no_usage_asked store text before first.ended first.ending meets)
+      (one_question store image text before first.ended second.ended first.ending second.ending found once query told (goes_before first.ending before first.ended after first.tells well)
+      (goes_before second.ending before second.ended other second.tells well') (fed_by status first.ending first.status_is fed) (fed_by status' second.ending second.status_is fed') meets meets')
+
+  -- of a trial
+  pub one_trying : (games seed workers workers' : ℕ) → OneGame → OneAccount → OneSample → OneAnswer → OneQuery → task_of words ≡ Some (Trial games seed workers) → task_of words' ≡ Some (Trial games seed workers') → IsToldOutput before → WritesWell before after → WritesWell before other
+      → status ≢ 9 → status' ≢ 9 → (status ≡ status') × (after ≡ other)
+  one_trying games seed workers workers' one accounts sample found query asks asks' told well well' fed fed' =
+      let meets = meets_task (Trial games seed workers) words before first.ended first.ending status asks fed first.status_is first.meets in
+      let meets' = meets_task (Trial games seed workers') words' before second.ended second.ending status' asks' fed' second.status_is second.meets in
+      let output = ap (λ (w : World). w.output.write_faults) (told_rest first.ending first.ended after first.tells) in
+      let output' = ap (λ (w : World). w.output.write_faults) (told_rest second.ending second.ended other second.tells) in
+      one_run_of ([], no_more before.errors first.ended.errors (tried_errors games seed before first.ended first.ending meets))
+      ([], no_more before.errors second.ended.errors (tried_errors games seed before second.ended second.ending meets'))
+      (λ usage. subst (λ (e : Ending). TriesBy games seed before first.ended e) usage meets)
+      (one_trial games seed one accounts sample found query before first.ended second.ended first.ending second.ending told (sym output ∙ well) (sym output' ∙ well')
+      (fed_by status first.ending first.status_is fed) (fed_by status' second.ending second.status_is fed') meets meets')
+
+  -- of an import
+  pub one_importing : (store file image stream : List ℕ) (workers workers' : ℕ) → OneGame → OneAccount → OneOpening → task_of words ≡ Some (Import store file workers) → task_of words' ≡ Some (Import store file workers') → IsToldStore store image before → IsToldFile file stream before
+      → GoesWell before after → ReadsWell before after → GoesWell before other → ReadsWell before other → status ≢ 9 → status' ≢ 9 → (status ≡ status') × ImportAlike store status after other
+  one_importing store file image stream workers workers' one accounts once asks asks' told told_file well reads well' reads' fed fed' =
+      let meets = meets_task (Import store file workers) words before first.ended first.ending status asks fed first.status_is first.meets in
+      let meets' = meets_task (Import store file workers') words' before second.ended second.ending status' asks' fed' second.status_is second.meets in
+      let grew = imported_errors store file before first.ended first.ending meets in
+      let grew' = imported_errors store file before second.ended second.ending meets' in
+      let fine = calm first.ending before first.ended after grew.0 errors reports grew.1 first.tells in
+      let fine' = calm second.ending before second.ended other grew'.0 errors reports' grew'.1 second.tells in
+      let still = reports_before first.ending before first.ended after grew.0 reports grew.1 first.tells in
+      let still' = reports_before second.ending before second.ended other grew'.0 reports' grew'.1 second.tells in
+      let rest = told_rest first.ending first.ended after first.tells in
+      let rest' = told_rest second.ending second.ended other second.tells in
+      let host : after.host ≡ first.ended.host = ap (λ (w : World). w.host) rest in
+      let host' : other.host ≡ second.ended.host = ap (λ (w : World). w.host) rest' in
+      let both = one_import store image file stream before first.ended second.ended first.ending second.ending one accounts once told told_file errors
+      (goes_before first.ending before first.ended after first.tells well) (sym (ap (λ (h : HostState). h.file_faults) host) ∙ reads) still
+      (goes_before second.ending before second.ended other second.tells well') (sym (ap (λ (h : HostState). h.file_faults) host') ∙ reads') still'
+      (fed_by status first.ending first.status_is fed) (fed_by status' second.ending second.status_is fed') meets meets' in
+      let alike = both.1 in
+      let moved = subst (λ (e : Ending). Tells e second.ended other) (sym both.0) second.tells in
+      let P : HostState → HostState → Type 0 = λ h k. k ≡ record h { calls = k.calls; disks = put store (k.disks store) h.disks } in
+      let Q : HostState → HostState → Type 0 = λ h k. HoldAlike (h.disks store) (k.disks store) in (
+        first.status_is ∙ ap status_of both.0 ∙ sym second.status_is,
+        record {
+          streams = record {
+            input = ap (λ (w : World). w.input) rest' ∙ alike.streams.input ∙ sym (ap (λ (w : World). w.input) rest);
+            output = ap (λ (w : World). w.output) rest' ∙ alike.streams.output ∙ sym (ap (λ (w : World). w.output) rest);
+            errors = sym (told_alike first.ending before first.ended after second.ended other
+                (λ usage. subst (λ (e : Ending). ImportsBy store file before first.ended e) usage meets) fine fine' (sym alike.streams.errors) first.tells moved);
+          };
+          disk = subst (λ (h : HostState). Q h other.host) (sym host) (subst (λ (k : HostState). Q first.ended.host k) (sym host') alike.disk);
+          calls = λ differs.
+              ap (λ (h : HostState). h.calls) host' ∙ alike.calls (λ eight. differs (first.status_is ∙ eight)) ∙ sym (ap (λ (h : HostState). h.calls) host);
+          rest = subst (λ (h : HostState). P h other.host) (sym host) (subst (λ (k : HostState). P first.ended.host k) (sym host') alike.rest);
+        },
+      )

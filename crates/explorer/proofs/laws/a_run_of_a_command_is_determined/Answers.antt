@@ -1,0 +1,25 @@
+use Rattle.explorer.proofs.StoreRunLemmas.{one_asking, one_creating, one_importing, one_trying}
+use Rattle.explorer.proofs.laws.a_run_of_a_command_is_determined.Goals as goal
+
+pub returns-clause-creates : goal.returns-clause-creates
+returns-clause-creates c = λ words words' store image before after other status status' asks asks' told errors well reports well' reports' still still' fed fed' first second.
+    one_creating words words' before after other status status' first second errors reports reports' store image asks asks' told well well' still still' fed fed'
+
+pub returns-clause-asks : goal.returns-clause-asks
+returns-clause-asks c = λ words words' store text image workers workers' before after other status status' asks asks' told errors well reports well' reports' fed fed' first second.
+    let once = c.opening_is_determined.ensures in
+    one_asking words words' before after other status status' first second errors reports reports' store text image workers workers' c.answers_are_determined.ensures
+    (record { opened = once.opened; refused = once.refused; either = once.either }) c.query_is_determined.ensures asks asks' told well well' fed fed'
+
+pub returns-clause-imports : goal.returns-clause-imports
+returns-clause-imports c = λ words words' store file image stream workers workers' before after other status status' asks asks' told told_file errors well reads reports well' reads' reports' fed fed' first second.
+    let once = c.opening_is_determined.ensures in
+    one_importing words words' before after other status status' first second errors reports reports' store file image stream workers workers' c.game_is_determined.ensures
+    (record { batches = c.accounting_is_determined.ensures.batches; refused = c.accounting_is_determined.ensures.refused })
+    (record { opened = once.opened; refused = once.refused; either = once.either }) asks asks' told told_file well reads well' reads' fed fed'
+
+pub returns-clause-tries : goal.returns-clause-tries
+returns-clause-tries c = λ words words' games seed workers workers' before after other status status' asks asks' told errors well reports well' reports' fed fed' first second.
+    one_trying words words' before after other status status' first second errors reports reports' games seed workers workers' c.game_is_determined.ensures
+    (record { batches = c.accounting_is_determined.ensures.batches; refused = c.accounting_is_determined.ensures.refused })
+    c.samples_are_determined.ensures c.answers_are_determined.ensures c.query_is_determined.ensures asks asks' told well well' fed fed'
