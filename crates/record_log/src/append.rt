@@ -6,7 +6,7 @@ ghost use Rattle.record_log.specs.Log.{IsLogOf, IsWithOrWithout, Adds, IsNotAdde
 
 use crate::fault::AppendFault;
 use crate::log::RecordLog;
-use crate::writing::{bytes_behind, write_record};
+use crate::writing::{bytes_behind, write_synced};
 use disk_model::Disk;
 use std::alloc::Global;
 
@@ -37,12 +37,16 @@ impl<D: Disk> RecordLog<D> {
             return Err(AppendFault::OutOfMemory);
         };
         let before = self.disk.faults();
-        if write_record(&mut self.disk, self.gate, &behind).is_err() {
-            let after = self.disk.faults();
-            self.fault = Some((before, after));
-            return Err(AppendFault::DiskFault { before, after });
+        // The gate is a write of its own, so that no crash leaves it open before a payload that is
+        // not whole.
+        if write_synced(&mut self.disk, self.gate + 1, &behind).is_ok()
+            && write_synced(&mut self.disk, self.gate, &[1]).is_ok()
+        {
+            self.gate += behind.len() as u64;
+            return Ok(());
         }
-        self.gate += behind.len() as u64;
-        Ok(())
+        let after = self.disk.faults();
+        self.fault = Some((before, after));
+        Err(AppendFault::DiskFault { before, after })
     }
 }

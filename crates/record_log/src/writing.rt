@@ -1,9 +1,8 @@
 //! Writes that a crash may cut short.
-ghost use Rattle.std.specs.Prelude.{◌≡◌, ◌≤◌, ◌<◌, ◌+◌, ◌^◌, ◌++◌, List, ℕ, max, length, vec_len, IfOk, OnOk, OnErr};
+ghost use Rattle.std.specs.Prelude.{◌≡◌, ◌≤◌, ◌<◌, ◌+◌, ◌^◌, max, length, vec_len, IfOk, OnOk, OnErr};
 ghost use Rattle.outside.specs.Stream.{Rises};
 ghost use Rattle.disk_model.specs.Disk.{LeavesOnly};
-ghost use Rattle.explorer_model.specs.StoreFile.{record_bytes};
-ghost use Rattle.record_log.specs.Log.{EachImage, IsShutBehind, IsShutWithOrWithout, IsTornOf, IsWrittenOf, behind_gate};
+ghost use Rattle.record_log.specs.Log.{EachImage, IsTornOf, IsWrittenOf, behind_gate};
 
 use disk_model::Disk;
 use outside::Failed;
@@ -27,32 +26,6 @@ pub(crate) fn write_synced<D: Disk>(disk: &mut D, at: u64, piece: &[u8]) -> Resu
 {
     disk.write_at(at, piece)?;
     disk.sync()?;
-    Ok(())
-}
-
-/// Writes what stands behind a closed gate, and then opens the gate, each synced. The gate is a
-/// write of its own, so that no crash leaves it open before a payload that is not whole.
-pub(crate) fn write_record<D: Disk>(disk: &mut D, gate: u64, behind: &[u8]) -> Result<(), Failed>
-    requires inside { gate < (D.disk disk.old).size }
-    requires low { gate + 1 + length behind.now ≤ 2 ^ 40 }
-
-    ensures added { OnOk result ((front payload : List ℕ) → gate ≡ length front
-        → behind.now ≡ behind_gate payload
-        → EachImage D.disk D.left_since disk.old (IsShutBehind front)
-        → EachImage D.disk D.left_since disk.new (IsShutBehind (front ++ record_bytes payload))) }
-    ensures any_moment { (front payload : List ℕ) → gate ≡ length front
-        → behind.now ≡ behind_gate payload
-        → EachImage D.disk D.left_since disk.old (IsShutBehind front)
-        → LeavesOnly D.disk D.left_since disk.old disk.new
-        (IsShutWithOrWithout front payload) }
-
-    ensures counts { OnOk result ((D.disk disk.new).faults ≡ (D.disk disk.old).faults) }
-    ensures room { OnOk result (gate + length behind.now < (D.disk disk.new).size) }
-    ensures no_smaller { (D.disk disk.old).size ≤ (D.disk disk.new).size }
-    ensures fails { OnErr result (Rises (D.disk disk.old).faults (D.disk disk.new).faults) }
-{
-    write_synced(disk, gate + 1, behind)?;
-    write_synced(disk, gate, &[1])?;
     Ok(())
 }
 
