@@ -1,5 +1,5 @@
 -- What an append makes of a log.
-use Rattle.std.proofs.Common.{◌≡◌, ◌⊎◌, inl, inr, ⊎_elim, ℕ, ◌+◌, ◌≤◌, List, [], ◌∷◌, ◌++◌, length, flat_map, None, sym, ap, ◌∙◌, subst, arith, append_assoc, append-nil, length-append}
+use Rattle.std.proofs.Common.{◌≡◌, inl, inr, ⊎_elim, ℕ, ◌+◌, ◌≤◌, List, [], ◌∷◌, ◌++◌, length, flat_map, None, sym, ap, ◌∙◌, subst, arith, append_assoc, append-nil, length-append}
 use Rattle.std.specs.Int.{IsInRange}
 use Rattle.std.proofs.lemmas.List.Concat.{flat_map-append}
 use Rattle.std.proofs.lemmas.List.Elements.{All-push}
@@ -7,8 +7,9 @@ use Rattle.disk_model.specs.Disk.{DiskState, LeavesOnly}
 use Rattle.disk_model.proofs.Moments.{weaker}
 use Rattle.explorer_model.specs.StoreFile.{header, record_bytes, front_of, gate_limit, CanStand}
 use Rattle.explorer_model.proofs.StoreReading.{records-read}
-use Rattle.record_log.specs.Log.{Log, IsShutBehind, reading_of, HasPayloads, IsWithOrWithout, EachImage, IsLogOf}
+use Rattle.record_log.specs.Log.{Log, IsShutBehind, IsShutWithOrWithout, reading_of, HasPayloads, IsWithOrWithout, EachImage, IsLogOf, IsTornOf, IsWrittenOf, behind_gate}
 use Rattle.record_log.specs.declared.format.Format.{Format}
+use Rattle.record_log.proofs.SyncedWrites.{ToldIsLeft, first-leaves, second-leaves, record-added}
 
 pub length-record : (payload : List ℕ) → length (record_bytes payload) ≡ 5 + length payload
 length-record payload = omega arith
@@ -55,7 +56,7 @@ module _ {D : Type 0} (disk : D → DiskState) (left_since : D → ℕ → List 
   front = front_of old.format.number payloads
 
   abbrev Either : List ℕ → Type 0
-  Either image = IsShutBehind front image ⊎ IsShutBehind (front ++ record_bytes payload) image
+  Either = IsShutWithOrWithout front payload
 
   can : CanStand old.format.most old.format.number (payloads ++ payload ∷ [])
   can = can-more old.format.number payloads payload old.format.most holds.can_stand allowed (omega (arith, low, holds.place))
@@ -67,14 +68,14 @@ module _ {D : Type 0} (disk : D → DiskState) (left_since : D → ℕ → List 
       (subst (λ (f : List ℕ). IsShutBehind f image) (sym (front-more old.format.number payloads payload)) shut)
 
   -- the record was written, or a part of it
-  pub log-leaves : (new : D) → LeavesOnly disk left_since old.disk new Either
+  log-leaves : (new : D) → LeavesOnly disk left_since old.disk new Either
       → LeavesOnly disk left_since old.disk new (IsWithOrWithout old.format payloads payload)
   log-leaves new =
       weaker disk left_since old.disk new Either (IsWithOrWithout old.format payloads payload)
       (λ image either. ⊎_elim (λ shut. inl (shut-records old.format payloads image holds.can_stand shut)) (λ shut. inr (more-records image shut)) either)
 
   -- all of it was
-  pub log-added : (new : Log D) → new.fault ≡ None → new.format ≡ old.format → new.gate ≡ old.gate + (5 + length payload)
+  log-added : (new : Log D) → new.fault ≡ None → new.format ≡ old.format → new.gate ≡ old.gate + (5 + length payload)
       → EachImage disk left_since new.disk (IsShutBehind (front ++ record_bytes payload))
       → IsLogOf disk left_since (payloads ++ payload ∷ []) new
   log-added new sound format gate shut =
@@ -92,3 +93,27 @@ module _ {D : Type 0} (disk : D → DiskState) (left_since : D → ℕ → List 
             subst (λ (f : Format). HasPayloads f (payloads ++ payload ∷ []) image) (sym format)
             (more-records image (shut image left));
       }
+
+  -- what stands behind the gate is written, and then the gate
+  module _ (told : ToldIsLeft disk left_since) (behind : List ℕ) (is : behind ≡ behind_gate payload) (middle : D)
+      (first : LeavesOnly disk left_since old.disk middle (IsTornOf disk left_since old.disk (old.gate + 1) (length behind))) where
+    pub one-write-leaves : LeavesOnly disk left_since old.disk middle (IsWithOrWithout old.format payloads payload)
+    one-write-leaves =
+        log-leaves middle
+        (first-leaves disk left_since told old.disk old.gate front payload behind holds.place is holds.shut (length behind) middle first)
+
+    module _ (wrote : EachImage disk left_since middle (IsWrittenOf (disk old.disk) (old.gate + 1) behind)) where
+      pub both-writes-leave : (new : D) → LeavesOnly disk left_since middle new (IsTornOf disk left_since middle old.gate 1)
+          → LeavesOnly disk left_since old.disk new (IsWithOrWithout old.format payloads payload)
+      both-writes-leave new second =
+          log-leaves new
+          (second-leaves disk left_since told old.disk old.gate front payload behind holds.place is holds.shut (length behind) middle new
+          first wrote second)
+
+      pub both-writes-add : (new : Log D) → new.fault ≡ None → new.format ≡ old.format → new.gate ≡ old.gate + (5 + length payload)
+          → EachImage disk left_since new.disk (IsWrittenOf (disk middle) old.gate (1 ∷ []))
+          → IsLogOf disk left_since (payloads ++ payload ∷ []) new
+      both-writes-add new sound format gate again =
+          log-added new sound format gate
+          (record-added disk left_since told old.disk old.gate front payload behind holds.place is holds.shut (length behind) middle new.disk
+          first wrote again)

@@ -1,11 +1,11 @@
 -- Writes that are synced.
-use Rattle.std.proofs.Common.{◌≡◌, ◌⊎◌, inl, ℕ, ◌+◌, List, [], ◌∷◌, ◌++◌, Option, Some, None, length, drop, get_or, refl, sym, ap, ◌∙◌, subst, arith}
+use Rattle.std.proofs.Common.{◌≡◌, inl, ℕ, ◌+◌, List, [], ◌∷◌, ◌++◌, Option, Some, None, length, drop, get_or, refl, sym, ap, ◌∙◌, subst, arith}
 use Rattle.std.specs.Option.{option_map}
 use Rattle.disk_model.specs.Disk.{DiskState, Stays, Writes, Torn, written, MayLeave, Same, Elapses, IsDurable, LeavesOnly}
 use Rattle.disk_model.specs.Images.{torn-same}
 use Rattle.disk_model.proofs.Moments.{goes_on, one_call, weaker, joined}
 use Rattle.explorer_model.specs.StoreFile.{record_bytes}
-use Rattle.record_log.specs.Log.{EachImage, IsShutBehind, IsTornOf, IsWrittenOf, behind_gate}
+use Rattle.record_log.specs.Log.{EachImage, IsShutBehind, IsShutWithOrWithout, IsTornOf, IsWrittenOf, behind_gate}
 use Rattle.record_log.proofs.Gates.{torn-behind, written-behind, torn-gate, written-gate, opened, either_gate}
 
 mapped : (f : List ℕ → List ℕ) (told : Option (List ℕ)) (image : List ℕ) → option_map f told ≡ Some image
@@ -42,7 +42,7 @@ module _ {D : Type 0} (disk : D → DiskState) (left_since : D → ℕ → List 
       mapped (written at piece) (disk old).content image (sym (kept ∙ writes.content) ∙ durable image left)
 
   -- what a disk tells is one of its images
-  abbrev ToldIsLeft : Type 0
+  abbrev pub ToldIsLeft : Type 0
   ToldIsLeft = (it : D) (file : List ℕ) → (disk it).content ≡ Some file → MayLeave disk left_since it file
 
   -- ---- the two writes of a record
@@ -50,7 +50,7 @@ module _ {D : Type 0} (disk : D → DiskState) (left_since : D → ℕ → List 
   module _ (told : ToldIsLeft) (old : D) (at : ℕ) (front payload behind : List ℕ) (place : at ≡ length front)
       (is : behind ≡ behind_gate payload) (shut : EachImage disk left_since old (IsShutBehind front)) where
     abbrev Either : List ℕ → Type 0
-    Either image = IsShutBehind front image ⊎ IsShutBehind (front ++ record_bytes payload) image
+    Either = IsShutWithOrWithout front payload
 
     torn-first : (n : ℕ) (image : List ℕ) → IsTornOf disk left_since old (at + 1) n image → IsShutBehind front image
     torn-first n image torn =
