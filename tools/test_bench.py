@@ -134,9 +134,14 @@ class RightBodies(unittest.TestCase):
             crate = support.TOP / "crates" / edit.parent.name
             wrong = {(file, old) for file, old, _ in tool.replacements(crate / "must-fail" / edit.name)}
             for file, old, new in tool.replacements(edit):
-                self.assertEqual((crate / file).read_text(encoding="utf-8").count(old), 1, edit)
-                self.assertTrue(any(file == place and (old in text or text in old) for place, text in wrong), edit)
                 self.assertNotEqual(old, new, edit)
+                if old is None:
+                    self.assertTrue(file.startswith("proofs/") and not (crate / file).parent.exists(), edit)
+                    continue
+                self.assertEqual((crate / file).read_text(encoding="utf-8").count(old), 1, edit)
+                # the lines of a proof are the right body's own
+                at_wrong = any(file == place and (old in text or text in old) for place, text in wrong)
+                self.assertTrue(at_wrong or file.startswith("proofs/"), edit)
 
     def test_help_and_faulty_words(self):
         tool = str(support.TOP / "bench/right-bodies")
