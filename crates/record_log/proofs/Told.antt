@@ -1,5 +1,5 @@
 -- Facts of what a disk tells.
-use Rattle.std.proofs.Common.{◌≡◌, List, ℕ, true, false, Option, Some, None, IfSome, Result, Ok, Err, OnOk, is_ok, is_err, ap, subst, refl}
+use Rattle.std.proofs.Common.{◌≡◌, List, ℕ, true, Option, Some, None, IfSome, Result, Ok, Err, OnOk, is_ok, ap, subst, refl}
 use Rattle.disk_model.specs.Disk.{DiskState, IsQuiet}
 
 -- a fact for what is told, and one of what is told
@@ -21,7 +21,3 @@ module _ {D : Type 0} (disk : D → DiskState) (left_since : D → ℕ → List 
 pub done_so : {E P : Type 0} (result : Result (Unit {0}) E) → true ≡ is_ok result → OnOk result P → P
 done_so (Ok x) is given = given
 done_so (Err e) is given = absurd (cc (is))
-
-pub done_not_failed : {E P : Type 0} (result : Result (Unit {0}) E) → false ≡ is_err result → OnOk result P → P
-done_not_failed (Ok x) is given = given
-done_not_failed (Err e) is given = absurd (cc (is))
