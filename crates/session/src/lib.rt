@@ -10,5 +10,5 @@ mod serving;
 
 pub use answering::answer;
 pub use doors::{DoorEnd, serve_door};
-pub use importing::{learn_notes, learn_receipts};
+pub use importing::{import, learn_notes, learn_receipts};
 pub use serving::{Ended, serve_connection};
