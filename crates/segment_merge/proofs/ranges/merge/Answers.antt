@@ -1,15 +1,13 @@
-use Rattle.std.proofs.Common.{◌≡◌, ℕ, ◌+◌, ◌<◌, List, [], ◌++◌, Ok, Err, Result, IfOk, length, map, get_or, sym, subst, ◌∙◌, rules}
-use Rattle.std.proofs.lemmas.Result.{IfOk-weaker}
+use Rattle.std.proofs.Common.{◌≡◌, ℕ, ◌+◌, ◌<◌, ◌≤◌, List, ◌++◌, Ok, Err, Result, IfOk, length, get_or, sym, subst, ◌∙◌, rules}
 use Rattle.std.specs.declared.alloc.AllocError.{AllocError}
 use Rattle.tally_rows.specs.declared.row.Row.{Row}
-use Rattle.tally_rows.specs.Row.{shifted_row}
 use Rattle.segment_blocks.specs.PackedRows.{Packed, rows_of_parts}
-use Rattle.segment_blocks.specs.Segment.{CountedSpan, IsTallyOfBoth, span_of_both}
-use Rattle.segment_merge.specs.Merged.{merged}
-use Rattle.segment_merge.specs.Merging.{IsMergeOf, rows_of_both, ranges_of_both}
-use Rattle.segment_merge.specs.Ranges.{AreRising, rows_in_range}
-use Rattle.segment_merge.proofs.PartsLemmas.{parts-rows, range-rows}
+use Rattle.segment_blocks.specs.Segment.{CountedSpan, IsTallyOfBoth, segment_limit, span_of_both}
+use Rattle.segment_merge.specs.Merging.{IsMergeOf, rows_of_both}
+use Rattle.segment_merge.specs.Ranges.{AreRising}
+use Rattle.segment_merge.proofs.PartsLemmas.{parts-rows, IsRange}
 use Rattle.segment_merge.proofs.RoomLemmas.{tally-both}
+use Rattle.segment_merge.proofs.ranges.merge.Given as given
 use Rattle.segment_merge.proofs.ranges.merge.Goals as goal
 
 merge-of : (left right : CountedSpan) (rows : List Row) (result : Result CountedSpan AllocError)
@@ -24,11 +22,19 @@ merge-of left right rows (Ok segment) span classes is both tally = record {
 }
 merge-of left right rows (Err e) span classes is both tally = tt
 
-range-of : (keys : List (List ℕ)) (left right : CountedSpan) (n : ℕ) (result : Result Packed AllocError) → n < length keys + 1
-    → IfOk result (λ packed. packed.rows ≡ merged (map (shifted_row 0) (rows_in_range keys n left.rows))
-    (map (shifted_row (length left.classes)) (rows_in_range keys n right.rows)))
-    → IfOk result (λ packed. packed.rows ≡ get_or (ranges_of_both keys left right) n [])
-range-of keys left right n result below = IfOk-weaker result _ _ (λ packed h. h ∙ range-rows keys left right n below)
+-- The type of a term. With it a lemma takes what a closure's call ensures, and `search` sees nothing beside.
+abbrev TypeOf : {A : Type 0} → A → Type 0
+TypeOf {A} x = A
+
+range-before : (g : given.Over) (c : goal.In_ok-parts g) (n : ℕ) (d : Result Packed AllocError) (below : n < length c.as_slice-keys.result.now + 1)
+    → TypeOf (c.in_ok-results.ensures.each n d below).1.met → length c.args.left.now.classes + length c.args.right.now.classes ≤ segment_limit
+    → IsRange c.as_slice-keys.result.now c.args.left.now c.args.right.now n (get_or c.in_ok-results.results.items n d)
+range-before _ _ n d _ h few = search (rules, h)
+
+range-behind : (g : given.Over) (c : goal.After-drop-keys-2 g) (n : ℕ) (d : Result Packed AllocError) (below : n < length c.as_slice-keys.result.now + 1)
+    → TypeOf (c.in_ok-results.ensures.each n d below).1.met → length c.args.left.now.classes + length c.args.right.now.classes ≤ segment_limit
+    → IsRange c.as_slice-keys.result.now c.args.left.now c.args.right.now n (get_or c.in_ok-results.results.items n d)
+range-behind _ _ n d _ h few = search (rules, h)
 
 pub of_both-requires : goal.of_both-requires
 of_both-requires g c =
@@ -39,10 +45,8 @@ of_both-requires g c =
     let keys = c.as_slice-keys.result.now in
     let results = c.in_ok-results.results.items in
     let rising = subst AreRising (sym c.as_slice-keys.ensures.value) c.in_ok-keys.ensures.rising in
-    let ranges : (n : ℕ) (d : Result Packed AllocError) → n < length keys + 1
-    → IfOk (get_or results n d) (λ packed. packed.rows ≡ get_or (ranges_of_both keys left right) n []) =
-    λ n d below. range-of keys left right n (get_or results n d) below (search (rules, (c.in_ok-results.ensures.each n d below).1.met)) in
-    let rows = parts-rows keys left right a b results c.in_ok-parts.parts.items c.in_ok-parts.ensures c.in_ok-results.ensures.len rising ranges in
+    let rows = parts-rows keys left right a b results c.in_ok-parts.parts.items c.in_ok-parts.ensures c.in_ok-results.ensures.len rising
+    (λ n d below. range-before g c n d below (c.in_ok-results.ensures.each n d below).1.met c.requires.spans.few) in
     record {
       spans = c.requires.spans;
       tally = subst (IsTallyOfBoth left right) (sym rows) (tally-both left right a b);
@@ -57,9 +61,7 @@ returns g c =
     let keys = c.as_slice-keys.result.now in
     let results = c.in_ok-results.results.items in
     let rising = subst AreRising (sym c.as_slice-keys.ensures.value) c.in_ok-keys.ensures.rising in
-    let ranges : (n : ℕ) (d : Result Packed AllocError) → n < length keys + 1
-    → IfOk (get_or results n d) (λ packed. packed.rows ≡ get_or (ranges_of_both keys left right) n []) =
-    λ n d below. range-of keys left right n (get_or results n d) below (search (rules, (c.in_ok-results.ensures.each n d below).1.met)) in
-    let rows = parts-rows keys left right a b results c.in_ok-parts.parts.items c.in_ok-parts.ensures c.in_ok-results.ensures.len rising ranges in
+    let rows = parts-rows keys left right a b results c.in_ok-parts.parts.items c.in_ok-parts.ensures c.in_ok-results.ensures.len rising
+    (λ n d below. range-behind g c n d below (c.in_ok-results.ensures.each n d below).1.met c.requires.spans.few) in
     let made = c.of_both.ensures in
     merge-of left right (rows_of_parts c.in_ok-parts.parts.items) c.of_both.result made.span made.classes made.rows rows (tally-both left right a b)
