@@ -37,3 +37,7 @@ AreRising (first ∷ second ∷ keys) = IsNotAbove first second × AreRising (se
 abbrev pub begin_of : List (List ℕ) → ℕ → Option (List ℕ)
 begin_of keys zero = None
 begin_of keys (suc n) = slice_get keys n
+
+-- the rows of range `n` between keys
+abbrev pub rows_in_range : List (List ℕ) → ℕ → List Row → List Row
+rows_in_range keys n rows = filter (is_within (begin_of keys n) (slice_get keys n)) rows

@@ -1,10 +1,10 @@
 //! Ranges of keys, merged side by side.
-ghost use Rattle.std.specs.Prelude.{◌≡◌, ℕ, ◌+◌, ◌<◌, ◌≤◌, [], Ok, Result, IfOk, length, map, slice_get, slice_index_or};
-ghost use Rattle.std.specs.declared.alloc.AllocError.{AllocError};
-ghost use Rattle.segment_blocks.specs.Segment.{CanJoin};
-ghost use Rattle.segment_blocks.specs.declared.packed_rows.PackedRows.{PackedRows};
-ghost use Rattle.segment_merge.specs.Merging.{IsMergeOf, ranges_of_both};
-ghost use Rattle.segment_merge.specs.Ranges.{AreRising, IsNotAbove, begin_of};
+ghost use Rattle.std.specs.Prelude.{◌≡◌, ◌+◌, ◌≤◌, ◌<◌, Ok, IfOk, length, map, slice_get};
+ghost use Rattle.segment_blocks.specs.PackedRows.{AreInOrder};
+ghost use Rattle.segment_blocks.specs.Segment.{CanJoin, segment_limit};
+ghost use Rattle.segment_merge.specs.Merging.{IsMergeOf};
+ghost use Rattle.segment_merge.specs.Ranges.{AreRising, IsNotAbove, begin_of, rows_in_range};
+ghost use Rattle.tally_rows.specs.Row.{shifted_row};
 
 use crate::merging::merge_rows;
 use crate::side::Side;
@@ -42,7 +42,20 @@ pub fn merge<R: Threads + Sync, G: Gate>(
     let _right = right.span();
     let larger = larger_of(left, right);
     let keys = cut_keys(alloc, larger, count_ranges(workers, larger.block_count()))?;
-    let results = merge_ranges(rt, alloc, left, right, keys.as_slice(), workers, gate)?;
+    let keys = keys.as_slice();
+    let enter = |leaf: usize|
+        requires { leaf < 16 }
+    {
+        gate.pass(leaf + 1);
+    };
+    let range = |n: usize| -> Result<PackedRows, AllocError>
+        requires { CanJoin left.now right.now }
+    {
+        let first = side_within(left, keys, n, 0);
+        let second = side_within(right, keys, n, left.games());
+        merge_rows(alloc, first, second)
+    };
+    let results = map_taken(rt, alloc, workers, keys.len() + 1, &enter, &range)?;
     let parts = all_made(alloc, results)?;
     Segment::of_both(alloc, left, right, parts)
 }
@@ -110,59 +123,16 @@ fn later_key(before: [u8; 34], key: [u8; 34]) -> [u8; 34]
     }
 }
 
-/// What is merged of each range between the keys, by as many leaves as there are workers.
-fn merge_ranges<R: Threads + Sync, G: Gate>(
-    rt: &R,
-    alloc: Global,
-    left: &Segment,
-    right: &Segment,
-    keys: &[[u8; 34]],
-    workers: usize,
-    gate: &G,
-) -> Result<Vec<Result<PackedRows, AllocError>>, AllocError>
-    requires spans { CanJoin left.now right.now }
-    requires few_workers { workers ≤ 16 }
-    ensures count { IfOk result (λ parts. length parts.items ≡ length keys.now + 1) }
-    ensures parts { IfOk result (λ parts.
-        (n : ℕ) (d : Result PackedRows AllocError) → n < length keys.now + 1
-        → IfOk (slice_index_or parts.items n d) (λ packed. packed.rows
-        ≡ slice_index_or (ranges_of_both keys.now left.now right.now) n [])) }
+/// The rows of a segment in range `n` between the keys, whose games have numbers that are greater by
+/// `by`.
+fn side_within<'a>(segment: &'a Segment, keys: &[[u8; 34]], n: usize, by: u32) -> Side<'a>
+    requires { by + length segment.now.classes ≤ segment_limit }
+    ensures rows { result ≡ map (shifted_row by) (rows_in_range keys.now n segment.now.rows) }
+    ensures in_order { AreInOrder result }
 {
-    let enter = |leaf: usize|
-        requires { leaf < 16 }
-    {
-        gate.pass(leaf + 1);
-    };
-    let range = |n: usize| -> Result<PackedRows, AllocError>
-        requires { (n ≤ length keys.now) × CanJoin left.now right.now }
-        ensures { IfOk result (λ packed. packed.rows
-            ≡ slice_index_or (ranges_of_both keys.entry.now left.entry.now right.entry.now) n []) }
-    { merge_range(alloc, left, right, keys, n) };
-    map_taken(rt, alloc, workers, keys.len() + 1, &enter, &range)
-}
-
-/// What is merged of range `n` between the keys.
-fn merge_range(
-    alloc: Global,
-    left: &Segment,
-    right: &Segment,
-    keys: &[[u8; 34]],
-    n: usize,
-) -> Result<PackedRows, AllocError>
-    requires spans { CanJoin left.now right.now }
-    requires inside { n ≤ length keys.now }
-    ensures { IfOk result (λ packed. packed.rows
-        ≡ slice_index_or (ranges_of_both keys.now left.now right.now) n []) }
-{
-    let _left = left.span();
-    let _right = right.span();
-    let from = begin_of(keys, n);
-    let below = end_of(keys, n);
-    merge_rows(
-        alloc,
-        Side::new(left.rows_within(from, below), 0),
-        Side::new(right.rows_within(from, below), left.games()),
-    )
+    // That the rows are in order, and have room, the segment's span tells.
+    let _span = segment.span();
+    Side::new(segment.rows_within(begin_of(keys, n), end_of(keys, n)), by)
 }
 
 /// The key at which range `n` begins.
