@@ -6,6 +6,7 @@ use Rattle.std.proofs.lemmas.List.{length-map}
 use Rattle.outside.specs.Stream.{Rises, Stream}
 use Rattle.host.specs.Hosts.{DiskBack, DiskOut, DiskRefused, DoorBack, DoorsOut, DoorsRefused, FileBack, FileOut, FileRefused, HostCall, HostState}
 use Rattle.explorer_model.specs.declared.archive.Batch.{Batch}
+use Rattle.explorer_model.specs.Journal.{IsSound}
 use Rattle.explorer_model.specs.declared.store.LogFault.{LogFault}
 use Rattle.explorer_model.specs.declared.store.LogFault.TheVariants as log
 use Rattle.record_log.specs.declared.fault.OpenFault.TheVariants as opening
@@ -15,7 +16,7 @@ use Rattle.ingest_desk.proofs.PickingLemmas.{list_same}
 use Rattle.explorer.specs.declared.fault.Fault.{Fault}
 use Rattle.explorer.specs.declared.fault.Fault.TheVariants as faults
 use Rattle.explorer.specs.Faults.{fault_of_opening}
-use Rattle.explorer.specs.Laws.{GoesWell, IsSameCall, IsToldStore, ReadsSound, RefusedAlike, ServedAlike, ServesDoors, with_workers}
+use Rattle.explorer.specs.Laws.{GoesWell, IsSameCall, IsToldStore, RefusedAlike, ServedAlike, ServesDoors, with_workers}
 use Rattle.explorer.specs.Lines.{Ending, Done, Stopped, status_of}
 use Rattle.explorer.specs.Serve.{HasNoStore, IsRefused, IsWorkedTo, Serves, ServesBy, listening_line}
 use Rattle.explorer.specs.Served.{DoorRun, FileRun, IsImported, IsServedFrom, IsWorked, Service, file_at, files_back, files_out, serve_calls}
@@ -67,6 +68,7 @@ refused_errors service before after ending seven serves =
 record HasServed (service : Service) (image : List ℕ) (before after : World) : Type 0 where
   journal : List Batch
   read : HasJournal journal image
+  sound : IsSound journal
   serves : ServesDoors service journal before after
 
 abbrev Comes : Service → List ℕ → World → World → Ending → Type 0
@@ -86,6 +88,7 @@ module _ (service : Service) (image : List ℕ) (before after : World)
   works fault to = record {
     journal = to.worked.opening;
     read = told_is (HasJournal to.worked.opening) (before.host.disks service.store) image told.disk to.worked.told;
+    sound = to.worked.sound;
     serves = record {
       worked = to.worked;
       opening_is = refl;
@@ -198,17 +201,17 @@ module _ (service : Service) (workers : ℕ) (image : List ℕ) (before after ot
         },
       )
 
-  pub refused_too : ReadsSound image → GoesWell before other → status_of ending' ≢ 9 → status_of ending ≡ 7
+  pub refused_too : GoesWell before other → status_of ending' ≢ 9 → status_of ending ≡ 7
       → Serves service before after ending → Serves (with_workers workers service) before other ending'
       → status_of ending' ≡ 7
-  refused_too sound well' fed' seven serves serves' =
+  refused_too well' fed' seven serves serves' =
       by_second (comes again image before other told well' ending' fed' serves'.by)
     where
       by_second : Comes again image before other ending' → status_of ending' ≡ 7
       by_second (inl seven') = seven'
       by_second (inr y) =
           let x = refused_by service before after ending seven serves.by in
-          absurd (once.either image y.journal x.fault y.read (sound y.journal y.read) (wrong x.fault after service refl x.none))
+          absurd (once.either image y.journal x.fault y.read y.sound (wrong x.fault after service refl x.none))
 
   module _ (x : HasServed service image before after) (y : HasServed again image before other)
       (well : GoesWell before after) (well' : GoesWell before other) where
@@ -259,17 +262,17 @@ module _ (service : Service) (workers : ℕ) (image : List ℕ) (before after ot
   BothServed = (opening : List Batch) × HasJournal opening image
       × ServedAlike service (with_workers workers service) opening before after other
 
-  pub both_served : ReadsSound image → GoesWell before after → GoesWell before other → status_of ending ≢ 9
+  pub both_served : GoesWell before after → GoesWell before other → status_of ending ≢ 9
       → status_of ending' ≢ 9 → status_of ending ≢ 7 → Serves service before after ending
       → Serves (with_workers workers service) before other ending' → (opening : List Batch) × HasJournal opening image
       × ServedAlike service (with_workers workers service) opening before after other
-  both_served sound well well' fed fed' differs serves serves' =
+  both_served well well' fed fed' differs serves serves' =
       by_first (comes service image before after told well ending fed serves.by)
     where
       by_second : HasServed service image before after → Comes again image before other ending' → BothServed
       by_second x (inl seven') =
           let y = refused_by again before other ending' seven' serves'.by in
-          absurd (once.either image x.journal y.fault x.read (sound x.journal x.read) (wrong y.fault other again refl y.none))
+          absurd (once.either image x.journal y.fault x.read x.sound (wrong y.fault other again refl y.none))
       by_second x (inr y) = (x.journal, x.read, both_alike x y well well')
 
       by_first : Comes service image before after ending → BothServed

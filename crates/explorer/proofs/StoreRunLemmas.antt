@@ -15,7 +15,7 @@ use Rattle.explorer.specs.declared.fault.Fault.{Fault}
 use Rattle.explorer.specs.declared.fault.Fault.TheVariants as faults
 use Rattle.explorer.specs.Create.{CreatesBy}
 use Rattle.explorer.specs.ImportStore.{ImportsBy, ImportsTo}
-use Rattle.explorer.specs.Laws.{GoesWell, HoldAlike, ImportAlike, IsToldErrors, IsToldFile, IsToldOutput, IsToldStore, ReadsSound, ReadsWell, RefusedAlike, ReportsWell, ServedAlike, ServesDoors, WritesWell, serving, with_workers}
+use Rattle.explorer.specs.Laws.{GoesWell, HoldAlike, ImportAlike, IsToldErrors, IsToldFile, IsToldOutput, IsToldStore, ReadsWell, RefusedAlike, ReportsWell, ServedAlike, ServesDoors, WritesWell, serving, with_workers}
 use Rattle.explorer.specs.Lines.{AreLinesOf, Ending, Done, Stopped, Tells, status_of}
 use Rattle.explorer.specs.QueryStore.{AsksBy, QueriesBy}
 use Rattle.explorer.specs.Report.{report}
@@ -342,7 +342,7 @@ module _ (words words' : List (List ℕ)) (before after other : World) (status s
       )
 
 module _ (words words' : List (List ℕ)) (before after other : World) (status status' : ℕ) (first : Runs words before after status) (second : Runs words' before other status') (service : Service) (workers : ℕ) (image : List ℕ) (once : OneOpening)
-    (asks : task_of words ≡ Some (serving service)) (asks' : task_of words' ≡ Some (serving (with_workers workers service))) (told : IsToldStore service.store image before) (sound : ReadsSound image) (well' : GoesWell before other) where
+    (asks : task_of words ≡ Some (serving service)) (asks' : task_of words' ≡ Some (serving (with_workers workers service))) (told : IsToldStore service.store image before) (well' : GoesWell before other) where
   abbrev again : Service
   again = with_workers workers service
 
@@ -361,7 +361,7 @@ module _ (words words' : List (List ℕ)) (before after other : World) (status s
       let meets = serves_first (λ nine. omega (arith, is_seven, nine)) in
       let meets' = serves_second fed' in
       let seven : status_of first.ending ≡ 7 = sym first.status_is ∙ is_seven in
-      let seven' = refused_too service workers image before first.ended second.ended first.ending second.ending once told sound still_well (fed_by status' second.ending second.status_is fed') seven meets meets' in
+      let seven' = refused_too service workers image before first.ended second.ended first.ending second.ending once told still_well (fed_by status' second.ending second.status_is fed') seven meets meets' in
       let both = both_refused service workers image before first.ended second.ended first.ending second.ending once told seven seven' meets meets' in
       let alike = both.1 in
       let errors_are = no_more before.errors first.ended.errors (refused_errors service before first.ended first.ending seven meets) in
@@ -387,7 +387,7 @@ module _ (words words' : List (List ℕ)) (before after other : World) (status s
   -- of a store that is served
   pub one_serving : GoesWell before after → status ≢ 7 → status ≢ 9 → status' ≢ 9 → (opening : List Batch) × HasJournal opening image × ServedAlike service (with_workers workers service) opening before after other
   one_serving well differs fed fed' =
-      let both = both_served service workers image before first.ended second.ended first.ending second.ending once told sound (goes_before first.ending before first.ended after first.tells well) still_well
+      let both = both_served service workers image before first.ended second.ended first.ending second.ending once told (goes_before first.ending before first.ended after first.tells well) still_well
       (fed_by status first.ending first.status_is fed) (fed_by status' second.ending second.status_is fed') (λ seven. differs (first.status_is ∙ seven)) (serves_first fed) (serves_second fed') in
       let rest = told_rest first.ending first.ended after first.tells in
       let rest' = told_rest second.ending second.ended other second.tells in

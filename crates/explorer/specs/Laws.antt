@@ -3,7 +3,7 @@ use Rattle.std.specs.Prelude.{◌≡◌, ◌≢◌, ◌⊎◌, ⊤, ◌<◌, ◌
 use Rattle.std.specs.List.{AllZip, Contains}
 use Rattle.outside.specs.Doors.{Connections}
 use Rattle.outside.specs.Stream.{Stream}
-use Rattle.explorer_model.specs.Journal.{IsSound, input_limit}
+use Rattle.explorer_model.specs.Journal.{input_limit}
 use Rattle.explorer_model.specs.declared.archive.Batch.{Batch}
 use Rattle.explorer_model.specs.declared.fault.Refusal.{Refusal}
 use Rattle.explorer_model.specs.declared.fault.Why.{Why}
@@ -118,10 +118,6 @@ pub record ImportAlike (store : List ℕ) (status : ℕ) (after other : World) :
     calls = other.host.calls;
     disks = put store (other.host.disks store) after.host.disks;
   }
-
--- a journal that is read of the bytes is sound
-abbrev pub ReadsSound : List ℕ → Type 0
-ReadsSound image = (journal : List Batch) → HasJournal journal image → IsSound journal
 
 -- the service with so many workers
 abbrev pub with_workers : ℕ → Service → Service

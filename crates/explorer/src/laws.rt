@@ -19,7 +19,7 @@ ghost use Rattle.explorer.specs.Create.{CreatesBy};
 ghost use Rattle.explorer.specs.Imported.{new_store};
 ghost use Rattle.explorer.specs.ImportStore.{ImportsBy};
 ghost use Rattle.command_line.specs.Task.{Create, Import, Query as Ask, Trial, task_of};
-ghost use Rattle.explorer.specs.Laws.{CountsAtMost, GoesWell, ImportAlike, IsAnswered, IsFullIn, IsNoRepeat, IsTold, IsToldErrors, IsToldFile, IsToldOutput, IsToldStore, ReadsSound, ReadsWell, RefusedAlike, ReportsWell, ServedAlike, WritesWell, WroteAlike, serving, with_workers};
+ghost use Rattle.explorer.specs.Laws.{CountsAtMost, GoesWell, ImportAlike, IsAnswered, IsFullIn, IsNoRepeat, IsTold, IsToldErrors, IsToldFile, IsToldOutput, IsToldStore, ReadsWell, RefusedAlike, ReportsWell, ServedAlike, WritesWell, WroteAlike, serving, with_workers};
 ghost use Rattle.explorer.specs.Lines.{Ending, status_of};
 ghost use Rattle.explorer.specs.QueryStore.{QueriesBy};
 ghost use Rattle.explorer.specs.Run.{Runs};
@@ -157,8 +157,8 @@ pub fn a_trial_is_determined()
 }
 
 /// Runs of `serve` over one told store, with whatever numbers of workers: those that refuse it end by
-/// one fault and come to the same. Where what is read of it is sound, no call fails and memory is
-/// there, one refuses it just where the other does, and else both serve the same doors.
+/// one fault and come to the same. Where no call fails and memory is there, one refuses it just where
+/// the other does, and else both serve the same doors.
 pub fn a_serving_is_determined()
     ensures refused { (service : Service) (workers : ℕ) (image : List ℕ)
         (before after other : World) (ending ending' : Ending)
@@ -169,7 +169,7 @@ pub fn a_serving_is_determined()
         → (ending ≡ ending') × RefusedAlike service.store after other }
     ensures either { (service : Service) (workers : ℕ) (image : List ℕ)
         (before after other : World) (ending ending' : Ending)
-        → IsToldStore service.store image before → ReadsSound image
+        → IsToldStore service.store image before
         → GoesWell before other → status_of ending' ≢ 9
         → status_of ending ≡ 7
         → Serves service before after ending
@@ -177,7 +177,7 @@ pub fn a_serving_is_determined()
         → status_of ending' ≡ 7 }
     ensures served { (service : Service) (workers : ℕ) (image : List ℕ)
         (before after other : World) (ending ending' : Ending)
-        → IsToldStore service.store image before → ReadsSound image
+        → IsToldStore service.store image before
         → GoesWell before after → GoesWell before other
         → status_of ending ≢ 9 → status_of ending' ≢ 9 → status_of ending ≢ 7
         → Serves service before after ending
@@ -256,7 +256,7 @@ pub fn a_run_of_a_command_is_determined()
         (image : List ℕ) (before after other : World) (status status' : ℕ)
         → task_of words ≡ Some (serving service)
         → task_of words' ≡ Some (serving (with_workers workers service))
-        → IsToldStore service.store image before → IsToldErrors before → ReadsSound image
+        → IsToldStore service.store image before → IsToldErrors before
         → ReportsWell before after
         → GoesWell before other → ReportsWell before other
         → status ≡ 7 → status' ≢ 9
@@ -266,7 +266,7 @@ pub fn a_run_of_a_command_is_determined()
         (image : List ℕ) (before after other : World) (status status' : ℕ)
         → task_of words ≡ Some (serving service)
         → task_of words' ≡ Some (serving (with_workers workers service))
-        → IsToldStore service.store image before → ReadsSound image
+        → IsToldStore service.store image before
         → GoesWell before after → GoesWell before other
         → status ≢ 7 → status ≢ 9 → status' ≢ 9
         → Runs words before after status → Runs words' before other status'

@@ -25,11 +25,11 @@ returns-clause-tries c = λ words words' games seed workers workers' before afte
     c.samples_are_determined.ensures c.answers_are_determined.ensures c.query_is_determined.ensures asks asks' told well well' fed fed'
 
 pub returns-clause-refuses : goal.returns-clause-refuses
-returns-clause-refuses c = λ words words' service workers image before after other status status' asks asks' told errors sound reports well' reports' seven fed' first second.
+returns-clause-refuses c = λ words words' service workers image before after other status status' asks asks' told errors reports well' reports' seven fed' first second.
     let once = c.opening_is_determined.ensures in
-    one_refusing words words' before after other status status' first second service workers image (record { opened = once.opened; refused = once.refused; either = once.either }) asks asks' told sound well' errors reports reports' seven fed'
+    one_refusing words words' before after other status status' first second service workers image (record { opened = once.opened; refused = once.refused; either = once.either }) asks asks' told well' errors reports reports' seven fed'
 
 pub returns-clause-serves : goal.returns-clause-serves
-returns-clause-serves c = λ words words' service workers image before after other status status' asks asks' told sound well well' differs fed fed' first second.
+returns-clause-serves c = λ words words' service workers image before after other status status' asks asks' told well well' differs fed fed' first second.
     let once = c.opening_is_determined.ensures in
-    one_serving words words' before after other status status' first second service workers image (record { opened = once.opened; refused = once.refused; either = once.either }) asks asks' told sound well' well differs fed fed'
+    one_serving words words' before after other status status' first second service workers image (record { opened = once.opened; refused = once.refused; either = once.either }) asks asks' told well' well differs fed fed'

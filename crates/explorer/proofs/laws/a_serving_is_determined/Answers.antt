@@ -7,11 +7,11 @@ returns-clause-refused c = λ service workers image before after other ending en
     both_refused service workers image before after other ending ending' (record { opened = once.opened; refused = once.refused; either = once.either }) told seven seven' serves serves'
 
 pub returns-clause-either : goal.returns-clause-either
-returns-clause-either c = λ service workers image before after other ending ending' told sound well' fed' seven serves serves'.
+returns-clause-either c = λ service workers image before after other ending ending' told well' fed' seven serves serves'.
     let once = c.opening_is_determined.ensures in
-    refused_too service workers image before after other ending ending' (record { opened = once.opened; refused = once.refused; either = once.either }) told sound well' fed' seven serves serves'
+    refused_too service workers image before after other ending ending' (record { opened = once.opened; refused = once.refused; either = once.either }) told well' fed' seven serves serves'
 
 pub returns-clause-served : goal.returns-clause-served
-returns-clause-served c = λ service workers image before after other ending ending' told sound well well' fed fed' differs serves serves'.
+returns-clause-served c = λ service workers image before after other ending ending' told well well' fed fed' differs serves serves'.
     let once = c.opening_is_determined.ensures in
-    both_served service workers image before after other ending ending' (record { opened = once.opened; refused = once.refused; either = once.either }) told sound well well' fed fed' differs serves serves'
+    both_served service workers image before after other ending ending' (record { opened = once.opened; refused = once.refused; either = once.either }) told well well' fed fed' differs serves serves'
