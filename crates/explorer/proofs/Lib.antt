@@ -29,6 +29,8 @@ mod QuestionLemmas
 mod ImportHostLemmas
 mod ImportLawLemmas
 mod SegmentLemmas
+mod ServeLawLemmas
+mod DoorLawLemmas
 mod SizeLemmas
 mod TrialLawLemmas
 mod StoreRunLemmas

@@ -16,6 +16,7 @@ use Rattle.explorer_model.specs.declared.fault.Refusal.{Refusal}
 use Rattle.explorer_model.specs.declared.fault.Why.{Why}
 use Rattle.explorer_model.specs.declared.fault.Why.TheVariants.{Game, Preamble, Repeated, TooLong, Twice}
 use Rattle.explorer_model.specs.Cuts.{Cut, cuts}
+use Rattle.explorer_model.specs.Journal.{IsSound}
 use Rattle.explorer_model.specs.Timeline.{IsPrefix}
 use Rattle.explorer_model.specs.Visits.{texts_of}
 use Rattle.explorer_model.proofs.Timelines.{prefix-self, prefix-trans}
@@ -184,17 +185,18 @@ module _ (service : Service) (before lent used after : HostState) (given returns
   pub disk-stays : used.disk_faults ≡ lent.disk_faults → returns.faults ≡ 0 → after.disk_faults ≡ before.disk_faults
   disk-stays same none = takes.counts.same none ∙ (same ∙ ap (λ (h : HostState). h.disk_faults) hands.rest)
 
-  has-store : (opening : List Batch) → IfSome given.content (HasJournal opening) → HasStore service before
-  has-store opening read = record {
+  has-store : (opening : List Batch) → IfSome given.content (HasJournal opening) → IsSound opening → HasStore service before
+  has-store opening read sound = record {
     journal = opening;
     told = subst (λ (c : Option (List ℕ)). IfSome c (HasJournal opening)) hands.content read;
+    sound = sound;
   }
 
   -- no door was handed out
-  no-file : (opening : List Batch) (at : ℕ) → IfSome given.content (HasJournal opening) → HasGivenUp service (whys.NoFile at) lent used
+  no-file : (opening : List Batch) (at : ℕ) → IfSome given.content (HasJournal opening) → IsSound opening → HasGivenUp service (whys.NoFile at) lent used
       → returns.content ≡ given.content → RefusesOneFile service (name_at service.files at) before after
-  no-file opening at read h same = record {
-    store = has-store opening read;
+  no-file opening at read sound h same = record {
+    store = has-store opening read sound;
     names = h.names;
     next = h.cause.1;
     refusal = h.refusal;
@@ -203,10 +205,10 @@ module _ (service : Service) (before lent used after : HostState) (given returns
     rises = own-rises h.cause.0;
   }
 
-  no-address : (opening : List Batch) → IfSome given.content (HasJournal opening) → HasGivenUp service whys.NoAddress lent used
+  no-address : (opening : List Batch) → IfSome given.content (HasJournal opening) → IsSound opening → HasGivenUp service whys.NoAddress lent used
       → returns.content ≡ given.content → RefusesAddress service before after
-  no-address opening read h same = record {
-    store = has-store opening read;
+  no-address opening read sound h same = record {
+    store = has-store opening read sound;
     refusal = h.refusal;
     noted = h.cause.2;
     given_up = subst (λ (ns : List (List ℕ)). IsGivenUp service ns h.refusal before after) h.cause.1
@@ -221,23 +223,23 @@ module _ (service : Service) (before lent used after : HostState) (given returns
       (is-given-up h.names h.files h.refusal h.calls same))
 
   pub gives-up : (errors output input : Stream) (opening : List Batch) (why : Unserved) (fault : Fault) → IfSome given.content (HasJournal opening)
-      → HasGivenUp service why lent used → returns.content ≡ given.content → IsToldBy service why fault
+      → IsSound opening → HasGivenUp service why lent used → returns.content ≡ given.content → IsToldBy service why fault
       → ServesBy service (world input output errors before) (world input output errors after) (Stopped fault)
-  gives-up errors output input opening (whys.NoFile at) fault read h same told =
+  gives-up errors output input opening (whys.NoFile at) fault read sound h same told =
       subst (λ (f : Fault). ServesBy service (world input output errors before) (world input output errors after) (Stopped f)) (sym told.1)
-      (inr (inl (rw told.2 (no-file opening at read h same))), refl)
-  gives-up errors output input opening whys.NoAddress fault read h same told =
+      (inr (inl (rw told.2 (no-file opening at read sound h same))), refl)
+  gives-up errors output input opening whys.NoAddress fault read sound h same told =
       subst (λ (f : Fault). ServesBy service (world input output errors before) (world input output errors after) (Stopped f)) (sym told.1)
-      (inr (inr (told.2, no-address opening read h same)), refl)
-  gives-up errors output input opening whys.NoMemory fault read h same told =
+      (inr (inr (told.2, no-address opening read sound h same)), refl)
+  gives-up errors output input opening whys.NoMemory fault read sound h same told =
       subst (λ (f : Fault). ServesBy service (world input output errors before) (world input output errors after) (Stopped f)) (sym told)
       (inl (service.files, prefix-self service.files, no-memory h same, refl))
 
   -- doors were handed out and served
   pub is-worked : (opening journal : List Batch) (first : Option Fault) (lines : Option (List ℕ))
       → HasWorked service opening journal first lines lent used → IfSome given.content (HasJournal opening)
-      → IsWorked service before after
-  is-worked opening journal first lines w read =
+      → IsSound opening → IsWorked service before after
+  is-worked opening journal first lines w read sound =
       let files : w.middle.files ≡ before.files = w.files ∙ ap (λ (h : HostState). h.files) hands.rest in
       let fs : List HostCall = files_back service.files (map (λ (run : FileRun). run.file) w.over.files) in
       let ds : List HostCall = map (λ (run : DoorRun). DoorBack run.connections) w.over.doors in
@@ -250,6 +252,7 @@ module _ (service : Service) (before lent used after : HostState) (given returns
       record {
         opening = opening;
         told = subst (λ (c : Option (List ℕ)). IfSome c (HasJournal opening)) hands.content read;
+        sound = sound;
         files = w.over.files;
         imported = subst (λ (at : List ℕ → Option (List ℕ)). AllZip IsImported (map (λ (name : List ℕ). source_alone (at name) 0 0) service.files) w.over.files)
             files w.over.imported;
@@ -597,9 +600,9 @@ module _ {A E : Type 0} (service : Service) (before after : World) (worked : IsW
 module _ (service : Service) (before lent used after : HostState) (given returns : DiskState)
     (hands : HandsDisk service.store given before lent) (takes : TakesDisk service.store returns used after)
     (opening journal : List Batch) (first : Option Fault) (lines : Option (List ℕ))
-    (w : HasWorked service opening journal first lines lent used) (read : IfSome given.content (HasJournal opening)) where
+    (w : HasWorked service opening journal first lines lent used) (read : IfSome given.content (HasJournal opening)) (sound : IsSound opening) where
   pub sees-all : 1 ≤ service.readers → TellsLonger journal returns.content
-      → SeesAll service before after (is-worked service before lent used after given returns hands takes opening journal first lines w read) first
+      → SeesAll service before after (is-worked service before lent used after given returns hands takes opening journal first lines w read sound) first
   unfolding is-worked
   sees-all some l =
       let files : w.middle.files ≡ before.files = w.files ∙ ap (λ (h : HostState). h.files) hands.rest in
@@ -706,13 +709,13 @@ refuses-store service before after input output errors name refuses is = record 
 -- files or doors were refused, or memory was wanting for them
 pub gives-up-so : (service : Service) (before lent used after : HostState) (given returns : DiskState)
     → HandsDisk service.store given before lent → TakesDisk service.store returns used after
-    → (input output later errors : Stream) (opening : List Batch) (why : Unserved) (fault : Fault) → IfSome given.content (HasJournal opening)
+    → (input output later errors : Stream) (opening : List Batch) (why : Unserved) (fault : Fault) → IfSome given.content (HasJournal opening) → IsSound opening
     → HasGivenUp service why lent used → returns.content ≡ given.content → IsToldBy service why fault
     → GivesBack lent used → later ≡ output
     → Serves service (world input output errors before) (world input later errors after) (Stopped fault)
-gives-up-so service before lent used after given returns hands takes input output later errors opening why fault read h same told g is =
+gives-up-so service before lent used after given returns hands takes input output later errors opening why fault read sound h same told g is =
     subst (λ (s : Stream). Serves service (world input output errors before) (world input s errors after) (Stopped fault)) (sym is) (record {
-      by = gives-up service before lent used after given returns hands takes errors output input opening why fault read h same told;
+      by = gives-up service before lent used after given returns hands takes errors output input opening why fault read sound h same told;
       gives_back = rounds service before lent used after given returns hands takes g;
     })
 
@@ -720,7 +723,7 @@ gives-up-so service before lent used after given returns hands takes input outpu
 pub served-so : {A E : Type 0} (service : Service) (before lent used after : HostState) (given returns : DiskState)
     (hands : HandsDisk service.store given before lent) (takes : TakesDisk service.store returns used after)
     (opening journal : List Batch) (first : Option Fault) (lines : Option (List ℕ))
-    → HasWorked service opening journal first lines lent used → IfSome given.content (HasJournal opening)
+    → HasWorked service opening journal first lines lent used → IfSome given.content (HasJournal opening) → IsSound opening
     → 1 ≤ service.readers → TellsLonger journal returns.content → GivesBack lent used
     → (failed : Bool) → (failed ≡ true → 0 < returns.faults) → (failed ≡ false → returns.faults ≡ 0)
     → (input output written errors reported : Stream) (listens : Result A E)
@@ -728,18 +731,18 @@ pub served-so : {A E : Type 0} (service : Service) (before lent used after : Hos
     → (ending : Ending) → Concludes lines failed first listens errors reported ending
     → Serves service (world input output errors before) (world input written reported after) ending
 unfolding is-worked
-served-so service before lent used after given returns hands takes opening journal first lines w read some l g failed some_faults no_faults
+served-so service before lent used after given returns hands takes opening journal first lines w read sound some l g failed some_faults no_faults
     input output written errors reported listens wrote ending by =
-    let disk = worked-disk service before lent used after given returns hands takes opening journal first lines w read in
+    let disk = worked-disk service before lent used after given returns hands takes opening journal first lines w read sound in
     record {
       by = concludes service (world input output errors before) (world input written reported after)
-          (is-worked service before lent used after given returns hands takes opening journal first lines w read)
+          (is-worked service before lent used after given returns hands takes opening journal first lines w read sound)
           refl failed first listens wrote
           (λ is. disk-rises service before lent used after given returns hands takes disk (some_faults is))
           (λ is. disk-stays service before lent used after given returns hands takes disk (no_faults is))
           w.over.first_is
-          (worked-counted service before lent used after given returns hands takes opening journal first lines w read)
-          (sees-all service before lent used after given returns hands takes opening journal first lines w read some l)
+          (worked-counted service before lent used after given returns hands takes opening journal first lines w read sound)
+          (sees-all service before lent used after given returns hands takes opening journal first lines w read sound some l)
           lines w.over.lines_are ending by;
       gives_back = rounds service before lent used after given returns hands takes g;
     }

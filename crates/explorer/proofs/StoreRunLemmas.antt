@@ -1,4 +1,4 @@
--- A run that creates, asks, imports or tries comes to one thing, where no call fails and memory is there.
+-- A run that creates, asks, imports, tries or serves comes to what the laws of these say, where no call fails and memory is there.
 use Rattle.std.proofs.Common.{◌≡◌, ℕ, ◌-◌, ◌^◌, ◌<◌, ◌≤◌, ◌⊎◌, inl, inr, List, [], ◌∷◌, Option, None, Some, Result, Ok, Err, refl, sym, ap, subst, ◌∙◌, arith}
 use Rattle.std.specs.Prelude.{◌≢◌, IsSome}
 use Rattle.std.specs.Io.KnownBytes.{Appends, append_known}
@@ -6,6 +6,8 @@ use Rattle.outside.specs.Stream.{Grows, Stream, Writes}
 use Rattle.outside.proofs.StreamLemmas.{grows-none, writes-grows}
 use Rattle.explorer_model.specs.declared.query.BadParameter.{BadParameter}
 use Rattle.explorer_model.specs.declared.query.Query.{Query as AQuery}
+use Rattle.explorer_model.specs.declared.archive.Batch.{Batch}
+use Rattle.manifest.specs.Manifest.{HasJournal}
 use Rattle.host.specs.Hosts.{HostState, put}
 use Rattle.ingest_desk.specs.declared.report.ImportEnding.{ImportEnding}
 use Rattle.ingest_desk.specs.declared.report.ImportEnding.TheVariants as endings
@@ -13,11 +15,13 @@ use Rattle.explorer.specs.declared.fault.Fault.{Fault}
 use Rattle.explorer.specs.declared.fault.Fault.TheVariants as faults
 use Rattle.explorer.specs.Create.{CreatesBy}
 use Rattle.explorer.specs.ImportStore.{ImportsBy, ImportsTo}
-use Rattle.explorer.specs.Laws.{GoesWell, HoldAlike, ImportAlike, IsToldErrors, IsToldFile, IsToldOutput, IsToldStore, ReadsWell, ReportsWell, WritesWell}
+use Rattle.explorer.specs.Laws.{GoesWell, HoldAlike, ImportAlike, IsToldErrors, IsToldFile, IsToldOutput, IsToldStore, ReadsWell, RefusedAlike, ReportsWell, ServedAlike, ServesDoors, WritesWell, serving, with_workers}
 use Rattle.explorer.specs.Lines.{AreLinesOf, Ending, Done, Stopped, Tells, status_of}
 use Rattle.explorer.specs.QueryStore.{AsksBy, QueriesBy}
 use Rattle.explorer.specs.Report.{report}
 use Rattle.explorer.specs.Run.{Ends, Meets, Runs, StartsWithout}
+use Rattle.explorer.specs.Serve.{Serves}
+use Rattle.explorer.specs.Served.{Service}
 use Rattle.explorer.specs.Stores.{OnlyHost}
 use Rattle.explorer.specs.Trial.{TriesBy}
 use Rattle.explorer.specs.World.{World}
@@ -30,6 +34,7 @@ use Rattle.explorer.proofs.NoRoomLemmas.{OneAccount}
 use Rattle.explorer.proofs.OneEndingLemmas.{OneQuery, wrote_stream}
 use Rattle.explorer.proofs.QuestionLemmas.{OneOpening, one_question}
 use Rattle.explorer.proofs.RunLawLemmas.{append_all, no_memory, same_lines, told_behind}
+use Rattle.explorer.proofs.ServeLawLemmas.{both_refused, both_served, refused_errors, refused_too}
 use Rattle.explorer.proofs.TrialLawLemmas.{OneSample, one_trial}
 
 -- ---- how an ending is told
@@ -224,6 +229,27 @@ same_end ending ending' before ended after ended' other differs fine fine' same 
     let errors = told_alike ending before ended after ended' other differs fine fine' (ap (λ (w : World). w.errors) ends) tells moved in
     told_rest ending ended after tells ∙ (λ i. let w : World = ends i in record w { errors = errors i }) ∙ sym (told_rest ending' ended' other tells')
 
+-- what is told on the errors in the end is no part of how doors were served
+told_doors : (service : Service) (opening : List Batch) (before after : World) (errors : Stream) → ServesDoors service opening before after → ServesDoors service opening before (record after { errors = errors })
+told_doors service opening before after errors x = record {
+  worked = x.worked;
+  opening_is = x.opening_is;
+  goes_on = x.goes_on;
+  listens = record { input = x.listens.input; output = x.listens.output };
+}
+
+told_last : (service others : Service) (opening : List Batch) (before after other : World) (errors errors' : Stream) → ServedAlike service others opening before after other
+    → ServedAlike service others opening before (record after { errors = errors }) (record other { errors = errors' })
+unfolding told_doors
+told_last service others opening before after other errors errors' alike = record {
+  first = told_doors service opening before after errors alike.first;
+  second = told_doors others opening before other errors' alike.second;
+  doors = alike.doors;
+  calls = alike.calls;
+  input = alike.input;
+  output = alike.output;
+}
+
 module _ (words words' : List (List ℕ)) (before after other : World) (status status' : ℕ) (first : Runs words before after status) (second : Runs words' before other status') (errors : IsToldErrors before) (reports : ReportsWell before after)
     (reports' : ReportsWell before other) where
   one_run_of : Grew before first.ended → Grew before second.ended → (first.ending ≡ Stopped faults.Usage → ⊥) → (first.ending ≡ second.ending) × (first.ended ≡ second.ended) → (status ≡ status') × (after ≡ other)
@@ -314,3 +340,58 @@ module _ (words words' : List (List ℕ)) (before after other : World) (status s
           rest = subst (λ (h : HostState). P h other.host) (sym host) (subst (λ (k : HostState). P first.ended.host k) (sym host') alike.rest);
         },
       )
+
+module _ (words words' : List (List ℕ)) (before after other : World) (status status' : ℕ) (first : Runs words before after status) (second : Runs words' before other status') (service : Service) (workers : ℕ) (image : List ℕ) (once : OneOpening)
+    (asks : task_of words ≡ Some (serving service)) (asks' : task_of words' ≡ Some (serving (with_workers workers service))) (told : IsToldStore service.store image before) (well' : GoesWell before other) where
+  abbrev again : Service
+  again = with_workers workers service
+
+  serves_first : status ≢ 9 → Serves service before first.ended first.ending
+  serves_first fed = meets_task (serving service) words before first.ended first.ending status asks fed first.status_is first.meets
+
+  serves_second : status' ≢ 9 → Serves again before second.ended second.ending
+  serves_second fed' = meets_task (serving again) words' before second.ended second.ending status' asks' fed' second.status_is second.meets
+
+  still_well : GoesWell before second.ended
+  still_well = goes_before second.ending before second.ended other second.tells well'
+
+  -- of a store that is refused
+  pub one_refusing : IsToldErrors before → ReportsWell before after → ReportsWell before other → status ≡ 7 → status' ≢ 9 → (status ≡ status') × RefusedAlike service.store after other
+  one_refusing errors reports reports' is_seven fed' =
+      let meets = serves_first (λ nine. omega (arith, is_seven, nine)) in
+      let meets' = serves_second fed' in
+      let seven : status_of first.ending ≡ 7 = sym first.status_is ∙ is_seven in
+      let seven' = refused_too service workers image before first.ended second.ended first.ending second.ending once told still_well (fed_by status' second.ending second.status_is fed') seven meets meets' in
+      let both = both_refused service workers image before first.ended second.ended first.ending second.ending once told seven seven' meets meets' in
+      let alike = both.1 in
+      let errors_are = no_more before.errors first.ended.errors (refused_errors service before first.ended first.ending seven meets) in
+      let errors_are' = no_more before.errors second.ended.errors (refused_errors again before second.ended second.ending seven' meets') in
+      let fine = calm first.ending before first.ended after [] errors reports errors_are first.tells in
+      let fine' = calm second.ending before second.ended other [] errors reports' errors_are' second.tells in
+      let moved = subst (λ (e : Ending). Tells e second.ended other) (sym both.0) second.tells in
+      let rest = told_rest first.ending first.ended after first.tells in
+      let rest' = told_rest second.ending second.ended other second.tells in (
+        first.status_is ∙ ap status_of both.0 ∙ sym second.status_is,
+        record {
+          streams = record {
+            input = ap (λ (w : World). w.input) rest' ∙ alike.streams.input ∙ sym (ap (λ (w : World). w.input) rest);
+            output = ap (λ (w : World). w.output) rest' ∙ alike.streams.output ∙ sym (ap (λ (w : World). w.output) rest);
+            errors = sym (told_alike first.ending before first.ended after second.ended other (λ usage. omega (arith, seven, ap status_of usage)) fine fine' (sym alike.streams.errors) first.tells moved);
+          };
+          disk = ap (λ (w : World). w.host.disks service.store) rest' ∙ alike.disk ∙ sym (ap (λ (w : World). w.host.disks service.store) rest);
+          calls = ap (λ (w : World). w.host.calls) rest' ∙ alike.calls ∙ sym (ap (λ (w : World). w.host.calls) rest);
+          faults = ap (λ (w : World). w.host.disk_faults) rest' ∙ alike.faults ∙ sym (ap (λ (w : World). w.host.disk_faults) rest);
+        },
+      )
+
+  -- of a store that is served
+  pub one_serving : GoesWell before after → status ≢ 7 → status ≢ 9 → status' ≢ 9 → (opening : List Batch) × HasJournal opening image × ServedAlike service (with_workers workers service) opening before after other
+  one_serving well differs fed fed' =
+      let both = both_served service workers image before first.ended second.ended first.ending second.ending once told (goes_before first.ending before first.ended after first.tells well) still_well
+      (fed_by status first.ending first.status_is fed) (fed_by status' second.ending second.status_is fed') (λ seven. differs (first.status_is ∙ seven)) (serves_first fed) (serves_second fed') in
+      let rest = told_rest first.ending first.ended after first.tells in
+      let rest' = told_rest second.ending second.ended other second.tells in
+      let there = told_last service again both.0 before first.ended second.ended after.errors other.errors both.2 in
+      let P : World → Type 0 = λ w. ServedAlike service again both.0 before w (record second.ended { errors = other.errors }) in
+      let Q : World → Type 0 = λ w. ServedAlike service again both.0 before after w in
+      (both.0, both.1, subst Q (sym rest') (subst P (sym rest) there))

@@ -1,18 +1,28 @@
 -- Words of laws: runs that can be told apart by nothing.
-use Rattle.std.specs.Prelude.{◌≡◌, ◌≢◌, ◌⊎◌, ⊤, ◌<◌, ◌-◌, ◌^◌, ℕ, List, Option, None, Some, IfSome, IsSome, length}
+use Rattle.std.specs.Prelude.{◌≡◌, ◌≢◌, ◌⊎◌, ⊤, ◌<◌, ◌-◌, ◌^◌, ℕ, List, [], ◌∷◌, Option, None, Some, IfSome, IsSome, length}
+use Rattle.std.specs.List.{AllZip, Contains}
+use Rattle.outside.specs.Doors.{Connections}
+use Rattle.outside.specs.Stream.{Stream}
 use Rattle.explorer_model.specs.Journal.{input_limit}
 use Rattle.explorer_model.specs.declared.archive.Batch.{Batch}
 use Rattle.explorer_model.specs.declared.fault.Refusal.{Refusal}
 use Rattle.explorer_model.specs.declared.fault.Why.{Why}
 use Rattle.explorer_model.specs.declared.fault.Why.TheVariants.{Repeated}
+use Rattle.explorer_model.specs.declared.wire.Reply.TheVariants.{Found}
 use Rattle.explorer_model.specs.Cuts.{Cut}
 use Rattle.explorer_model.specs.Imports.{Candidate}
 use Rattle.manifest.specs.Manifest.{HasJournal}
-use Rattle.host.specs.Hosts.{put}
+use Rattle.host.specs.Hosts.{DoorBack, FileBack, HostCall, put}
+use Rattle.published_index.specs.States.{watching}
 use Rattle.ingest_desk.specs.Reporting.{FindsNoRoom}
 use Rattle.import_run.specs.Ending.{EndsIn}
-use Rattle.command_line.specs.Task.{Task, Count}
+use Rattle.session.specs.Doors.{AreServed}
+use Rattle.session.specs.Exchanges.{Backend, Exchange, backend}
+use Rattle.session.specs.Replies.{Answer, route_of}
+use Rattle.command_line.specs.Task.{Task, Count, Serve}
 use Rattle.explorer.specs.Imported.{new_store}
+use Rattle.explorer.specs.Serve.{GoesOn, Listens}
+use Rattle.explorer.specs.Served.{DoorRun, IsSeenIn, IsWorked, Service, new_importer, serve_calls}
 use Rattle.explorer.specs.World.{World, SameStreams}
 
 -- all bytes are told, of an input below the bound, and no count stands at its greatest number
@@ -108,3 +118,68 @@ pub record ImportAlike (store : List ℕ) (status : ℕ) (after other : World) :
     calls = other.host.calls;
     disks = put store (other.host.disks store) after.host.disks;
   }
+
+-- the service with so many workers
+abbrev pub with_workers : ℕ → Service → Service
+with_workers workers service = record service { workers = workers }
+
+-- what words ask for that ask for the service
+abbrev pub serving : Service → Task
+serving service = Serve service.store service.address service.files service.workers
+    service.readers service.connections
+
+-- Runs that refused the store of a name came to the same: with the streams, with the bytes under
+-- the name, and in all that was asked of the host.
+pub record RefusedAlike (store : List ℕ) (after other : World) : Type 0 where
+  pub streams : SameStreams after other
+  pub disk : other.host.disks store ≡ after.host.disks store
+  pub calls : other.host.calls ≡ after.host.calls
+  pub faults : other.host.disk_faults ≡ after.host.disk_faults
+
+-- doors were served over a store that had this journal, and the address was told
+pub record ServesDoors (service : Service) (opening : List Batch) (before after : World)
+    : Type 0 where
+  pub worked : IsWorked service before.host after.host
+  pub opening_is : worked.opening ≡ opening
+  pub goes_on : GoesOn service before.host after.host worked
+  pub listens : Listens service before after
+
+-- the calls are the same, but for what came back
+abbrev pub IsSameCall : HostCall → HostCall → Type 0
+IsSameCall (FileBack name file) (FileBack other_name other) = name ≡ other_name
+IsSameCall (DoorBack door) (DoorBack other) = ⊤
+IsSameCall call other = call ≡ other
+
+-- Runs of two services served the same doors, over one journal. The same was read and told, and
+-- the host was asked for the same.
+pub record ServedAlike (service other_service : Service) (opening : List Batch)
+    (before after other : World) : Type 0 where
+  pub first : ServesDoors service opening before after
+  pub second : ServesDoors other_service opening before other
+  pub doors : second.worked.handed ≡ first.worked.handed
+  pub calls : AllZip IsSameCall
+      (serve_calls service first.worked.files first.worked.doors)
+      (serve_calls other_service second.worked.files second.worked.doors)
+  pub input : other.input ≡ after.input
+  pub output : other.output ≡ after.output
+
+-- the exchange is one of those of connections that were served one after another
+abbrev pub IsExchangedIn : Exchange → (before : Backend) → (came went : List Stream)
+    → (after : Backend) → AreServed before came went after → Type 0
+IsExchangedIn exchange before [] [] after served = ⊥
+IsExchangedIn exchange before [] (link ∷ went) after served = ⊥
+IsExchangedIn exchange before (link ∷ came) [] after served = ⊥
+IsExchangedIn exchange before (link ∷ came) (back ∷ went) after served =
+    Contains served.2.exchanges exchange
+    ⊎ IsExchangedIn exchange served.1 came went after served.3
+
+-- A connection of a door asked for an answer to the query string, and was replied this body over so
+-- many batches. What was seen at the door is a front of the journal.
+pub record IsAnswered (text : List ℕ) (batches : ℕ) (body : List ℕ) (opening journal : List Batch)
+    (door : Connections) (run : DoorRun) : Type 0 where
+  pub seen : IsSeenIn opening journal door run
+  pub exchange : Exchange
+  pub among : IsExchangedIn exchange (backend (watching opening) new_importer)
+      seen.from.served.came seen.from.served.went seen.from.last seen.from.served.served
+  pub asked : route_of exchange.asked ≡ Answer text
+  pub replied : exchange.reply ≡ Found batches body

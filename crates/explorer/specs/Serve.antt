@@ -6,6 +6,7 @@ use Rattle.host.specs.Hosts.{DoorsRefused, FileRefused, GivesBack, HostCall, Hos
 use Rattle.explorer_model.specs.declared.archive.Batch.{Batch}
 use Rattle.explorer_model.specs.declared.store.LogFault.{LogFault}
 use Rattle.explorer_model.specs.declared.store.LogFault.TheVariants as logs
+use Rattle.explorer_model.specs.Journal.{IsSound}
 use Rattle.explorer_model.specs.Timeline.{IsPrefix}
 use Rattle.manifest.specs.Manifest.{HasJournal}
 use Rattle.ingest_desk.specs.Openings.{IsWrong}
@@ -70,10 +71,11 @@ pub record IsServed (service : Service) (before after : World) : Type 0 where
 abbrev pub IsMaybe : HostCall → List HostCall → Type 0
 IsMaybe call calls = (calls ≡ []) ⊎ (calls ≡ call ∷ [])
 
--- the store is one
+-- the store is one, and its journal is sound
 pub record HasStore (service : Service) (host : HostState) : Type 0 where
   pub journal : List Batch
   pub told : IfSome (host.disks service.store) (HasJournal journal)
+  pub sound : IsSound journal
 
 -- the file of this name was refused, behind those of these names
 pub record RefusesOneFile (service : Service) (name : List ℕ) (before after : HostState)

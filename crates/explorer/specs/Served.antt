@@ -10,7 +10,7 @@ use Rattle.explorer_model.specs.declared.archive.Batch.{Batch}
 use Rattle.explorer_model.specs.declared.fault.Refusal.{Refusal}
 use Rattle.explorer_model.specs.Cuts.{Cut, cuts}
 use Rattle.explorer_model.specs.Imports.{AccountedBeside, Candidate, groups}
-use Rattle.explorer_model.specs.Journal.{input_limit}
+use Rattle.explorer_model.specs.Journal.{IsSound, input_limit}
 use Rattle.explorer_model.specs.Timeline.{IsPrefix}
 use Rattle.manifest.specs.Manifest.{HasJournal}
 use Rattle.published_index.specs.States.{watching}
@@ -201,10 +201,12 @@ pub record IsGivenUp (service : Service) (names : List (List ℕ)) (refusal : Li
   pub called : after.calls ≡ added (opening_calls service names files refusal) before.calls
   pub kept : after.disks service.store ≡ before.disks service.store
 
--- The doors were handed out and served, while the files were imported, and all came back.
+-- The doors were handed out and served over a sound journal, while the files were imported, and all
+-- came back.
 pub record IsWorked (service : Service) (before after : HostState) : Type 0 where
   pub opening : List Batch
   pub told : IfSome (before.disks service.store) (HasJournal opening)
+  pub sound : IsSound opening
   pub files : List FileRun
   pub imported : AllZip IsImported (map (file_at before) service.files) files
   pub handed : List Connections

@@ -1,14 +1,17 @@
 //! Laws of what a run promises. Each is the contract of a function that only cites the laws below
 //! it.
-ghost use Rattle.std.specs.Prelude.{◌≡◌, ◌≢◌, ℕ, List, Some, IsSome};
+ghost use Rattle.std.specs.Prelude.{◌≡◌, ◌≢◌, ◌≤◌, ℕ, List, Some, IsSome, length, take};
 ghost use Rattle.std.specs.List.{AllByRecursion};
+ghost use Rattle.outside.specs.Doors.{Connections};
 ghost use Rattle.explorer_model.specs.Cuts.{Cut};
 ghost use Rattle.explorer_model.specs.Imports.{Accounted, AccountedApart};
 ghost use Rattle.explorer_model.specs.Journal.{IsSound};
+ghost use Rattle.explorer_model.specs.Replies.{IsFoundIn};
 ghost use Rattle.explorer_model.specs.declared.archive.Batch.{Batch};
 ghost use Rattle.explorer_model.specs.declared.archive.Game.{Game};
 ghost use Rattle.explorer_model.specs.declared.fault.Refusal.{Refusal};
 ghost use Rattle.explorer_model.specs.declared.query.Query.{Query};
+ghost use Rattle.manifest.specs.Manifest.{HasJournal};
 ghost use Rattle.import_run.specs.Ending.{IsCutOff, IsTooMuch};
 ghost use Rattle.import_run.specs.SoFar.{AreInGroups};
 ghost use Rattle.explorer.specs.Count.{Answers};
@@ -16,10 +19,12 @@ ghost use Rattle.explorer.specs.Create.{CreatesBy};
 ghost use Rattle.explorer.specs.Imported.{new_store};
 ghost use Rattle.explorer.specs.ImportStore.{ImportsBy};
 ghost use Rattle.command_line.specs.Task.{Create, Import, Query as Ask, Trial, task_of};
-ghost use Rattle.explorer.specs.Laws.{CountsAtMost, GoesWell, ImportAlike, IsFullIn, IsNoRepeat, IsTold, IsToldErrors, IsToldFile, IsToldOutput, IsToldStore, ReadsWell, ReportsWell, WritesWell, WroteAlike};
+ghost use Rattle.explorer.specs.Laws.{CountsAtMost, GoesWell, ImportAlike, IsAnswered, IsFullIn, IsNoRepeat, IsTold, IsToldErrors, IsToldFile, IsToldOutput, IsToldStore, ReadsWell, RefusedAlike, ReportsWell, ServedAlike, WritesWell, WroteAlike, serving, with_workers};
 ghost use Rattle.explorer.specs.Lines.{Ending, status_of};
 ghost use Rattle.explorer.specs.QueryStore.{QueriesBy};
 ghost use Rattle.explorer.specs.Run.{Runs};
+ghost use Rattle.explorer.specs.Serve.{Serves};
+ghost use Rattle.explorer.specs.Served.{DoorRun, Service};
 ghost use Rattle.explorer.specs.Trial.{TriesBy};
 ghost use Rattle.explorer.specs.World.{World, IsFaultless};
 
@@ -29,6 +34,7 @@ use ingest_desk::laws::opening_is_determined;
 use lookup::laws::answers_are_determined;
 use query_params::laws::query_is_determined;
 use sample_games::laws::samples_are_determined;
+use session::laws::replies_are_determined;
 
 /// Cuts stand in one way in whole groups and a group in hand.
 pub fn groups_are_determined()
@@ -150,8 +156,60 @@ pub fn a_trial_is_determined()
     samples_are_determined();
 }
 
+/// Runs of `serve` over one told store, with whatever numbers of workers: those that refuse it end by
+/// one fault and come to the same. Where no call fails and memory is there, one refuses it just where
+/// the other does, and else both serve the same doors.
+pub fn a_serving_is_determined()
+    ensures refused { (service : Service) (workers : ℕ) (image : List ℕ)
+        (before after other : World) (ending ending' : Ending)
+        → IsToldStore service.store image before
+        → status_of ending ≡ 7 → status_of ending' ≡ 7
+        → Serves service before after ending
+        → Serves (with_workers workers service) before other ending'
+        → (ending ≡ ending') × RefusedAlike service.store after other }
+    ensures either { (service : Service) (workers : ℕ) (image : List ℕ)
+        (before after other : World) (ending ending' : Ending)
+        → IsToldStore service.store image before
+        → GoesWell before other → status_of ending' ≢ 9
+        → status_of ending ≡ 7
+        → Serves service before after ending
+        → Serves (with_workers workers service) before other ending'
+        → status_of ending' ≡ 7 }
+    ensures served { (service : Service) (workers : ℕ) (image : List ℕ)
+        (before after other : World) (ending ending' : Ending)
+        → IsToldStore service.store image before
+        → GoesWell before after → GoesWell before other
+        → status_of ending ≢ 9 → status_of ending' ≢ 9 → status_of ending ≢ 7
+        → Serves service before after ending
+        → Serves (with_workers workers service) before other ending'
+        → (opening : List Batch) × HasJournal opening image
+        × ServedAlike service (with_workers workers service) opening before after other }
+{
+    opening_is_determined();
+}
+
+/// What is answered to a query string at a door of `serve` is over the first batches of the journal
+/// of the disk given back, as many as the answer names. Over as many batches that stand in the
+/// journals of two runs, or of one, it is one thing at whatever door, connection and moment.
+pub fn answers_at_doors_agree()
+    ensures fronts { (text : List ℕ) (batches : ℕ) (body : List ℕ)
+        (opening journal : List Batch) (door : Connections) (run : DoorRun)
+        → IsAnswered text batches body opening journal door run
+        → (batches ≤ length journal) × IsFoundIn text (take batches journal) batches body }
+    ensures agree { (text : List ℕ) (batches : ℕ) (body body' : List ℕ)
+        (opening journal opening' journal' : List Batch) (door door' : Connections)
+        (run run' : DoorRun)
+        → take batches journal ≡ take batches journal'
+        → IsAnswered text batches body opening journal door run
+        → IsAnswered text batches body' opening' journal' door' run'
+        → body ≡ body' }
+{
+    replies_are_determined();
+}
+
 /// Runs of words that ask for the same, with whatever numbers of workers, have one status and come
-/// to the same, as the laws above say of each command, where memory is there and no call fails.
+/// to the same, as the laws above say of each command, where memory is there and no call fails. Of
+/// `serve` that is so where the store is refused; else both serve the same doors.
 pub fn a_run_of_a_command_is_determined()
     ensures creates { (words words' : List (List ℕ)) (store image : List ℕ)
         (before after other : World) (status status' : ℕ)
@@ -194,6 +252,26 @@ pub fn a_run_of_a_command_is_determined()
         → status ≢ 9 → status' ≢ 9
         → Runs words before after status → Runs words' before other status'
         → (status ≡ status') × (after ≡ other) }
+    ensures refuses { (words words' : List (List ℕ)) (service : Service) (workers : ℕ)
+        (image : List ℕ) (before after other : World) (status status' : ℕ)
+        → task_of words ≡ Some (serving service)
+        → task_of words' ≡ Some (serving (with_workers workers service))
+        → IsToldStore service.store image before → IsToldErrors before
+        → ReportsWell before after
+        → GoesWell before other → ReportsWell before other
+        → status ≡ 7 → status' ≢ 9
+        → Runs words before after status → Runs words' before other status'
+        → (status ≡ status') × RefusedAlike service.store after other }
+    ensures serves { (words words' : List (List ℕ)) (service : Service) (workers : ℕ)
+        (image : List ℕ) (before after other : World) (status status' : ℕ)
+        → task_of words ≡ Some (serving service)
+        → task_of words' ≡ Some (serving (with_workers workers service))
+        → IsToldStore service.store image before
+        → GoesWell before after → GoesWell before other
+        → status ≢ 7 → status ≢ 9 → status' ≢ 9
+        → Runs words before after status → Runs words' before other status'
+        → (opening : List Batch) × HasJournal opening image
+        × ServedAlike service (with_workers workers service) opening before after other }
 {
     game_is_determined();
     accounting_is_determined();

@@ -2,6 +2,7 @@
 ghost use Rattle.std.specs.Prelude.{◌≡◌, ◌<◌, ◌≤◌, ◌+◌, ◌++◌, [], length, string_bytes, vec_capacity, true, false, IfOk, IfSome};
 ghost use Rattle.outside.specs.Stream.{Stream};
 ghost use Rattle.disk_model.specs.Disk.{DiskState};
+ghost use Rattle.explorer_model.specs.Journal.{IsSound};
 ghost use Rattle.host.specs.Hosts.{ADisk, HandsDisk, HostState, IsOut};
 ghost use Rattle.manifest.specs.Manifest.{HasJournal};
 ghost use Rattle.published_index.specs.Cover.{journal_of};
@@ -79,6 +80,7 @@ fn serve_store<R: Wait + Threads + Sync, O: Sink, E: Sink, H: Host, J: Index + S
 ) -> Result<(), Fault>
     requires name { store.index.name ≡ J.name }
     requires readers { store.index.readers ≡ order.readers }
+    requires sound { IsSound (journal_of store.index.list) }
     requires out { IsOut (ADisk (string_bytes order.store)) (H.host host.old) }
     ensures { (given : DiskState) (earlier : HostState) (input : Stream)
         → HandsDisk (string_bytes order.store) given earlier (H.host host.old)

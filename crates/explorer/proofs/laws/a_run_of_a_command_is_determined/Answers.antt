@@ -1,4 +1,4 @@
-use Rattle.explorer.proofs.StoreRunLemmas.{one_asking, one_creating, one_importing, one_trying}
+use Rattle.explorer.proofs.StoreRunLemmas.{one_asking, one_creating, one_importing, one_refusing, one_serving, one_trying}
 use Rattle.explorer.proofs.laws.a_run_of_a_command_is_determined.Goals as goal
 
 pub returns-clause-creates : goal.returns-clause-creates
@@ -23,3 +23,13 @@ returns-clause-tries c = λ words words' games seed workers workers' before afte
     one_trying words words' before after other status status' first second errors reports reports' games seed workers workers' c.game_is_determined.ensures
     (record { batches = c.accounting_is_determined.ensures.batches; refused = c.accounting_is_determined.ensures.refused })
     c.samples_are_determined.ensures c.answers_are_determined.ensures c.query_is_determined.ensures asks asks' told well well' fed fed'
+
+pub returns-clause-refuses : goal.returns-clause-refuses
+returns-clause-refuses c = λ words words' service workers image before after other status status' asks asks' told errors reports well' reports' seven fed' first second.
+    let once = c.opening_is_determined.ensures in
+    one_refusing words words' before after other status status' first second service workers image (record { opened = once.opened; refused = once.refused; either = once.either }) asks asks' told well' errors reports reports' seven fed'
+
+pub returns-clause-serves : goal.returns-clause-serves
+returns-clause-serves c = λ words words' service workers image before after other status status' asks asks' told well well' differs fed fed' first second.
+    let once = c.opening_is_determined.ensures in
+    one_serving words words' before after other status status' first second service workers image (record { opened = once.opened; refused = once.refused; either = once.either }) asks asks' told well' well differs fed fed'

@@ -1,6 +1,7 @@
 use Rattle.std.proofs.Common.{List, IfSome, string_bytes, sym, ap, subst, ◌∙◌}
 use Rattle.host.specs.Hosts.{ADisk}
 use Rattle.explorer_model.specs.declared.archive.Batch.{Batch}
+use Rattle.explorer_model.specs.Journal.{IsSound}
 use Rattle.manifest.specs.Manifest.{HasJournal}
 use Rattle.ingest_desk.specs.Stored.{journal}
 use Rattle.published_index.specs.Cover.{journal_of}
@@ -55,7 +56,7 @@ returns-in-GivenUp g c = λ given earlier input hands read same.
     gives-up-so (service_of c.args.order) earlier (g.H.Host.host c.args.host.now) (g.H.Host.host c.serve_files-ingest.new.host)
     (g.H.Host.host c.close-2.new.self) given (g.H.Disk.Disk.disk c.disk_of-disk.result) hands (rw c.as_str-name.ensures.value at c.close-2.ensures) input
     (g.O.Sink.sink c.args.output.now) (g.O.Sink.sink c.serve_files-ingest.new.output) (g.E.Sink.sink c.args.errors.now)
-    (journal_of c.args.store.index.list) c.in-GivenUp.why c.unserved_fault.result read h
+    (journal_of c.args.store.index.list) c.in-GivenUp.why c.unserved_fault.result read c.requires.sound h
     (content-of g.H.Disk.Disk.disk c.disk_of-disk.result c.args.store.manifest.disk
     (c.disk_of-disk.ensures.disk ∙ (stored-disk c.serve_files-ingest.result.0 c.in-Ok-named.named.0 kept
     ∙ stored-disk c.in-Ok-named.named.0 _ c.in-Ok-named.ensures.ingest)) ∙ same)
@@ -72,6 +73,7 @@ returns-in-Worked g c = λ given earlier input hands read same.
     (g.H.Host.host c.close-2.new.self) given (g.H.Disk.Disk.disk c.disk_of-disk.result) hands (rw c.as_str-name.ensures.value at c.close-2.ensures)
     (journal c.in-Ok-named.named.0) (journal c.serve_files-ingest.result.0) c.in-Worked.done.first (lines_told c.in-Worked.done.lines) w
     (subst (λ (j : List Batch). IfSome given.content (HasJournal j)) (sym (journal-named c.in-Ok-named.named.0 c.args.store c.in-Ok-named.ensures.ingest)) read)
+    (subst IsSound (sym (journal-named c.in-Ok-named.named.0 c.args.store c.in-Ok-named.ensures.ingest)) c.requires.sound)
     c.args.order.some_readers
     c.disk_of-disk.ensures.tells
     c.serve_files-ingest.ensures.gives_back c.has_failed-failed.result c.has_failed-failed.ensures.yes c.has_failed-failed.ensures.no
