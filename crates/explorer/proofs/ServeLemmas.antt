@@ -1,6 +1,9 @@
 -- A run of the command `serve`, from the moments between its calls.
 use Rattle.std.proofs.Common.{◌≡◌, ◌⊎◌, Bool, true, false, ℕ, zero, suc, replicate, ◌+◌, ◌-◌, ◌<◌, ◌≤◌, List, [], ◌∷◌, ◌++◌, Option, None, Some, IfSome, length, map, refl, sym, ap, subst, ◌∙◌, append_assoc, inl, inr, arith, string_bytes}
-use Rattle.std.specs.Prelude.{if◌then◌else◌, Result, Ok, Err}
+use Rattle.std.proofs.lemmas.Bool.{cases_Bool}
+use Rattle.std.proofs.lemmas.Grind.{common_steps}
+use Rattle.std.proofs.lemmas.Slice.Eq.{bytes_eq-Decides}
+use Rattle.std.specs.Prelude.{if◌then◌else◌, ◌≢◌, Result, Ok, Err}
 use Rattle.std.specs.List.{All, AllByRecursion, AllZip}
 use Rattle.std.specs.Option.{option_map, option_or}
 use Rattle.std.specs.Str.{bytes_eq}
@@ -48,7 +51,7 @@ use Rattle.explorer.specs.declared.fault.Fault.TheVariants as faults
 use Rattle.explorer.specs.Concluding.{Concludes, EndsBy, TellsLonger}
 use Rattle.explorer.specs.Lines.{Ending, Stopped}
 use Rattle.explorer.specs.Serve.{GoesOn, HasNoStore, HasStore, IsServed, IsWorkedTo, Listens, RefusesAddress, RefusesOneFile, Reports, Serves, ServesBy, listening_line}
-use Rattle.explorer.specs.Served.{DoorRun, FileRun, FindsFull, IsFullBy, IsGivenUp, IsImported, IsKeptIn, IsSeenIn, IsServedIn, IsStoredIn, IsWorked, Service, fault_of_door, fault_of_doors, fault_of_import, file_at, files_back, files_out, first_fault, serve_report}
+use Rattle.explorer.specs.Served.{DoorRun, FileRun, FindsFull, IsFullBy, IsGivenUp, IsImported, IsKeptIn, IsSeenIn, IsServedIn, IsStoredIn, IsWorked, KeepsOthers, Service, fault_of_door, fault_of_doors, fault_of_import, file_at, files_back, files_out, first_fault, serve_report}
 use Rattle.explorer.specs.Serving.{AreCounted, FilesServed, HasGivenUp, HasWorked, IsGivenUpSo, IsToldBy, ListensSo, WroteLine, lines_told}
 use Rattle.explorer.specs.Workers.{name_at}
 use Rattle.explorer.specs.World.{World, world}
@@ -140,6 +143,16 @@ content-back name disk before after takes =
     ap (λ (h : HostState). h.disks name) takes.rest
     ∙ ap (λ (b : Bool). if b then disk.content else before.disks name) (same_bytes name)
 
+bytes_same : (name other : List ℕ) → bytes_eq name other ≡ true → name ≡ other
+bytes_same name other same = grind (arith, common_steps, bytes_eq-Decides name other)
+
+different_bytes : (name other : List ℕ) → name ≢ other → bytes_eq name other ≡ false
+different_bytes name other differs = by (cases_Bool (bytes_eq name other))
+  where
+    by : (bytes_eq name other ≡ true) ⊎ (bytes_eq name other ≡ false) → bytes_eq name other ≡ false
+    by (inl same) = absurd (differs (bytes_same name other same))
+    by (inr apart) = apart
+
 -- ---- a store whose disk was out meanwhile
 
 module _ (service : Service) (before lent used after : HostState) (given returns : DiskState)
@@ -156,10 +169,19 @@ module _ (service : Service) (before lent used after : HostState) (given returns
   rounds g = round-gives-back service.store before lent used after (ap (λ (h : HostState). h.calls) hands.rest) g
       (ap (λ (h : HostState). h.calls) takes.rest)
 
+  keeps-others : used.disks ≡ lent.disks → KeepsOthers service.store before after
+  keeps-others same name differs =
+      let apart = different_bytes name service.store differs in
+      ap (λ (h : HostState). h.disks name) takes.rest
+      ∙ (ap (λ (b : Bool). if b then returns.content else used.disks name) apart
+      ∙ (ap (λ (at : List ℕ → Option (List ℕ)). at name) same
+      ∙ (ap (λ (h : HostState). h.disks name) hands.rest
+      ∙ ap (λ (b : Bool). if b then None else before.disks name) apart)))
+
   pub is-given-up : (names : List (List ℕ)) (files : List Stream) (refusal : List HostCall)
       → used.calls ≡ added (files_back names files ++ (refusal ++ files_out names)) lent.calls
-      → returns.content ≡ given.content → IsGivenUp service names refusal before after
-  is-given-up names files refusal is same =
+      → returns.content ≡ given.content → used.disks ≡ lent.disks → IsGivenUp service names refusal before after
+  is-given-up names files refusal is same disks =
       let tail : List HostCall = DiskOut service.store ∷ [] in
       let order : (files_back names files ++ (refusal ++ files_out names)) ++ tail
       ≡ files_back names files ++ (refusal ++ (files_out names ++ tail)) =
@@ -170,6 +192,7 @@ module _ (service : Service) (before lent used after : HostState) (given returns
         called = calls-round (files_back names files ++ (refusal ++ files_out names)) is
             ∙ ap (λ (cs : List HostCall). added (DiskBack service.store ∷ cs) before.calls) order;
         kept = content-back service.store returns used after takes ∙ (same ∙ hands.content);
+        others = keeps-others disks;
       }
 
   own-rises : Rises lent.own_faults used.own_faults → Rises before.own_faults after.own_faults
@@ -201,7 +224,7 @@ module _ (service : Service) (before lent used after : HostState) (given returns
     next = h.cause.1;
     refusal = h.refusal;
     noted = h.cause.2;
-    given_up = is-given-up h.names h.files h.refusal h.calls same;
+    given_up = is-given-up h.names h.files h.refusal h.calls same h.disks;
     rises = own-rises h.cause.0;
   }
 
@@ -212,7 +235,7 @@ module _ (service : Service) (before lent used after : HostState) (given returns
     refusal = h.refusal;
     noted = h.cause.2;
     given_up = subst (λ (ns : List (List ℕ)). IsGivenUp service ns h.refusal before after) h.cause.1
-        (is-given-up h.names h.files h.refusal h.calls same);
+        (is-given-up h.names h.files h.refusal h.calls same h.disks);
     rises = own-rises h.cause.0;
   }
 
@@ -220,7 +243,7 @@ module _ (service : Service) (before lent used after : HostState) (given returns
   no-memory h same =
       subst (λ (ns : List (List ℕ)). IsGivenUp service ns [] before after) h.cause.0
       (subst (λ (cs : List HostCall). IsGivenUp service h.names cs before after) h.cause.1
-      (is-given-up h.names h.files h.refusal h.calls same))
+      (is-given-up h.names h.files h.refusal h.calls same h.disks))
 
   pub gives-up : (errors output input : Stream) (opening : List Batch) (why : Unserved) (fault : Fault) → IfSome given.content (HasJournal opening)
       → IsSound opening → HasGivenUp service why lent used → returns.content ≡ given.content → IsToldBy service why fault
@@ -263,6 +286,7 @@ module _ (service : Service) (before lent used after : HostState) (given returns
         served = w.over.served;
         called = calls-round ((fs ++ ds) ++ outs) is
             ∙ ap (λ (cs : List HostCall). added (DiskBack service.store ∷ cs) before.calls) order;
+        others = keeps-others (w.over.disks ∙ w.disks);
       }
 
 -- ---- a journal that goes on
@@ -645,7 +669,7 @@ module _ (service : Service) (before lent after : HostState) (given returns : Di
     (hands : HandsDisk service.store given before lent) (takes : TakesDisk service.store returns lent after)
     (same : returns.content ≡ given.content) (input output errors : Stream) where
   closed : IsGivenUp service [] [] before after
-  closed = is-given-up service before lent lent after given returns hands takes [] [] [] refl same
+  closed = is-given-up service before lent lent after given returns hands takes [] [] [] refl same refl
 
   starved-by : ServesBy service (world input output errors before) (world input output errors after) (Stopped faults.OutOfMemory)
   starved-by = inl ([], prefix-nil service.files, closed, refl)

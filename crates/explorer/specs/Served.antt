@@ -1,5 +1,5 @@
 -- Statement: what files and doors come to while a store is served, and what is asked of the host.
-use Rattle.std.specs.Prelude.{◌≡◌, ⊤, ◌<◌, ℕ, List, [], ◌∷◌, ◌++◌, length, map, reverse, take, Option, None, Some, IfSome, codes}
+use Rattle.std.specs.Prelude.{◌≡◌, ◌≢◌, ⊤, ◌<◌, ℕ, List, [], ◌∷◌, ◌++◌, length, map, reverse, take, Option, None, Some, IfSome, codes}
 use Rattle.std.specs.List.{All, AllZip, flat_map}
 use Rattle.std.specs.Option.{option_or}
 use Rattle.std.specs.Io.KnownBytes.{IsAtEnd}
@@ -193,13 +193,19 @@ opening_calls service names files refusal =
     DiskBack service.store
     ∷ (files_back names files ++ (refusal ++ (files_out names ++ DiskOut service.store ∷ [])))
 
--- No door was handed out: the store and the files of these names were, and came back. The store is
--- as it was.
+-- the disks of other names are as they were
+abbrev pub KeepsOthers : List ℕ → HostState → HostState → Type 0
+KeepsOthers store before after =
+    (name : List ℕ) → name ≢ store → after.disks name ≡ before.disks name
+
+-- No door was handed out: the store and the files of these names were, and came back. All disks are
+-- as they were.
 pub record IsGivenUp (service : Service) (names : List (List ℕ)) (refusal : List HostCall)
     (before after : HostState) : Type 0 where
   pub files : List Stream
   pub called : after.calls ≡ added (opening_calls service names files refusal) before.calls
   pub kept : after.disks service.store ≡ before.disks service.store
+  pub others : KeepsOthers service.store before after
 
 -- The doors were handed out and served over a sound journal, while the files were imported, and all
 -- came back.
@@ -214,6 +220,7 @@ pub record IsWorked (service : Service) (before after : HostState) : Type 0 wher
   pub doors : List DoorRun
   pub served : AllZip (IsServedFrom opening) handed doors
   pub called : after.calls ≡ added (serve_calls service files doors) before.calls
+  pub others : KeepsOthers service.store before after
 
 -- ---- how the work ended
 
