@@ -27,7 +27,7 @@ use Rattle.notation_tests.proofs.AgreementLemmas.{notation_computes, none_agrees
 -- ---- standard algebraic notation: texts that are read (PGN 8.2.3)
 
 -- at the start, by the law that what is written is read
-a-pawn-goes-to-e4 : SanReads start (codes "e4") (Ok (uci (codes "e2e4")))
+pub a-pawn-goes-to-e4 : SanReads start (codes "e4") (Ok (uci (codes "e2e4")))
 unfolding boards_compute
 a-pawn-goes-to-e4 =
     let m = uci (codes "e2e4") in
@@ -83,7 +83,7 @@ a-rook-by-its-file =
     let form : NamedMove = record { role = Rook; file = Some 0; rank = None; captures = false; target = 3; promotion = None } in
     ((decides-legal two-rooks (uci (codes "a1d1"))).0 refl, (refl, (refl, refl, tt), (refl, refl, refl)), one_agrees two-rooks (Named form) (uci (codes "a1d1")) refl)
 
-a-king-with-a-rook : Position
+unfoldable pub a-king-with-a-rook : Position
 a-king-with-a-rook = fen (codes "4k3/8/8/8/8/8/8/4K2R w K -")
 
 -- the mark is not asked: castling gives no check here
@@ -199,12 +199,12 @@ three-letters = refl
 no-rank-9 : uci_form (codes "e8e9") ≡ None
 no-rank-9 = refl
 
-a-pawn-goes-two-squares : UciReads start (codes "e2e4") (Ok (uci (codes "e2e4")))
+pub a-pawn-goes-two-squares : UciReads start (codes "e2e4") (Ok (uci (codes "e2e4")))
 unfolding boards_compute
 a-pawn-goes-two-squares = written_reads start (uci (codes "e2e4")) start_is_valid ((decides-legal start (uci (codes "e2e4"))).0 refl)
 
 -- as in chess by other rules, the king may be told to go onto its rook
-castling-onto-the-rook : UciReads a-king-with-a-rook (codes "e1h1") (Ok (uci (codes "e1g1")))
+pub castling-onto-the-rook : UciReads a-king-with-a-rook (codes "e1h1") (Ok (uci (codes "e1g1")))
 unfolding boards_compute a-king-with-a-rook
 castling-onto-the-rook =
     ((refl, inl (Short, (refl, refl, (refl, refl), refl, (refl, refl)), refl), refl), (decides-legal a-king-with-a-rook (uci (codes "e1g1"))).0 refl)
