@@ -39,6 +39,11 @@ module _ {P Q : Type 0} where
   Decides-implies true y d e = (λ h p. e.0 h, λ f. e.1 (f (d.0 refl)))
   Decides-implies false y d e = (λ _ p. absurd (true≢false (sym (d.1 p))), λ _. refl)
 
+-- the fact that is quicker to decide may be the second
+Decides-second_first : {P Q : Type 0} (x : ⊤ → Bool) (y : Bool) → Decides (x tt) P → Decides y Q → Decides (also y x) (P × Q)
+Decides-second_first x y d e =
+    let both = Decides-also y x e d in (λ h. let t = both.0 h in (t.1, t.0), λ h. both.1 (h.1, h.0))
+
 Decides-true : {P : Type 0} → P → Decides true P
 Decides-true p = (λ _. p, λ _. refl)
 
@@ -357,32 +362,38 @@ unfolding castles
 decides-castles p m = Decides-or _ _ (decides-castles_to Short p m) (decides-castles_to Long p m)
 
 unfoldable pub attacks_quietly : Position → Move → Bool
-attacks_quietly p m = attacks p.squares m.from.index m.to.index && is_none m.promotion
+attacks_quietly p m = also (is_none m.promotion) (λ _. attacks p.squares m.from.index m.to.index)
 
 decides-attacks_quietly : (p : Position) (m : Move)
     → Decides (attacks_quietly p m) (Attacks p.squares m.from.index m.to.index × (m.promotion ≡ None))
 unfolding attacks_quietly
-decides-attacks_quietly p m = Decides-and _ _ (decides-attacks p.squares m.from.index m.to.index) (decides-none m.promotion)
+decides-attacks_quietly p m =
+    Decides-second_first (λ _. attacks p.squares m.from.index m.to.index) (is_none m.promotion)
+    (decides-attacks p.squares m.from.index m.to.index) (decides-none m.promotion)
 
 unfoldable pub role_moves : Position → Role → Move → Bool
-role_moves p Pawn m = (pawn_steps p m || (pawn_double_steps p m || pawn_captures p m)) && promotes p.turn m
+role_moves p Pawn m =
+    also (promotes p.turn m) (λ _. pawn_steps p m || (pawn_double_steps p m || pawn_captures p m))
 role_moves p Knight m = attacks_quietly p m
 role_moves p Bishop m = attacks_quietly p m
 role_moves p Rook m = attacks_quietly p m
 role_moves p Queen m = attacks_quietly p m
-role_moves p King m = (attacks p.squares m.from.index m.to.index || castles p m) && is_none m.promotion
+role_moves p King m =
+    also (is_none m.promotion) (λ _. attacks p.squares m.from.index m.to.index || castles p m)
 
 decides-role_moves : (p : Position) (role : Role) (m : Move) → Decides (role_moves p role m) (RoleMoves p role m)
 unfolding role_moves
 decides-role_moves p Pawn m =
-    Decides-and _ _ (Decides-or _ _ (decides-pawn_steps p m) (Decides-or _ _ (decides-pawn_double_steps p m) (decides-pawn_captures p m)))
-    (decides-promotes p.turn m)
+    let goes = Decides-or _ _ (decides-pawn_double_steps p m) (decides-pawn_captures p m) in
+    Decides-second_first (λ _. pawn_steps p m || (pawn_double_steps p m || pawn_captures p m)) (promotes p.turn m)
+    (Decides-or _ _ (decides-pawn_steps p m) goes) (decides-promotes p.turn m)
 decides-role_moves p Knight m = decides-attacks_quietly p m
 decides-role_moves p Bishop m = decides-attacks_quietly p m
 decides-role_moves p Rook m = decides-attacks_quietly p m
 decides-role_moves p Queen m = decides-attacks_quietly p m
 decides-role_moves p King m =
-    Decides-and _ _ (Decides-or _ _ (decides-attacks p.squares m.from.index m.to.index) (decides-castles p m)) (decides-none m.promotion)
+    Decides-second_first (λ _. attacks p.squares m.from.index m.to.index || castles p m) (is_none m.promotion)
+    (Decides-or _ _ (decides-attacks p.squares m.from.index m.to.index) (decides-castles p m)) (decides-none m.promotion)
 
 unfoldable pub piece_moves : Position → Option Piece → Move → Bool
 piece_moves p None m = false
@@ -483,33 +494,45 @@ move_again m =
     let promotion = promotion_again m.promotion in
     λ i. record { from = from i; to = to i; promotion = promotion i }
 
--- the test holds of each legal move
-unfoldable pub for_each_legal : Position → (Move → Bool) → Bool
-for_each_legal p test =
-    all_below (λ from. wherever (is_of_color p.turn (piece_at p.squares from))
-    (λ _. all_below (λ to. all_below (λ n. wherever (is_legal p (move_at from to n)) (λ _. test (move_at from to n))) 7) 64)) 64
+-- the test holds of each legal move to such a square
+unfoldable pub for_each_legal_to : Position → (ℕ → Bool) → (Move → Bool) → Bool
+for_each_legal_to p is_goal test =
+    all_below (λ from. wherever (is_of_color p.turn (piece_at p.squares from)) (λ _. all_below (λ to. wherever (is_goal to)
+    (λ _. all_below (λ n. wherever (is_legal p (move_at from to n)) (λ _. test (move_at from to n))) 7)) 64)) 64
 
-pub each_legal : (p : Position) (test : Move → Bool) → for_each_legal p test ≡ true → (m : Move) → Legal p m → test m ≡ true
-unfolding for_each_legal
-each_legal p test each m legal =
+pub each_legal_to : (p : Position) (is_goal : ℕ → Bool) (test : Move → Bool) → for_each_legal_to p is_goal test ≡ true
+    → (m : Move) → is_goal m.to.index ≡ true → Legal p m → test m ≡ true
+unfolding for_each_legal_to
+each_legal_to p is_goal test each m ends legal =
     let of_move : Move → Bool = λ o. wherever (is_legal p o) (λ _. test o) in
-    let of_goal : ℕ → ℕ → Bool = λ from to. all_below (λ n. of_move (move_at from to n)) 7 in
+    let of_ends : ℕ → ℕ → Bool = λ from to. all_below (λ n. of_move (move_at from to n)) 7 in
+    let of_goal : ℕ → ℕ → Bool = λ from to. wherever (is_goal to) (λ _. of_ends from to) in
     let of_start : ℕ → Bool = λ from. wherever (is_of_color p.turn (piece_at p.squares from)) (λ _. all_below (of_goal from) 64) in
     let start : of_start m.from.index ≡ true = all_below-at of_start 64 each m.from.index m.from.on_board in
     let own = (decides-of_color p.turn (piece_at p.squares m.from.index)).1 legal.0.0 in
     let goals : all_below (of_goal m.from.index) 64 ≡ true = wherever_holds _ (λ _. all_below (of_goal m.from.index) 64) start own in
     let goal : of_goal m.from.index m.to.index ≡ true = all_below-at (of_goal m.from.index) 64 goals m.to.index m.to.on_board in
+    let both : of_ends m.from.index m.to.index ≡ true = wherever_holds (is_goal m.to.index) (λ _. of_ends m.from.index m.to.index) goal ends in
     let one : of_move (move_at m.from.index m.to.index (promotion_number m.promotion)) ≡ true =
-    all_below-at (λ n. of_move (move_at m.from.index m.to.index n)) 7 goal (promotion_number m.promotion) (promotion_below m.promotion) in
+    all_below-at (λ n. of_move (move_at m.from.index m.to.index n)) 7 both (promotion_number m.promotion) (promotion_below m.promotion) in
     let P : Move → Type 0 = λ o. of_move o ≡ true in
     wherever_holds (is_legal p m) (λ _. test m) (subst P (move_again m) one) ((decides-legal p m).1 legal)
 
+-- the test holds of each legal move
+unfoldable pub for_each_legal : Position → (Move → Bool) → Bool
+for_each_legal p test = for_each_legal_to p (λ to. true) test
+
+pub each_legal : (p : Position) (test : Move → Bool) → for_each_legal p test ≡ true → (m : Move) → Legal p m → test m ≡ true
+unfolding for_each_legal
+each_legal p test each m legal = each_legal_to p (λ to. true) test each m refl legal
+
 -- no legal move leads from the one square to the other
-pub none_leads : (p : Position) (from to : ℕ) → for_each_legal p (λ m. not ((m.from.index == from) && (m.to.index == to))) ≡ true
+pub none_leads : (p : Position) (from to : ℕ)
+    → for_each_legal_to p (λ s. s == to) (λ m. not (m.from.index == from)) ≡ true
     → (m : Move) → m.from.index ≡ from → m.to.index ≡ to → ¬ Legal p m
 none_leads p from to each m starts ends legal =
-    let leads = Decides-and (m.from.index == from) (m.to.index == to) (Decides-eqb m.from.index from) (Decides-eqb m.to.index to) in
-    (Decides-not _ leads).0 (each_legal p (λ o. not ((o.from.index == from) && (o.to.index == to))) each m legal) (starts, ends)
+    let other = each_legal_to p (λ s. s == to) (λ o. not (o.from.index == from)) each m ((Decides-eqb m.to.index to).1 ends) legal in
+    (Decides-not _ (Decides-eqb m.from.index from)).0 other starts
 
 -- ---- the same position
 
@@ -692,5 +715,5 @@ valid p e =
 
 -- what is unfolded where these programs compute
 unfoldable pub chess_computes : ⊤
-unfolding also all_below any_below is_role is_piece is_rook_line is_bishop_line is_aligned is_between is_open is_rank_ahead is_pawn_diagonal is_knight_step is_king_step attacks_as attacks_from attacks is_attacked in_check is_promotion promotes pawn_steps pawn_double_steps pawn_captures castles_to castles attacks_quietly role_moves piece_moves is_pseudo_legal is_path_safe is_legal placed squares_after wherever square_at role_at promotion_at move_at for_each_legal captures_en_passant has_no_en_passant is_same_promotion is_pawn_inside has_pawns_inside right_stands has_crossed en_passant_stands_at has_pieces rights_stand is_valid
+unfolding also all_below any_below is_role is_piece is_rook_line is_bishop_line is_aligned is_between is_open is_rank_ahead is_pawn_diagonal is_knight_step is_king_step attacks_as attacks_from attacks is_attacked in_check is_promotion promotes pawn_steps pawn_double_steps pawn_captures castles_to castles attacks_quietly role_moves piece_moves is_pseudo_legal is_path_safe is_legal placed squares_after wherever square_at role_at promotion_at move_at for_each_legal_to for_each_legal captures_en_passant has_no_en_passant is_same_promotion is_pawn_inside has_pawns_inside right_stands has_crossed en_passant_stands_at has_pieces rights_stand is_valid
 chess_computes = tt

@@ -11,6 +11,7 @@ use Rattle.explorer_model.specs.declared.chess.Side.TheVariants.{Short, Long}
 use Rattle.explorer_model.specs.declared.chess.Move.{Move}
 use Rattle.explorer_model.specs.declared.chess.Piece.{Piece}
 use Rattle.explorer_model.specs.declared.chess.Position.{Position}
+use Rattle.explorer_model.specs.declared.notation.NamedMove.{NamedMove}
 use Rattle.explorer_model.specs.declared.notation.SanForm.{SanForm}
 use Rattle.explorer_model.specs.declared.notation.SanForm.TheVariants.{Castling, Named}
 use Rattle.explorer_model.specs.Board.{file_of, rank_of, piece_at}
@@ -18,7 +19,7 @@ use Rattle.explorer_model.specs.Chess.{castling_side, is_castling, is_color, Leg
 use Rattle.explorer_model.specs.Counting.{is_same_move}
 use Rattle.explorer_model.specs.San.{captures, Agrees, IsAsNamed, IsRole, Rivals, RivalsOnFile}
 use Rattle.chess_reference.proofs.Boards.{boards_compute}
-use Rattle.chess_reference.proofs.DecisionLemmas.{decides-role, decides-same_promotion, each_legal, for_each_legal, is_role, is_same_promotion, same_move}
+use Rattle.chess_reference.proofs.DecisionLemmas.{decides-role, decides-same_promotion, each_legal, each_legal_to, for_each_legal, for_each_legal_to, is_role, is_same_promotion, same_move}
 
 -- ---- the moves that a text names
 
@@ -83,18 +84,32 @@ never : (x : Bool) → not x ≡ true → x ≡ true → ⊥
 never true e f = true≢false (sym e)
 never false e f = true≢false (sym f)
 
--- no other legal move agrees
-pub one_agrees : (p : Position) (form : SanForm) (m : Move) → for_each_legal p (λ o. not (agrees p form o) || is_same_move o m) ≡ true
-    → (o : Move) → Legal p o → Agrees p form o → o ≡ m
-one_agrees p form m each o legal agree =
-    let test : not (agrees p form o) || is_same_move o m ≡ true = each_legal p (λ o. not (agrees p form o) || is_same_move o m) each o legal in
+-- no other legal move to the named target agrees
+pub one_named : (p : Position) (form : NamedMove) (m : Move)
+    → for_each_legal_to p (λ to. to == form.target) (λ o. not (agrees p (Named form) o) || is_same_move o m) ≡ true
+    → (o : Move) → Legal p o → Agrees p (Named form) o → o ≡ m
+one_named p form m each o legal agree =
+    let test : Move → Bool = λ o. not (agrees p (Named form) o) || is_same_move o m in
+    let at : test o ≡ true = each_legal_to p (λ to. to == form.target) test each o ((Decides-eqb _ _).1 agree.2.1) legal in
     let P : Bool → Type 0 = λ b. not b || is_same_move o m ≡ true in
-    same_move o m (subst P (agreeing p form o agree) test)
+    same_move o m (subst P (agreeing p (Named form) o agree) at)
 
-pub none_agrees : (p : Position) (form : SanForm) → for_each_legal p (λ o. not (agrees p form o)) ≡ true
-    → (m : Move) → Legal p m → ¬ Agrees p form m
-none_agrees p form each m legal agree =
-    never (agrees p form m) (each_legal p (λ o. not (agrees p form o)) each m legal) (agreeing p form m agree)
+pub none_named : (p : Position) (form : NamedMove)
+    → for_each_legal_to p (λ to. to == form.target) (λ o. not (agrees p (Named form) o)) ≡ true
+    → (m : Move) → Legal p m → ¬ Agrees p (Named form) m
+none_named p form each m legal agree =
+    let test : Move → Bool = λ o. not (agrees p (Named form) o) in
+    never (agrees p (Named form) m)
+    (each_legal_to p (λ to. to == form.target) test each m ((Decides-eqb _ _).1 agree.2.1) legal) (agreeing p (Named form) m agree)
+
+-- no other legal move castles so
+pub one_castles : (p : Position) (side : Side) (m : Move)
+    → for_each_legal p (λ o. not (agrees p (Castling side) o) || is_same_move o m) ≡ true
+    → (o : Move) → Legal p o → Agrees p (Castling side) o → o ≡ m
+one_castles p side m each o legal agree =
+    let test : Move → Bool = λ o. not (agrees p (Castling side) o) || is_same_move o m in
+    let P : Bool → Type 0 = λ b. not b || is_same_move o m ≡ true in
+    same_move o m (subst P (agreeing p (Castling side) o agree) (each_legal p test each o legal))
 
 -- ---- moves that would be written alike
 
@@ -129,17 +144,21 @@ like p m o h =
     and_from _ _ (differ _ (λ e. h.1.0 ((Decides-eqb _ _).0 e))) (and_from _ _ piece ((Decides-eqb _ _).1 h.1.2))
 
 -- no other piece of the kind can go there
-pub no_rival : (p : Position) (m : Move) → for_each_legal p (λ o. not (is_like p m o)) ≡ true → (o : Move) → ¬ Rivals p m o
+pub no_rival : (p : Position) (m : Move) → for_each_legal_to p (λ to. to == m.to.index) (λ o. not (is_like p m o)) ≡ true
+    → (o : Move) → ¬ Rivals p m o
 no_rival p m each o rival =
-    never (is_like p m o) (each_legal p (λ o. not (is_like p m o)) each o rival.0) (like p m o rival)
+    let test : Move → Bool = λ o. not (is_like p m o) in
+    never (is_like p m o)
+    (each_legal_to p (λ to. to == m.to.index) test each o ((Decides-eqb _ _).1 rival.1.2) rival.0) (like p m o rival)
 
 -- nor another one on its file
 pub no_rival_on_file : (p : Position) (m : Move)
-    → for_each_legal p (λ o. not (is_like p m o && (file_of o.from.index == file_of m.from.index))) ≡ true
+    → for_each_legal_to p (λ to. to == m.to.index) (λ o. not (is_like p m o && (file_of o.from.index == file_of m.from.index))) ≡ true
     → (o : Move) → ¬ RivalsOnFile p m o
 no_rival_on_file p m each o h =
     let test : Move → Bool = λ o. is_like p m o && (file_of o.from.index == file_of m.from.index) in
-    never (test o) (each_legal p (λ o. not (test o)) each o h.0.0) (and_from _ _ (like p m o h.0) ((Decides-eqb _ _).1 h.1))
+    never (test o) (each_legal_to p (λ to. to == m.to.index) (λ o. not (test o)) each o ((Decides-eqb _ _).1 h.0.1.2) h.0.0)
+    (and_from _ _ (like p m o h.0) ((Decides-eqb _ _).1 h.1))
 
 pub none_at_all : (p : Position) → for_each_legal p (λ m. false) ≡ true → (m : Move) → ¬ Legal p m
 none_at_all p each m legal = true≢false (sym (each_legal p (λ m. false) each m legal))

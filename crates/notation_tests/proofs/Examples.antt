@@ -9,7 +9,6 @@ use Rattle.explorer_model.specs.declared.chess.Position.{Position}
 use Rattle.explorer_model.specs.declared.fault.SanFault.TheVariants.{NoSuchMove, Ambiguous}
 use Rattle.explorer_model.specs.declared.notation.CheckMark.TheVariants as marks
 use Rattle.explorer_model.specs.declared.notation.NamedMove.{NamedMove}
-use Rattle.explorer_model.specs.declared.notation.SanForm.TheVariants.{Castling, Named}
 use Rattle.explorer_model.specs.declared.notation.Start.TheVariants.{Unnamed, File}
 use Rattle.explorer_model.specs.declared.notation.UciFault.TheVariants.{NotUci, NotLegal}
 use Rattle.std.proofs.lemmas.Bool.Decides.{not_from_Decides}
@@ -22,7 +21,7 @@ use Rattle.chess_reference.proofs.Boards.{boards_compute, fen, uci}
 use Rattle.chess_reference.proofs.DecisionLemmas.{decides-in_check, decides-legal, none_leads, square_at}
 use Rattle.fen_uci.proofs.Respelling.{written_reads}
 use Rattle.san_codec.proofs.Law.{move_reads}
-use Rattle.notation_tests.proofs.AgreementLemmas.{notation_computes, none_agrees, none_at_all, no_rival, no_rival_on_file, one_agrees}
+use Rattle.notation_tests.proofs.AgreementLemmas.{notation_computes, none_at_all, none_named, no_rival, no_rival_on_file, one_castles, one_named}
 
 -- ---- standard algebraic notation: texts that are read (PGN 8.2.3)
 
@@ -38,7 +37,7 @@ a-knight-goes-to-f3 : SanReads start (codes "Nf3") (Ok (uci (codes "g1f3")))
 unfolding notation_computes
 a-knight-goes-to-f3 =
     let form : NamedMove = record { role = Knight; file = None; rank = None; captures = false; target = 21; promotion = None } in
-    ((decides-legal start (uci (codes "g1f3"))).0 refl, (refl, (refl, tt, tt), (refl, refl, refl)), one_agrees start (Named form) (uci (codes "g1f3")) refl)
+    ((decides-legal start (uci (codes "g1f3"))).0 refl, (refl, (refl, tt, tt), (refl, refl, refl)), one_named start form (uci (codes "g1f3")) refl)
 
 -- PGN 8.2.3.4: of knights on c3 and g1 the one on c3 is pinned, so that Ne2 is the other's move
 a-pinned-knight : Position
@@ -50,14 +49,14 @@ the-other-knight-is-not-named =
     let form : NamedMove = record { role = Knight; file = None; rank = None; captures = false; target = 12; promotion = None } in (
       (decides-legal a-pinned-knight (uci (codes "g1e2"))).0 refl,
       (refl, (refl, tt, tt), (refl, refl, refl)),
-      one_agrees a-pinned-knight (Named form) (uci (codes "g1e2")) refl,
+      one_named a-pinned-knight form (uci (codes "g1e2")) refl,
     )
 
 the-pinned-knight-has-no-move : SanReads a-pinned-knight (codes "Nce2") (Err NoSuchMove)
 unfolding notation_computes a-pinned-knight
 the-pinned-knight-has-no-move =
     let form : NamedMove = record { role = Knight; file = Some 2; rank = None; captures = false; target = 12; promotion = None } in
-    none_agrees a-pinned-knight (Named form) refl
+    none_named a-pinned-knight form refl
 
 -- two rooks can go to d1
 two-rooks : Position
@@ -81,7 +80,7 @@ a-rook-by-its-file : SanReads two-rooks (codes "Rad1") (Ok (uci (codes "a1d1")))
 unfolding notation_computes two-rooks
 a-rook-by-its-file =
     let form : NamedMove = record { role = Rook; file = Some 0; rank = None; captures = false; target = 3; promotion = None } in
-    ((decides-legal two-rooks (uci (codes "a1d1"))).0 refl, (refl, (refl, refl, tt), (refl, refl, refl)), one_agrees two-rooks (Named form) (uci (codes "a1d1")) refl)
+    ((decides-legal two-rooks (uci (codes "a1d1"))).0 refl, (refl, (refl, refl, tt), (refl, refl, refl)), one_named two-rooks form (uci (codes "a1d1")) refl)
 
 unfoldable pub a-king-with-a-rook : Position
 a-king-with-a-rook = fen (codes "4k3/8/8/8/8/8/8/4K2R w K -")
@@ -90,14 +89,14 @@ a-king-with-a-rook = fen (codes "4k3/8/8/8/8/8/8/4K2R w K -")
 castling-with-a-mark : SanReads a-king-with-a-rook (codes "O-O+") (Ok (uci (codes "e1g1")))
 unfolding notation_computes a-king-with-a-rook
 castling-with-a-mark =
-    ((decides-legal a-king-with-a-rook (uci (codes "e1g1"))).0 refl, (refl, refl), one_agrees a-king-with-a-rook (Castling Short) (uci (codes "e1g1")) refl)
+    ((decides-legal a-king-with-a-rook (uci (codes "e1g1"))).0 refl, (refl, refl), one_castles a-king-with-a-rook Short (uci (codes "e1g1")) refl)
 
 -- castling is named by its own form alone
 the-king-two-squares-on : SanReads a-king-with-a-rook (codes "Kg1") (Err NoSuchMove)
 unfolding notation_computes a-king-with-a-rook
 the-king-two-squares-on =
     let form : NamedMove = record { role = King; file = None; rank = None; captures = false; target = 6; promotion = None } in
-    none_agrees a-king-with-a-rook (Named form) refl
+    none_named a-king-with-a-rook form refl
 
 -- ---- standard algebraic notation: moves as they are written, with their marks (PGN 8.2.3.5)
 

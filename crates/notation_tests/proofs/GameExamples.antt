@@ -14,13 +14,12 @@ use Rattle.explorer_model.specs.declared.chess.Role.TheVariants.{Pawn}
 use Rattle.explorer_model.specs.declared.fault.GameFault.TheVariants as faults
 use Rattle.explorer_model.specs.declared.fault.SanFault.TheVariants as san
 use Rattle.explorer_model.specs.declared.notation.NamedMove.{NamedMove}
-use Rattle.explorer_model.specs.declared.notation.SanForm.TheVariants.{Named}
 use Rattle.explorer_model.specs.Chess.{start}
 use Rattle.explorer_model.specs.Games.{score, GameOf}
 use Rattle.explorer_model.specs.Items.{comment_of, ending_of, items, items_from, lead_of, nag_of, name_at, pair_item_of, pair_of, remark_of, string_len, symbol_of, unescaped}
 use Rattle.explorer_model.specs.Parts.{meaning, parts}
 use Rattle.chess_reference.proofs.Boards.{uci}
-use Rattle.notation_tests.proofs.AgreementLemmas.{notation_computes, none_agrees}
+use Rattle.notation_tests.proofs.AgreementLemmas.{notation_computes, none_named}
 use Rattle.notation_tests.proofs.Examples.{a-pawn-goes-to-e4}
 use Rattle.explorer_model.specs.Classes.{Clock, value_of, classes, clock_of, control_of, group_of, id_of, is_from_start, is_standard, mode_of, month_of, name_of, outcome_of, rating_of, speed_of}
 
@@ -212,7 +211,7 @@ an-illegal-first-move : GameOf (heading ++ codes "1. e5 1-0\n") (Err (faults.Ill
 unfolding texts_compute notation_computes
 an-illegal-first-move =
     let form : NamedMove = record { role = Pawn; file = None; rank = None; captures = false; target = 36; promotion = None } in
-    (Err (faults.Illegal 1 193), inr (san.NoSuchMove, none_agrees start (Named form) refl, refl), refl)
+    (Err (faults.Illegal 1 193), inr (san.NoSuchMove, none_named start form refl, refl), refl)
 
 -- what the moves are is not asked where the text has no termination, or another one than its result
 a-text-that-is-cut-off : GameOf (heading ++ codes "1. e9\n") (Err faults.NoTermination)
