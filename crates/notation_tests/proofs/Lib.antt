@@ -1,0 +1,4 @@
+mod AgreementLemmas
+mod Examples
+mod GameExamples
+mod QueryExamples
