@@ -8,6 +8,7 @@ mod ComeBesideLemmas
 mod ComeLemmas
 mod CompleteLemmas
 mod CountLemmas
+mod CrashLemmas
 mod CutLemmas
 mod DeterminedLemmas
 mod EarlyLemmas

@@ -3,10 +3,14 @@ use Rattle.std.proofs.Common.{◌≡◌, ℕ, ◌≤◌, true, false, List, [], 
 use Rattle.std.proofs.lemmas.List.{append-nil}
 use Rattle.disk_model.specs.Disk.{DiskState, LeavesOnly, MayLeave}
 use Rattle.explorer_model.specs.declared.archive.Batch.{Batch}
+use Rattle.explorer_model.specs.Journal.{IsSound}
 use Rattle.explorer_model.specs.StoreFile.{payload_of}
 use Rattle.record_log.specs.Log.{Adds, Breaks, EachImage, Log}
 use Rattle.manifest.specs.Manifest.{HasJournal, IsWithOrWithoutBatch}
-use Rattle.ingest_desk.specs.Commits.{Leaves, Stores}
+use Rattle.tally_rows.specs.Tally.{Counted}
+use Rattle.published_index.specs.Changes.{Change}
+use Rattle.ingest_desk.specs.Causes.{Cause}
+use Rattle.ingest_desk.specs.Commits.{Leaves, Refuses, Stores}
 use Rattle.ingest_desk.specs.Kept.{Keeps, KeepsBy}
 use Rattle.ingest_desk.specs.Stored.{Stored, journal}
 use Rattle.ingest_desk.specs.declared.fault.CommitFault.{CommitFault}
@@ -36,8 +40,8 @@ module _ {D : Type 0} (disk : D → DiskState) (left_since : D → ℕ → List 
         } in
         record { batches = batch ∷ []; journal_is = more; manifest = subst F (sym adds.sound) (subst G (sym same) opens) }
 
-    since_broken : (before after : ℕ) → journal new ≡ journal old → Breaks disk before after old.manifest new.manifest → IsSince disk left_since old new
-    since_broken before after same breaks =
+    since_broken : (before after : ℕ) → IsSound (journal old ++ batch ∷ []) → journal new ≡ journal old → Breaks disk before after old.manifest new.manifest → IsSince disk left_since old new
+    since_broken before after sound same breaks =
         let is : new.manifest.fault ≡ Some (before, after) = ap (λ (l : Log D). l.fault) breaks.rest in
         let leaves = crash breaks.sound in
         let I : List Batch → Type 0 = λ j. EachImage disk left_since new.manifest.disk (IsWithOrWithoutBatch j batch) in
@@ -47,6 +51,7 @@ module _ {D : Type 0} (disk : D → DiskState) (left_since : D → ℕ → List 
           fault = breaks.counts;
           crash = λ each. record {
             last = batch;
+            sound = sound;
             now = subst I (sym (append-nil (journal old))) (λ image left. leaves.each image (counts_now new.manifest.disk (disk old.manifest.disk).moment image leaves.later left));
             meanwhile = weaker disk left_since old.manifest.disk new.manifest.disk (IsWithOrWithoutBatch (journal old) batch) (HasFrontOf (journal old) (batch ∷ [])) (λ image h. one_front (journal old) batch image h) leaves;
           };
@@ -54,11 +59,12 @@ module _ {D : Type 0} (disk : D → DiskState) (left_since : D → ℕ → List 
         record { batches = []; journal_is = same ∙ sym (append-nil (journal old)); manifest = subst F (sym breaks.sound) (subst G (sym is) closes) }
 
     module _ {J : Type 0} where
-      pub commit_since : (result : Result (Receipt J) (CommitFault J)) → Leaves disk result batch old.manifest new.manifest → Stores result batch (journal old) (journal new) → IsSince disk left_since old new
-      commit_since (Ok receipt) leaves stores = since_stored stores leaves
-      commit_since (Err (faults.OutOfMemory true)) leaves stores = since_stored stores leaves
-      commit_since (Err (faults.OutOfMemory false)) leaves stores = since_same disk left_since old new stores leaves
-      commit_since (Err (faults.DiskFault before after mark)) leaves stores = since_broken before after stores leaves
-      commit_since (Err (faults.Closed before after mark)) leaves stores = since_same disk left_since old new stores leaves
-      commit_since (Err (faults.Clash handed pairs note)) leaves stores = since_same disk left_since old new stores leaves
-      commit_since (Err (faults.Full games bytes note)) leaves stores = since_same disk left_since old new stores leaves
+      pub commit_since : (result : Result (Receipt J) (CommitFault J)) (cause : Option Cause) (tally : Counted) (held : Option Change) → Refuses result cause tally held → (cause ≡ None → IsSound (journal old ++ batch ∷ []))
+          → Leaves disk result batch old.manifest new.manifest → Stores result batch (journal old) (journal new) → IsSince disk left_since old new
+      commit_since (Ok receipt) cause tally held refuses behind leaves stores = since_stored stores leaves
+      commit_since (Err (faults.OutOfMemory true)) cause tally held refuses behind leaves stores = since_stored stores leaves
+      commit_since (Err (faults.OutOfMemory false)) cause tally held refuses behind leaves stores = since_same disk left_since old new stores leaves
+      commit_since (Err (faults.DiskFault before after mark)) cause tally held refuses behind leaves stores = since_broken before after (behind refuses) stores leaves
+      commit_since (Err (faults.Closed before after mark)) cause tally held refuses behind leaves stores = since_same disk left_since old new stores leaves
+      commit_since (Err (faults.Clash handed pairs note)) cause tally held refuses behind leaves stores = since_same disk left_since old new stores leaves
+      commit_since (Err (faults.Full games bytes note)) cause tally held refuses behind leaves stores = since_same disk left_since old new stores leaves

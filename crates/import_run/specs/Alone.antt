@@ -51,7 +51,8 @@ pub record ImportsAlone {D J : Type 0} (disk : D → DiskState)
   pub sound : IsSound (journal after)
   pub disk_faults :
       DiskFaultsAre report.end (disk before.manifest.disk) (disk after.manifest.disk)
-  -- what a crash leaves now, and what it may have left meanwhile
+  -- What a crash leaves now, and what it may have left meanwhile: fronts of a sound journal, which
+  -- are sound.
   pub keeps : Keeps disk left_since (journal after) after.manifest
   pub since : IsSince disk left_since before after
 

@@ -2,6 +2,8 @@
 use Rattle.std.specs.Prelude.{◌≡◌, ℕ, List, [], ◌∷◌, ◌++◌, Option, None, Some}
 use Rattle.disk_model.specs.Disk.{DiskState, LeavesOnly}
 use Rattle.explorer_model.specs.declared.archive.Batch.{Batch}
+use Rattle.explorer_model.specs.Journal.{IsSound}
+use Rattle.explorer_model.specs.Timeline.{IsPrefix}
 use Rattle.record_log.specs.Log.{EachImage, IsFault, Log}
 use Rattle.manifest.specs.Manifest.{HasJournal, IsWithOrWithoutBatch}
 use Rattle.ingest_desk.specs.Stored.{Stored, journal}
@@ -11,6 +13,13 @@ abbrev pub HasFrontOf : List Batch → List Batch → List ℕ → Type 0
 HasFrontOf journal batches image = (front : List Batch) × (rest : List Batch)
     × (batches ≡ front ++ rest) × HasJournal (journal ++ front) image
 
+-- an image has a sound journal that begins with this one, so that it is opened
+pub record HasSoundBehind (journal : List Batch) (image : List ℕ) : Type 0 where
+  pub longer : List Batch
+  pub extends : IsPrefix journal longer
+  pub sound : IsSound longer
+  pub has : HasJournal longer image
+
 -- What a crash leaves where the images had the journal before: now its batches too, and meanwhile
 -- some of them.
 pub record KeepsAll {D : Type 0} (disk : D → DiskState) (left_since : D → ℕ → List ℕ → Type 0)
@@ -18,11 +27,13 @@ pub record KeepsAll {D : Type 0} (disk : D → DiskState) (left_since : D → �
   pub now : EachImage disk left_since new (HasJournal (journal ++ batches))
   pub meanwhile : LeavesOnly disk left_since old new (HasFrontOf journal batches)
 
--- the same where the disk failed under one batch more, which may be there
+-- The same where the disk failed under one batch more, which may be there: the journal is sound with
+-- it.
 pub record KeepsAllBut {D : Type 0} (disk : D → DiskState)
     (left_since : D → ℕ → List ℕ → Type 0) (journal batches : List Batch) (old new : D)
     : Type 0 where
   pub last : Batch
+  pub sound : IsSound (journal ++ (batches ++ last ∷ []))
   pub now : EachImage disk left_since new (IsWithOrWithoutBatch (journal ++ batches) last)
   pub meanwhile : LeavesOnly disk left_since old new (HasFrontOf journal (batches ++ last ∷ []))
 

@@ -3,6 +3,7 @@ use Rattle.std.proofs.Common.{◌≡◌, inl, inr, ⊎_elim, ℕ, List, [], ◌�
 use Rattle.std.proofs.lemmas.List.{append-nil}
 use Rattle.disk_model.specs.Disk.{DiskState, LeavesOnly, MayLeave}
 use Rattle.explorer_model.specs.declared.archive.Batch.{Batch}
+use Rattle.explorer_model.specs.Journal.{IsSound}
 use Rattle.record_log.specs.Log.{EachImage, Log}
 use Rattle.manifest.specs.Manifest.{HasJournal, IsWithOrWithoutBatch}
 use Rattle.ingest_desk.specs.Stored.{Stored, journal}
@@ -147,8 +148,11 @@ module _ {D : Type 0} (disk : D → DiskState) (left_since : D → ℕ → List 
         λ l. EachImage disk left_since c (IsWithOrWithoutBatch l last) in
         let Q : List Batch → Type 0 = λ l. LeavesOnly disk left_since a c (HasFrontOf j l) in
         let R = HasFrontOf j (first ++ behind) in
+        let S : List Batch → Type 0 = λ l. IsSound (j ++ l) in
         record {
           last = last;
+          sound = subst S (sym (append_assoc first more (last ∷ [])))
+              (subst IsSound (append_assoc j first behind) l.sound);
           now = subst P (append_assoc j first more) l.now;
           meanwhile = subst Q (sym (append_assoc first more (last ∷ [])))
               (leaves_both a b c R

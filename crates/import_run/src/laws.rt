@@ -1,9 +1,12 @@
 //! Laws of imports. Each is the contract of a function that has nothing to do.
-ghost use Rattle.std.specs.Prelude.{◌≡◌, ℕ, List, ◌++◌, None, Some, length};
+ghost use Rattle.std.specs.Prelude.{◌≡◌, ℕ, List, [], ◌∷◌, ◌++◌, None, Some, length};
 ghost use Rattle.std.specs.List.{All};
+ghost use Rattle.disk_model.specs.Disk.{LeavesOnly};
 ghost use Rattle.explorer_model.specs.declared.archive.Batch.{Batch};
 ghost use Rattle.explorer_model.specs.declared.archive.Game.{Game};
+ghost use Rattle.explorer_model.specs.Journal.{IsSound};
 ghost use Rattle.explorer_model.specs.Visits.{AreGamesOf};
+ghost use Rattle.record_log.specs.Log.{EachImage};
 ghost use Rattle.manifest.specs.Manifest.{HasJournal, IsWithOrWithoutBatch};
 ghost use Rattle.segment_blocks.specs.Segment.{CountedSpan, IsSegment};
 ghost use Rattle.published_index.specs.Cover.{IsList, journal_of};
@@ -19,12 +22,13 @@ ghost use Rattle.ingest_desk.specs.declared.report.End.TheVariants as ends;
 ghost use Rattle.import_run.specs.Alone.{ImportsAlone};
 ghost use Rattle.import_run.specs.Determined.{AreAlike, ImportsBody, IsPlainEnd};
 ghost use Rattle.import_run.specs.Faultless.{CanEnd, EndsWithoutFault, FindRoom, HasNewGames, IsFaultless, StoresAll};
+ghost use Rattle.import_run.specs.Since.{HasSoundBehind};
 ghost use Rattle.import_run.specs.Upkeep.{Follows, FollowsAll};
 
 use batch_tally::laws::accounting_is_determined;
 use disk_model::Disk;
 use game_replay::laws::game_is_determined;
-use ingest_desk::laws::listing_is_determined;
+use ingest_desk::laws::{fronts_are_sound, listing_is_determined};
 use published_index::Index;
 
 /// An import of a told stream below the bound into a store that is open, of which no read and no
@@ -120,7 +124,7 @@ pub fn calls_are_determined<D: Disk, J: Index>()
 }
 
 /// What is read of a disk that tells its content is the stored journal. After a disk fault the batch
-/// that failed may stand behind it.
+/// that failed may stand behind it, and the journal is sound with it.
 pub fn a_told_disk_has_the_journal<D: Disk>()
     ensures sound { (store : Stored D) (file : List ℕ)
         → (D.disk store.manifest.disk).content ≡ Some file
@@ -130,8 +134,22 @@ pub fn a_told_disk_has_the_journal<D: Disk>()
         → (D.disk store.manifest.disk).content ≡ Some file
         → Keeps D.disk D.left_since (journal store) store.manifest
         → store.manifest.fault ≡ Some (before, after)
-        → (batch : Batch) × IsWithOrWithoutBatch (journal store) batch file }
+        → (batch : Batch) × IsSound (journal store ++ batch ∷ [])
+        × IsWithOrWithoutBatch (journal store) batch file }
 {}
+
+/// What a crash leaves of an import into an open store, at any moment of it, has a sound journal that
+/// begins with the one before. So it is opened (`ingest_desk::laws::opening_is_determined`).
+pub fn what_a_crash_leaves_is_sound<D: Disk, J: Index>()
+    ensures { (source source_after : Stream) (before after : Stored D) (report : Report J)
+        → ImportsAlone D.disk D.left_since source before source_after after report
+        → before.manifest.fault ≡ None
+        → EachImage D.disk D.left_since before.manifest.disk (HasJournal (journal before))
+        → LeavesOnly D.disk D.left_since before.manifest.disk after.manifest.disk
+        (HasSoundBehind (journal before)) }
+{
+    fronts_are_sound();
+}
 
 /// A list that followed batches has the journal that it had, with the batches behind it. A list of
 /// segments that cover their journal stays one, and what its segments count stays the tally of their

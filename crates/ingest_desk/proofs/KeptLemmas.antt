@@ -1,5 +1,5 @@
 -- What an ingest keeps, step by step.
-use Rattle.std.proofs.Common.{◌≡◌, ◌<◌, ◌≤◌, ◌+◌, ◌*◌, inl, ℕ, zero, suc, List, [], ◌∷◌, length, map, get_or, flat_map, Option, None, Some, Result, Ok, Err, refl, sym, ap, ◌∙◌, subst, arith, length-append}
+use Rattle.std.proofs.Common.{◌≡◌, ◌<◌, ◌≤◌, ◌+◌, ◌*◌, inl, ℕ, zero, suc, List, [], ◌∷◌, ◌++◌, length, map, get_or, flat_map, Option, None, Some, Result, Ok, Err, refl, sym, ap, ◌∙◌, subst, arith, length-append}
 use Rattle.std.proofs.lemmas.Grind.{flat_map-append}
 use Rattle.std.proofs.lemmas.List.Sums.{sum_by-append}
 use Rattle.std.specs.List.{AllZip}
@@ -181,21 +181,21 @@ module _ {D : Type 0} (disk : D → DiskState) (left_since : D → ℕ → List 
     before = λ t image earlier left. inl left;
   }
 
-  -- after a batch that was not taken
+  -- after a batch that was not taken, though it is sound behind the journal
   pub keeps_after :
       ((it : D) (t : ℕ) (image : List ℕ) → t ≤ (disk it).moment → MayLeave disk left_since it image
       → left_since it t image)
       → (journal : List Batch) (batch : Batch) (fault : AppendFault) (old new : Log D)
-      → IsManifestOf disk left_since journal old
+      → IsManifestOf disk left_since journal old → IsSound (journal ++ batch ∷ [])
       → LeavesOnly disk left_since old.disk new.disk (IsWithOrWithoutBatch journal batch)
       → IsNotAdded disk fault old new → Keeps disk left_since journal new
-  keeps_after counts journal batch (appends.Closed before after) old new is leaves refuses =
+  keeps_after counts journal batch (appends.Closed before after) old new is sound leaves refuses =
       subst (Keeps disk left_since journal) (sym refuses.same) (keeps_sound journal old is)
-  keeps_after counts journal batch appends.OutOfMemory old new is leaves refuses =
+  keeps_after counts journal batch appends.OutOfMemory old new is sound leaves refuses =
       subst (Keeps disk left_since journal) (sym refuses.same) (keeps_sound journal old is)
-  keeps_after counts journal batch (appends.DiskFault before after) old new is leaves breaks =
+  keeps_after counts journal batch (appends.DiskFault before after) old new is sound leaves breaks =
       subst (Keeps disk left_since journal) (sym breaks.rest)
-      (batch, λ image left. leaves.each image (counts new.disk (disk old.disk).moment image leaves.later left))
+      (batch, sound, λ image left. leaves.each image (counts new.disk (disk old.disk).moment image leaves.later left))
 
   -- ---- the invariant
 

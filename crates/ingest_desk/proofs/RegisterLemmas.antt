@@ -21,7 +21,7 @@ use Rattle.explorer_model.specs.Journal.{AreWithin, HaveDifferentIds, IsBatch, I
 use Rattle.explorer_model.specs.Visits.{AreGamesOf, IsTextOf, texts_of}
 use Rattle.explorer_model.proofs.Lists.{one-zip, zip-append}
 use Rattle.tally_rows.specs.Tally.{Counted, IsCounted}
-use Rattle.ingest_desk.specs.Causes.{Cause, HasIds, HasNoRoom, cause_by, cause_of_new, has_no_room, is_over}
+use Rattle.ingest_desk.specs.Causes.{Cause, HasIds, HasNoRoom, cause, cause_by, cause_of_new, has_no_room, is_over}
 use Rattle.ingest_desk.specs.Clashes.{and_clash, clashes_from, clashes_of, ids_of, number_among}
 use Rattle.ingest_desk.specs.IdTable.{number_at}
 use Rattle.ingest_desk.specs.Registers.{Fits, IsRegisterOf, IsSame, text_bytes}
@@ -313,6 +313,31 @@ fits_of journal register tally is none =
       within = not_over (register.games + length tally.batch.texts) (register.bytes + text_bytes tally.batch)
           (sym (over-same journal register tally.batch is) ∙ both.1);
     }
+
+-- a batch that nothing is against is sound behind the journal
+pub sound_behind : (journal : List Batch) (tally : Counted) (sound : IsSound journal)
+    → IsCounted tally → cause_of_new sound.games journal tally ≡ None
+    → IsSound (journal ++ tally.batch ∷ [])
+sound_behind journal tally sound counted none =
+    let both = no_cause (clashes_of (numbers_of sound.games) tally.classes) journal tally.batch none in
+    let more = journal ++ tally.batch ∷ [] in
+    let room = not_over (game_count more) (byte_count more) both.1 in
+    sound_more journal tally sound counted both.0
+    (omega (arith, room.0, games_more journal tally.batch), omega (arith, room.1, bytes_more journal tally.batch))
+
+open_cause : (fault : Option (ℕ × ℕ)) (games : List Game) (journal : List Batch) (tally : Counted)
+    → cause fault games journal tally ≡ None → cause_of_new games journal tally ≡ None
+open_cause (Some counts) games journal tally none = absurd (some_none _ none)
+open_cause None games journal tally none = none
+
+-- the same, by whatever games the journal has
+pub sound_uncaused : OneGame → (journal : List Batch) (tally : Counted) → IsSound journal
+    → IsCounted tally → (fault : Option (ℕ × ℕ)) (games : List Game) → AreGamesOf journal games
+    → cause fault games journal tally ≡ None → IsSound (journal ++ tally.batch ∷ [])
+sound_uncaused one journal tally sound counted fault games are none =
+    let P : List Game → Type 0 = λ all. cause_of_new all journal tally ≡ None in
+    let same = one_games one journal games sound.games are sound.are_games in
+    sound_behind journal tally sound counted (subst P same (open_cause fault games journal tally none))
 
 by_clash : (pairs : List Clashing) (journal : List Batch) (batch : Batch) → (pairs ≡ [] → ⊥)
     → cause_by pairs journal batch ≡ Some (HasIds pairs)

@@ -1,19 +1,22 @@
 -- What is true of an ingest at every moment that its lock is free.
-use Rattle.std.specs.Prelude.{ℕ, List, Option, None, Some}
+use Rattle.std.specs.Prelude.{ℕ, List, [], ◌∷◌, ◌++◌, Option, None, Some}
 use Rattle.disk_model.specs.Disk.{DiskState}
 use Rattle.explorer_model.specs.declared.archive.Batch.{Batch}
+use Rattle.explorer_model.specs.Journal.{IsSound}
 use Rattle.record_log.specs.Log.{EachImage, Log}
 use Rattle.manifest.specs.Manifest.{IsManifestOf, IsWithOrWithoutBatch}
 use Rattle.published_index.specs.States.{Publishing, journal_by}
 use Rattle.ingest_desk.specs.Registers.{IsRegisterOf}
 use Rattle.ingest_desk.specs.declared.register.Register.{Register}
 
--- What a crash leaves: the journal; after a disk fault with the batch that failed or without it.
+-- What a crash leaves: the journal; after a disk fault with the batch that failed or without it. The
+-- journal is sound with that batch too, so that each of these files is opened.
 abbrev pub KeepsBy : {D : Type 0} → (D → DiskState) → (D → ℕ → List ℕ → Type 0) → List Batch
     → Log D → Option (ℕ × ℕ) → Type 0
 KeepsBy disk left_since journal manifest None = IsManifestOf disk left_since journal manifest
 KeepsBy disk left_since journal manifest (Some counts) =
-    (batch : Batch) × EachImage disk left_since manifest.disk (IsWithOrWithoutBatch journal batch)
+    (batch : Batch) × IsSound (journal ++ batch ∷ [])
+    × EachImage disk left_since manifest.disk (IsWithOrWithoutBatch journal batch)
 
 abbrev pub Keeps : {D : Type 0} → (D → DiskState) → (D → ℕ → List ℕ → Type 0) → List Batch
     → Log D → Type 0

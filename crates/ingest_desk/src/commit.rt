@@ -23,6 +23,7 @@ use crate::mark::Mark;
 use crate::receipt::Receipt;
 use crate::register::Verdict;
 use disk_model::Disk;
+use game_replay::laws::game_is_determined;
 use published_index::{Index, SharedSegment};
 use record_log::AppendFault;
 use segment_blocks::Segment;
@@ -58,8 +59,13 @@ impl<D: Disk, J: Index> Ingest<D, J> {
             (IsWithOrWithoutBatch (journal self.old) tally.batch) }
         ensures kept { OnOk result (EachImage D.disk D.left_since self.new.manifest.disk
             (HasJournal (journal self.new))) }
+        // What nothing is against is sound behind the journal, so that what a crash leaves meanwhile
+        // is opened.
+        ensures behind { (games : List Game) → AreGamesOf (journal self.old) games
+            → cause self.old.manifest.fault games (journal self.old) tally ≡ None
+            → IsSound (journal self.old ++ tally.batch ∷ []) }
     {
-        self.known();
+        self.known(&tally);
         if let Some((before, after)) = self.fault() {
             return Err(CommitFault::Closed {
                 before,
@@ -92,14 +98,20 @@ impl<D: Disk, J: Index> Ingest<D, J> {
         }
     }
 
-    /// What is true of each ingest: its journal is sound, a crash leaves it, and its list is short.
-    fn known(&self)
+    /// What is true of each ingest: its journal is sound, and so it is with a batch that nothing is
+    /// against; a crash leaves it; and its list is short.
+    fn known(&self, tally: &Tally)
         ensures sound { IsSound (journal self.now) }
+        ensures behind { (games : List Game) → AreGamesOf (journal self.now) games
+            → cause self.now.manifest.fault games (journal self.now) tally.now ≡ None
+            → IsSound (journal self.now ++ tally.now.batch ∷ []) }
         ensures crash { self.now.manifest.fault ≡ None → (batch : StoredBatch)
             → LeavesOnly D.disk D.left_since self.now.manifest.disk self.now.manifest.disk
             (IsWithOrWithoutBatch (journal self.now) batch) }
         ensures few { length self.now.index.list ≤ list_limit }
     {
+        game_is_determined();
+        let _batch = tally.batch();
         let _register = &self.register;
         let _list = self.publisher.list();
     }

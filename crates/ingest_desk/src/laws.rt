@@ -1,5 +1,5 @@
 //! Laws of commits and of jobs. Each is the contract of a function that has nothing to do.
-ghost use Rattle.std.specs.Prelude.{◌≡◌, ◌<◌, ℕ, List, Option, Result, length};
+ghost use Rattle.std.specs.Prelude.{◌≡◌, ◌<◌, ◌++◌, ℕ, List, Option, Result, length};
 ghost use Rattle.explorer_model.specs.declared.archive.Batch.{Batch};
 ghost use Rattle.explorer_model.specs.declared.archive.Game.{Game};
 ghost use Rattle.explorer_model.specs.declared.store.LogFault.{LogFault};
@@ -99,4 +99,9 @@ pub fn opening_is_determined()
         → IsWrong fault file → IsWrong other file → fault ≡ other }
     ensures either { (file : List ℕ) (journal : List Batch) (fault : LogFault)
         → HasJournal journal file → IsSound journal → IsWrong fault file → ⊥ }
+{}
+
+/// The front of a sound journal is sound.
+pub fn fronts_are_sound()
+    ensures { (front rest : List Batch) → IsSound (front ++ rest) → IsSound front }
 {}

@@ -12,4 +12,4 @@ pub returns-clause-closed : goal.returns-clause-closed
 returns-clause-closed g c = λ store file before after told keeps is.
     let K : Option (ℕ × ℕ) → Type 0 = λ f. KeepsBy g.D.Disk.disk g.D.Disk.left_since (journal store) store.manifest f in
     let kept = subst K is keeps in
-    (kept.0, kept.1 file (g.met.D.Disk.told_left store.manifest.disk file told))
+    (kept.0, kept.1, kept.2 file (g.met.D.Disk.told_left store.manifest.disk file told))

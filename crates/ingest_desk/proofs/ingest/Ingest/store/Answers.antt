@@ -1,6 +1,7 @@
 use Rattle.std.proofs.Common.{◌≡◌, List, [], ◌∷◌, ◌++◌, None, length, sym, ap, ◌∙◌, subst, arith}
 use Rattle.std.specs.Arc.{arc_value}
 use Rattle.explorer_model.specs.declared.archive.Batch.{Batch}
+use Rattle.explorer_model.specs.Journal.{IsSound}
 use Rattle.manifest.proofs.PayloadLemmas.{texts-fit}
 use Rattle.segment_blocks.specs.Segment.{CountedSpan}
 use Rattle.tally_rows.specs.Tally.{IsCounted}
@@ -10,7 +11,7 @@ use Rattle.ingest_desk.specs.Kept.{Keeps}
 use Rattle.ingest_desk.specs.Registers.{IsRegisterOf}
 use Rattle.published_index.specs.States.{journal_by}
 use Rattle.ingest_desk.proofs.KeptLemmas.{keeps_after, keeps_sound, kept_register, listed, low, made, sound_manifest, storable}
-use Rattle.ingest_desk.proofs.RegisterLemmas.{fewer_batches, first_is, fits_of, fits_same, long, register_same}
+use Rattle.ingest_desk.proofs.RegisterLemmas.{fewer_batches, first_is, fits_of, fits_same, long, register_same, sound_behind}
 use Rattle.ingest_desk.proofs.ingest.Ingest.store.Goals as goal
 use Rattle.ingest_desk.proofs.ingest.Ingest.store.Goals.{in-Ok-put, in-Err-put}
 
@@ -69,10 +70,18 @@ invariant_of-self-in-Err g c =
     let j = journal_by s.inside.publisher in
     let open_is = rw (← s.view_is) at c.requires.open in
     let is = sound_manifest d.disk d.left_since j m s.invariant.keeps open_is in
+    let tally = c.args.tally in
+    let counted : IsCounted tally = subst IsCounted c.tally.view_is c.tally.invariant in
+    let batches = ap (λ (s : CountedSpan). s.span.batches) c.deref.ensures ∙ c.in-Ok.ensures.tally.batches in
+    let batch = first_is _ tally.batch _ batches c.batch_of.ensures in
+    let fits_are = rw (← s.view_is) at c.requires.fits in
+    let sound = s.invariant.knows.sound in
+    let P : Batch → Type 0 = λ b. IsSound (j ++ b ∷ []) in
+    let behind = sound_behind j tally sound counted (fits_are sound.games sound.are_games) in
     record {
       knows = register_same j s.inside.register c.reserve.new.self s.invariant.knows c.reserve.ensures.same;
       keeps = keeps_after d.disk d.left_since g.met.D.Disk.counts_now j c.batch_of.result.now c.in-Err.fault
-          m c.store.new.self is (c.in-Err.ensures.any_moment j is) c.in-Err.ensures.cases;
+          m c.store.new.self is (subst P (sym batch) behind) (c.in-Err.ensures.any_moment j is) c.in-Err.ensures.cases;
     }
 
 pub enter-requires-clause-fits : goal.enter-requires-clause-fits
