@@ -38,7 +38,7 @@ returns-clause-since g c =
     let old = c.args.self.now.ingest.now in
     let mid = c.commit-answer.new.self in
     let since = commit_since d.disk d.left_since g.met.D.Disk.counts_now old mid c.args.tally.batch c.batches-after.ensures.keeps r.crash c.commit-answer.result
-        _ c.args.tally old.index.held (r.refused r.sound.games r.sound.are_games) (r.behind r.sound.games r.sound.are_games) r.manifest r.stores in (
+    _ c.args.tally old.index.held (r.refused r.sound.games r.sound.are_games) (r.behind r.sound.games r.sound.are_games) r.manifest r.stores in (
       refl,
       commit_alone d.disk d.left_since old mid c.merge_behind-lacks.new.ingest c.merge_behind-lacks.ensures.same c.args.tally r.sound c.commit-answer.result (r.refused r.sound.games r.sound.are_games)
           r.stores r.told r.list r.manifest since c.args.self.now.lacked c.merge_behind-lacks.result c.either-self.result c.merge_behind-lacks.ensures.merges c.either-self.ensures,
