@@ -2,3 +2,4 @@ mod AgreementLemmas
 mod Examples
 mod GameExamples
 mod QueryExamples
+mod FoundExamples
