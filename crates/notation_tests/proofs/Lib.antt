@@ -3,3 +3,4 @@ mod Examples
 mod GameExamples
 mod QueryExamples
 mod FoundExamples
+mod CountingExamples
