@@ -556,7 +556,7 @@ there_is : (o : Option Square) (s : ℕ) → IsSquare o s → not (is_none o) �
 there_is None s h = absurd h
 there_is (Some square) s h = refl
 
-no_en_passant : (p : Position) → has_no_en_passant p ≡ true → (s : ℕ) → ¬ CanCaptureEnPassant p s
+pub no_en_passant : (p : Position) → has_no_en_passant p ≡ true → (s : ℕ) → ¬ CanCaptureEnPassant p s
 unfolding has_no_en_passant
 no_en_passant p none s h =
     let m : Move = h.1.0 in

@@ -1,6 +1,6 @@
 -- The definitions of chess, worked out on small boards and on positions that every player knows (FIDE Laws of Chess in force from
 -- 1 January 2023). Squares are numbers: a1 is 0, h1 is 7, a2 is 8.
-use Rattle.std.proofs.Common.{◌≡◌, ℕ, List, [], ◌∷◌, map, lit<, Some, None, codes, refl, ap, inl, inr, arith, true≢false}
+use Rattle.std.proofs.Common.{◌++◌, replicate, subst, ◌≡◌, ℕ, List, [], ◌∷◌, map, lit<, Some, None, codes, refl, ap, inl, inr, arith, true≢false}
 use Rattle.std.proofs.lemmas.Bool.Decides.{not_from_Decides}
 use Rattle.explorer_model.specs.declared.chess.Color.{Color}
 use Rattle.explorer_model.specs.declared.chess.Color.TheVariants.{White, Black}
@@ -9,11 +9,13 @@ use Rattle.explorer_model.specs.declared.chess.Position.{Position}
 use Rattle.explorer_model.specs.declared.chess.Rights.{Rights}
 use Rattle.explorer_model.specs.declared.chess.Side.TheVariants.{Short}
 use Rattle.explorer_model.specs.Board.{Attacks, InCheck}
-use Rattle.explorer_model.specs.Chess.{after, is_color, start, start_squares, IsValid, Legal, PseudoLegal, Same}
+use Rattle.explorer_model.specs.Chess.{CanCaptureEnPassant, IsSquare, after, is_color, start, start_squares, IsValid, Legal, PseudoLegal, Same}
 use Rattle.explorer_model.specs.Fen.{fen_text}
+use Rattle.explorer_model.specs.Keys.{key}
+use Rattle.explorer_model.specs.Tidy.{IsTidied}
 use Rattle.explorer_model.specs.Visits.{stages, FirstVisit}
 use Rattle.chess_reference.proofs.Boards.{boards_compute, fen, uci}
-use Rattle.chess_reference.proofs.DecisionLemmas.{apart_by, decides-attacks, decides-in_check, decides-legal, decides-pseudo_legal, same_by, valid}
+use Rattle.chess_reference.proofs.DecisionLemmas.{no_en_passant, apart_by, decides-attacks, decides-in_check, decides-legal, decides-pseudo_legal, same_by, valid}
 
 -- ---- attacks (3.2 to 3.8.1)
 
@@ -302,3 +304,61 @@ unfolding boards_compute
 back-at-the-start =
     same_by (after (after (after (after start (uci (codes "g1f3"))) (uci (codes "g8f6"))) (uci (codes "f3g1"))) (uci (codes "f6g8"))) start
     refl refl refl refl refl
+
+-- ---- the key of a position, and the tidy form that games are counted under
+
+-- two squares to a byte: R and N of White are 4 and 2, its pawns 1, Black's pieces 6 more; all rights are 2 + 4 + 8 + 16
+the-key-of-the-start : key start
+    ≡ 36 ∷ 83 ∷ 54 ∷ 66 ∷ replicate 4 17 ++ replicate 16 0 ++ replicate 4 119 ++ 138 ∷ 185 ∷ 156 ∷ 168 ∷ 30 ∷ 0 ∷ []
+the-key-of-the-start = refl
+
+-- with Black to move and e3, whose number is 20, crossed
+the-key-after-e4 : key (after start (uci (codes "e2e4")))
+    ≡ 36 ∷ 83 ∷ 54 ∷ 66 ∷ 17 ∷ 17 ∷ 16 ∷ 17 ∷ replicate 6 0 ++ 1 ∷ replicate 9 0 ++ replicate 4 119 ++ 138 ∷ 185 ∷ 156 ∷ 168 ∷ 31 ∷ 21 ∷ []
+unfolding boards_compute
+the-key-after-e4 = refl
+
+the-key-of-two-kings : key (fen (codes "4k3/8/8/8/8/8/8/4K3 w - -")) ≡ 0 ∷ 0 ∷ 6 ∷ replicate 27 0 ++ 12 ∷ 0 ∷ 0 ∷ 0 ∷ []
+unfolding boards_compute
+the-key-of-two-kings = refl
+
+-- White's right to castle short is 2
+the-key-of-a-right : key (fen (codes "4k3/8/8/8/8/8/8/4K2R b K -")) ≡ 0 ∷ 0 ∷ 6 ∷ 64 ∷ replicate 26 0 ++ 12 ∷ 0 ∷ 3 ∷ 0 ∷ []
+unfolding boards_compute
+the-key-of-a-right = refl
+
+the-start-is-tidy : IsTidied start start
+the-start-is-tidy = record { squares = refl; turn = refl; rights = refl; en_passant = λ s. (λ h. absurd h, λ h. h.0) }
+
+-- a crossed square where no pawn can be taken is dropped
+tidied-after-e4 : IsTidied (after start (uci (codes "e2e4"))) (fen (codes "rnbqkbnr/pppppppp/8/8/4P3/8/PPPP1PPP/RNBQKBNR b KQkq -"))
+unfolding boards_compute
+tidied-after-e4 = record {
+  squares = refl;
+  turn = refl;
+  rights = refl;
+  en_passant = λ s. (λ h. absurd h, λ h. absurd (no_en_passant (after start (uci (codes "e2e4"))) refl s h));
+}
+
+tidied-under-a-pin : IsTidied (fen (codes "3k4/8/8/8/3pP3/8/8/3RK3 b - e3")) (fen (codes "3k4/8/8/8/3pP3/8/8/3RK3 b - -"))
+unfolding boards_compute
+tidied-under-a-pin = record {
+  squares = refl;
+  turn = refl;
+  rights = refl;
+  en_passant = λ s. (λ h. absurd h, λ h. absurd (no_en_passant (fen (codes "3k4/8/8/8/3pP3/8/8/3RK3 b - e3")) refl s h));
+}
+
+-- and one where a pawn can be taken stays
+a-pawn-to-be-taken : Position
+a-pawn-to-be-taken = fen (codes "4k3/8/8/8/3pP3/8/8/4K3 b - e3")
+
+a-square-that-stays : IsTidied a-pawn-to-be-taken a-pawn-to-be-taken
+unfolding boards_compute a-pawn-to-be-taken
+a-square-that-stays = record { squares = refl; turn = refl; rights = refl; en_passant = λ s. (stays s, λ h. h.0) }
+  where
+    stays : (s : ℕ) → IsSquare a-pawn-to-be-taken.en_passant s → CanCaptureEnPassant a-pawn-to-be-taken s
+    stays s h =
+        let m = uci (codes "d4e3") in
+        let P : ℕ → Type 0 = λ n. CanCaptureEnPassant a-pawn-to-be-taken n in
+        subst P h (refl, (m, (refl, refl), refl, (decides-legal a-pawn-to-be-taken m).0 refl))

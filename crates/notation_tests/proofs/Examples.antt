@@ -100,7 +100,7 @@ the-king-two-squares-on =
 
 -- ---- standard algebraic notation: moves as they are written, with their marks (PGN 8.2.3.5)
 
-a-quiet-move : SanText start (uci (codes "e2e4")) (codes "e4")
+pub a-quiet-move : SanText start (uci (codes "e2e4")) (codes "e4")
 unfolding boards_compute
 a-quiet-move =
     (codes "e4", marks.Quiet, inr (refl, (Pawn, Unnamed, refl, refl, refl)), not_from_Decides _ (decides-in_check (after start (uci (codes "e2e4"))).squares Black) refl, refl)

@@ -40,7 +40,7 @@ unfoldable tags_compute : ⊤
 unfolding tag tags-of classes is_standard is_from_start mode_of id_of name_of is_utf8 chars encode outcome_of rating_of clock_of speed_of control_of group_of month_of
 tags_compute = tt
 
-ann_and_bob : Classes
+unfoldable pub ann_and_bob : Classes
 ann_and_bob = record {
   id = record { bytes = codes "abcdEF12" };
   white = record { name = codes "Ann"; rating = 1500 };
@@ -176,23 +176,27 @@ another-first-word = refl
 
 -- ---- whole texts
 
+-- the nine tags of Ann's and Bob's game
+unfoldable pub heading-of : List ℕ → List ℕ → List ℕ → List ℕ
+heading-of id result date =
+    codes "[Event \"Rated Blitz game\"]\n[Site \"https://lichess.org/" ++ id ++ codes "\"]\n"
+    ++ codes "[White \"Ann\"]\n[Black \"Bob\"]\n[Result \"" ++ result ++ codes "\"]\n[WhiteElo \"1500\"]\n"
+    ++ codes "[BlackElo \"1400\"]\n[TimeControl \"300+3\"]\n[UTCDate \"" ++ date ++ codes "\"]\n\n"
+
 -- 190 bytes
-heading : List ℕ
-heading =
-    codes "[Event \"Rated Blitz game\"]\n[Site \"https://lichess.org/abcdEF12\"]\n"
-    ++ codes "[White \"Ann\"]\n[Black \"Bob\"]\n[Result \"1-0\"]\n[WhiteElo \"1500\"]\n"
-    ++ codes "[BlackElo \"1400\"]\n[TimeControl \"300+3\"]\n[UTCDate \"2020.01.31\"]\n\n"
+unfoldable pub heading : List ℕ
+heading = heading-of (codes "abcdEF12") (codes "1-0") (codes "2020.01.31")
 
 -- what is unfolded where texts compute
-unfoldable texts_compute : ⊤
-unfolding tags_compute heading score parts meaning items items_from lead_of comment_of remark_of nag_of pair_item_of pair_of name_at string_len unescaped symbol_of ending_of
+unfoldable pub texts_compute : ⊤
+unfolding tags_compute heading-of heading score parts meaning items items_from lead_of comment_of remark_of nag_of pair_item_of pair_of name_at string_len unescaped symbol_of ending_of
 texts_compute = tt
 
 a-game-without-moves : GameOf (heading ++ codes "1-0\n") (Ok (record { classes = ann_and_bob; moves = [] }))
 unfolding texts_compute ann_and_bob
 a-game-without-moves = (Ok [], refl, refl)
 
-a-game-of-one-move : GameOf (heading ++ codes "1. e4 1-0\n") (Ok (record { classes = ann_and_bob; moves = uci (codes "e2e4") ∷ [] }))
+pub a-game-of-one-move : GameOf (heading ++ codes "1. e4 1-0\n") (Ok (record { classes = ann_and_bob; moves = uci (codes "e2e4") ∷ [] }))
 unfolding texts_compute ann_and_bob
 a-game-of-one-move =
     let m = uci (codes "e2e4") in

@@ -2,3 +2,5 @@ mod AgreementLemmas
 mod Examples
 mod GameExamples
 mod QueryExamples
+mod FoundExamples
+mod CountingExamples
