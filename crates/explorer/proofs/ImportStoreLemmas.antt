@@ -7,7 +7,7 @@ use Rattle.disk_model.specs.Disk.{DiskState, MayLeave}
 use Rattle.outside.specs.Stream.{Rises, Stream, Writes}
 use Rattle.explorer_model.specs.declared.archive.Batch.{Batch}
 use Rattle.explorer_model.specs.declared.fault.Refusal.{Refusal}
-use Rattle.explorer_model.specs.Journal.{game_count}
+use Rattle.explorer_model.specs.Journal.{IsSound, game_count}
 use Rattle.explorer_model.specs.Visits.{texts_of}
 use Rattle.manifest.specs.Manifest.{HasJournal, IsWithOrWithoutBatch}
 use Rattle.ingest_desk.specs.Importers.{ending_of}
@@ -106,7 +106,8 @@ module _ {J : Type 0} (start : Known) (open_is : start.fault ≡ None) where
     holds_by (ends.DiskFault first last mark) j s =
         let K : Option (ℕ × ℕ) → Type 0 = λ f. KeepsBy disk left_since (journal after) after.manifest f in
         let kept = subst K s.1 keeps in
-        told_has (λ image. (batch : Batch) × IsWithOrWithoutBatch (journal after) batch image) (disk after.manifest.disk).content (λ bytes is. (kept.0, kept.1 bytes (told after.manifest.disk bytes is)))
+        told_has (λ image. (batch : Batch) × IsSound (journal after ++ batch ∷ []) × IsWithOrWithoutBatch (journal after) batch image) (disk after.manifest.disk).content
+        (λ bytes is. (kept.0, kept.1, kept.2 bytes (told after.manifest.disk bytes is)))
     holds_by ends.Whole j s = holds_open disk left_since told after keeps (s.1 ∙ open_is)
     holds_by (ends.ReadFault first last) j s = holds_open disk left_since told after keeps (s.1 ∙ open_is)
     holds_by (ends.TooMuch bytes) j s = holds_open disk left_since told after keeps (s.1 ∙ open_is)

@@ -439,32 +439,33 @@ begins-with opening journal (d ∷ ds) (r ∷ rs) some all =
 
 -- ---- the journal that a disk tells
 
-with-or-without : (journal : List Batch) (batch : Batch) (bytes : List ℕ) → IsWithOrWithoutBatch journal batch bytes
-    → TellsLonger journal (Some bytes)
-with-or-without journal batch bytes (inl is) = record { longer = journal; extends = prefix-self journal; tells = is }
-with-or-without journal batch bytes (inr is) =
-    record { longer = journal ++ batch ∷ []; extends = prefix-append journal (batch ∷ []); tells = is }
+with-or-without : (journal : List Batch) (batch : Batch) (bytes : List ℕ) → IsSound journal → IsSound (journal ++ batch ∷ [])
+    → IsWithOrWithoutBatch journal batch bytes → TellsLonger journal (Some bytes)
+with-or-without journal batch bytes sound more (inl is) = record { longer = journal; extends = prefix-self journal; sound = sound; tells = is }
+with-or-without journal batch bytes sound more (inr is) =
+    record { longer = journal ++ batch ∷ []; extends = prefix-append journal (batch ∷ []); sound = more; tells = is }
 
-one-more : (journal : List Batch) (batch : Batch) (content : Option (List ℕ))
+one-more : (journal : List Batch) (batch : Batch) (content : Option (List ℕ)) → IsSound journal → IsSound (journal ++ batch ∷ [])
     → ((bytes : List ℕ) → content ≡ Some bytes → IsWithOrWithoutBatch journal batch bytes) → TellsLonger journal content
-one-more journal batch None each = record { longer = journal; extends = prefix-self journal; tells = tt }
-one-more journal batch (Some bytes) each = with-or-without journal batch bytes (each bytes refl)
+one-more journal batch None sound more each = record { longer = journal; extends = prefix-self journal; sound = sound; tells = tt }
+one-more journal batch (Some bytes) sound more each = with-or-without journal batch bytes sound more (each bytes refl)
 
 kept-by : {D : Type 0} (disk : D → DiskState) (left_since : D → ℕ → List ℕ → Type 0) (journal : List Batch) (manifest : Log D)
     (fault : Option (ℕ × ℕ)) → ((it : D) (file : List ℕ) → (disk it).content ≡ Some file → MayLeave disk left_since it file)
-    → KeepsBy disk left_since journal manifest fault → TellsLonger journal (disk manifest.disk).content
-kept-by disk left_since journal manifest None told k = record {
+    → IsSound journal → KeepsBy disk left_since journal manifest fault → TellsLonger journal (disk manifest.disk).content
+kept-by disk left_since journal manifest None told sound k = record {
   longer = journal;
   extends = prefix-self journal;
+  sound = sound;
   tells = told_has (HasJournal journal) (disk manifest.disk).content (λ bytes is. k.images bytes (told manifest.disk bytes is));
 }
-kept-by disk left_since journal manifest (Some counts) told k =
-    one-more journal k.0 (disk manifest.disk).content (λ bytes is. k.1 bytes (told manifest.disk bytes is))
+kept-by disk left_since journal manifest (Some counts) told sound k =
+    one-more journal k.0 (disk manifest.disk).content sound k.1 (λ bytes is. k.2 bytes (told manifest.disk bytes is))
 
 pub longer : {D : Type 0} (disk : D → DiskState) (left_since : D → ℕ → List ℕ → Type 0) (journal : List Batch) (manifest : Log D)
     → ((it : D) (file : List ℕ) → (disk it).content ≡ Some file → MayLeave disk left_since it file)
-    → Keeps disk left_since journal manifest → TellsLonger journal (disk manifest.disk).content
-longer disk left_since journal manifest told k = kept-by disk left_since journal manifest manifest.fault told k
+    → IsSound journal → Keeps disk left_since journal manifest → TellsLonger journal (disk manifest.disk).content
+longer disk left_since journal manifest told sound k = kept-by disk left_since journal manifest manifest.fault told sound k
 
 -- ---- the first fault
 
@@ -635,6 +636,7 @@ module _ (service : Service) (before lent used after : HostState) (given returns
       record {
         goes_on = record {
           journal = l.longer;
+          sound = l.sound;
           tells = subst (λ (c : Option (List ℕ)). IfSome c (HasJournal l.longer)) (sym (content-back service.store returns used after takes)) l.tells;
           extends = prefix-trans opening journal l.longer (begins-with opening journal w.handed w.over.doors count seen) l.extends;
           kept = kept-longer journal l.longer (map (file_at before) service.files) w.over.files l.extends
@@ -821,8 +823,8 @@ listens-so line other outcome done old new is same listens =
 
 pub longer-by : {D : Type 0} (disk : D → DiskState) (left_since : D → ℕ → List ℕ → Type 0) (stored : Stored D) (returns : D)
     → ((it : D) (file : List ℕ) → (disk it).content ≡ Some file → MayLeave disk left_since it file)
-    → returns ≡ stored.manifest.disk → Keeps disk left_since (journal stored) stored.manifest
+    → returns ≡ stored.manifest.disk → IsSound (journal stored) → Keeps disk left_since (journal stored) stored.manifest
     → TellsLonger (journal stored) (disk returns).content
-longer-by disk left_since stored returns told is k =
+longer-by disk left_since stored returns told is sound k =
     subst (λ (c : Option (List ℕ)). TellsLonger (journal stored) c) (sym (content-of disk returns stored.manifest.disk is))
-    (longer disk left_since (journal stored) stored.manifest told k)
+    (longer disk left_since (journal stored) stored.manifest told sound k)

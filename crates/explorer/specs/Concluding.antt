@@ -2,6 +2,7 @@
 use Rattle.std.specs.Prelude.{◌≡◌, ◌⊎◌, ℕ, Bool, true, false, List, Option, None, Some, IfSome, Result, Ok, Err}
 use Rattle.outside.specs.Stream.{FailsToTake, Stream, Takes, Wrote}
 use Rattle.explorer_model.specs.declared.archive.Batch.{Batch}
+use Rattle.explorer_model.specs.Journal.{IsSound}
 use Rattle.explorer_model.specs.Timeline.{IsPrefix}
 use Rattle.manifest.specs.Manifest.{HasJournal}
 use Rattle.explorer.specs.declared.fault.Fault.{Fault}
@@ -27,8 +28,9 @@ Concludes None failed first listens old new ending =
 Concludes (Some lines) failed first listens old new ending =
     Wrote lines old new × EndsBy failed first listens lines old new ending
 
--- what is told of a disk is a journal that begins with this one
+-- what is told of a disk is a sound journal that begins with this one
 pub record TellsLonger (journal : List Batch) (content : Option (List ℕ)) : Type 0 where
   pub longer : List Batch
   pub extends : IsPrefix journal longer
+  pub sound : IsSound longer
   pub tells : IfSome content (HasJournal longer)

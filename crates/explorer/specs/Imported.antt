@@ -1,5 +1,5 @@
 -- Statement: what an import into an open store comes to.
-use Rattle.std.specs.Prelude.{◌≡◌, ◌<◌, ◌++◌, ℕ, List, [], length, IfSome, Option, None}
+use Rattle.std.specs.Prelude.{◌≡◌, ◌<◌, ◌++◌, ℕ, List, [], ◌∷◌, length, IfSome, Option, None}
 use Rattle.std.specs.Io.KnownBytes.{IsAtEnd}
 use Rattle.disk_model.specs.Disk.{DiskState}
 use Rattle.outside.specs.Stream.{Stream, Reads, Rises}
@@ -58,10 +58,11 @@ abbrev pub StoredBy : ImportEnding → List Batch → List Batch → Type 0
 StoredBy endings.OutOfMemory journal stored = HasMaybeOneMore journal stored
 StoredBy _ journal stored = stored ≡ journal
 
--- the bytes of the store: they have the journal; after a disk fault perhaps with a batch more
+-- the bytes of the store: they have the journal; after a disk fault perhaps with a batch more, with
+-- which it is sound too
 abbrev pub HoldsBy : ImportEnding → List Batch → List ℕ → Type 0
 HoldsBy (endings.DiskFault before after) stored image =
-    (batch : Batch) × IsWithOrWithoutBatch stored batch image
+    (batch : Batch) × IsSound (stored ++ batch ∷ []) × IsWithOrWithoutBatch stored batch image
 HoldsBy _ stored image = HasJournal stored image
 
 -- no call of the disk failed, and no read
