@@ -2,7 +2,7 @@
 use Rattle.std.specs.Prelude.{is_none, nat_le}
 use Rattle.std.specs.Bool.{Decides, ⊤}
 use Rattle.std.proofs.Common.{◌≡◌, ◌≢◌, ℕ, zero, suc, ◌+◌, ◌-◌, ◌%◌, ◌<◌, ◌≤◌, Bool, true, false, not, ◌&&◌, ◌||◌, ◌==◌, IsTrue, List, length, count_by, Option, Some, None, refl, sym, ap, ◌∙◌, subst, lit<, mod-lt, mod-eq_of_lt, true≢false}
-use Rattle.std.proofs.lemmas.Bool.{le-leb, leb-true, and_from, and_parts}
+use Rattle.std.proofs.lemmas.Bool.{le-leb, leb-true, and_parts}
 use Rattle.std.proofs.lemmas.Bool.Decides.{Decides-eqb, Decides-not, Decides-and, Decides-or, Decides-like, Decides-below_and, Decides-below_or}
 use Rattle.explorer_model.specs.declared.chess.Color.{Color}
 use Rattle.explorer_model.specs.declared.chess.Color.TheVariants.{White, Black}
@@ -536,33 +536,19 @@ none_leads p from to each m starts ends legal =
 
 -- ---- the same position
 
--- a pawn goes to the en passant square
-unfoldable pub captures_en_passant : Position → Move → Bool
-captures_en_passant p m = is_piece p.turn Pawn (piece_at p.squares m.from.index) && is_square p.en_passant m.to.index
-
-captures : (p : Position) (s : ℕ) (h : CanCaptureEnPassant p s) → captures_en_passant p h.1.0 ≡ true
-unfolding captures_en_passant
-captures p s h =
-    let m : Move = h.1.0 in
-    let P : ℕ → Type 0 = λ n. IsSquare p.en_passant n in
-    and_from _ _ ((decides-piece p.turn Pawn (piece_at p.squares m.from.index)).1 h.1.1)
-    ((decides-square p.en_passant m.to.index).1 (subst P (sym h.1.2) h.0))
-
--- no legal move captures en passant; the moves are asked only where there is such a square
+-- no legal move of a pawn goes to the en passant square
 unfoldable pub has_no_en_passant : Position → Bool
-has_no_en_passant p = wherever (not (is_none p.en_passant)) (λ _. for_each_legal p (λ m. not (captures_en_passant p m)))
-
-there_is : (o : Option Square) (s : ℕ) → IsSquare o s → not (is_none o) ≡ true
-there_is None s h = absurd h
-there_is (Some square) s h = refl
+has_no_en_passant p = for_each_legal_to p (is_square p.en_passant) (λ m. not (is_piece p.turn Pawn (piece_at p.squares m.from.index)))
 
 pub no_en_passant : (p : Position) → has_no_en_passant p ≡ true → (s : ℕ) → ¬ CanCaptureEnPassant p s
 unfolding has_no_en_passant
 no_en_passant p none s h =
     let m : Move = h.1.0 in
-    let test : Move → Bool = λ m. not (captures_en_passant p m) in
-    let each = wherever_holds (not (is_none p.en_passant)) (λ _. for_each_legal p test) none (there_is p.en_passant s h.0) in
-    (Decides-not _ (Decides-self (captures_en_passant p m))).0 (each_legal p test each m h.1.3) (captures p s h)
+    let test : Move → Bool = λ m. not (is_piece p.turn Pawn (piece_at p.squares m.from.index)) in
+    let P : ℕ → Type 0 = λ n. IsSquare p.en_passant n in
+    let ends = (decides-square p.en_passant m.to.index).1 (subst P (sym h.1.2) h.0) in
+    let no_pawn = each_legal_to p (is_square p.en_passant) test none m ends h.1.3 in
+    (Decides-not _ (decides-piece p.turn Pawn (piece_at p.squares m.from.index))).0 no_pawn h.1.1
 
 -- positions whose pieces, turn and rights are equal, and where no pawn can be taken en passant
 pub same_by : (p q : Position) → p.squares ≡ q.squares → p.turn ≡ q.turn → p.rights ≡ q.rights
@@ -715,5 +701,5 @@ valid p e =
 
 -- what is unfolded where these programs compute
 unfoldable pub chess_computes : ⊤
-unfolding also all_below any_below is_role is_piece is_rook_line is_bishop_line is_aligned is_between is_open is_rank_ahead is_pawn_diagonal is_knight_step is_king_step attacks_as attacks_from attacks is_attacked in_check is_promotion promotes pawn_steps pawn_double_steps pawn_captures castles_to castles attacks_quietly role_moves piece_moves is_pseudo_legal is_path_safe is_legal placed squares_after wherever square_at role_at promotion_at move_at for_each_legal_to for_each_legal captures_en_passant has_no_en_passant is_same_promotion is_pawn_inside has_pawns_inside right_stands has_crossed en_passant_stands_at has_pieces rights_stand is_valid
+unfolding also all_below any_below is_role is_piece is_rook_line is_bishop_line is_aligned is_between is_open is_rank_ahead is_pawn_diagonal is_knight_step is_king_step attacks_as attacks_from attacks is_attacked in_check is_promotion promotes pawn_steps pawn_double_steps pawn_captures castles_to castles attacks_quietly role_moves piece_moves is_pseudo_legal is_path_safe is_legal placed squares_after wherever square_at role_at promotion_at move_at for_each_legal_to for_each_legal has_no_en_passant is_same_promotion is_pawn_inside has_pawns_inside right_stands has_crossed en_passant_stands_at has_pieces rights_stand is_valid
 chess_computes = tt

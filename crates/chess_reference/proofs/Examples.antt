@@ -1,19 +1,23 @@
 -- The definitions of chess, worked out on small boards and on positions that every player knows (FIDE Laws of Chess in force from
 -- 1 January 2023). Squares are numbers: a1 is 0, h1 is 7, a2 is 8.
-use Rattle.std.proofs.Common.{◌++◌, replicate, subst, ◌≡◌, ℕ, List, [], ◌∷◌, map, lit<, Some, None, codes, refl, ap, inl, inr, arith, true≢false}
+use Rattle.std.proofs.Common.{Bool, true, false, take, is_none, ◌++◌, replicate, subst, ◌≡◌, ℕ, List, [], ◌∷◌, map, lit<, Some, None, codes, refl, ap, inl, inr, arith, true≢false}
+use Rattle.std.specs.List.{list_all, repeat}
+use Rattle.std.proofs.lemmas.Bool.{and_parts}
 use Rattle.std.proofs.lemmas.Bool.Decides.{not_from_Decides}
+use Rattle.explorer_model.specs.declared.archive.Classes.{Classes}
+use Rattle.explorer_model.specs.declared.archive.Game.{Game}
 use Rattle.explorer_model.specs.declared.chess.Color.{Color}
 use Rattle.explorer_model.specs.declared.chess.Color.TheVariants.{White, Black}
 use Rattle.explorer_model.specs.declared.chess.Move.{Move}
 use Rattle.explorer_model.specs.declared.chess.Position.{Position}
 use Rattle.explorer_model.specs.declared.chess.Rights.{Rights}
 use Rattle.explorer_model.specs.declared.chess.Side.TheVariants.{Short}
-use Rattle.explorer_model.specs.Board.{Attacks, InCheck}
+use Rattle.explorer_model.specs.Board.{piece_at, Attacks, InCheck}
 use Rattle.explorer_model.specs.Chess.{CanCaptureEnPassant, IsSquare, after, is_color, start, start_squares, IsValid, Legal, PseudoLegal, Same}
 use Rattle.explorer_model.specs.Fen.{fen_text}
 use Rattle.explorer_model.specs.Keys.{key}
 use Rattle.explorer_model.specs.Tidy.{IsTidied}
-use Rattle.explorer_model.specs.Visits.{stages, FirstVisit}
+use Rattle.explorer_model.specs.Visits.{IsGameAt, Stage, stages, FirstVisit}
 use Rattle.chess_reference.proofs.Boards.{boards_compute, fen, uci}
 use Rattle.chess_reference.proofs.DecisionLemmas.{no_en_passant, apart_by, decides-attacks, decides-in_check, decides-legal, decides-pseudo_legal, same_by, valid}
 
@@ -304,6 +308,59 @@ unfolding boards_compute
 back-at-the-start =
     same_by (after (after (after (after start (uci (codes "g1f3"))) (uci (codes "g8f6"))) (uci (codes "f3g1"))) (uci (codes "f6g8"))) start
     refl refl refl refl refl
+
+-- A game is looked for at its plies 0 to 50. Up to the position asked for, a square is empty on which a piece stands there.
+is_empty_at : ℕ → Stage → Bool
+is_empty_at s stage = is_none (piece_at stage.position.squares s)
+
+-- no stage has the piece that stands there
+none-comes : (at : Position) (s : ℕ) (stages : List Stage) → list_all (is_empty_at s) stages ≡ true → is_none (piece_at at.squares s) ≡ false
+    → FirstVisit at stages None
+unfolding is_empty_at
+none-comes at s [] each filled = refl
+none-comes at s (stage ∷ stages) each filled =
+    let both = and_parts (is_empty_at s stage) (list_all (is_empty_at s) stages) each in
+    inr (apart_by stage.position at s both.0 filled, none-comes at s stages both.1 filled)
+
+-- the last stage is the position
+the-last-comes : (at : Position) (s : ℕ) (stages : List Stage) (last : Stage) → list_all (is_empty_at s) stages ≡ true
+    → is_none (piece_at at.squares s) ≡ false → Same last.position at → FirstVisit at (stages ++ (last ∷ [])) (Some last.next)
+unfolding is_empty_at
+the-last-comes at s [] last each filled same = inl (same, refl)
+the-last-comes at s (stage ∷ stages) last each filled same =
+    let both = and_parts (is_empty_at s stage) (list_all (is_empty_at s) stages) each in
+    inr (apart_by stage.position at s both.0 filled, the-last-comes at s stages last both.1 filled same)
+
+-- the knights go out and back twelve times in 48 plies
+knights : List (List ℕ)
+knights = repeat 12 (codes "g1f3" ∷ codes "g8f6" ∷ codes "f3g1" ∷ codes "f6g8" ∷ [])
+
+-- 1. e4 e5
+open-game : Position
+open-game = fen (codes "rnbqkbnr/pppp1ppp/8/4p3/4P3/8/PPPP1PPP/RNBQKBNR w KQkq -")
+
+game-of : Classes → List (List ℕ) → Game
+game-of classes texts = record { classes = classes; moves = moves-of texts }
+
+at-ply-50 : (classes : Classes) → IsGameAt open-game (game-of classes (knights ++ (codes "e2e4" ∷ codes "e7e5" ∷ codes "g1f3" ∷ [])))
+    (record { classes = classes; visit = Some (Some (uci (codes "g1f3"))) })
+unfolding boards_compute knights open-game game-of moves-of is_empty_at
+at-ply-50 classes =
+    let before = take 50 (stages start (moves-of (knights ++ (codes "e2e4" ∷ codes "e7e5" ∷ [])))) in
+    let there = after (after start (uci (codes "e2e4"))) (uci (codes "e7e5")) in
+    let last : Stage = record { position = there; next = Some (uci (codes "g1f3")) } in
+    (refl, the-last-comes open-game 36 before last refl refl (same_by there open-game refl refl refl refl refl))
+
+-- behind one more move of each knight the pawn goes to e4 at ply 51, which is too late
+e4-behind-the-knights : Position
+e4-behind-the-knights = fen (codes "rnbqkb1r/pppppppp/5n2/8/4P3/5N2/PPPP1PPP/RNBQKB1R b KQkq -")
+
+at-ply-51 : (classes : Classes) → IsGameAt e4-behind-the-knights (game-of classes (knights ++ (codes "g1f3" ∷ codes "g8f6" ∷ codes "e2e4" ∷ [])))
+    (record { classes = classes; visit = None })
+unfolding boards_compute knights e4-behind-the-knights game-of moves-of is_empty_at
+at-ply-51 classes =
+    let stages_before = take 51 (stages start (moves-of (knights ++ (codes "g1f3" ∷ codes "g8f6" ∷ codes "e2e4" ∷ [])))) in
+    (refl, none-comes e4-behind-the-knights 28 stages_before refl refl)
 
 -- ---- the key of a position, and the tidy form that games are counted under
 

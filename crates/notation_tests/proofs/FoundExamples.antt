@@ -1,6 +1,9 @@
 -- What is found for a query in a journal, and what an import makes of a stream, from the bytes of the texts on.
 use Rattle.std.specs.Bool.{⊤}
-use Rattle.std.proofs.Common.{ℕ, ◌++◌, true, false, List, [], ◌∷◌, replicate, Some, None, Ok, Err, codes, refl, inl, inr}
+use Rattle.std.proofs.Common.{◌≢◌, ◌≤◌, length, lit<, lit≤, ap, arith, is_ok, slice_index, true≢false, ℕ, ◌++◌, true, false, List, [], ◌∷◌, replicate, Some, None, Ok, Err, codes, refl, inl, inr}
+use Rattle.std.specs.List.{AllZip, repeat}
+use Rattle.std.proofs.lemmas.List.Elements.{All-cons, All-nil}
+use Rattle.std.proofs.lemmas.List.Kept.{AllPairs-cons}
 use Rattle.std.proofs.lemmas.Bool.Decides.{not_from_Decides}
 use Rattle.explorer_model.specs.declared.answer.Listed.{Listed}
 use Rattle.explorer_model.specs.declared.answer.MoveLine.{MoveLine}
@@ -26,7 +29,9 @@ use Rattle.explorer_model.specs.Cuts.{cut_at, cuts, cuts_from, cuts_of, is_white
 use Rattle.explorer_model.specs.Finds.{IsFound}
 use Rattle.explorer_model.specs.Games.{GameOf}
 use Rattle.explorer_model.specs.Imports.{Accounted, Examination, Read, Unread, groups, verdicts_from, verdicts_in_turn}
+use Rattle.explorer_model.specs.Journal.{IsBatch, IsSound}
 use Rattle.explorer_model.specs.San.{SanReads, SanText}
+use Rattle.explorer_model.specs.Visits.{IsTextOf}
 use Rattle.legal_moves.proofs.StartIsValid.{start_is_valid}
 use Rattle.chess_reference.proofs.Boards.{boards_compute, uci}
 use Rattle.chess_reference.proofs.DecisionLemmas.{apart_by, decides-in_check, decides-legal}
@@ -250,3 +255,69 @@ all-is-refused = record {
   are_examinations = ((refl, ((Err NoTermination, refl, refl), tt)), tt);
   yields = record { batches_are = refl; refused_are = refl };
 }
+
+-- ---- batches and journals that imports make
+
+abbrev IsShort : List ℕ → Type 0
+IsShort text = length text ≤ 65536
+
+two-texts-in-a-batch : IsBatch (record { texts = text-of-e4 ∷ text-of-d4 ∷ [] })
+unfolding texts_compute text-of-e4 text-of-d4
+two-texts-in-a-batch = record {
+  some = lit< tt;
+  few = lit≤ tt;
+  short = All-cons IsShort text-of-e4 (text-of-d4 ∷ []) (lit≤ tt) (All-cons IsShort text-of-d4 [] (lit≤ tt) (All-nil IsShort));
+  games = game-of-e4 ∷ game-of-d4 ∷ [];
+  are_games = (the-text-of-e4, (the-text-of-d4, tt));
+}
+
+a-batch-has-a-text : ¬ IsBatch (record { texts = [] })
+a-batch-has-a-text h = let some = h.some in absurd (omega (arith, some))
+
+a-batch-has-512-at-most : ¬ IsBatch (record { texts = repeat 513 ((42 ∷ []) ∷ []) })
+a-batch-has-512-at-most h = let few = h.few in absurd (omega (arith, few))
+
+-- a text that is cut off has no game
+no-game : (games : List Game) → AllZip IsTextOf ((heading ++ codes "1. e4") ∷ []) games → ⊥
+unfolding texts_compute
+no-game [] h = h
+no-game (game ∷ games) h = true≢false (ap is_ok h.0)
+
+each-text-has-a-game : ¬ IsBatch (record { texts = (heading ++ codes "1. e4") ∷ [] })
+each-text-has-a-game h = no-game h.games h.are_games
+
+nothing-is-sound : IsSound []
+nothing-is-sound = record {
+  batches = All-nil IsBatch;
+  games = [];
+  are_games = tt;
+  different = λ i j d before below. absurd (omega (arith, below));
+  within = (lit≤ tt, lit≤ tt);
+}
+
+abbrev HaveOtherIds : Classes → Classes → Type 0
+HaveOtherIds a b = a.id.bytes ≢ b.id.bytes
+
+-- ids that differ in their last letter
+other-ids : HaveOtherIds ann_and_bob later
+unfolding ann_and_bob later
+other-ids same = let last = ap (λ (id : List ℕ). slice_index id 7) same in absurd (omega (arith, last))
+
+two-games-are-sound : IsSound journal
+unfolding journal texts_compute text-of-e4 text-of-d4 game-of-e4 game-of-d4
+two-games-are-sound = record {
+  batches = All-cons IsBatch (record { texts = text-of-e4 ∷ text-of-d4 ∷ [] }) [] two-texts-in-a-batch (All-nil IsBatch);
+  games = game-of-e4 ∷ game-of-d4 ∷ [];
+  are_games = (the-text-of-e4, (the-text-of-d4, tt));
+  different =
+      AllPairs-cons HaveOtherIds ann_and_bob (later ∷ [])
+      (All-cons (HaveOtherIds ann_and_bob) later [] other-ids (All-nil (HaveOtherIds ann_and_bob)))
+      (AllPairs-cons HaveOtherIds later [] (All-nil (HaveOtherIds later)) (λ i j d before below. absurd (omega (arith, below))));
+  within = (lit≤ tt, lit≤ tt);
+}
+
+an-empty-batch-is-not-sound : ¬ IsSound (record { texts = [] } ∷ [])
+an-empty-batch-is-not-sound h = a-batch-has-a-text (h.batches 0 (record { texts = [] }) (lit< tt))
+
+a-text-without-a-game-is-not-sound : ¬ IsSound (record { texts = (heading ++ codes "1. e4") ∷ [] } ∷ [])
+a-text-without-a-game-is-not-sound h = each-text-has-a-game (h.batches 0 (record { texts = [] }) (lit< tt))
