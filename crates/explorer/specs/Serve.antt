@@ -37,9 +37,9 @@ pub record Reports (service : Service) (files : List FileRun) (before after : Wo
 
 -- ---- the endings
 
--- The disk given back has a sound journal that begins with the one that it had, so that it is
--- opened again. All that was stored of the files stands in it, a file that found no room found none
--- in it, and all that any reader saw is a front of it.
+-- The disk given back has a sound journal that begins with the one that it had, so that it is opened
+-- again. All that was stored of the files stands in it, a file that found no room found none in it,
+-- and all that any reader saw is a front of it.
 pub record GoesOn (service : Service) (before after : HostState)
     (worked : IsWorked service before after) : Type 0 where
   pub journal : List Batch

@@ -27,8 +27,8 @@ pub record KeepsAll {D : Type 0} (disk : D → DiskState) (left_since : D → �
   pub now : EachImage disk left_since new (HasJournal (journal ++ batches))
   pub meanwhile : LeavesOnly disk left_since old new (HasFrontOf journal batches)
 
--- The same where the disk failed under one batch more, which may be there: the journal is sound
--- with it.
+-- The same where the disk failed under one batch more, which may be there: the journal is sound with
+-- it.
 pub record KeepsAllBut {D : Type 0} (disk : D → DiskState)
     (left_since : D → ℕ → List ℕ → Type 0) (journal batches : List Batch) (old new : D)
     : Type 0 where

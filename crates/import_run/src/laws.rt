@@ -138,8 +138,8 @@ pub fn a_told_disk_has_the_journal<D: Disk>()
         × IsWithOrWithoutBatch (journal store) batch file }
 {}
 
-/// What a crash leaves of an import into an open store, at any moment of it, has a sound journal
-/// that begins with the one before. So it is opened (`ingest_desk::laws::opening_is_determined`).
+/// What a crash leaves of an import into an open store, at any moment of it, has a sound journal that
+/// begins with the one before. So it is opened (`ingest_desk::laws::opening_is_determined`).
 pub fn what_a_crash_leaves_is_sound<D: Disk, J: Index>()
     ensures { (source source_after : Stream) (before after : Stored D) (report : Report J)
         → ImportsAlone D.disk D.left_since source before source_after after report

@@ -9,8 +9,8 @@ use Rattle.published_index.specs.States.{Publishing, journal_by}
 use Rattle.ingest_desk.specs.Registers.{IsRegisterOf}
 use Rattle.ingest_desk.specs.declared.register.Register.{Register}
 
--- What a crash leaves: the journal; after a disk fault with the batch that failed or without it.
--- The journal is sound with that batch too, so that each of these files is opened.
+-- What a crash leaves: the journal; after a disk fault with the batch that failed or without it. The
+-- journal is sound with that batch too, so that each of these files is opened.
 abbrev pub KeepsBy : {D : Type 0} → (D → DiskState) → (D → ℕ → List ℕ → Type 0) → List Batch
     → Log D → Option (ℕ × ℕ) → Type 0
 KeepsBy disk left_since journal manifest None = IsManifestOf disk left_since journal manifest

@@ -59,8 +59,8 @@ impl<D: Disk, J: Index> Ingest<D, J> {
             (IsWithOrWithoutBatch (journal self.old) tally.batch) }
         ensures kept { OnOk result (EachImage D.disk D.left_since self.new.manifest.disk
             (HasJournal (journal self.new))) }
-        // What nothing is against is sound behind the journal, so that what a crash leaves
-        // meanwhile is opened.
+        // What nothing is against is sound behind the journal, so that what a crash leaves meanwhile
+        // is opened.
         ensures behind { (games : List Game) → AreGamesOf (journal self.old) games
             → cause self.old.manifest.fault games (journal self.old) tally ≡ None
             → IsSound (journal self.old ++ tally.batch ∷ []) }
