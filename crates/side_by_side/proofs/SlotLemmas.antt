@@ -94,7 +94,7 @@ pub slot-within : {A B : Type 0} (xs left rest : List A) (x : A) (made next : Li
 slot-within xs left rest x made next y pushed at first =
     omega (arith, sym (length-drop (length made) xs) ∙ ap length (sym at ∙ first), ap length pushed ∙ length_push made y)
 
-slot-is : {A : Type 0} (n : ℕ) (xs left rest : List A) (x d : A) → left ≡ drop n xs → left ≡ x ∷ rest → get_or xs n d ≡ x
+pub slot-is : {A : Type 0} (n : ℕ) (xs left rest : List A) (x d : A) → left ≡ drop n xs → left ≡ x ∷ rest → get_or xs n d ≡ x
 slot-is n xs left rest x d at first =
     let here : get_or (drop n xs) 0 d ≡ get_or xs (n + 0) d = get_or-drop n xs 0 d in
     let same : n + 0 ≡ n = omega arith in

@@ -10,8 +10,10 @@ ghost use Rattle.std.specs.Fork.{GivesEach};
 ghost use Rattle.std.specs.Fork.Halves.{GivesFrom};
 ghost use denote.Param.Send.{IsSend, IsSync};
 
+mod each;
 mod taking;
 
+pub use each::map_each;
 use std::alloc::{AllocError, Global};
 use std::marker::{Send, Sync};
 use std::thread::{Threads, join};

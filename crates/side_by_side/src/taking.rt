@@ -61,7 +61,7 @@ fn take_all<X: Drop, F: Fn(usize) -> X>(
 }
 
 /// What leaves took, each at its index.
-fn slots_of<X: Drop>(
+pub(crate) fn slots_of<X: Drop>(
     alloc: Global,
     count: usize,
     leaves: Vec<Result<Vec<(usize, X)>, AllocError>>,
@@ -88,7 +88,7 @@ fn empty_slots<X: Drop>(alloc: Global, count: usize) -> Result<Vec<Option<X>>, A
 }
 
 /// Puts what a leaf took at its indices, each of which has a slot.
-fn put_all<X: Drop>(slots: &mut Vec<Option<X>>, taken: Vec<(usize, X)>)
+pub(crate) fn put_all<X: Drop>(slots: &mut Vec<Option<X>>, taken: Vec<(usize, X)>)
     ensures { slots.new.items ≡ put_all slots.old.items taken.items }
 {
     for (index, x) in taken {
