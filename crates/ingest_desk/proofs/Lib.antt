@@ -5,6 +5,7 @@ pub mod AnswerLemmas
 pub mod PickingLemmas
 pub mod TallyingLemmas
 pub mod RecountLemmas
+pub mod CountingLemmas
 pub mod SoundLemmas
 pub mod ListingLemmas
 pub mod AlikeLemmas

@@ -5,7 +5,7 @@ use Rattle.std.proofs.Math.Seq.{get_or-append_seam, take-length}
 use Rattle.std.proofs.lemmas.List.{append_assoc, get_or_append_left, get_or_default, length-map, map-append}
 use Rattle.std.proofs.lemmas.List.Elements.{recursion_from_All}
 use Rattle.std.proofs.lemmas.List.Sums.{sum_by-cons}
-use Rattle.std.specs.List.{All, AllByRecursion, AllPairs, AllZip}
+use Rattle.std.specs.List.{All, AllPairs, AllZip}
 use Rattle.std.specs.Prelude.{nat_lt, ◌==◌}
 use Rattle.explorer_model.specs.declared.archive.Batch.{Batch}
 use Rattle.explorer_model.specs.declared.archive.Classes.{Classes}
@@ -17,7 +17,7 @@ use Rattle.batch_tally.specs.Tallying.{IsTallying}
 use Rattle.ingest_desk.specs.declared.register.Verdict.{Verdict}
 use Rattle.ingest_desk.specs.declared.register.Verdict.TheVariants as verdicts
 use Rattle.ingest_desk.proofs.TallyingLemmas.{counts_all, none_refused}
-use Rattle.explorer_model.specs.Imports.{Numbering, numbers_of}
+use Rattle.explorer_model.specs.Imports.{numbers_of}
 use Rattle.explorer_model.specs.Journal.{AreWithin, HaveDifferentIds, IsBatch, IsSound, byte_count, game_count}
 use Rattle.explorer_model.specs.StoreFile.{IsStorable, front_of, gate_limit, payload_of, record_bytes, store_format, store_of, text_field}
 use Rattle.explorer_model.specs.Visits.{IsTextOf, texts_of}
@@ -28,12 +28,12 @@ use Rattle.tally_rows.specs.Tally.{Counted, IsCounted}
 use Rattle.published_index.specs.Cover.{IsList, journal_of}
 use Rattle.published_index.proofs.CoverLemmas.{journal-one, list-one}
 use Rattle.ingest_desk.specs.Causes.{Cause, HasNoRoom, Judges, cause_by, cause_of_new, has_no_room, is_over}
-use Rattle.ingest_desk.specs.Clashes.{clashes_from, clashes_of, and_clash, ids_of}
+use Rattle.ingest_desk.specs.Clashes.{clashes_of}
 use Rattle.ingest_desk.specs.Recounts.{HasOneMore, IsUnsoundAt}
 use Rattle.ingest_desk.specs.Registers.{IsRegisterOf}
 use Rattle.ingest_desk.specs.declared.register.Register.{Register}
 use Rattle.ingest_desk.proofs.IdLemmas.{false_true, number-none, other_bytes}
-use Rattle.ingest_desk.proofs.RegisterLemmas.{OneGame, number-ids, one_games, texts_more}
+use Rattle.ingest_desk.proofs.RegisterLemmas.{OneGame, clashes_none, number-ids, one_games, texts_more}
 
 abbrev pub classes_of : List Game → List Classes
 classes_of games = map (λ (game : Game). game.classes) games
@@ -76,14 +76,6 @@ later_pairs R xs ys all i j d lt below =
     (omega (arith, below, length-append xs ys))))
 
 -- ---- no cause where the journal stays sound
-
-clashes_none : (place : ℕ) (number : Numbering) (classes : List Classes)
-    → AllByRecursion (λ (c : Classes). number c.id.bytes ≡ None) classes
-    → clashes_from place number (ids_of classes) ≡ []
-clashes_none place number [] none = refl
-clashes_none place number (c ∷ classes) none =
-    ap (λ o. and_clash place o (clashes_from (place + 1) number (ids_of classes))) none.0
-    ∙ clashes_none (place + 1) number classes none.1
 
 pub all_new : (stored : List Game) (classes : List Classes)
     → HaveDifferentIds (classes_of stored ++ classes)

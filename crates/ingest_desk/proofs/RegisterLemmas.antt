@@ -1,15 +1,18 @@
 -- Registers of journals, and what is judged by them.
-use Rattle.std.proofs.Common.{◌≡◌, ◌≢◌, ◌≤◌, ◌+◌, ℕ, suc, Bool, true, false, cond, List, [], ◌∷◌, ◌++◌, length, map, get_or, Option, None, Some, Ok, Result, sum_by, refl, sym, ap, ◌∙◌, subst, arith, add-zero, length-append}
+use Rattle.std.proofs.Common.{◌≡◌, ◌≢◌, ◌<◌, ◌≤◌, ◌+◌, ℕ, suc, Bool, true, false, not, cond, List, [], ◌∷◌, ◌++◌, length, map, get_or, Option, None, Some, Ok, Result, sum_by, refl, sym, ap, ◌∙◌, subst, arith, add-zero, length-append}
+use borrow.Author.Count.{below_more}
 use Rattle.std.proofs.lemmas.Bool.Decides.{nat_tests}
 use Rattle.std.proofs.lemmas.Grind.{flat_map-append}
 use Rattle.std.proofs.lemmas.List.{append-nil, length-map, map-append}
 use Rattle.std.proofs.lemmas.List.Elements.{All-append, All-from_recursion, recursion_from_All}
 use Rattle.std.proofs.lemmas.List.Kept.{AllPairs-cons}
 use Rattle.std.proofs.lemmas.List.Sums.{sum_by-append}
+use Rattle.std.proofs.lemmas.Option.{get_or_from_slice_get, slice_get_within}
 use Rattle.std.proofs.lemmas.Slice.Eq.{bytes_eq-Decides}
 use Rattle.std.proofs.lemmas.Slice.Zip.{AllZip-long}
+use Rattle.std.specs.Bool.{MatchBool}
 use Rattle.std.specs.List.{All, AllByRecursion, AllPairs, AllZip}
-use Rattle.std.specs.Option.{option_or}
+use Rattle.std.specs.Option.{is_some, option_or}
 use Rattle.std.specs.Prelude.{bytes_eq, ◌==◌, slice_get}
 use Rattle.explorer_model.specs.declared.archive.Batch.{Batch}
 use Rattle.explorer_model.specs.declared.archive.Classes.{Classes}
@@ -128,6 +131,51 @@ pub none_clash : (number : Numbering) (classes : List Classes) → clashes_of nu
     → All (λ c. number c.id.bytes ≡ None) classes
 none_clash number classes none =
     All-from_recursion (λ c. number c.id.bytes ≡ None) classes (none_from 0 number classes none)
+
+-- and no text clashes where no id has a number
+pub clashes_none : (place : ℕ) (number : Numbering) (classes : List Classes)
+    → AllByRecursion (λ (c : Classes). number c.id.bytes ≡ None) classes
+    → clashes_from place number (ids_of classes) ≡ []
+clashes_none place number [] none = refl
+clashes_none place number (c ∷ classes) none =
+    ap (λ o. and_clash place o (clashes_from (place + 1) number (ids_of classes))) none.0
+    ∙ clashes_none (place + 1) number classes none.1
+
+-- ---- whether an id has a number
+
+is_none : (o : Option ℕ) → is_some o ≡ false → o ≡ None
+is_none None e = refl
+is_none (Some n) e = absurd (false_true (sym e))
+
+-- the next game's id has none either
+pub none_more : (number : Numbering) (classes : List Classes) (i : ℕ) (game : Classes)
+    → slice_get classes i ≡ Some game → is_some (number game.id.bytes) ≡ false
+    → ((k : ℕ) → k < i → (d : Classes) → number (get_or classes k d).id.bytes ≡ None)
+    → (k : ℕ) → k < i + 1 → (d : Classes) → number (get_or classes k d).id.bytes ≡ None
+none_more number classes i game is none before =
+    below_more (λ k. (d : Classes) → number (get_or classes k d).id.bytes ≡ None) i before
+    (λ d. ap (λ (c : Classes). number c.id.bytes) (get_or_from_slice_get classes i game d is)
+    ∙ is_none (number game.id.bytes) none)
+
+-- no text clashes where no game's id has one
+pub none_clashing : (number : Numbering) (classes : List Classes) (n : ℕ) → length classes ≤ n
+    → ((k : ℕ) → k < n → (d : Classes) → number (get_or classes k d).id.bytes ≡ None)
+    → clashes_of number classes ≡ []
+none_clashing number classes n all none =
+    let each : All (λ (c : Classes). number c.id.bytes ≡ None) classes =
+    λ k d lt. none k (omega (arith, lt, all)) d in
+    clashes_none 0 number classes
+    (recursion_from_All (λ (c : Classes). number c.id.bytes ≡ None) classes each)
+
+-- a text clashes where the id of its game has one
+pub some_clash : (number : Numbering) (classes : List Classes) (i : ℕ) (game : Classes)
+    → slice_get classes i ≡ Some game → is_some (number game.id.bytes) ≡ true
+    → ¬ (clashes_of number classes ≡ [])
+some_clash number classes i game is some none =
+    let new : number game.id.bytes ≡ None =
+    ap (λ (c : Classes). number c.id.bytes) (sym (get_or_from_slice_get classes i game game is))
+    ∙ none_clash number classes none i game (slice_get_within classes i game is) in
+    false_true (sym (ap is_some new) ∙ some)
 
 -- ---- ids that differ
 
@@ -352,6 +400,11 @@ by_room [] journal batch over none is =
     ap (λ o. cond o (Some (HasNoRoom (game_count journal) (byte_count journal))) None) is
 by_room (pair ∷ pairs) journal batch over none is = absurd (cons_nil _ _ none)
 
+by_limit : (over : Bool) (k : Cause) (o : Option Cause) → o ≡ cond over (Some k) None
+    → MatchBool (not over) (o ≡ None) (¬ (o ≡ None))
+by_limit true k o is = λ none. some_none k (sym is ∙ none)
+by_limit false k o is = is
+
 module _ (one : OneGame) (journal : List Batch) (games : List Game) (register : Register)
     (is : IsRegisterOf journal register) (are : AreGamesOf journal games) (tally : Counted)
     (pairs : List Clashing) (pairs_are : pairs ≡ clashes_of (number_at register.ids) tally.classes) where
@@ -376,6 +429,19 @@ module _ (one : OneGame) (journal : List Batch) (games : List Game) (register : 
       ∙ by_room pairs journal tally.batch over none (over-same journal register tally.batch is ∙ room)
       ∙ ap (λ n. cond over (Some (HasNoRoom n (byte_count journal))) None) (sym is.games)
       ∙ ap (λ n. cond over (Some (HasNoRoom register.games n)) None) (sym is.bytes)
+
+  -- whether there is a cause, where texts of the batch have stored ids
+  pub not_taken : ¬ (pairs ≡ []) → ¬ (cause_of_new games journal tally ≡ None)
+  not_taken some none = some_none (HasIds pairs) (sym (judged_clash some) ∙ none)
+
+  -- and where none has
+  pub taken_by : pairs ≡ [] → (over : Bool)
+      → is_over (register.games + length tally.batch.texts) (register.bytes + text_bytes tally.batch) ≡ over
+      → MatchBool (not over) (cause_of_new games journal tally ≡ None)
+      (¬ (cause_of_new games journal tally ≡ None))
+  taken_by none over room =
+      by_limit over (HasNoRoom register.games register.bytes) (cause_of_new games journal tally)
+      (judged_room none over room)
 
 -- a list whose length is tested
 pub length_zero : (pairs : List Clashing) → (length pairs == 0) ≡ true → pairs ≡ []

@@ -1,10 +1,10 @@
 //! Which ids are stored, each with the number of its game.
-ghost use Rattle.std.specs.Prelude.{◌≡◌, ◌<◌, ◌≤◌, ◌+◌, ◌^◌, ◌∷◌, [], ℕ, List, Option, None, OnOk, length};
+ghost use Rattle.std.specs.Prelude.{◌≡◌, ◌<◌, ◌≤◌, ◌+◌, ◌^◌, ◌∷◌, [], ℕ, List, Option, None, OnOk, length, false, true};
 ghost use Rattle.std.specs.List.{All};
 ghost use Rattle.std.specs.Option.{option_or};
 ghost use Rattle.explorer_model.specs.Imports.{group_limit};
 ghost use Rattle.explorer_model.specs.Journal.{HaveDifferentIds};
-ghost use Rattle.ingest_desk.specs.Clashes.{clashes_from, ids_of, number_among};
+ghost use Rattle.ingest_desk.specs.Clashes.{clashes_from, clashes_of, ids_of, number_among};
 ghost use Rattle.ingest_desk.specs.IdTable.{number_at, room_of};
 
 use crate::clashing::Clashing;
@@ -57,6 +57,20 @@ impl Ids {
         for n in 0..segment.games() {
             self.add(&segment.classes(n).id, first + n);
         }
+    }
+
+    /// Whether a game of a segment has an id that is there.
+    pub(crate) fn has_any(&self, segment: &Segment) -> bool
+        ensures none { result ≡ false → clashes_of (number_at self.now) segment.now.classes ≡ [] }
+        ensures some { result ≡ true
+            → ¬ (clashes_of (number_at self.now) segment.now.classes ≡ []) }
+    {
+        for n in 0..segment.games() {
+            if self.find(&segment.classes(n).id).is_some() {
+                return true;
+            }
+        }
+        false
     }
 
     /// Puts in an id that is not there.

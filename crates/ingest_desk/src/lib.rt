@@ -13,6 +13,7 @@
 mod batches;
 mod clashing;
 mod commit;
+mod counting;
 mod fault;
 mod ids;
 mod importer;

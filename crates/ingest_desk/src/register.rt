@@ -1,5 +1,5 @@
 //! What is known of a journal where batches are to be stored behind it.
-ghost use Rattle.std.specs.Prelude.{◌≡◌, ◌≤◌, ◌++◌, ◌∷◌, [], ℕ, List, OnOk, length, sum_by};
+ghost use Rattle.std.specs.Prelude.{◌≡◌, ◌≤◌, ◌++◌, ◌∷◌, [], ℕ, List, MatchBool, None, OnOk, length, sum_by};
 ghost use Rattle.std.specs.List.{All};
 ghost use Rattle.explorer_model.specs.declared.archive.Batch.{Batch as ABatch};
 ghost use Rattle.explorer_model.specs.declared.archive.Game.{Game};
@@ -7,9 +7,10 @@ ghost use Rattle.explorer_model.specs.Cuts.{text_limit};
 ghost use Rattle.explorer_model.specs.Imports.{group_limit};
 ghost use Rattle.explorer_model.specs.Journal.{AreWithin};
 ghost use Rattle.explorer_model.specs.Visits.{AreGamesOf};
+ghost use Rattle.tally_rows.specs.Tally.{Counted, IsCounted};
 ghost use Rattle.ingest_desk.specs.Causes.{Judges, cause_of_new, is_over as passes_limit};
 ghost use Rattle.ingest_desk.specs.IdTable.{room_of};
-ghost use Rattle.ingest_desk.specs.Registers.{CanEnter, IsRegisterOf, IsSame};
+ghost use Rattle.ingest_desk.specs.Registers.{CanEnter, IsRegisterOf, IsSame, IsSegmentOf};
 
 use crate::batches::batch_of;
 use crate::clashing::Clashing;
@@ -94,6 +95,26 @@ impl Register {
             };
         }
         Verdict::Fits
+    }
+
+    /// Whether the batch of a segment can be stored behind the journal. It takes no memory.
+    pub(crate) fn takes(&self, segment: &Segment) -> bool
+        requires within { AreWithin self.now.games self.now.bytes }
+        requires counted { (tally : Counted) × IsCounted tally × IsSegmentOf tally segment.now }
+        ensures { (tally : Counted) → IsCounted tally → IsSegmentOf tally segment.now
+            → (journal : List ABatch) (games : List Game) → IsRegisterOf journal self.now
+            → AreGamesOf journal games
+            → MatchBool result (cause_of_new games journal tally ≡ None)
+            (¬ (cause_of_new games journal tally ≡ None)) }
+    {
+        game_is_determined();
+        if self.ids.has_any(segment) {
+            return false;
+        }
+        let batch = batch_of(segment, 0);
+        let games = self.games + u64::from(segment.games());
+        let bytes = self.bytes + bytes_of(batch.texts.as_slice());
+        !is_over(games, bytes)
     }
 
     /// Takes room for the ids of so many games.

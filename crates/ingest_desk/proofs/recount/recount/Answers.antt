@@ -1,85 +1,94 @@
-use Rattle.std.proofs.Common.{◌≡◌, ◌+◌, List, [], ◌∷◌, ◌++◌, map, sym, ap, ◌∙◌, subst, arith}
-use Rattle.std.proofs.lemmas.Grind.{common_steps}
+use Rattle.std.proofs.Common.{rules, List, [], ◌∷◌, ◌++◌, length, map, sym, ap, ◌∙◌, subst, arith}
 use Rattle.std.proofs.lemmas.List.{length-map, map-append}
 use Rattle.std.specs.Arc.{arc_value}
-use Rattle.std.specs.Vec.Iter.{into_iter_items}
-use Rattle.explorer_model.specs.declared.archive.Batch.{Batch}
 use Rattle.explorer_model.specs.Journal.{game_count}
-use Rattle.segment_blocks.specs.Segment.{CountedSpan}
 use Rattle.published_index.specs.Cover.{IsList, journal_of}
-use Rattle.ingest_desk.specs.Registers.{IsRegisterOf}
-use Rattle.ingest_desk.proofs.RecountLemmas.{counted_more, journal_more, list_more, unsound_at}
+use Rattle.ingest_desk.specs.declared.counting.CountedBatch.{CountedBatch}
+use Rattle.ingest_desk.specs.Recounts.{AllFrom, IsCountedAt}
+use Rattle.ingest_desk.proofs.CountingLemmas.{begins, journal-behind, list-behind, low-behind, next-in, reached, reaches-more, some-alone, stops-there}
 use Rattle.ingest_desk.proofs.recount.recount.Goals as goal
+
+pub loop-size-init : goal.loop-size-init
+loop-size-init g c =
+    begins c.args.journal.items c.new-register.result _ _ (ap (map arc_value) c.new-segments.ensures.items) c.new-register.ensures
+    (subst (λ (l : List CountedBatch). AllFrom IsCountedAt 0 c.args.journal.items l) (search rules) c.in_ok-items.ensures)
+
+pub fitting-requires-clause-counted : goal.fitting-requires-clause-counted
+fitting-requires-clause-counted g c =
+    let l = c.loop-size in
+    let is = l.invariant in
+    let one = c.in-Some.field-0 in
+    let next = next-in c.args.journal.items l.gate l.register _ _ _ one is c.in-Some.ensures.steps.0 in
+    some-alone arc_value (length is.so_far.before) next.batch one.segment next.at.segment
 
 pub returns-in_default : goal.returns-in_default
 returns-in_default g c =
-    let l = c.loop-batch in
-    let so_far = l.invariant.2 in
-    let unsound = rw c.in_default.is at (c.in_ok-segment.ensures so_far.before so_far.knows) in
-    unsound_at c.args.journal.items l.gate l.register (map arc_value l.segments.items)
-    (into_iter_items l.batch-iterator) (into_iter_items c.next.new.self) c.in-Some.batch so_far
-    c.in-Some.ensures.steps.0 unsound
+    let l = c.loop-size in
+    let is = l.invariant in
+    let one = c.in-Some.field-0 in
+    let first = c.in-Some.ensures.steps.0 in
+    let next = next-in c.args.journal.items l.gate l.register _ _ _ one is first in
+    stops-there c.args.journal.items l.gate l.register _ _ _ one is first
+    (rw c.in_default.is at (c.in_ok-segment.ensures is.so_far.before next.batch is.so_far.knows next.at.segment))
 
 pub join_due-requires-clause-list : goal.join_due-requires-clause-list
 join_due-requires-clause-list g c = λ κs within.
-    let l = c.loop-batch in
-    let so_far = l.invariant.2 in
+    let l = c.loop-size in
+    let is = l.invariant in
+    let one = c.in-Some.field-0 in
+    let first = c.in-Some.ensures.steps.0 in
+    let next = next-in c.args.journal.items l.gate l.register _ _ _ one is first in
     let segment = c.in-Some-2.segment in
-    let list : List CountedSpan = map arc_value l.segments.items in
-    let more = rw c.in-Some-2.is at (c.in_ok-segment.ensures so_far.before so_far.knows) in
+    let more = rw c.in-Some-2.is at (c.in_ok-segment.ensures is.so_far.before next.batch is.so_far.knows next.at.segment) in
     let items = c.push_reserved.ensures.items ∙ ap (λ xs. xs ++ segment ∷ []) c.in_ok-reserve.ensures.items in
-    let all : map arc_value c.push_reserved.new.self.items ≡ list ++ arc_value segment ∷ [] =
-    ap (map arc_value) items ∙ map-append arc_value l.segments.items (segment ∷ []) in
-    subst IsList (sym all)
-    (list_more c.args.journal.items l.gate l.register list
-    (into_iter_items l.batch-iterator) (into_iter_items c.next.new.self) c.in-Some.batch so_far
-    c.in-Some.ensures.steps.0 c.count.new.register (arc_value segment) more)
+    subst IsList (sym (ap (map arc_value) items ∙ map-append arc_value l.segments.items (segment ∷ [])))
+    (list-behind c.args.journal.items l.gate l.register _ _ _ one is first c.fitting.new.register (arc_value segment) more)
 
 pub join_due-requires-clause-within : goal.join_due-requires-clause-within
 join_due-requires-clause-within g c = λ κs within.
-    let l = c.loop-batch in
-    let so_far = l.invariant.2 in
+    let l = c.loop-size in
+    let is = l.invariant in
+    let one = c.in-Some.field-0 in
+    let first = c.in-Some.ensures.steps.0 in
+    let next = next-in c.args.journal.items l.gate l.register _ _ _ one is first in
     let segment = c.in-Some-2.segment in
-    let list : List CountedSpan = map arc_value l.segments.items in
-    let more = rw c.in-Some-2.is at (c.in_ok-segment.ensures so_far.before so_far.knows) in
+    let more = rw c.in-Some-2.is at (c.in_ok-segment.ensures is.so_far.before next.batch is.so_far.knows next.at.segment) in
     let items = c.push_reserved.ensures.items ∙ ap (λ xs. xs ++ segment ∷ []) c.in_ok-reserve.ensures.items in
-    let all : map arc_value c.push_reserved.new.self.items ≡ list ++ arc_value segment ∷ [] =
-    ap (map arc_value) items ∙ map-append arc_value l.segments.items (segment ∷ []) in
+    let all = ap (map arc_value) items ∙ map-append arc_value l.segments.items (segment ∷ []) in
     let whole = ap journal_of all
-    ∙ journal_more c.args.journal.items l.gate l.register list
-    (into_iter_items l.batch-iterator) (into_iter_items c.next.new.self) c.in-Some.batch so_far
-    c.in-Some.ensures.steps.0 c.count.new.register (arc_value segment) more in
+    ∙ journal-behind c.args.journal.items l.gate l.register _ _ _ one is first c.fitting.new.register (arc_value segment) more in
     omega (arith, ap game_count whole, more.knows.sound.within.0)
 
-pub loop-batch-preserved : goal.loop-batch-preserved
-loop-batch-preserved g c =
-    let l = c.loop-batch in
-    let so_far = l.invariant.2 in
+pub overflow_add-gate : goal.overflow_add-gate
+overflow_add-gate g c =
+    let l = c.loop-size in
+    let low = low-behind c.args.journal.items l.gate l.register _ _ _ c.in-Some.field-0 l.invariant c.in-Some.ensures.steps.0 c.requires.low in
+    omega (arith, low)
+
+pub overflow_add-gate-in-loop-size : goal.overflow_add-gate-in-loop-size
+overflow_add-gate-in-loop-size g c =
+    let l = c.loop-size in
+    let low = low-behind c.args.journal.items l.gate l.register _ _ _ c.in-Some.field-0 l.invariant c.in-Some.ensures.steps.0 c.requires.low in
+    omega (arith, low)
+
+pub loop-size-preserved : goal.loop-size-preserved
+loop-size-preserved g c =
+    let l = c.loop-size in
+    let is = l.invariant in
+    let one = c.in-Some.field-0 in
+    let first = c.in-Some.ensures.steps.0 in
+    let next = next-in c.args.journal.items l.gate l.register _ _ _ one is first in
     let segment = c.in-Some-2.segment in
-    let list : List CountedSpan = map arc_value l.segments.items in
-    let after : List CountedSpan = map arc_value c.join_due.new.segments.items in
-    let more = rw c.in-Some-2.is at (c.in_ok-segment.ensures so_far.before so_far.knows) in
+    let more = rw c.in-Some-2.is at (c.in_ok-segment.ensures is.so_far.before next.batch is.so_far.knows next.at.segment) in
     let items = c.push_reserved.ensures.items ∙ ap (λ xs. xs ++ segment ∷ []) c.in_ok-reserve.ensures.items in
-    let all : map arc_value c.push_reserved.new.self.items ≡ list ++ arc_value segment ∷ [] =
-    ap (map arc_value) items ∙ map-append arc_value l.segments.items (segment ∷ []) in
-    let joined = c.in_ok-join_due.ensures in (
-      tt,
-      tt,
-      counted_more c.args.journal.items l.gate l.register list
-          (into_iter_items l.batch-iterator) (into_iter_items c.next.new.self) c.in-Some.batch so_far
-          c.in-Some.ensures.steps.0 c.count.new.register (arc_value segment) after
-          (l.gate + (5 + c.payload_size-size.result)) more joined.list (joined.journal ∙ ap journal_of all)
-          (omega (arith, joined.few, length-map c.join_due.new.segments.items arc_value))
-          (ap (λ n. l.gate + (5 + n)) c.payload_size-size.ensures),
-    )
+    let all = ap (map arc_value) items ∙ map-append arc_value l.segments.items (segment ∷ []) in
+    let joined = c.in_ok-join_due.ensures in
+    reaches-more c.args.journal.items l.gate l.register _ _ _ one is first c.fitting.new.register (arc_value segment) more
+    (map arc_value c.join_due.new.segments.items) joined.list (joined.journal ∙ ap journal_of all)
+    (omega (arith, joined.few, length-map c.join_due.new.segments.items arc_value))
 
 pub returns : goal.returns
 returns g c =
-    let l = c.loop-batch in
-    let so_far = l.invariant.2 in
-    let are : c.args.journal.items ≡ so_far.before = grind (arith, common_steps) in
-    record {
-      knows = subst (λ (j : List Batch). IsRegisterOf j l.register) (sym are) so_far.knows;
-      list = so_far.list_is;
-      whole = so_far.whole ∙ sym are;
-    }
+    let l = c.loop-size in
+    reached c.args.journal.items l.gate _ l.size-iterator.rest.items
+    (sym l.size-iterator.rest.ok.0 ∙ c.in-None.ensures.steps.0) l.invariant

@@ -1,6 +1,6 @@
 use Rattle.std.proofs.Common.{◌≡◌, ◌+◌, ℕ, List, length, take, sum_by, ap, ◌∙◌, arith}
 use Rattle.ingest_desk.proofs.RecountLemmas.{payload_sum}
-use Rattle.ingest_desk.proofs.recount.payload_size.Goals as goal
+use Rattle.ingest_desk.proofs.counting.payload_size.Goals as goal
 
 pub returns : goal.returns
 returns c =

@@ -1,5 +1,5 @@
 use Rattle.std.proofs.Common.{◌≡◌, ◌≤◌, ◌+◌, ◌*◌, ℕ, List, length, take, sum_by}
-use Rattle.ingest_desk.proofs.recount.payload_size.Given as goal
+use Rattle.ingest_desk.proofs.counting.payload_size.Given as goal
 
 abbrev pub invariant-loop-text : goal.invariant-loop-text
 invariant-loop-text l = record {
