@@ -3,7 +3,6 @@ use Rattle.std.proofs.Common.{◌≡◌, ◌++◌, ◌≤◌, ℕ, zero, suc, tr
 use Rattle.std.specs.List.{AllZip, list_any}
 use Rattle.std.proofs.lemmas.List.{length-map}
 use Rattle.explorer_model.specs.declared.archive.Game.{Game}
-use Rattle.explorer_model.specs.Chess.{start}
 use Rattle.explorer_model.specs.Visits.{Stage, stages, stage_limit, counted_stages}
 use Rattle.tally_rows.specs.Games.{has_key, first_steps, single_at}
 use Rattle.tally_rows.specs.Tally.{IsStepOf}
@@ -40,12 +39,12 @@ first-steps-le earlier (step ∷ steps) =
       | false ↦ omega (arith, rest)
     ]
 
-pub singles-of : (game : Game) (steps : List Step) (singles : List Single) → AllZip IsStepAt (stages_within stage_limit start game.moves) steps
+pub singles-of : (game : Game) (steps : List Step) (singles : List Single) → AllZip IsStepAt (stages_within stage_limit game.root game.moves) steps
     → singles ≡ map (single_at game.classes 0) (first_steps [] (map step_as steps)) → AreSinglesOf game singles
 singles-of game steps singles stepped are =
     let track : Track = record { classes = game.classes; steps = map step_as steps } in
-    let steps_few : length steps ≤ 51 = (let e = few-steps (stages_within stage_limit start game.moves) steps stepped in
-    let f = length-take-le stage_limit (stages start game.moves) in omega (arith, e, f)) in
+    let steps_few : length steps ≤ 51 = (let e = few-steps (stages_within stage_limit game.root game.moves) steps stepped in
+    let f = length-take-le stage_limit (stages game.root game.moves) in omega (arith, e, f)) in
     let firsts = first-steps-le [] (map step_as steps) in
     let mapped = length-map steps step_as in
     let many = ap (λ l. length l) are in
@@ -56,7 +55,7 @@ singles-of game steps singles stepped are =
       few = omega (arith, many, of_firsts, firsts, mapped, steps_few);
     }
 
-pub singles-pushed : (game : Game) (steps lent : List Step) (before after : List Single) → AllZip IsStepAt (stages_within stage_limit start game.moves) steps → lent ≡ steps
+pub singles-pushed : (game : Game) (steps lent : List Step) (before after : List Single) → AllZip IsStepAt (stages_within stage_limit game.root game.moves) steps → lent ≡ steps
     → after ≡ before ++ map (single_at game.classes 0) (first_steps [] (map step_as lent)) → ArePushed game before after
 singles-pushed game steps lent before after stepped same pushed = record {
   own = map (single_at game.classes 0) (first_steps [] (map step_as steps));

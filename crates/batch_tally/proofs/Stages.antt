@@ -9,7 +9,7 @@ use Rattle.std.proofs.Math.ListN.{drop_of_length-le}
 use Rattle.std.proofs.Math.Seq.{drop-cons}
 use Rattle.explorer_model.specs.declared.chess.Move.{Move}
 use Rattle.explorer_model.specs.declared.chess.Position.{Position}
-use Rattle.explorer_model.specs.Chess.{start, after, Legal}
+use Rattle.explorer_model.specs.Chess.{after, Legal}
 use Rattle.explorer_model.specs.Keys.{key}
 use Rattle.explorer_model.specs.Tidy.{IsTidied}
 use Rattle.explorer_model.specs.Visits.{AreLegalFrom, Stage, stages, stage_limit}
@@ -55,15 +55,15 @@ take-last zero p some = absurd (omega (arith, some))
 take-last (suc zero) p some = refl
 take-last (suc (suc n)) p some = refl
 
-pub one-step : (moves : List Move) (board next : Position) (steps more : List Step) (ply : ℕ) (m : Move) (step : Step)
+pub one-step : (root : Position) (moves : List Move) (board next : Position) (steps more : List Step) (ply : ℕ) (m : Move) (step : Step)
     → ply < stage_limit → slice_get moves ply ≡ Some m → next ≡ after board m → more ≡ steps ++ step ∷ []
     → IsStepAt (record { position = board; next = Some m }) step
-    → Stepping moves board steps ply → Stepping moves next more (ply + 1)
-one-step moves board next steps more ply m step below is plays pushed at stepping =
+    → Stepping root moves board steps ply → Stepping root moves next more (ply + 1)
+one-step root moves board next steps more ply m step below is plays pushed at stepping =
     let left : drop ply moves ≡ m ∷ drop (ply + 1) moves = get-some moves ply m is in
     let L : List Move → Type 0 = λ ms. AreLegalFrom board ms in
     let B : Position → Type 0 = λ p. AreLegalFrom p (drop (ply + 1) moves) in
-    let Whole : List Step → Type 0 = λ s. AllZip IsStepAt (stages_within stage_limit start moves) s in
+    let Whole : List Step → Type 0 = λ s. AllZip IsStepAt (stages_within stage_limit root moves) s in
     let fewer : stage_limit - ply - 1 ≡ stage_limit - (ply + 1) = omega (arith, below) in
     let stages_are : stages_within (stage_limit - ply) board (drop ply moves)
     ≡ record { position = board; next = Some m } ∷ stages_within (stage_limit - (ply + 1)) next (drop (ply + 1) moves) =
@@ -79,29 +79,29 @@ one-step moves board next steps more ply m step below is plays pushed at steppin
           subst Whole joined (stepping.completes (step ∷ rest) (subst Z (sym stages_are) (at, zip))));
     }
 
-pub last-step : (moves : List Move) (board : Position) (steps more : List Step) (ply : ℕ) (step : Step)
+pub last-step : (root : Position) (moves : List Move) (board : Position) (steps more : List Step) (ply : ℕ) (step : Step)
     → ply < stage_limit → slice_get moves ply ≡ None → more ≡ steps ++ step ∷ []
     → IsStepAt (record { position = board; next = None }) step
-    → Stepping moves board steps ply → AllZip IsStepAt (stages_within stage_limit start moves) more
-last-step moves board steps more ply step below is pushed at stepping =
-    let Whole : List Step → Type 0 = λ s. AllZip IsStepAt (stages_within stage_limit start moves) s in
+    → Stepping root moves board steps ply → AllZip IsStepAt (stages_within stage_limit root moves) more
+last-step root moves board steps more ply step below is pushed at stepping =
+    let Whole : List Step → Type 0 = λ s. AllZip IsStepAt (stages_within stage_limit root moves) s in
     let Z : List Stage → Type 0 = λ ss. AllZip IsStepAt ss (step ∷ []) in
     let stages_are : stages_within (stage_limit - ply) board (drop ply moves) ≡ record { position = board; next = None } ∷ [] =
     ap (λ ms. stages_within (stage_limit - ply) board ms) (get-none moves ply is)
     ∙ take-last (stage_limit - ply) board (omega (arith, below)) in
     subst Whole (sym pushed) (stepping.completes (step ∷ []) (subst Z (sym stages_are) (at, tt)))
 
-pub all-steps : (moves : List Move) (board : Position) (steps : List Step) (ply : ℕ) → stage_limit ≤ ply
-    → Stepping moves board steps ply → AllZip IsStepAt (stages_within stage_limit start moves) steps
-all-steps moves board steps ply above stepping =
-    let Whole : List Step → Type 0 = λ s. AllZip IsStepAt (stages_within stage_limit start moves) s in
+pub all-steps : (root : Position) (moves : List Move) (board : Position) (steps : List Step) (ply : ℕ) → stage_limit ≤ ply
+    → Stepping root moves board steps ply → AllZip IsStepAt (stages_within stage_limit root moves) steps
+all-steps root moves board steps ply above stepping =
+    let Whole : List Step → Type 0 = λ s. AllZip IsStepAt (stages_within stage_limit root moves) s in
     let Z : List Stage → Type 0 = λ ss. AllZip IsStepAt ss [] in
     let none : stages_within (stage_limit - ply) board (drop ply moves) ≡ [] =
     take-nothing (stage_limit - ply) (stages board (drop ply moves)) (omega (arith, above)) in
     subst Whole (append-nil steps) (stepping.completes [] (subst Z (sym none) tt))
 
-pub begins : (moves : List Move) (board : Position) (steps : List Step) → board ≡ start → steps ≡ [] → AreLegalFrom start moves → Stepping moves board steps 0
-begins moves board steps at_start none legal =
-    let P : Position → Type 0 = λ p. Stepping moves p steps 0 in
-    let Q : List Step → Type 0 = λ s. Stepping moves start s 0 in
-    subst P (sym at_start) (subst Q (sym none) (record { legal = legal; completes = λ rest zip. zip }))
+pub begins : (root : Position) (moves : List Move) (board : Position) (steps : List Step) → board ≡ root → steps ≡ [] → AreLegalFrom root moves → Stepping root moves board steps 0
+begins root moves board steps at_root none legal =
+    let P : Position → Type 0 = λ p. Stepping root moves p steps 0 in
+    let Q : List Step → Type 0 = λ s. Stepping root moves root s 0 in
+    subst P (sym at_root) (subst Q (sym none) (record { legal = legal; completes = λ rest zip. zip }))

@@ -3,7 +3,6 @@ use Rattle.std.specs.Prelude.{ℕ, ◌-◌, List, ◌++◌, take, drop}
 use Rattle.std.specs.List.{AllZip}
 use Rattle.explorer_model.specs.declared.chess.Move.{Move}
 use Rattle.explorer_model.specs.declared.chess.Position.{Position}
-use Rattle.explorer_model.specs.Chess.{start}
 use Rattle.explorer_model.specs.Visits.{AreLegalFrom, Stage, stages, stage_limit}
 use Rattle.tally_rows.specs.Track as tracks
 use Rattle.tally_rows.specs.Tally.{IsStepOf}
@@ -20,9 +19,9 @@ abbrev pub stages_within : ℕ → Position → List Move → List Stage
 stages_within most p moves = take most (stages p moves)
 
 -- the first ply stages are made: what the rest gives from the board completes the steps
-pub record Stepping (moves : List Move) (board : Position) (steps : List Step)
+pub record Stepping (root : Position) (moves : List Move) (board : Position) (steps : List Step)
     (ply : ℕ) : Type 0 where
   pub legal : AreLegalFrom board (drop ply moves)
   pub completes : (rest : List Step)
       → AllZip IsStepAt (stages_within (stage_limit - ply) board (drop ply moves)) rest
-      → AllZip IsStepAt (stages_within stage_limit start moves) (steps ++ rest)
+      → AllZip IsStepAt (stages_within stage_limit root moves) (steps ++ rest)

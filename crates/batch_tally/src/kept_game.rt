@@ -1,7 +1,8 @@
-//! A game whose moves are let go as soon as its positions are counted.
+//! A game whose root and moves are let go as soon as its positions are counted.
 ghost use Rattle.std.specs.Prelude.{◌≡◌};
 
 use explorer_model::archive::{Classes, Game, Moves};
+use explorer_model::chess::Position;
 use std::marker::Model;
 use std::snapshot::Snapshot;
 
@@ -10,6 +11,7 @@ use std::snapshot::Snapshot;
 #[derive(Drop)]
 pub struct KeptGame {
     classes: Classes,
+    root: Snapshot<Position>,
     moves: Snapshot<Moves>,
 }
 
@@ -18,20 +20,30 @@ impl Model for KeptGame {
 
     ghost Value = { Game };
 
-    ghost view = { λ kept. record { classes = kept.classes; moves = kept.moves.value } };
+    ghost view = { λ kept. record {
+      classes = kept.classes;
+      root = kept.root.value;
+      moves = kept.moves.value;
+    } };
 }
 
 impl KeptGame {
-    /// Lets the moves of the game go.
+    /// Lets the root and the moves of the game go.
     pub fn of(game: Game) -> KeptGame
         ensures { result ≡ game }
     {
         let Game {
             classes,
+            root: begun,
             moves: played,
         } = game;
+        let root = Snapshot::of(&begun);
         let moves = Snapshot::of(&played);
-        KeptGame { classes, moves }
+        KeptGame {
+            classes,
+            root,
+            moves,
+        }
     }
 
     pub fn classes(&self) -> &Classes

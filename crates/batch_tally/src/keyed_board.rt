@@ -2,7 +2,7 @@
 ghost use Rattle.std.specs.Prelude.{◌≡◌, List, Option, length};
 ghost use Rattle.explorer_model.specs.declared.chess.Piece.{Piece};
 ghost use Rattle.explorer_model.specs.Board.{piece_at};
-ghost use Rattle.explorer_model.specs.Chess.{Legal, after, arriving, squares_after, start};
+ghost use Rattle.explorer_model.specs.Chess.{IsValid, Legal, after, arriving, squares_after};
 ghost use Rattle.explorer_model.specs.Keys.{packed};
 ghost use Rattle.explorer_model.specs.Tidy.{IsTidyKey};
 ghost use Rattle.batch_tally.specs.KeyedBoard.{moved};
@@ -39,12 +39,13 @@ impl Model for KeyedBoard {
 }
 
 impl KeyedBoard {
-    /// The starting position (FIDE 2.3), with all four rights.
-    pub fn start() -> KeyedBoard
-        ensures { result ≡ start }
+    /// The board of a valid position.
+    pub fn of(position: &Position) -> KeyedBoard
+        requires { IsValid position.now }
+        ensures { result ≡ position.now }
     {
-        let board = Board::start();
-        let bytes = pack_squares(&board.as_position().squares);
+        let board = Board::of_valid(*position);
+        let bytes = pack_squares(&position.squares);
         KeyedBoard { board, bytes }
     }
 

@@ -13,6 +13,7 @@ use crate::singles::{Count, part_of, push_singles, run_count};
 use crate::steps::STAGE_LIMIT;
 use explorer_model::archive::{Bytes, Placed};
 use explorer_model::fault::{GameFault, Stop};
+use game_replay::laws::games_begin_validly;
 use game_replay::replay;
 use outside::Gate;
 use side_by_side::map_taken;
@@ -170,6 +171,7 @@ fn read(alloc: Global, singles: &mut Vec<Single>, text: &Placed) -> Result<RunPa
     requires { length text.now.bytes ≤ text_limit }
     ensures { IfOk result (IsReadBehind singles.old.items singles.new.items text.now) }
 {
+    games_begin_validly();
     let from = singles.as_slice().len();
     match replay(alloc, text.bytes.as_slice()) {
         Ok(game) => {

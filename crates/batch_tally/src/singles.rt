@@ -2,6 +2,7 @@
 ghost use Rattle.std.specs.Prelude.{◌≡◌, ◌<◌, [], ◌++◌, map, take, drop, IfOk, OnOk};
 ghost use Rattle.std.specs.Arc.{arc_value};
 ghost use Rattle.std.specs.List.{list_any};
+ghost use Rattle.explorer_model.specs.Chess.{IsValid};
 ghost use Rattle.explorer_model.specs.Visits.{AreLegal};
 ghost use Rattle.tally_rows.specs.Games.{has_key, first_steps, single_at};
 ghost use Rattle.tally_rows.specs.Tallied.{mover_rating};
@@ -88,10 +89,11 @@ pub fn run_count(alloc: Global, singles: Vec<Single>) -> Result<Arc<RunCount>, A
 
 /// Puts what a game counts for behind the others.
 pub fn push_singles(alloc: Global, singles: &mut Vec<Single>, game: &Game) -> Result<(), AllocError>
-    requires { AreLegal game.now }
+    requires valid { IsValid game.now.root }
+    requires legal { AreLegal game.now }
     ensures { OnOk result (ArePushed game.now singles.old.items singles.new.items) }
 {
-    let steps = steps_of(alloc, game.moves.as_slice())?;
+    let steps = steps_of(alloc, &game.root, game.moves.as_slice())?;
     push_first_visits(singles, &game.classes, steps.as_slice())
 }
 

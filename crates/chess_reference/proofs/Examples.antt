@@ -340,7 +340,7 @@ open-game : Position
 open-game = fen (codes "rnbqkbnr/pppp1ppp/8/4p3/4P3/8/PPPP1PPP/RNBQKBNR w KQkq -")
 
 game-of : Classes → List (List ℕ) → Game
-game-of classes texts = record { classes = classes; moves = moves-of texts }
+game-of classes texts = record { classes = classes; root = start; moves = moves-of texts }
 
 at-ply-50 : (classes : Classes) → IsGameAt open-game (game-of classes (knights ++ (codes "e2e4" ∷ codes "e7e5" ∷ codes "g1f3" ∷ [])))
     (record { classes = classes; visit = Some (Some (uci (codes "g1f3"))) })

@@ -37,47 +37,47 @@ no_fault one text game fault is bad =
 -- ---- moves one behind another
 
 -- the board stands where the moves from a place on lead to the same position
-pub record Playing (moves : List Move) (board : Position) (i : ℕ) : Type 0 where
+pub record Playing (root : Position) (moves : List Move) (board : Position) (i : ℕ) : Type 0 where
   pub legal : AreLegalFrom board (drop i moves)
-  pub leads : position_behind board (drop i moves) ≡ position_behind start moves
+  pub leads : position_behind board (drop i moves) ≡ position_behind root moves
 
-pub plays_first : (moves : List Move) (board : Position) → board ≡ start → AreLegalFrom start moves → Playing moves board 0
-plays_first moves board is legal = subst (λ (p : Position). Playing moves p 0) (sym is) (record { legal = legal; leads = refl })
+pub plays_first : (root : Position) (moves : List Move) (board : Position) → board ≡ root → AreLegalFrom root moves → Playing root moves board 0
+plays_first root moves board is legal = subst (λ (p : Position). Playing root moves p 0) (sym is) (record { legal = legal; leads = refl })
 
 -- the move at a place, and those behind it
 pub next_move : (moves : List Move) (i : ℕ) (m : Move) → i < length moves → m ≡ slice_index_or moves i m → drop i moves ≡ m ∷ drop (i + 1) moves
 next_move moves i m lt is = drop_more moves i m lt ∙ ap (λ (x : Move). x ∷ drop (i + 1) moves) (sym is)
 
-pub next_legal : (moves : List Move) (board : Position) (i : ℕ) (m : Move) → Playing moves board i → drop i moves ≡ m ∷ drop (i + 1) moves → Legal board m
-next_legal moves board i m playing next = (subst (λ (l : List Move). AreLegalFrom board l) next playing.legal).0
+pub next_legal : (root : Position) (moves : List Move) (board : Position) (i : ℕ) (m : Move) → Playing root moves board i → drop i moves ≡ m ∷ drop (i + 1) moves → Legal board m
+next_legal root moves board i m playing next = (subst (λ (l : List Move). AreLegalFrom board l) next playing.legal).0
 
-pub plays_next : (moves : List Move) (board played : Position) (i : ℕ) (m : Move) → Playing moves board i → drop i moves ≡ m ∷ drop (i + 1) moves → played ≡ after board m → Playing moves played (i + 1)
-plays_next moves board played i m playing next is =
-    subst (λ (p : Position). Playing moves p (i + 1)) (sym is)
+pub plays_next : (root : Position) (moves : List Move) (board played : Position) (i : ℕ) (m : Move) → Playing root moves board i → drop i moves ≡ m ∷ drop (i + 1) moves → played ≡ after board m → Playing root moves played (i + 1)
+plays_next root moves board played i m playing next is =
+    subst (λ (p : Position). Playing root moves p (i + 1)) (sym is)
     (record {
       legal = (subst (λ (l : List Move). AreLegalFrom board l) next playing.legal).1;
       leads = sym (ap (position_behind board) next) ∙ playing.leads;
     })
 
-pub plays_all : (moves : List Move) (board : Position) (i : ℕ) → Playing moves board i → drop i moves ≡ [] → board ≡ position_behind start moves
-plays_all moves board i playing none = sym (ap (position_behind board) none) ∙ playing.leads
+pub plays_all : (root : Position) (moves : List Move) (board : Position) (i : ℕ) → Playing root moves board i → drop i moves ≡ [] → board ≡ position_behind root moves
+plays_all root moves board i playing none = sym (ap (position_behind board) none) ∙ playing.leads
 
 -- ---- what is written
 
 -- the text reads as the position behind the moves of each game that the text has
 pub tells_end : OneGame → ((p : Position) → IsValid p → FenReads (fen_text p) (Ok p)) → (text fen : List ℕ) (played game : Game) (board : Position) → IsTextOf text played → IsTextOf text game
-    → board ≡ position_behind start played.moves → IsValid board → fen ≡ fen_text board → FenReads fen (Ok (position_behind start game.moves))
+    → board ≡ position_behind played.root played.moves → IsValid board → fen ≡ fen_text board → FenReads fen (Ok (position_behind game.root game.moves))
 tells_end one written text fen played game board is also behind valid fen_is =
     let same = one_game one text played game is also in
     let R : List ℕ → Position → Type 0 = λ t p. FenReads t (Ok p) in
-    subst (λ (g : Game). R fen (position_behind start g.moves)) same
+    subst (λ (g : Game). R fen (position_behind g.root g.moves)) same
     (subst (λ (p : Position). R fen p) behind (subst (λ (t : List ℕ). R t board) (sym fen_is) (written board valid)))
 
 -- and it is what is written of that position
-pub writes_end : OneGame → (text fen : List ℕ) (played game : Game) (board : Position) → IsTextOf text played → IsTextOf text game → board ≡ position_behind start played.moves → fen ≡ fen_text board
-    → fen ≡ fen_text (position_behind start game.moves)
+pub writes_end : OneGame → (text fen : List ℕ) (played game : Game) (board : Position) → IsTextOf text played → IsTextOf text game → board ≡ position_behind played.root played.moves → fen ≡ fen_text board
+    → fen ≡ fen_text (position_behind game.root game.moves)
 writes_end one text fen played game board is also behind fen_is =
-    fen_is ∙ ap fen_text behind ∙ ap (λ (g : Game). fen_text (position_behind start g.moves)) (one_game one text played game is also)
+    fen_is ∙ ap fen_text behind ∙ ap (λ (g : Game). fen_text (position_behind g.root g.moves)) (one_game one text played game is also)
 
 -- ---- the last sample
 
@@ -92,5 +92,6 @@ last_readable has first before behind texts earlier text are short is =
       short = omega (arith, last_short earlier text (subst AreShort is short));
       game = game.game;
       is_game = game.of_text;
-      legal = subst (λ (moves : List Move). AreLegalFrom start moves) (sym game.moves_are) drawing.legal;
+      legal = subst (λ (root : Position). AreLegalFrom root game.game.moves) (sym game.root_is)
+          (subst (λ (moves : List Move). AreLegalFrom start moves) (sym game.moves_are) drawing.legal);
     }

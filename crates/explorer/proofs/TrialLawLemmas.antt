@@ -10,7 +10,6 @@ use Rattle.explorer_model.specs.declared.archive.Game.{Game}
 use Rattle.explorer_model.specs.declared.fault.Refusal.{Refusal}
 use Rattle.explorer_model.specs.declared.query.BadParameter.{BadParameter}
 use Rattle.explorer_model.specs.declared.query.Query.{Query}
-use Rattle.explorer_model.specs.Chess.{start}
 use Rattle.explorer_model.specs.Cuts.{cuts}
 use Rattle.explorer_model.specs.Fen.{fen_text}
 use Rattle.explorer_model.specs.Finds.{IsFound}
@@ -61,7 +60,7 @@ same_fen : OneGame → (texts : List (List ℕ)) (fen fen' : List ℕ) → Tells
 same_fen one texts fen fen' a b =
     let text : a.text ≡ b.text = same_last a.earlier b.earlier a.text b.text (sym a.texts_are ∙ b.texts_are) in
     let game : a.game ≡ b.game = one_game one b.text a.game b.game (subst (λ (t : List ℕ). IsTextOf t a.game) text a.is_game) b.is_game in
-    a.fen_is ∙ ap (λ (g : Game). fen_text (position_behind start g.moves)) game ∙ sym b.fen_is
+    a.fen_is ∙ ap (λ (g : Game). fen_text (position_behind g.root g.moves)) game ∙ sym b.fen_is
 
 -- ---- what is stored and found
 

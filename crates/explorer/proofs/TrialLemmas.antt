@@ -10,7 +10,6 @@ use Rattle.explorer_model.specs.declared.archive.Batch.{Batch}
 use Rattle.explorer_model.specs.declared.archive.Game.{Game}
 use Rattle.explorer_model.specs.declared.archive.Placed.{Placed}
 use Rattle.explorer_model.specs.declared.fault.Refusal.{Refusal}
-use Rattle.explorer_model.specs.Chess.{start}
 use Rattle.explorer_model.specs.Cuts.{cuts}
 use Rattle.explorer_model.specs.declared.query.Query.{Query}
 use Rattle.explorer_model.specs.Fen.{FenReads, fen_text}
@@ -202,8 +201,8 @@ module _ (games seed : ℕ) (stream last : List ℕ) (draws : Lcg) (are : AreDra
     drawn_readable has = last_readable has 0 (generator seed) draws are.texts last_of.0 last are.drawn are.short last_of.1
 
     -- what is told of them
-    pub tells_trial : IsReadable last → (tried : Tried) → IsTriedOf are.texts tried → (fen lines : List ℕ) → ((game : Game) → IsTextOf last game → FenReads fen (Ok (position_behind start game.moves)))
-        → ((game : Game) → IsTextOf last game → fen ≡ fen_text (position_behind start game.moves)) → lines ≡ summary games tried.batches tried.segments tried.totals fen → TellsTrial games seed lines
+    pub tells_trial : IsReadable last → (tried : Tried) → IsTriedOf are.texts tried → (fen lines : List ℕ) → ((game : Game) → IsTextOf last game → FenReads fen (Ok (position_behind game.root game.moves)))
+        → ((game : Game) → IsTextOf last game → fen ≡ fen_text (position_behind game.root game.moves)) → lines ≡ summary games tried.batches tried.segments tried.totals fen → TellsTrial games seed lines
     tells_trial readable tried (batches, stores, over) fen lines reads written is = record {
       texts = are.texts;
       are_samples = record { behind = draws; drawn = are.drawn; count = are.count };

@@ -9,7 +9,7 @@ use Rattle.explorer_model.specs.declared.archive.Game.{Game}
 use Rattle.explorer_model.specs.declared.chess.Move.{Move}
 use Rattle.explorer_model.specs.declared.chess.Position.{Position}
 use Rattle.explorer_model.specs.declared.query.Query.{Query}
-use Rattle.explorer_model.specs.Chess.{after, start}
+use Rattle.explorer_model.specs.Chess.{after}
 use Rattle.explorer_model.specs.Cuts.{cuts}
 use Rattle.explorer_model.specs.Fen.{FenReads, fen_text}
 use Rattle.explorer_model.specs.Finds.{IsFound}
@@ -72,8 +72,8 @@ pub record TellsLast (texts : List (List ℕ)) (fen : List ℕ) : Type 0 where
   pub texts_are : texts ≡ earlier ++ text ∷ []
   pub game : Game
   pub is_game : IsTextOf text game
-  pub fen_is : fen ≡ fen_text (position_behind start game.moves)
-  pub reads : FenReads fen (Ok (position_behind start game.moves))
+  pub fen_is : fen ≡ fen_text (position_behind game.root game.moves)
+  pub reads : FenReads fen (Ok (position_behind game.root game.moves))
 
 -- ---- what is printed
 

@@ -3,7 +3,7 @@ ghost use Rattle.std.specs.Prelude.{◌≡◌, ◌≤◌, ◌++◌, ℕ, List, O
 ghost use Rattle.outside.specs.Stream.{Stream};
 ghost use Rattle.host.specs.Hosts.{HostState};
 ghost use Rattle.explorer_model.specs.declared.archive.Game.{Game as AGame};
-ghost use Rattle.explorer_model.specs.Chess.{IsValid, start};
+ghost use Rattle.explorer_model.specs.Chess.{IsValid};
 ghost use Rattle.explorer_model.specs.Fen.{FenReads, fen_text};
 ghost use Rattle.explorer_model.specs.Query.{QueryReads};
 ghost use Rattle.explorer_model.specs.Visits.{AreLegalFrom, IsTextOf};
@@ -26,12 +26,12 @@ use arrayvec::ArrayVec;
 use disk_model::Unkept;
 use explorer_model::answer::Totals;
 use explorer_model::archive::Bytes;
-use explorer_model::chess::Move;
+use explorer_model::chess::{Move, Position};
 use explorer_model::fault::Stop;
 use explorer_model::query::Query;
 use fen_uci::laws::written_fen_is_read;
 use fen_uci::write_fen;
-use game_replay::laws::game_is_determined;
+use game_replay::laws::{game_is_determined, games_begin_validly};
 use game_replay::replay;
 use import_run::laws::new_games_are_stored;
 use import_run::{Drained, Merging, ending_of, import_and_tell, merge_due};
@@ -125,30 +125,32 @@ fn draw_samples(alloc: Global, games: u32, seed: u64) -> Result<Samples, AllocEr
 fn last_fen(alloc: Global, text: &[u8]) -> Result<ArrayVec<u8, 96>, AllocError>
     requires { IsReadable text.now }
     ensures reads { IfOk result (λ fen. (game : AGame) → IsTextOf text.now game
-        → FenReads fen.items (Ok (position_behind start game.moves))) }
+        → FenReads fen.items (Ok (position_behind game.root game.moves))) }
     ensures written { IfOk result (λ fen. (game : AGame) → IsTextOf text.now game
-        → fen.items ≡ fen_text (position_behind start game.moves)) }
+        → fen.items ≡ fen_text (position_behind game.root game.moves)) }
 {
-    // laws: a text has one game; what is written of a valid position is read
+    // laws: a text has one game, which begins in a valid position; what is written of a valid position is read
     game_is_determined();
+    games_begin_validly();
     written_fen_is_read();
     let game = match replay(alloc, text) {
         Ok(game) => game,
         Err(Stop::OutOfMemory) => return Err(AllocError),
         Err(Stop::Fault(_)) => unreachable!(),
     };
-    let board = board_behind(game.moves.as_slice());
+    let board = board_behind(&game.root, game.moves.as_slice());
     // The position of a board is valid.
     let _position = board.position();
     Ok(write_fen(&board))
 }
 
-/// The board behind the moves of a game.
-fn board_behind(moves: &[Move]) -> Board
-    requires { AreLegalFrom start moves.now }
-    ensures { result ≡ position_behind start moves.now }
+/// The board behind the moves of a game that begins in this position.
+fn board_behind(root: &Position, moves: &[Move]) -> Board
+    requires valid { IsValid root.now }
+    requires legal { AreLegalFrom root.now moves.now }
+    ensures { result ≡ position_behind root.now moves.now }
 {
-    let mut board = Board::start();
+    let mut board = Board::of_valid(*root);
     for step in moves {
         board.play_on(*step);
     }

@@ -156,7 +156,7 @@ unfolding groups
 one-group = refl
 
 read : ℕ → ℕ → Examination
-read place number = Read (record { place = place; text = []; game = Ok (record { classes = game number 1500 1 outcomes.White; moves = [] }) })
+read place number = Read (record { place = place; text = []; game = Ok (record { classes = game number 1500 1 outcomes.White; root = start; moves = [] }) })
 
 unread : ℕ → Examination
 unread place = Read (record { place = place; text = []; game = Err NoTermination })

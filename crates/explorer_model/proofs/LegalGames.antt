@@ -6,8 +6,8 @@ use Rattle.explorer_model.specs.declared.chess.Move.{Move}
 use Rattle.explorer_model.specs.declared.chess.Position.{Position}
 use Rattle.explorer_model.specs.declared.fault.GameFault.{GameFault}
 use Rattle.explorer_model.specs.declared.notation.SanForm.{SanForm}
-use Rattle.explorer_model.specs.Chess.{start, after, Legal}
-use Rattle.explorer_model.specs.Games.{Score, score, Plays, GameOfScore}
+use Rattle.explorer_model.specs.Chess.{after, Legal}
+use Rattle.explorer_model.specs.Games.{Score, Plays, GameOfScore}
 use Rattle.explorer_model.specs.San.{AnswersAs, san_form}
 use Rattle.explorer_model.specs.Visits.{IsTextOf, AreLegalFrom, AreLegal}
 use Rattle.explorer_model.proofs.Readings.{Err-not-Ok, Ok-injective, map-ok}
@@ -29,10 +29,10 @@ plays-legal p ply (token ∷ tokens) moves (inr failed) = absurd (Err-not-Ok _ m
 score-legal : (reading : Result Score GameFault) (game : Game) → GameOfScore reading (Ok game) → AreLegal game
 score-legal (Err fault) game is = absurd (Err-not-Ok fault game (sym is))
 score-legal (Ok found) game of =
-    let moves = map-ok (λ ms. record { classes = found.classes; moves = ms }) (λ fault. fault) of.0 game (sym of.2) in
-    let R : Result (List Move) GameFault → Type 0 = λ r. Plays start 1 found.tokens r in
+    let moves = map-ok (λ ms. record { classes = found.classes; root = found.root; moves = ms }) (λ fault. fault) of.0 game (sym of.2) in
+    let R : Result (List Move) GameFault → Type 0 = λ r. Plays found.root 1 found.tokens r in
     let G : Game → Type 0 = λ g. AreLegal g in
-    subst G moves.2 (plays-legal start 1 found.tokens moves.0 (subst R moves.1 of.1))
+    subst G moves.2 (plays-legal found.root 1 found.tokens moves.0 (subst R moves.1 of.1))
 
 pub game-legal : (text : List ℕ) (game : Game) → IsTextOf text game → AreLegal game
-game-legal text game of = score-legal (score text) game of
+game-legal text game of = score-legal of.0 game of.2

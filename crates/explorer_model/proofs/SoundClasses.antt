@@ -10,14 +10,15 @@ use Rattle.std.specs.Str.{IsAscii, byte}
 use Rattle.explorer_model.specs.declared.archive.Game.{Game}
 use Rattle.explorer_model.specs.declared.archive.GameId.{GameId}
 use Rattle.explorer_model.specs.declared.archive.Tag.{Tag}
+use Rattle.explorer_model.specs.declared.chess.Position.{Position}
 use Rattle.explorer_model.specs.declared.fault.GameFault.{GameFault}
 use Rattle.explorer_model.specs.declared.fault.GameFault.TheVariants as faults
 use Rattle.explorer_model.specs.declared.fault.TagFault.TheVariants.{NotStandard, SetUp, Bad}
 use Rattle.explorer_model.specs.declared.fault.TagName.{TagName}
 use Rattle.explorer_model.specs.declared.fault.TagName.TheVariants as names
-use Rattle.explorer_model.specs.Classes.{classes, group_of, floor_of, floors, demand, is_standard, is_from_start, required, asked, id_of, name_of, outcome_of, rating_of, number_of, control_of, date_name, month_of}
+use Rattle.explorer_model.specs.Classes.{classes, group_of, floor_of, floors, demand, is_standard, agrees_on_set_up, required, asked, id_of, name_of, outcome_of, rating_of, number_of, control_of, date_name, month_of}
 use Rattle.explorer_model.specs.Counting.{group_place}
-use Rattle.explorer_model.specs.Games.{Score, score, GameOfScore, ends_with, ply_limit}
+use Rattle.explorer_model.specs.Games.{Tagged, tagged, Score, score, ScoreOfTagged, GameOfScore, ends_with, ply_limit}
 use Rattle.explorer_model.specs.Parts.{parts}
 use Rattle.explorer_model.specs.SoundClasses.{IsMonth, AreSoundClasses}
 use Rattle.explorer_model.specs.Visits.{IsTextOf}
@@ -118,7 +119,7 @@ classes-sound : (tags : List Tag) → IfOk (classes tags) AreSoundClasses
 unfolding classes
 classes-sound tags =
     bind-if AreSoundClasses (demand (is_standard tags) NotStandard) _ (λ _.
-    bind-if AreSoundClasses (demand (is_from_start tags) SetUp) _ (λ _.
+    bind-if AreSoundClasses (demand (agrees_on_set_up tags) SetUp) _ (λ _.
     bind-if AreSoundClasses (required names.Event tags) _ (λ event.
     bind-if-given HasAsciiId AreSoundClasses (asked names.Site id_of tags) _
     (asked-has HasAsciiId names.Site id_of tags id-ascii) (λ id of_id.
@@ -140,26 +141,40 @@ classes-sound tags =
       month = of_month;
     }))))))))))))
 
+abbrev IsSoundlyTagged : Tagged → Type 0
+IsSoundlyTagged found = AreSoundClasses found.classes
+
+tagged-sound : (text : List ℕ) → IfOk (tagged text) IsSoundlyTagged
+unfolding tagged
+tagged-sound text =
+    bind-if IsSoundlyTagged (result_map_both (λ parts. parts) (λ fault. faults.Lex fault.place) (parts text)) _ (λ parts.
+    bind-if-given AreSoundClasses IsSoundlyTagged (result_map_both (λ classes. classes) faults.Tag (classes parts.tags)) _
+    (if-map AreSoundClasses AreSoundClasses (λ c. c) faults.Tag (classes parts.tags) (λ c has. has) (classes-sound parts.tags)) (λ found has. has))
+
 abbrev HasSoundClasses : Score → Type 0
 HasSoundClasses found = AreSoundClasses found.classes
 
-score-sound : (text : List ℕ) → IfOk (score text) HasSoundClasses
+score-sound : (found : Tagged) (root : Position) → IsSoundlyTagged found → IfOk (score found root) HasSoundClasses
 unfolding score
-score-sound text =
-    bind-if HasSoundClasses (result_map_both (λ parts. parts) (λ fault. faults.Lex fault.place) (parts text)) _ (λ parts.
-    bind-if-given AreSoundClasses HasSoundClasses (result_map_both (λ classes. classes) faults.Tag (classes parts.tags)) _
-    (if-map AreSoundClasses AreSoundClasses (λ c. c) faults.Tag (classes parts.tags) (λ c has. has) (classes-sound parts.tags)) (λ found has.
-    bind-if HasSoundClasses (ok_or parts.termination faults.NoTermination) _ (λ ending.
-    bind-if HasSoundClasses (demand (ends_with found.outcome ending) faults.ResultDiffers) _ (λ _.
-    bind-if HasSoundClasses (demand (nat_le (length parts.tokens) ply_limit) faults.TooManyPlies) _ (λ _. has)))))
+score-sound found root has =
+    bind-if HasSoundClasses (ok_or found.parts.termination faults.NoTermination) _ (λ ending.
+    bind-if HasSoundClasses (demand (ends_with found.classes.outcome ending) faults.ResultDiffers) _ (λ _.
+    bind-if HasSoundClasses (demand (nat_le (length found.parts.tokens) ply_limit) faults.TooManyPlies) _ (λ _. has)))
+
+scored-sound : (reading : Result Tagged GameFault) (scored : Result Score GameFault) → IfOk reading IsSoundlyTagged → ScoreOfTagged reading scored
+    → IfOk scored HasSoundClasses
+scored-sound (Err fault) scored has is = let P : Result Score GameFault → Type 0 = λ r. IfOk r HasSoundClasses in subst P (sym is) tt
+scored-sound (Ok found) scored has of =
+    let P : Result Score GameFault → Type 0 = λ r. IfOk r HasSoundClasses in
+    subst P (sym of.2) (bind-if HasSoundClasses of.0 (λ p. score found p) (λ p. score-sound found p has))
 
 game-by : (reading : Result Score GameFault) (game : Game) → IfOk reading HasSoundClasses → GameOfScore reading (Ok game)
     → AreSoundClasses game.classes
 game-by (Err fault) game holds of = absurd (Err-not-Ok fault game (sym of))
 game-by (Ok found) game holds of =
-    let played = map-ok (λ moves. record { classes = found.classes; moves = moves }) (λ fault. fault) of.0 game (sym of.2) in
+    let played = map-ok (λ moves. record { classes = found.classes; root = found.root; moves = moves }) (λ fault. fault) of.0 game (sym of.2) in
     let P : Game → Type 0 = λ g. AreSoundClasses g.classes in
     subst P played.2 holds
 
 pub game-sound : (text : List ℕ) (game : Game) → IsTextOf text game → AreSoundClasses game.classes
-game-sound text game of = game-by (score text) game (score-sound text) of
+game-sound text game of = game-by of.0 game (scored-sound (tagged text) of.0 (tagged-sound text) of.1) of.2

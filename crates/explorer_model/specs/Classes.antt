@@ -39,7 +39,7 @@ number_of most text =
     if nat_le 1 (length text) && nat_le (length text) most && all_ascii_digits text
     then Some (digits_value 10 text) else None
 
--- ---- steps 1 and 2: standard chess, from the starting position
+-- ---- steps 1 and 2: standard chess, from the starting position or from one that is set up
 
 -- the tag is absent, or has the value
 abbrev pub is_absent_or : List ℕ → Option (List ℕ) → Bool
@@ -47,12 +47,23 @@ is_absent_or text None = true
 is_absent_or text (Some value) = bytes_eq value text
 
 unfoldable pub is_standard : List Tag → Bool
-is_standard tags = is_absent_or (codes "Standard") (value_of (codes "Variant") tags)
+is_standard tags =
+    is_absent_or (codes "Standard") (value_of (codes "Variant") tags)
+    || is_absent_or (codes "From Position") (value_of (codes "Variant") tags)
 
-unfoldable pub is_from_start : List Tag → Bool
-is_from_start tags =
-    is_none (value_of (codes "FEN") tags)
-    && is_absent_or (codes "0") (value_of (codes "SetUp") tags)
+-- the text of the position that the game begins in, where one is set up (PGN 9.7)
+abbrev pub start_text : List Tag → Option (List ℕ)
+start_text tags = value_of (codes "FEN") tags
+
+-- what the tag SetUp says of it
+abbrev pub set_up_text : Option (List ℕ) → List ℕ
+set_up_text None = codes "0"
+set_up_text (Some text) = codes "1"
+
+-- the tag SetUp is absent, or says whether a position is set up
+unfoldable pub agrees_on_set_up : List Tag → Bool
+agrees_on_set_up tags =
+    is_absent_or (set_up_text (start_text tags)) (value_of (codes "SetUp") tags)
 
 -- nothing, or the fault where the condition does not hold
 abbrev pub demand : {F : Type 0} → Bool → F → Result ⊤ F
@@ -161,7 +172,7 @@ asked name rule tags = required name tags >>= λ value. ok_or (rule value) (Bad 
 unfoldable pub classes : List Tag → Result Classes TagFault
 classes tags = do
   _ ← demand (is_standard tags) NotStandard
-  _ ← demand (is_from_start tags) SetUp
+  _ ← demand (agrees_on_set_up tags) SetUp
   event ← required names.Event tags
   id ← asked names.Site id_of tags
   white ← asked names.White name_of tags

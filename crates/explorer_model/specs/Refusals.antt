@@ -37,6 +37,7 @@ at_ply word ply place = word ++ decimal ply ++ codes " " ++ decimal place
 abbrev pub game_fault_text : GameFault → List ℕ
 game_fault_text (game.Lex place) = codes "Lex " ++ decimal place
 game_fault_text (game.Tag fault) = tag_fault_text fault
+game_fault_text (game.BadSetUp field) = codes "BadSetUp " ++ decimal field
 game_fault_text game.NoTermination = codes "NoTermination"
 game_fault_text game.ResultDiffers = codes "ResultDiffers"
 game_fault_text game.TooManyPlies = codes "TooManyPlies"

@@ -7,7 +7,7 @@ use Rattle.explorer_model.specs.declared.archive.Classes.{Classes}
 use Rattle.explorer_model.specs.declared.archive.Game.{Game}
 use Rattle.explorer_model.specs.declared.chess.Move.{Move}
 use Rattle.explorer_model.specs.declared.chess.Position.{Position}
-use Rattle.explorer_model.specs.Chess.{start, after, Legal, Same}
+use Rattle.explorer_model.specs.Chess.{after, Legal, Same}
 use Rattle.explorer_model.specs.Games.{GameOf}
 
 -- ---- the games of a journal
@@ -39,12 +39,8 @@ stages p (m ∷ moves) = record { position = p; next = Some m } ∷ stages (afte
 abbrev pub stage_limit : ℕ
 stage_limit = 51
 
--- the position that a game begins in
-abbrev pub root_of : Game → Position
-root_of game = start
-
 abbrev pub counted_stages : Game → List Stage
-counted_stages game = take stage_limit (stages (root_of game) game.moves)
+counted_stages game = take stage_limit (stages game.root game.moves)
 
 -- each move is legal in its turn
 abbrev pub AreLegalFrom : Position → List Move → Type 0
@@ -53,7 +49,7 @@ AreLegalFrom p (m ∷ moves) = Legal p m × AreLegalFrom (after p m) moves
 
 -- the moves of a game are
 abbrev pub AreLegal : Game → Type 0
-AreLegal game = AreLegalFrom (root_of game) game.moves
+AreLegal game = AreLegalFrom game.root game.moves
 
 -- ---- visits
 

@@ -4,7 +4,7 @@ ghost use Rattle.std.specs.Cmp.{partial_order_from_own_ties};
 ghost use Rattle.std.specs.Cmp.Rules.{comparing};
 ghost use Rattle.std.specs.Ordering.{on, nat_cmp, as_partial_cmp};
 
-use crate::chess::Move;
+use crate::chess::{Move, Position};
 use crate::list::Items;
 use crate::text::Name;
 use std::cmp::Ordering;
@@ -139,10 +139,11 @@ pub struct Classes {
     pub month: Month,
 }
 
-/// A game that was replayed: its classes, and its moves from the starting position.
+/// A game that was replayed: its classes, the position that it begins in, and its moves from there.
 #[derive(Debug, Drop)]
 pub struct Game {
     pub classes: Classes,
+    pub root: Position,
     pub moves: Moves,
 }
 

@@ -40,7 +40,7 @@ pub enum TagFault {
     Bad { name: TagName },
     /// A variant other than standard chess.
     NotStandard,
-    /// The game begins from a set-up position.
+    /// The tag SetUp does not say whether there is a tag FEN (PGN 9.7).
     SetUp,
     /// The result is `*`.
     UnknownResult,
@@ -62,6 +62,8 @@ pub enum SanFault {
 pub enum GameFault {
     Lex { place: u32 },
     Tag(TagFault),
+    /// The value of the tag FEN is no position; `field` is its first faulty field, 1 to 6.
+    BadSetUp { field: u8 },
     NoTermination,
     /// The termination is not the value of the tag Result.
     ResultDiffers,

@@ -63,6 +63,7 @@ impl fmt::Display for GameFault {
         match self {
             GameFault::Lex { place } => write!(f, "Lex {place}"),
             GameFault::Tag(fault) => write!(f, "{fault}"),
+            GameFault::BadSetUp { field } => write!(f, "BadSetUp {field}"),
             GameFault::NoTermination => f.write_str("NoTermination"),
             GameFault::ResultDiffers => f.write_str("ResultDiffers"),
             GameFault::TooManyPlies => f.write_str("TooManyPlies"),

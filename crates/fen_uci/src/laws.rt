@@ -20,6 +20,11 @@ pub fn fen_is_determined()
         → FenReads text r → FenReads text s → r ≡ s }
 {}
 
+/// A position that is read is valid.
+pub fn what_is_read_is_valid()
+    ensures { (text : List ℕ) (p : APosition) → FenReads text (Ok p) → IsValid p }
+{}
+
 /// What is written of a legal move is read as that move.
 pub fn written_uci_is_read()
     ensures { (p : APosition) (m : AMove) → IsValid p → Legal p m → UciReads p (uci_text m) (Ok m) }

@@ -10,3 +10,4 @@ mod tags;
 mod time;
 
 pub use steps::classes;
+pub use tags::start_text;

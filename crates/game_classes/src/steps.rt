@@ -8,7 +8,7 @@ ghost use Rattle.explorer_model.specs.Stop.{Gives, GivesBy};
 use crate::event::mode_of;
 use crate::rating::{group_of, rating_of};
 use crate::site::id_of;
-use crate::tags::{is_from_start, is_standard, required, value_of};
+use crate::tags::{agrees_on_set_up, is_standard, required, value_of};
 use crate::time::{control_of, month_of};
 use explorer_model::archive::{Classes, GameId, Month, Outcome, Player, Speed, Tag, Tags};
 use explorer_model::fault::{Stop, TagFault, TagName};
@@ -25,7 +25,7 @@ pub fn classes(alloc: Global, tags: &Tags) -> Result<Classes, Stop<TagFault>>
     if !is_standard(tags) {
         return Err(Stop::Fault(TagFault::NotStandard));
     }
-    if !is_from_start(tags) {
+    if !agrees_on_set_up(tags) {
         return Err(Stop::Fault(TagFault::SetUp));
     }
     let mode = mode_of(required(TagName::Event, tags)?);

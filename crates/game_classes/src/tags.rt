@@ -3,10 +3,10 @@
 ghost use Rattle.std.specs.Prelude.{◌≡◌, ◌≤◌, ◌<◌, ◌^◌, true, IfSome, option_map, length};
 ghost use Rattle.std.specs.Str.{all_ascii_digits};
 ghost use Rattle.std.specs.Str.Parse.{digits_value};
-ghost use Rattle.explorer_model.specs.Classes.{value_of, required, number_of, is_standard, is_from_start};
+ghost use Rattle.explorer_model.specs.Classes.{value_of, required, number_of, is_standard, start_text, set_up_text, agrees_on_set_up};
 ghost use Rattle.explorer_model.specs.Stop.{GivesBy};
 
-use explorer_model::archive::Tag;
+use explorer_model::archive::{Tag, Tags};
 use explorer_model::fault::{Stop, TagFault, TagName};
 
 /// The value of the first pair of the name.
@@ -82,20 +82,36 @@ pub fn is_standard(tags: &[Tag]) -> bool
 {
     match value_of(b"Variant", tags) {
         None => true,
-        Some(value) => value == b"Standard".as_slice(),
+        Some(value) => value == b"Standard".as_slice() || value == b"From Position".as_slice(),
     }
 }
 
-/// The game begins from the starting position (PGN 9.7).
-#[tactic(auto, unfolding(explorer_model::specs::Classes::is_from_start))]
-pub fn is_from_start(tags: &[Tag]) -> bool
-    ensures { result ≡ is_from_start tags.now }
+/// The text of the position that the game begins in: the value of the first tag FEN (PGN 9.7.2).
+/// `None` exactly where there is none.
+pub fn start_text(tags: &Tags) -> Option<&[u8]>
+    ensures { option_map (λ text. text.now) result ≡ start_text tags.now }
 {
-    if value_of(b"FEN", tags).is_some() {
-        return false;
-    }
+    value_of(b"FEN", tags.as_slice())
+}
+
+/// The tag SetUp is absent, or says whether a position is set up (PGN 9.7.1).
+#[tactic(auto, unfolding(explorer_model::specs::Classes::agrees_on_set_up))]
+pub fn agrees_on_set_up(tags: &[Tag]) -> bool
+    ensures { result ≡ agrees_on_set_up tags.now }
+{
+    let text = value_of(b"FEN", tags);
     match value_of(b"SetUp", tags) {
         None => true,
-        Some(value) => value == b"0".as_slice(),
+        Some(value) => value == set_up_text(text),
+    }
+}
+
+/// What the tag SetUp says where this is the value of FEN.
+fn set_up_text(text: Option<&[u8]>) -> &'static [u8]
+    ensures { result.now ≡ set_up_text (option_map (λ text. text.now) text.entry) }
+{
+    match text {
+        None => b"0",
+        Some(_) => b"1",
     }
 }

@@ -1,15 +1,19 @@
 -- One text has one game.
-use Rattle.std.proofs.Common.{◌≡◌, ◌+◌, ℕ, List, [], ◌∷◌, Result, Ok, Err, sym, ap, ◌∙◌, subst, inl, inr}
+use Rattle.std.proofs.Common.{◌≡◌, ◌+◌, ℕ, List, [], ◌∷◌, Option, Some, None, Result, Ok, Err, sym, ap, ◌∙◌, subst, inl, inr}
 use Rattle.std.specs.Result.{result_map_both}
 use Rattle.explorer_model.specs.declared.archive.Game.{Game}
 use Rattle.explorer_model.specs.declared.archive.Token.{Token}
 use Rattle.explorer_model.specs.declared.chess.Move.{Move}
 use Rattle.explorer_model.specs.declared.chess.Position.{Position}
 use Rattle.explorer_model.specs.declared.fault.GameFault.{GameFault}
+use Rattle.explorer_model.specs.declared.fault.GameFault.TheVariants as faults
 use Rattle.explorer_model.specs.declared.fault.SanFault.{SanFault}
-use Rattle.explorer_model.specs.Chess.{start, after}
-use Rattle.explorer_model.specs.Games.{Score, score, Plays, move_fault, onto_moves, GameOf, GameOfScore}
+use Rattle.explorer_model.specs.declared.notation.FenFault.{FenFault}
+use Rattle.explorer_model.specs.Chess.{after}
+use Rattle.explorer_model.specs.Fen.{FenReads}
+use Rattle.explorer_model.specs.Games.{Tagged, tagged, Score, score, RootReads, ScoreOfTagged, ScoreOf, Plays, move_fault, onto_moves, GameOf, GameOfScore}
 use Rattle.explorer_model.specs.San.{SanReads}
+use Rattle.explorer_model.specs.Stop.{◌>>=◌}
 use Rattle.explorer_model.proofs.Readings.{Err-not-Ok, Ok-injective}
 
 -- one text of SAN is read in one way
@@ -40,9 +44,34 @@ one-of-score : OneReading → (reading : Result Score GameFault) (g h : Result G
 one-of-score one (Err fault) g h first second = first ∙ sym second
 one-of-score one (Ok found) g h first second =
     first.2
-    ∙ ap (λ played. result_map_both (λ moves. record { classes = found.classes; moves = moves }) (λ fault. fault) played)
-    (one-play one start 1 found.tokens first.0 second.0 first.1 second.1)
+    ∙ ap (λ played. result_map_both (λ moves. record { classes = found.classes; root = found.root; moves = moves }) (λ fault. fault) played)
+    (one-play one found.root 1 found.tokens first.0 second.0 first.1 second.1)
     ∙ sym second.2
 
-pub one-game : OneReading → (text : List ℕ) (g h : Result Game GameFault) → GameOf text g → GameOf text h → g ≡ h
-one-game one text g h first second = one-of-score one (score text) g h first second
+-- one text of FEN is read in one way
+abbrev pub OneFen : Type 0
+OneFen = (text : List ℕ) (r s : Result Position FenFault) → FenReads text r → FenReads text s → r ≡ s
+
+one-root : OneFen → (text : Option (List ℕ)) (r s : Result Position GameFault) → RootReads text r → RootReads text s → r ≡ s
+one-root one None r s first second = first ∙ sym second
+one-root one (Some text) r s (inl first) (inl second) =
+    let same = Ok-injective first.0 second.0 (one text (Ok first.0) (Ok second.0) first.1 second.1) in
+    first.2 ∙ ap (λ p. Ok p) same ∙ sym second.2
+one-root one (Some text) r s (inl first) (inr second) =
+    absurd (Err-not-Ok second.0 first.0 (one text (Err second.0) (Ok first.0) second.1 first.1))
+one-root one (Some text) r s (inr first) (inl second) =
+    absurd (Err-not-Ok first.0 second.0 (one text (Err first.0) (Ok second.0) first.1 second.1))
+one-root one (Some text) r s (inr first) (inr second) =
+    let same : first.0 ≡ second.0 = ap (λ e. fault_or e first.0) (one text (Err first.0) (Err second.0) first.1 second.1) in
+    first.2 ∙ ap (λ fault. Err (faults.BadSetUp fault.field)) same ∙ sym second.2
+
+one-score : OneFen → (reading : Result Tagged GameFault) (r s : Result Score GameFault) → ScoreOfTagged reading r → ScoreOfTagged reading s → r ≡ s
+one-score one (Err fault) r s first second = first ∙ sym second
+one-score one (Ok found) r s first second =
+    first.2 ∙ ap (λ root. root >>= (λ p. score found p)) (one-root one _ first.0 second.0 first.1 second.1) ∙ sym second.2
+
+pub one-game : OneReading → OneFen → (text : List ℕ) (g h : Result Game GameFault) → GameOf text g → GameOf text h → g ≡ h
+one-game one one_fen text g h first second =
+    let scored = one-score one_fen (tagged text) first.0 second.0 first.1 second.1 in
+    let P : Result Score GameFault → Type 0 = λ r. GameOfScore r g in
+    one-of-score one second.0 g h (subst P scored first.2) second.2

@@ -5,5 +5,6 @@ pub mod laws;
 mod moves;
 mod replaying;
 mod score;
+mod tagged;
 
 pub use replaying::replay;

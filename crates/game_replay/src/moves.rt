@@ -1,4 +1,4 @@
-//! The moves of a game, played from the starting position.
+//! The moves of a game, played from the position that it begins in.
 ghost use Rattle.std.specs.Prelude.{◌≡◌, ◌≤◌, ◌<◌, ◌^◌, length, map, IfOk};
 ghost use Rattle.std.specs.List.{All};
 ghost use Rattle.explorer_model.specs.Chess.{Legal};
@@ -16,12 +16,17 @@ use san_codec::read_on;
 use std::alloc::Global;
 
 /// The moves that the tokens name, one after another, or the fault of the first that names none.
-pub fn moves_of(alloc: Global, text: &[u8], spans: &[Span]) -> Result<Moves, Stop<GameFault>>
+pub fn moves_of(
+    alloc: Global,
+    text: &[u8],
+    root: &Board,
+    spans: &[Span],
+) -> Result<Moves, Stop<GameFault>>
     requires few { length spans.now ≤ 1024 }
     requires within { All (IsWithin (length text.now)) spans.now }
-    ensures { GivesMoves (map (token_in text.now) spans.now) result }
+    ensures { GivesMoves root.now (map (token_in text.now) spans.now) result }
 {
-    let mut board = Board::start();
+    let mut board = *root;
     let mut moves = Vec::with_capacity(alloc, spans.len())?;
     let mut ply = 1;
     for span in spans {

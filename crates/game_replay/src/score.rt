@@ -1,20 +1,19 @@
 //! A game before its moves are played.
-ghost use Rattle.std.specs.Prelude.{◌≡◌, ◌≤◌, length, IfOk};
+ghost use Rattle.std.specs.Prelude.{◌≡◌, ◌≤◌, ℕ, List, length, IfOk};
 ghost use Rattle.std.specs.List.{All};
-ghost use Rattle.std.specs.Result.{result_map_both};
-ghost use Rattle.explorer_model.specs.declared.fault.GameFault.TheVariants.{Lex, Tag};
-ghost use Rattle.explorer_model.specs.Classes.{classes};
-ghost use Rattle.explorer_model.specs.Games.{ends_with, score};
-ghost use Rattle.explorer_model.specs.Parts.{parts};
-ghost use Rattle.explorer_model.specs.Stop.{Gives, GivesBy};
-ghost use Rattle.pgn_lex.specs.Spanned.{spanned_as};
+ghost use Rattle.explorer_model.specs.Classes.{start_text};
+ghost use Rattle.explorer_model.specs.Games.{RootReads, ends_with, score};
+ghost use Rattle.explorer_model.specs.Stop.{Answers, GivesBy};
 ghost use Rattle.pgn_lex.specs.Span.{IsWithin};
-ghost use Rattle.game_replay.specs.Replay.{score_as};
+ghost use Rattle.game_replay.specs.Replay.{GivesScore, score_as, tagged_as};
 
+use crate::tagged::{TaggedText, tagged};
 use explorer_model::archive::{Classes, Ending, Outcome, Tags};
 use explorer_model::fault::{GameFault, Stop};
-use game_classes::classes;
-use pgn_lex::{Span, SpannedParts, spanned_parts};
+use fen_uci::read_fen;
+use game_classes::start_text;
+use legal_moves::board::Board;
+use pgn_lex::Span;
 use std::alloc::Global;
 
 /// The most moves of a game.
@@ -23,21 +22,46 @@ const PLY_LIMIT: usize = 1024;
 #[derive(Debug, Drop)]
 pub struct Scored {
     pub classes: Classes,
+    pub root: Board,
     pub spans: Vec<Span>,
 }
 
-/// The classes and the move tokens of a text, as spans of it, or the first fault that does not ask what the moves
-/// are.
-#[tactic(auto, unfolding(explorer_model::specs::Games::score))]
+/// The classes, the position that the moves begin in and the move tokens of a text, as spans of it, or the first fault
+/// that does not ask what the moves are.
 pub fn score(alloc: Global, text: &[u8]) -> Result<Scored, Stop<GameFault>>
     requires { length text.now ≤ 65536 }
-    ensures score { GivesBy (score_as text.now) result (score text.now) }
+    ensures score { GivesScore text.now result }
     ensures few { IfOk result (λ scored. length scored.spans.items ≤ 1024) }
     ensures within { IfOk result
         (λ scored. All (IsWithin (length text.now)) scored.spans.items) }
 {
-    let spanned = spanned_parts_of(alloc, text)?;
-    let classes = classes_of(alloc, &spanned.tags)?;
+    let tagged = tagged(alloc, text)?;
+    let root = root_of(&tagged.spanned.tags)?;
+    score_of(tagged, root)
+}
+
+/// The position that the tag FEN sets up, or its first faulty field; the starting position where there is no such tag.
+fn root_of(tags: &Tags) -> Result<Board, Stop<GameFault>>
+    ensures { Answers result (RootReads (start_text tags.now)) }
+{
+    let Some(text) = start_text(tags) else {
+        return Ok(Board::start());
+    };
+    match read_fen(text) {
+        Ok(board) => Ok(board),
+        Err(fault) => Err(Stop::Fault(GameFault::BadSetUp { field: fault.field })),
+    }
+}
+
+/// The score of a text with these tags.
+#[tactic(auto, unfolding(explorer_model::specs::Games::score))]
+fn score_of(tagged: TaggedText, root: Board) -> Result<Scored, Stop<GameFault>>
+    ensures score { (text : List ℕ)
+        → GivesBy (score_as text) result (score (tagged_as text tagged) root) }
+    ensures few { IfOk result (λ scored. length scored.spans.items ≤ 1024) }
+    ensures spans { IfOk result (λ scored. scored.spans ≡ tagged.spanned.spans) }
+{
+    let TaggedText { spanned, classes } = tagged;
     let Some(ending) = spanned.termination else {
         return Err(Stop::Fault(GameFault::NoTermination));
     };
@@ -49,32 +73,9 @@ pub fn score(alloc: Global, text: &[u8]) -> Result<Scored, Stop<GameFault>>
     }
     Ok(Scored {
         classes,
+        root,
         spans: spanned.spans,
     })
-}
-
-fn spanned_parts_of(alloc: Global, text: &[u8]) -> Result<SpannedParts, Stop<GameFault>>
-    requires { length text.now ≤ 65536 }
-    ensures parts { GivesBy (spanned_as text.now) result
-        (result_map_both (λ parts. parts) (λ fault. Lex fault.place) (parts text.now)) }
-    ensures within { IfOk result
-        (λ spanned. All (IsWithin (length text.now)) spanned.spans.items) }
-{
-    match spanned_parts(alloc, text) {
-        Ok(spanned) => Ok(spanned),
-        Err(Stop::Fault(fault)) => Err(Stop::Fault(GameFault::Lex { place: fault.place })),
-        Err(Stop::OutOfMemory) => Err(Stop::OutOfMemory),
-    }
-}
-
-fn classes_of(alloc: Global, tags: &Tags) -> Result<Classes, Stop<GameFault>>
-    ensures { Gives result (result_map_both (λ classes. classes) Tag (classes tags.now)) }
-{
-    match classes(alloc, tags) {
-        Ok(classes) => Ok(classes),
-        Err(Stop::Fault(fault)) => Err(Stop::Fault(GameFault::Tag(fault))),
-        Err(Stop::OutOfMemory) => Err(Stop::OutOfMemory),
-    }
 }
 
 /// The termination says what the tag Result says.

@@ -11,8 +11,8 @@ use Rattle.explorer_model.specs.declared.fault.GameFault.{GameFault}
 use Rattle.explorer_model.specs.declared.fault.GameFault.TheVariants as faults
 use Rattle.explorer_model.specs.declared.fault.TagFault.TheVariants.{Missing}
 use Rattle.explorer_model.specs.declared.fault.TagName.TheVariants as names
-use Rattle.explorer_model.specs.Classes.{classes, is_standard, is_from_start}
-use Rattle.explorer_model.specs.Games.{score, GameOf}
+use Rattle.explorer_model.specs.Classes.{classes, is_standard, agrees_on_set_up}
+use Rattle.explorer_model.specs.Games.{Score, tagged, GameOf, GameOfScore}
 use Rattle.explorer_model.specs.Items.{items, items_from}
 use Rattle.explorer_model.specs.Journal.{IsBatch, IsSound, byte_count, game_count}
 use Rattle.explorer_model.specs.Parts.{meaning, parts}
@@ -92,8 +92,10 @@ nothing_held old new result retries none = nothing_by old new old.held result no
 -- ---- texts with a game
 
 no_text : (game : Game) → GameOf [] (Ok game) → ⊥
-unfolding score parts meaning items items_from classes is_standard is_from_start
-no_text game is = read_none game is
+unfolding tagged parts meaning items items_from classes is_standard agrees_on_set_up
+no_text game (scored, of, is) =
+    let P : Result Score GameFault → Type 0 = λ r. GameOfScore r (Ok game) in
+    read_none game (subst P of is)
   where
     read_none : (game : Game) → Path (Result Game GameFault) (Ok game) (Err (faults.Tag (Missing names.Event))) → ⊥
     read_none game e = cc

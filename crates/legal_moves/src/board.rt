@@ -84,8 +84,8 @@ impl Board {
         }
     }
 
-    /// The board of a valid position.
-    fn of_valid(position: Position) -> Board
+    /// The board of a valid position, which is not tested.
+    pub fn of_valid(position: Position) -> Board
         requires { IsValid position }
         ensures { result ≡ position }
     {

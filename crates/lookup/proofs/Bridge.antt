@@ -7,7 +7,7 @@ use Rattle.std.proofs.lemmas.Option.{none-some, same_Some}
 use Rattle.explorer_model.specs.declared.archive.Game.{Game}
 use Rattle.explorer_model.specs.declared.chess.Move.{Move}
 use Rattle.explorer_model.specs.declared.chess.Position.{Position}
-use Rattle.explorer_model.specs.Chess.{start, after, IsValid, Legal, Same}
+use Rattle.explorer_model.specs.Chess.{after, IsValid, Legal, Same}
 use Rattle.explorer_model.specs.Keys.{key}
 use Rattle.explorer_model.specs.Tidy.{IsTidied, IsTidyKey}
 use Rattle.explorer_model.specs.Visits.{AreLegalFrom, Stage, stages, stage_limit, FirstVisit, IsTextOf, IsGameAt}
@@ -21,7 +21,7 @@ pub record Laws : Type 0 where
   pub keeps : (p : Position) (m : Move) → IsValid p → Legal p m → IsValid (after p m)
   pub decides : (p q p_tidied q_tidied : Position) → IsTidied p p_tidied → IsTidied q q_tidied → Same p q ↔ (p_tidied ≡ q_tidied)
   pub keys : (p q : Position) → length p.squares ≡ 64 → length q.squares ≡ 64 → (key p ≡ key q) ↔ (p ≡ q)
-  pub starts : IsValid start
+  pub begins : (text : List ℕ) (game : Game) → IsTextOf text game → IsValid game.root
 
 -- ---- the positions of a game are valid
 
@@ -81,8 +81,8 @@ pub sees : Laws → (at : Position) (bytes : List ℕ) (text : List ℕ) (game :
 unfolding visit
 sees laws at bytes text game track board tidy of tracked = (
   tracked.classes,
-  visits-by-key laws at bytes board tidy (take stage_limit (stages start game.moves)) track.steps
-      (valid-stages laws stage_limit start game.moves laws.starts (game-legal text game of))
+  visits-by-key laws at bytes board tidy (take stage_limit (stages game.root game.moves)) track.steps
+      (valid-stages laws stage_limit game.root game.moves (laws.begins text game of) (game-legal text game of))
       tracked.steps,
 )
 
@@ -109,6 +109,6 @@ pub follows-legally : Laws → ((p q : Position) (m : Move) → IsValid p → Is
     → (at : Position) (bytes : List ℕ) (text : List ℕ) (game : Game) (track : Track) (next : Move)
     → IsValid at → IsTidyKey at bytes → IsTextOf text game → IsTrackOf game track → visit bytes track ≡ Some (Some next) → Legal at next
 follows-legally laws same at bytes text game track next valid tidy of tracked is =
-    let V : Option (Option Move) → Type 0 = λ v. FirstVisit at (take stage_limit (stages start game.moves)) v in
-    visit-legal laws same at valid next stage_limit start game.moves laws.starts (game-legal text game of)
+    let V : Option (Option Move) → Type 0 = λ v. FirstVisit at (take stage_limit (stages game.root game.moves)) v in
+    visit-legal laws same at valid next stage_limit game.root game.moves (laws.begins text game of) (game-legal text game of)
     (subst V is (sees laws at bytes text game track valid.board tidy of tracked).1)

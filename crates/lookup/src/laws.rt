@@ -20,8 +20,7 @@ ghost use Rattle.tally_rows.specs.Tally.{IsTrackOf};
 ghost use Rattle.tally_rows.specs.Track.{Track, visit};
 
 use explorer_model::laws::first_visit_is_determined;
-use game_replay::laws::game_is_determined;
-use legal_moves::board::Board;
+use game_replay::laws::{game_is_determined, games_begin_validly};
 use legal_moves::laws::{
     legal_moves_keep_validity, same_positions_have_the_same_moves, tidy_forms_decide_same,
 };
@@ -38,7 +37,7 @@ pub fn tracks_see_what_games_see()
     legal_moves_keep_validity();
     tidy_forms_decide_same();
     equal_keys_mean_equal_positions();
-    let _start = Board::start().position();
+    games_begin_validly();
 }
 
 /// The move that a game's track tells to follow at the key of a position is legal in that position.
@@ -52,7 +51,7 @@ pub fn tracks_tell_legal_moves()
     tidy_forms_decide_same();
     same_positions_have_the_same_moves();
     equal_keys_mean_equal_positions();
-    let _start = Board::start().position();
+    games_begin_validly();
 }
 
 /// The law of covers: whatever spans of batches cover a journal, what is made of the rows that are

@@ -1,6 +1,6 @@
 -- What is found for a query in a journal, and what an import makes of a stream, from the bytes of the texts on.
 use Rattle.std.specs.Bool.{⊤}
-use Rattle.std.proofs.Common.{◌≢◌, ◌≤◌, length, lit<, lit≤, ap, arith, is_ok, slice_index, true≢false, ℕ, ◌++◌, true, false, List, [], ◌∷◌, replicate, Some, None, Ok, Err, codes, refl, inl, inr}
+use Rattle.std.proofs.Common.{subst, sym, Result, ◌≢◌, ◌≤◌, length, lit<, lit≤, ap, arith, is_ok, slice_index, true≢false, ℕ, ◌++◌, true, false, List, [], ◌∷◌, replicate, Some, None, Ok, Err, codes, refl, inl, inr}
 use Rattle.std.specs.List.{AllZip, repeat}
 use Rattle.std.proofs.lemmas.List.Elements.{All-cons, All-nil}
 use Rattle.std.proofs.lemmas.List.Kept.{AllPairs-cons}
@@ -17,6 +17,7 @@ use Rattle.explorer_model.specs.declared.chess.Color.TheVariants.{Black}
 use Rattle.explorer_model.specs.declared.chess.Move.{Move}
 use Rattle.explorer_model.specs.declared.chess.Position.{Position}
 use Rattle.explorer_model.specs.declared.chess.Role.TheVariants.{Pawn}
+use Rattle.explorer_model.specs.declared.fault.GameFault.{GameFault}
 use Rattle.explorer_model.specs.declared.fault.GameFault.TheVariants.{NoTermination}
 use Rattle.explorer_model.specs.declared.fault.Why.TheVariants as causes
 use Rattle.explorer_model.specs.declared.notation.CheckMark.TheVariants as marks
@@ -27,7 +28,7 @@ use Rattle.explorer_model.specs.Chess.{after, start, Same}
 use Rattle.explorer_model.specs.Counting.{games_with_move, months_counted, moves_played, passes, take_all}
 use Rattle.explorer_model.specs.Cuts.{cut_at, cuts, cuts_from, cuts_of, is_white_space, onto, parted, preamble}
 use Rattle.explorer_model.specs.Finds.{IsFound}
-use Rattle.explorer_model.specs.Games.{GameOf}
+use Rattle.explorer_model.specs.Games.{Score, GameOf, GameOfScore}
 use Rattle.explorer_model.specs.Imports.{Accounted, Examination, Read, Unread, groups, verdicts_from, verdicts_in_turn}
 use Rattle.explorer_model.specs.Journal.{IsBatch, IsSound}
 use Rattle.explorer_model.specs.San.{SanReads, SanText}
@@ -66,10 +67,10 @@ later = record {
 }
 
 game-of-e4 : Game
-game-of-e4 = record { classes = ann_and_bob; moves = e4 ∷ [] }
+game-of-e4 = record { classes = ann_and_bob; root = start; moves = e4 ∷ [] }
 
 game-of-d4 : Game
-game-of-d4 = record { classes = later; moves = d4 ∷ [] }
+game-of-d4 = record { classes = later; root = start; moves = d4 ∷ [] }
 
 d4-is-read : SanReads start (codes "d4") (Ok d4)
 unfolding boards_compute d4
@@ -85,7 +86,7 @@ the-text-of-e4 = a-game-of-one-move
 
 the-text-of-d4 : GameOf text-of-d4 (Ok game-of-d4)
 unfolding texts_compute text-of-d4 game-of-d4 later d4
-the-text-of-d4 = (Ok (d4 ∷ []), inl (d4, Ok [], d4-is-read, refl, refl), refl)
+the-text-of-d4 = (_, (Ok start, refl, refl), (Ok (d4 ∷ []), inl (d4, Ok [], d4-is-read, refl, refl), refl))
 
 -- ---- what is found
 
@@ -252,7 +253,7 @@ unfolding imports_compute
 all-is-refused = record {
   examinations = (Unread (record { place = 0; why = causes.Preamble })
       ∷ Read (record { place = 3; text = heading ++ codes "1. e4"; game = Err NoTermination }) ∷ []) ∷ [];
-  are_examinations = ((refl, ((Err NoTermination, refl, refl), tt)), tt);
+  are_examinations = ((refl, ((Err NoTermination, (_, (Ok start, refl, refl), refl), refl), tt)), tt);
   yields = record { batches_are = refl; refused_are = refl };
 }
 
@@ -281,7 +282,9 @@ a-batch-has-512-at-most h = let few = h.few in absurd (omega (arith, few))
 no-game : (games : List Game) → AllZip IsTextOf ((heading ++ codes "1. e4") ∷ []) games → ⊥
 unfolding texts_compute
 no-game [] h = h
-no-game (game ∷ games) h = true≢false (ap is_ok h.0)
+no-game (game ∷ games) ((scored, (Ok root, begins, same), is), rest) =
+    let P : Result Score GameFault → Type 0 = λ r. GameOfScore r (Ok game) in true≢false (ap is_ok (subst P same is))
+no-game (game ∷ games) ((scored, (Err fault, begins, same), is), rest) = true≢false (ap is_ok (sym begins))
 
 each-text-has-a-game : ¬ IsBatch (record { texts = (heading ++ codes "1. e4") ∷ [] })
 each-text-has-a-game h = no-game h.games h.are_games

@@ -15,13 +15,13 @@ use Rattle.explorer_model.specs.declared.fault.GameFault.TheVariants as faults
 use Rattle.explorer_model.specs.declared.fault.SanFault.TheVariants as san
 use Rattle.explorer_model.specs.declared.notation.NamedMove.{NamedMove}
 use Rattle.explorer_model.specs.Chess.{start}
-use Rattle.explorer_model.specs.Games.{score, GameOf}
+use Rattle.explorer_model.specs.Games.{tagged, score, GameOf}
 use Rattle.explorer_model.specs.Items.{comment_of, ending_of, items, items_from, lead_of, nag_of, name_at, pair_item_of, pair_of, remark_of, string_len, symbol_of, unescaped}
 use Rattle.explorer_model.specs.Parts.{meaning, parts}
 use Rattle.chess_reference.proofs.Boards.{uci}
 use Rattle.notation_tests.proofs.AgreementLemmas.{notation_computes, none_named}
 use Rattle.notation_tests.proofs.Examples.{a-pawn-goes-to-e4}
-use Rattle.explorer_model.specs.Classes.{Clock, value_of, classes, clock_of, control_of, group_of, id_of, is_from_start, is_standard, mode_of, month_of, name_of, outcome_of, rating_of, speed_of}
+use Rattle.explorer_model.specs.Classes.{Clock, value_of, classes, clock_of, control_of, group_of, id_of, agrees_on_set_up, is_standard, mode_of, month_of, name_of, outcome_of, rating_of, speed_of}
 
 -- ---- tags
 
@@ -37,7 +37,7 @@ tags-of site result white_rating clock =
 
 -- what is unfolded where tags compute
 unfoldable tags_compute : ⊤
-unfolding tag tags-of classes is_standard is_from_start mode_of id_of name_of is_utf8 chars encode outcome_of rating_of clock_of speed_of control_of group_of month_of
+unfolding tag tags-of classes is_standard agrees_on_set_up mode_of id_of name_of is_utf8 chars encode outcome_of rating_of clock_of speed_of control_of group_of month_of
 tags_compute = tt
 
 unfoldable pub ann_and_bob : Classes
@@ -62,9 +62,18 @@ another-variant : classes (tag (codes "Variant") (codes "Chess960") ∷ tag (cod
 unfolding tags_compute
 another-variant = refl
 
-a-set-up-position : classes (tag (codes "FEN") (codes "4k3/8/8/8/8/8/8/4K3 w - - 0 1") ∷ []) ≡ Err SetUp
+-- with a set-up position SetUp is absent or 1, and without one absent or 0; whether it is one is not asked here
+a-set-up-position : classes (tag (codes "FEN") (codes "8/8/8/8/8/8/8/8 w - -") ∷ []) ≡ Err (Missing names.Event)
 unfolding tags_compute
 a-set-up-position = refl
+
+a-set-up-position-said-to-be-none : classes (tag (codes "SetUp") (codes "0") ∷ tag (codes "FEN") (codes "4k3/8/8/8/8/8/8/4K3 w - - 0 1") ∷ []) ≡ Err SetUp
+unfolding tags_compute
+a-set-up-position-said-to-be-none = refl
+
+no-set-up-position : classes (tag (codes "Variant") (codes "From Position") ∷ tag (codes "SetUp") (codes "1") ∷ []) ≡ Err SetUp
+unfolding tags_compute
+no-set-up-position = refl
 
 no-tags : classes [] ≡ Err (Missing names.Event)
 unfolding tags_compute
@@ -189,18 +198,18 @@ heading = heading-of (codes "abcdEF12") (codes "1-0") (codes "2020.01.31")
 
 -- what is unfolded where texts compute
 unfoldable pub texts_compute : ⊤
-unfolding tags_compute heading-of heading score parts meaning items items_from lead_of comment_of remark_of nag_of pair_item_of pair_of name_at string_len unescaped symbol_of ending_of
+unfolding tags_compute heading-of heading tagged score parts meaning items items_from lead_of comment_of remark_of nag_of pair_item_of pair_of name_at string_len unescaped symbol_of ending_of
 texts_compute = tt
 
-a-game-without-moves : GameOf (heading ++ codes "1-0\n") (Ok (record { classes = ann_and_bob; moves = [] }))
+a-game-without-moves : GameOf (heading ++ codes "1-0\n") (Ok (record { classes = ann_and_bob; root = start; moves = [] }))
 unfolding texts_compute ann_and_bob
-a-game-without-moves = (Ok [], refl, refl)
+a-game-without-moves = (_, (Ok start, refl, refl), (Ok [], refl, refl))
 
-pub a-game-of-one-move : GameOf (heading ++ codes "1. e4 1-0\n") (Ok (record { classes = ann_and_bob; moves = uci (codes "e2e4") ∷ [] }))
+pub a-game-of-one-move : GameOf (heading ++ codes "1. e4 1-0\n") (Ok (record { classes = ann_and_bob; root = start; moves = uci (codes "e2e4") ∷ [] }))
 unfolding texts_compute ann_and_bob
 a-game-of-one-move =
     let m = uci (codes "e2e4") in
-    (Ok (m ∷ []), inl (m, Ok [], a-pawn-goes-to-e4, refl, refl), refl)
+    (_, (Ok start, refl, refl), (Ok (m ∷ []), inl (m, Ok [], a-pawn-goes-to-e4, refl, refl), refl))
 
 -- the second token, 6 bytes behind the heading, is no SAN
 no-move-at-ply-2 : GameOf (heading ++ codes "1. e4 e9 1-0\n") (Err (faults.NotSan 2 196))
@@ -208,29 +217,29 @@ unfolding texts_compute
 no-move-at-ply-2 =
     let m = uci (codes "e2e4") in
     let fault = faults.NotSan 2 196 in
-    (Err fault, inl (m, Err fault, a-pawn-goes-to-e4, inr (san.NotSan, refl, refl), refl), refl)
+    (_, (Ok start, refl, refl), (Err fault, inl (m, Err fault, a-pawn-goes-to-e4, inr (san.NotSan, refl, refl), refl), refl))
 
 -- no pawn gets to e5 in one move
 an-illegal-first-move : GameOf (heading ++ codes "1. e5 1-0\n") (Err (faults.Illegal 1 193))
 unfolding texts_compute notation_computes
 an-illegal-first-move =
     let form : NamedMove = record { role = Pawn; file = None; rank = None; captures = false; target = 36; promotion = None } in
-    (Err (faults.Illegal 1 193), inr (san.NoSuchMove, none_named start form refl, refl), refl)
+    (_, (Ok start, refl, refl), (Err (faults.Illegal 1 193), inr (san.NoSuchMove, none_named start form refl, refl), refl))
 
 -- what the moves are is not asked where the text has no termination, or another one than its result
 a-text-that-is-cut-off : GameOf (heading ++ codes "1. e9\n") (Err faults.NoTermination)
 unfolding texts_compute
-a-text-that-is-cut-off = refl
+a-text-that-is-cut-off = (_, (Ok start, refl, refl), refl)
 
 another-result : GameOf (heading ++ codes "1. e9 0-1\n") (Err faults.ResultDiffers)
 unfolding texts_compute
-another-result = refl
+another-result = (_, (Ok start, refl, refl), refl)
 
 -- nor are the tags where a comment is not closed
 an-open-comment : GameOf (codes "[Event \"a\"]\n{ 1-0\n") (Err (faults.Lex 12))
 unfolding texts_compute
-an-open-comment = refl
+an-open-comment = (_, refl, refl)
 
 no-tags-at-all : GameOf (codes "1. e4 1-0\n") (Err (faults.Tag (Missing names.Event)))
 unfolding texts_compute
-no-tags-at-all = refl
+no-tags-at-all = (_, refl, refl)

@@ -1,5 +1,5 @@
 -- Each sample is read as its game.
-use Rattle.std.proofs.Common.{◌≡◌, ℕ, zero, suc, ◌+◌, ◌≤◌, true, nat_le, List, [], ◌∷◌, ◌++◌, length, map, slice_get, Contains, Option, Some, Result, Ok, codes, decimal, refl, sym, ap, ◌∙◌, subst, arith, inl, inr}
+use Rattle.std.proofs.Common.{◌≡◌, ℕ, zero, suc, ◌+◌, ◌≤◌, true, nat_le, List, [], ◌∷◌, ◌++◌, length, map, slice_get, Contains, Option, Some, None, Result, Ok, codes, decimal, refl, sym, ap, ◌∙◌, subst, arith, inl, inr}
 use Rattle.std.specs.Option.{unwrap_or}
 use Rattle.std.proofs.lemmas.Bool.Decides.{nat_tests}
 use Rattle.std.proofs.lemmas.List.{append_assoc}
@@ -13,8 +13,8 @@ use Rattle.explorer_model.specs.declared.chess.Move.{Move}
 use Rattle.explorer_model.specs.declared.chess.Position.{Position}
 use Rattle.explorer_model.specs.declared.fault.GameFault.{GameFault}
 use Rattle.explorer_model.specs.Chess.{IsValid, Legal, start, after}
-use Rattle.explorer_model.specs.Classes.{classes}
-use Rattle.explorer_model.specs.Games.{Score, score, ends_with, Plays, GameOfScore}
+use Rattle.explorer_model.specs.Classes.{classes, start_text}
+use Rattle.explorer_model.specs.Games.{Tagged, tagged, Score, score, RootReads, ScoreOfTagged, ScoreOf, ends_with, Plays}
 use Rattle.explorer_model.specs.Items.{items, name_at}
 use Rattle.explorer_model.specs.Parts.{Section, Heading, parts}
 use Rattle.explorer_model.specs.Visits.{AreLegalFrom}
@@ -88,13 +88,22 @@ tokens-length : (tokens : List Token) → length (map (λ (token : Token). token
 tokens-length [] = refl
 tokens-length (token ∷ tokens) = ap suc (tokens-length tokens)
 
+-- the score of a text that begins in the starting position
+abbrev from_start : Classes → List Token → Score
+from_start found tokens = record { classes = found; root = start; tokens = tokens }
+
 score-is : (text : List ℕ) (tags : List Tag) (texts : List (List ℕ)) (ending : Ending) (found : Classes) (parted : Parted (parts text) tags texts ending) → classes tags ≡ Ok found
-    → ends_with found.outcome ending ≡ true → length parted.found.tokens ≤ 1024 → score text ≡ Ok (record { classes = found; tokens = parted.found.tokens })
-unfolding score
-score-is text tags texts ending found parted says agrees few =
+    → start_text tags ≡ None → ends_with found.outcome ending ≡ true → length parted.found.tokens ≤ 1024 → ScoreOf text (Ok (from_start found parted.found.tokens))
+unfolding tagged score
+score-is text tags texts ending found parted says none agrees few =
     let told : classes parted.found.tags ≡ Ok found = ap classes parted.tags_are ∙ says in
     let within : nat_le (length parted.found.tokens) 1024 ≡ true = grind (arith, nat_tests, few) in
-    rw (parted.is, told, parted.ends, agrees, within) refl
+    let is_tagged : tagged text ≡ Ok (record { parts = parted.found; classes = found }) = rw (parted.is, told) refl in
+    let is_scored : Ok (from_start found parted.found.tokens) ≡ score (record { parts = parted.found; classes = found }) start = rw (parted.ends, agrees, within) refl in
+    let R : Option (List ℕ) → Type 0 = λ o. RootReads o (Ok start) in
+    let begins : R (start_text parted.found.tags) = subst R (sym (ap start_text parted.tags_are ∙ none)) refl in
+    let P : Result Tagged GameFault → Type 0 = λ r. ScoreOfTagged r (Ok (from_start found parted.found.tokens)) in
+    subst P (sym is_tagged) (Ok start, begins, is_scored)
 
 -- ---- the game
 
@@ -125,10 +134,12 @@ module _ (reads : WrittenIsRead) (stays : (p : Position) (m : Move) → IsValid 
       omega (arith, few, same-length start sample.moves moves.texts moves.are, ap (λ (ts : List (List ℕ)). length ts) parted.texts_are, tokens-length parted.found.tokens) in
       let are : AreSan start sample.moves (map (λ (token : Token). token.text) parted.found.tokens) = subst (AreSan start sample.moves) (sym parted.texts_are) moves.are in
       let plays : Plays start 1 parted.found.tokens (Ok sample.moves) = plays-san reads stays start 1 sample.moves parted.found.tokens start_is_valid drawing.legal are in
-      let game : Game = record { classes = told.found; moves = sample.moves } in
+      let game : Game = record { classes = told.found; root = start; moves = sample.moves } in
+      let scored = score-is text (tags_of index header) moves.texts s.result.ending told.found parted told.is refl agrees short in
       record {
         game = game;
-        of_text = subst (λ (r : Result Score GameFault). GameOfScore r (Ok game)) (sym (score-is text (tags_of index header) moves.texts s.result.ending told.found parted told.is agrees short)) (Ok sample.moves, plays, refl);
+        of_text = (Ok (from_start told.found parted.found.tokens), scored, (Ok sample.moves, plays, refl));
+        root_is = refl;
         moves_are = refl;
         id_is = told.id;
       }

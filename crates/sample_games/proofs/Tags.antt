@@ -17,7 +17,7 @@ use Rattle.explorer_model.specs.declared.archive.Outcome.TheVariants as outcomes
 use Rattle.explorer_model.specs.declared.archive.Speed.{Speed}
 use Rattle.explorer_model.specs.declared.archive.Speed.TheVariants.{UltraBullet, Bullet, Blitz, Rapid, Classical, Correspondence}
 use Rattle.explorer_model.specs.declared.archive.Tag.{Tag}
-use Rattle.explorer_model.specs.Classes.{classes, mode_of, id_of, name_of, outcome_of, rating_of, control_of, clock_of, speed_of, month_of, group_of, is_standard, is_from_start}
+use Rattle.explorer_model.specs.Classes.{classes, mode_of, id_of, name_of, outcome_of, rating_of, control_of, clock_of, speed_of, month_of, group_of, is_standard, agrees_on_set_up}
 use Rattle.explorer_model.specs.Games.{ends_with}
 use Rattle.explorer_model.specs.Items.{Terminates, kind_of_symbol, ending_of}
 use Rattle.rand_pcg.specs.Lcg.{Lcg}
@@ -256,7 +256,7 @@ pub record HasClasses (index : ℕ) (header : Header) (outcome : Outcome) : Type
   pub outcome_is : found.outcome ≡ outcome
 
 pub classes-are : (index : ℕ) (header : Header) (s : IsSound header) → HasClasses index header s.result.outcome
-unfolding classes is_standard is_from_start
+unfolding classes is_standard agrees_on_set_up
 classes-are index header s = record {
   found = record {
     id = record { bytes = id_text index };

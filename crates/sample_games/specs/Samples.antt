@@ -141,9 +141,10 @@ pub record IsSample (index : ℕ) (before : Lcg) (text : List ℕ) (behind : Lcg
       ++ movetext ++ (header_drawn played).result ++ codes "\n\n"
   pub behind_is : behind ≡ behind_header played
 
--- the text has a game: the moves, under the id of the number
+-- the text has a game: the moves from the starting position, under the id of the number
 pub record HasGame (index : ℕ) (text : List ℕ) (moves : List Move) : Type 0 where
   pub game : Game
   pub of_text : IsTextOf text game
+  pub root_is : game.root ≡ start
   pub moves_are : game.moves ≡ moves
   pub id_is : game.classes.id.bytes ≡ id_text index

@@ -158,9 +158,8 @@ fn tells_the_month_of_the_local_date(rt: HostRuntime) -> Result<(), Fail> {
 }
 
 /// Pairs that stand in the place of a tag, or beside all of them, with the fault.
-const NOT_READ: [(&str, &str, &[u8], TagFault); 4] = [
+const NOT_READ: [(&str, &str, &[u8], TagFault); 3] = [
     ("", "Variant", b"Chess960", TagFault::NotStandard),
-    ("", "FEN", b"", TagFault::SetUp),
     ("", "SetUp", b"1", TagFault::SetUp),
     ("Result", "Result", b"*", TagFault::UnknownResult),
 ];

@@ -1,7 +1,6 @@
 use Rattle.std.proofs.Common.{List, subst}
 use Rattle.std.specs.List.{AllZip}
 use Rattle.explorer_model.specs.declared.chess.Move.{Move}
-use Rattle.explorer_model.specs.Chess.{start}
 use Rattle.explorer_model.specs.Visits.{stage_limit}
 use Rattle.batch_tally.specs.Steps.{IsStepAt, stages_within}
 use Rattle.batch_tally.proofs.Counting.{singles-pushed}
@@ -12,6 +11,6 @@ pub returns : goal.returns
 returns c =
     let game = c.args.game.now in
     let steps = c.in_ok-steps.steps.items in
-    let stepped : AllZip IsStepAt (stages_within stage_limit start game.moves) steps =
-    subst (λ (moves : List Move). AllZip IsStepAt (stages_within stage_limit start moves) steps) c.as_slice.ensures c.in_ok-steps.ensures in
+    let stepped : AllZip IsStepAt (stages_within stage_limit game.root game.moves) steps =
+    subst (λ (moves : List Move). AllZip IsStepAt (stages_within stage_limit game.root moves) steps) c.as_slice.ensures c.in_ok-steps.ensures in
     if-ok _ _ c.push_first_visits.result (λ _ pushed. singles-pushed game steps _ _ _ stepped c.as_slice-2.ensures.value pushed) c.push_first_visits.ensures

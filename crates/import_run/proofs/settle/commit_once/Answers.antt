@@ -136,6 +136,9 @@ returns-in-Ok-clause-ended_beside g c = λ cuts r.
     settles_beside cuts c.args.counted c.args.places.items c.args.refused.items c.args.clashes.now.items c.reserve.new.self.items r (Ok c.in-Ok.receipt) _
     (notes_same c.args.clashes.now.items c.reserve.new.self.items c.reserve.ensures.items) c.in-Ok.ensures.answers refl refl
 
+pub returns-in-Ok-clause-notes : goal.returns-in-Ok-clause-notes
+returns-in-Ok-clause-notes g c = notes_same c.args.clashes.now.items c.reserve.new.self.items c.reserve.ensures.items
+
 pub returns-in_err-reserve-clause-memory : goal.returns-in_err-reserve-clause-memory
 returns-in_err-reserve-clause-memory g c = on_err c.from_residual.result (λ (known : Known) (cuts : List Cut) (r : Rounds (Some (store_of known)) cuts (Some c.args.counted) c.args.places.items c.args.refused.items (g.C.Committer.told c.args.committer.now)). lacks_still known (g.C.Committer.told c.args.committer.now) (r.still known refl))
 
