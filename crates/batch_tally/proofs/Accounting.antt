@@ -8,6 +8,7 @@ use Rattle.explorer_model.specs.declared.fault.GameFault.{GameFault}
 use Rattle.explorer_model.specs.declared.fault.Refusal.{Refusal}
 use Rattle.explorer_model.specs.Cuts.{Cut, Text, TooLong, Preamble}
 use Rattle.explorer_model.specs.Games.{GameOf}
+use Rattle.explorer_model.specs.Labels.{no_label}
 use Rattle.explorer_model.specs.Imports.{Examination, Read, IsExaminationOf, AreExaminations, Verdict, Yields, batch_of, candidates, refusals}
 use Rattle.explorer_model.proofs.Lists.{one-zip}
 
@@ -30,15 +31,15 @@ one-examinations one groups examinations others =
 
 -- what verdicts yield is one thing
 abbrev batches_yielded : List (List Verdict) → List Batch
-batches_yielded groups = filter_map (λ group. batch_of (candidates group)) groups
+batches_yielded groups = filter_map (λ group. batch_of no_label (candidates group)) groups
 
 abbrev refused_yielded : List (List Verdict) → List Refusal
 refused_yielded groups = flat_map refusals groups
 
 module _ (judge : List (List Examination) → List (List Verdict)) (first second : List (List Examination))
     (batches others : List Batch) (refused other : List Refusal) where
-  pub same-batches : first ≡ second → Yields (judge first) batches refused → Yields (judge second) others other → batches ≡ others
+  pub same-batches : first ≡ second → Yields no_label (judge first) batches refused → Yields no_label (judge second) others other → batches ≡ others
   same-batches same a b = a.batches_are ∙ ap (λ e. batches_yielded (judge e)) same ∙ sym b.batches_are
 
-  pub same-refused : first ≡ second → Yields (judge first) batches refused → Yields (judge second) others other → refused ≡ other
+  pub same-refused : first ≡ second → Yields no_label (judge first) batches refused → Yields no_label (judge second) others other → refused ≡ other
   same-refused same a b = a.refused_are ∙ ap (λ e. refused_yielded (judge e)) same ∙ sym b.refused_are

@@ -6,9 +6,11 @@ use Rattle.std.proofs.lemmas.List.Elements.{All-from_recursion, recursion_from_A
 use Rattle.explorer_model.specs.declared.archive.Classes.{Classes}
 use Rattle.explorer_model.specs.declared.archive.Game.{Game}
 use Rattle.explorer_model.specs.Cuts.{text_limit}
+use Rattle.explorer_model.specs.Labels.{no_label}
 use Rattle.explorer_model.specs.Imports.{batch_of}
 use Rattle.explorer_model.specs.Visits.{IsTextOf, AreLegal}
 use Rattle.explorer_model.proofs.LegalGames.{game-legal}
+use Rattle.explorer_model.proofs.LabelLemmas.{none-is-label}
 use Rattle.tally_rows.specs.declared.row.Row.{Row}
 use Rattle.tally_rows.specs.Tally.{IsTrackOf, IsCounted}
 use Rattle.batch_tally.specs.declared.accepting.Accepted.{Accepted}
@@ -70,15 +72,16 @@ some-length [] some = absurd (some refl)
 some-length (a ∷ accepted) some = omega arith
 
 pub made-counted : (accepted : List Accepted) (texts : List (List ℕ)) (classes : List Classes) (rows : List Row) → IsMade accepted texts classes rows
-    → IsCounted (record { batch = record { texts = texts }; classes = classes; rows = rows })
+    → IsCounted (record { batch = record { label = no_label; texts = texts }; classes = classes; rows = rows })
 made-counted accepted texts classes rows made =
-    let Texts : List (List ℕ) → Type 0 = λ ts. IsCounted (record { batch = record { texts = ts }; classes = classes; rows = rows }) in
-    let Tags : List Classes → Type 0 = λ cs. IsCounted (record { batch = record { texts = map (λ a. a.text) accepted }; classes = cs; rows = rows }) in
+    let Texts : List (List ℕ) → Type 0 = λ ts. IsCounted (record { batch = record { label = no_label; texts = ts }; classes = classes; rows = rows }) in
+    let Tags : List Classes → Type 0 = λ cs. IsCounted (record { batch = record { label = no_label; texts = map (λ a. a.text) accepted }; classes = cs; rows = rows }) in
     let many : length (map (λ a. a.text) accepted) ≡ length accepted = length-map accepted (λ a. a.text) in
     let first = some-length accepted made.some in
     let few = made.known.few in
     subst Texts (sym made.texts_are) (subst Tags (sym made.classes_are) (record {
       batch = record {
+        label = none-is-label;
         some = omega (arith, many, first);
         few = omega (arith, many, few);
         short = All-from_recursion (λ text. length text ≤ text_limit) (map (λ a. a.text) accepted)
@@ -97,16 +100,16 @@ made-counted accepted texts classes rows made =
       };
     }))
 
-batch-made : (accepted : List Accepted) → accepted ≢ [] → batch_of (map candidate_as accepted) ≡ Some (record { texts = map (λ a. a.text) accepted })
+batch-made : (accepted : List Accepted) → accepted ≢ [] → batch_of no_label (map candidate_as accepted) ≡ Some (record { label = no_label; texts = map (λ a. a.text) accepted })
 batch-made [] some = absurd (some refl)
-batch-made (a ∷ accepted) some = ap (λ l. Some (record { texts = l })) (sym (texts-are (a ∷ accepted)))
+batch-made (a ∷ accepted) some = ap (λ l. Some (record { label = no_label; texts = l })) (sym (texts-are (a ∷ accepted)))
 
 pub made-counts : (accepted : List Accepted) (texts : List (List ℕ)) (classes : List Classes) (rows : List Row) → IsMade accepted texts classes rows
-    → Counts (map candidate_as accepted) (record { batch = record { texts = texts }; classes = classes; rows = rows })
+    → Counts (map candidate_as accepted) (record { batch = record { label = no_label; texts = texts }; classes = classes; rows = rows })
 made-counts accepted texts classes rows made =
     let Z : List Game → Type 0 = λ gs. AllZip IsTrackOf gs made.counted.tracks in
     record {
-      batch = batch-made accepted made.some ∙ ap (λ l. Some (record { texts = l })) (sym made.texts_are);
+      batch = batch-made accepted made.some ∙ ap (λ l. Some (record { label = no_label; texts = l })) (sym made.texts_are);
       classes = made.classes_are ∙ classes-are accepted;
       tracks = made.counted.tracks;
       are_tracks = subst Z (games-are accepted) made.counted.are_tracks;

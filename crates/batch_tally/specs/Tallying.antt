@@ -3,6 +3,7 @@ use Rattle.std.specs.Prelude.{◌≡◌, List, [], map, Option, Some, None}
 use Rattle.std.specs.List.{AllZip}
 use Rattle.explorer_model.specs.declared.archive.Placed.{Placed}
 use Rattle.explorer_model.specs.Cuts.{Text}
+use Rattle.explorer_model.specs.Labels.{no_label}
 use Rattle.explorer_model.specs.Imports.{Examination, IsExaminationOf, Candidate, verdicts, candidates, refusals, batch_of}
 use Rattle.tally_rows.specs.Tally.{Counted, IsTrackOf}
 use Rattle.tally_rows.specs.Tallied.{Tallied}
@@ -14,7 +15,7 @@ IsExaminationOfText text examination = IsExaminationOf (Text text) examination
 
 -- the tally counts the candidates
 pub record Counts (candidates : List Candidate) (counted : Counted) : Type 0 where
-  pub batch : batch_of candidates ≡ Some counted.batch
+  pub batch : batch_of no_label candidates ≡ Some counted.batch
   pub classes : counted.classes ≡ map (λ candidate. candidate.game.classes) candidates
   pub tracks : List Track
   pub are_tracks : AllZip IsTrackOf (map (λ candidate. candidate.game) candidates) tracks

@@ -6,6 +6,7 @@ ghost use Rattle.explorer_model.specs.declared.archive.Game.{Game};
 ghost use Rattle.explorer_model.specs.declared.archive.Placed.{Placed};
 ghost use Rattle.explorer_model.specs.declared.fault.Refusal.{Refusal};
 ghost use Rattle.explorer_model.specs.Cuts.{Cut};
+ghost use Rattle.explorer_model.specs.Labels.{no_label};
 ghost use Rattle.explorer_model.specs.Imports.{Accounted, AccountedApart};
 ghost use Rattle.batch_tally.specs.declared.tallying.Tallying.{Tallying};
 ghost use Rattle.batch_tally.specs.Tallying.{IsTallying};
@@ -52,11 +53,11 @@ pub fn tallies_are_determined()
 /// Groups behind stored games have one accounting: what is stored of them, and what is refused.
 pub fn accounting_is_determined()
     ensures batches { (stored : List Game) (groups : List (List Cut)) (batches others : List Batch)
-        (refused other : List Refusal) → Accounted stored groups batches refused
-        → Accounted stored groups others other → batches ≡ others }
+        (refused other : List Refusal) → Accounted no_label stored groups batches refused
+        → Accounted no_label stored groups others other → batches ≡ others }
     ensures refused { (stored : List Game) (groups : List (List Cut)) (batches others : List Batch)
-        (refused other : List Refusal) → Accounted stored groups batches refused
-        → Accounted stored groups others other → refused ≡ other }
+        (refused other : List Refusal) → Accounted no_label stored groups batches refused
+        → Accounted no_label stored groups others other → refused ≡ other }
 {
     game_is_determined();
 }
@@ -65,11 +66,11 @@ pub fn accounting_is_determined()
 pub fn accounting_apart_is_determined()
     ensures batches { (groups : List (List Cut)) (batches others : List Batch)
         (refused other : List Refusal)
-        → AccountedApart groups batches refused → AccountedApart groups others other → batches
+        → AccountedApart no_label groups batches refused → AccountedApart no_label groups others other → batches
         ≡ others }
     ensures refused { (groups : List (List Cut)) (batches others : List Batch)
         (refused other : List Refusal)
-        → AccountedApart groups batches refused → AccountedApart groups others other → refused
+        → AccountedApart no_label groups batches refused → AccountedApart no_label groups others other → refused
         ≡ other }
 {
     game_is_determined();

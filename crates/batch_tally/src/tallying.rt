@@ -11,6 +11,7 @@ use crate::ranges::row_parts;
 use crate::reading::read_all;
 use explorer_model::archive::{Batch, Bytes, Classes, Placed, Texts};
 use explorer_model::fault::Refusal;
+use explorer_model::label::Label;
 use explorer_model::list::Items;
 use outside::Gate;
 use std::alloc::{AllocError, Global};
@@ -86,6 +87,7 @@ fn tally_of<R: Threads + Sync>(
     let (texts, classes) = texts_and_classes(alloc, accepted)?;
     Ok(Some(Tally::new(
         Batch {
+            label: Label::none(),
             texts: Texts::from_vec(texts),
         },
         Items::from_vec(classes),

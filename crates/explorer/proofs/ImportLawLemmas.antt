@@ -11,6 +11,7 @@ use Rattle.explorer_model.specs.declared.fault.Refusal.{Refusal}
 use Rattle.explorer_model.specs.declared.store.LogFault.{LogFault}
 use Rattle.explorer_model.specs.declared.store.LogFault.TheVariants as log
 use Rattle.explorer_model.specs.Cuts.{Cut, cuts}
+use Rattle.explorer_model.specs.Labels.{no_label}
 use Rattle.explorer_model.specs.Imports.{Accounted, groups}
 use Rattle.explorer_model.specs.Journal.{IsSound, game_count}
 use Rattle.explorer_model.specs.Visits.{AreGamesOf, texts_of}
@@ -76,7 +77,7 @@ record IsDone (store image file stream : List ℕ) (before after : World) : Type
   batches : List Batch
   refused : List Refusal
   goes : Goes store image start batches refused before after
-  accounted : Accounted start.games (groups (cuts stream)) batches refused
+  accounted : Accounted no_label start.games (groups (cuts stream)) batches refused
   calls : after.host.calls ≡ calls_behind store file (read_through stream) before.host
 
 -- a group of the stream finds no room
@@ -174,7 +175,7 @@ module _ (store image file stream : List ℕ) (all : List (List Cut)) (groups_ar
         batches = to.imports.batches;
         refused = to.imports.refused;
         goes = goes endings.Whole to to.imports.stored_are to.imports.holds;
-        accounted = subst (λ (l : List ℕ). Accounted to.imports.start.games (groups (cuts l)) to.imports.batches to.imports.refused) same to.imports.stands.settled.accounted;
+        accounted = subst (λ (l : List ℕ). Accounted no_label to.imports.start.games (groups (cuts l)) to.imports.batches to.imports.refused) same to.imports.stands.settled.accounted;
         calls = ap (λ (h : HostState). h.calls) (host_is endings.Whole to) ∙ ap (λ (s : Stream). calls_behind store file s before.host) back;
       }
 
@@ -239,7 +240,7 @@ no_counts (Some counts) is some = cc
 module _ (start other : Known) (is_open : start.fault ≡ None) (also_open : other.fault ≡ None) (journals : start.journal ≡ other.journal) (games_are : start.games ≡ other.games) where
   settled_in : (done : List (List Cut)) (batches : List Batch) (refused : List Refusal) → AreSettled other done batches refused → AreSettled start done batches refused
   settled_in done batches refused settled = record {
-    accounted = subst (λ (g : List Game). Accounted g done batches refused) (sym games_are) settled.accounted;
+    accounted = subst (λ (g : List Game). Accounted no_label g done batches refused) (sym games_are) settled.accounted;
     closed = λ some. absurd (no_counts start.fault is_open some);
   }
 
@@ -322,7 +323,7 @@ module _ (store image file stream : List ℕ) (all : List (List Cut)) (groups_ar
   both_done : IsDone store image file stream before after → IsDone store image file stream before other → ImportAlike store (status_of ending) after other
   both_done x y =
       let same_start = games_are x.start y.start x.batches y.batches x.refused y.refused x.goes y.goes in
-      let there = subst (λ (g : List Game). Accounted g (groups (cuts stream)) y.batches y.refused) (sym same_start) y.accounted in
+      let there = subst (λ (g : List Game). Accounted no_label g (groups (cuts stream)) y.batches y.refused) (sym same_start) y.accounted in
       alike x.start y.start x.batches y.batches x.refused y.refused x.goes y.goes
       (accounts.batches x.start.games (groups (cuts stream)) x.batches y.batches x.refused y.refused x.accounted there)
       (accounts.refused x.start.games (groups (cuts stream)) x.batches y.batches x.refused y.refused x.accounted there)

@@ -10,6 +10,7 @@ use Rattle.explorer_model.specs.declared.fault.Refusal.{Refusal}
 use Rattle.explorer_model.specs.declared.query.Query.{Query}
 use Rattle.explorer_model.specs.Cuts.{Cut, cuts}
 use Rattle.explorer_model.specs.Finds.{IsFound}
+use Rattle.explorer_model.specs.Labels.{no_label}
 use Rattle.explorer_model.specs.Imports.{Accounted, Candidate, groups}
 use Rattle.explorer_model.specs.Journal.{IsSound, byte_count, game_count}
 use Rattle.explorer_model.specs.Visits.{AreGamesOf, texts_of}
@@ -77,7 +78,7 @@ module _ (start : Known) (is_open : start.fault ≡ None) (games bytes games' by
       by_fronts : Fronts ends.done (ends.next ∷ ends.rest) ends'.done (ends'.next ∷ ends'.rest) → (games ≡ games') × (bytes ≡ bytes') × (batches ≡ others) × (refused ≡ other)
       by_fronts (inl (done, rest)) =
           let next : ends.next ≡ ends'.next = cc in
-          let A : List (List Cut) → Type 0 = λ l. Accounted start.games l batches ends.earlier in
+          let A : List (List Cut) → Type 0 = λ l. Accounted no_label start.games l batches ends.earlier in
           let moved = subst A done ends.settled.accounted in
           let same = accounts.batches start.games ends'.done batches others ends.earlier ends'.earlier moved ends'.settled.accounted in
           let earlier = accounts.refused start.games ends'.done batches others ends.earlier ends'.earlier moved ends'.settled.accounted in
@@ -86,8 +87,8 @@ module _ (start : Known) (is_open : start.fault ≡ None) (games bytes games' by
           let H : List Batch → Type 0 = λ j. AreGamesOf j ends'.known.games in
           let games_are =
           same_games one (texts_of (start.journal ++ others)) ends.known.games ends'.known.games (subst G (ends.journal_is ∙ journals) ends.known.are_games) (subst H ends'.journal_is ends'.known.are_games) in
-          let P : List Cut → Type 0 = λ g. Accounted ends.known.games (g ∷ []) (batches_behind ends.known.games (ends.examinations ∷ [])) (refused_behind ends.known.games (ends.examinations ∷ [])) in
-          let Q : List Game → Type 0 = λ gs. Accounted gs (ends'.next ∷ []) (batches_behind ends.known.games (ends.examinations ∷ [])) (refused_behind ends.known.games (ends.examinations ∷ [])) in
+          let P : List Cut → Type 0 = λ g. Accounted no_label ends.known.games (g ∷ []) (batches_behind ends.known.games (ends.examinations ∷ [])) (refused_behind ends.known.games (ends.examinations ∷ [])) in
+          let Q : List Game → Type 0 = λ gs. Accounted no_label gs (ends'.next ∷ []) (batches_behind ends.known.games (ends.examinations ∷ [])) (refused_behind ends.known.games (ends.examinations ∷ [])) in
           let here = subst Q games_are (subst P next (accounted_by ends.known.games (ends.next ∷ []) (ends.examinations ∷ []) (ends.are_examinations, tt))) in
           let last = accounts.refused ends'.known.games (ends'.next ∷ []) (batches_behind ends.known.games (ends.examinations ∷ [])) (batches_behind ends'.known.games (ends'.examinations ∷ []))
           (refused_behind ends.known.games (ends.examinations ∷ [])) (refused_behind ends'.known.games (ends'.examinations ∷ [])) here
@@ -101,12 +102,12 @@ module _ (start : Known) (is_open : start.fault ≡ None) (games bytes games' by
           )
       by_fronts (inr (inl (next, more, later, is, rest))) =
           let same : ends.next ≡ next = cc in
-          let A : List (List Cut) → Type 0 = λ l. Accounted start.games l others ends'.earlier in
+          let A : List (List Cut) → Type 0 = λ l. Accounted no_label start.games l others ends'.earlier in
           absurd (not_stored one accounts start is_open so_far batches refused left ends games bytes full more others ends'.earlier
           (subst A (is ∙ ap (λ (g : List Cut). ends.done ++ g ∷ more) (sym same)) ends'.settled.accounted) sound'.within)
       by_fronts (inr (inr (next, more, later, is, rest))) =
           let same : ends'.next ≡ next = cc in
-          let A : List (List Cut) → Type 0 = λ l. Accounted start.games l batches ends.earlier in
+          let A : List (List Cut) → Type 0 = λ l. Accounted no_label start.games l batches ends.earlier in
           absurd (not_stored one accounts start is_open so_far others other left' ends' games' bytes' full' more batches ends.earlier
           (subst A (is ∙ ap (λ (g : List Cut). ends'.done ++ g ∷ more) (sym same)) ends.settled.accounted) sound.within)
 
@@ -127,7 +128,7 @@ one_answer query before after other one_account one told first second =
     let stream = first.imports.stream in
     let streams : first.imports.stream ≡ second.imports.stream =
     let both = sym (all_read before.input.left after.input.left first.imports.stream told first.imports.reads.next first.imports.stands.at_end) ∙ all_read before.input.left other.input.left second.imports.stream told second.imports.reads.next second.imports.stands.at_end in cc in
-    let A : List ℕ → Type 0 = λ l. Accounted [] (groups (cuts l)) first.batches first.refused in
+    let A : List ℕ → Type 0 = λ l. Accounted no_label [] (groups (cuts l)) first.batches first.refused in
     let moved = subst A streams first.imports.stands.settled.accounted in
     let all = groups (cuts second.imports.stream) in
     let batches = one_account.batches [] all first.batches second.batches first.refused second.refused moved second.imports.stands.settled.accounted in

@@ -9,6 +9,7 @@ use Rattle.explorer_model.specs.declared.archive.Batch.{Batch}
 use Rattle.explorer_model.specs.declared.archive.Game.{Game}
 use Rattle.explorer_model.specs.declared.fault.Refusal.{Refusal}
 use Rattle.explorer_model.specs.Cuts.{Cut}
+use Rattle.explorer_model.specs.Labels.{no_label}
 use Rattle.explorer_model.specs.Imports.{Accounted, AreExaminations, Candidate, Examination, IsExaminationOf, Verdict, batch_of, candidates, groups, numbers_of, refusals, verdicts, verdicts_behind, verdicts_in_turn}
 use Rattle.explorer_model.specs.Journal.{IsWithin, byte_count, game_count}
 use Rattle.explorer_model.specs.Visits.{AreGamesOf, texts_of}
@@ -31,15 +32,15 @@ use Rattle.import_run.proofs.VerdictLemmas.{OneGame}
 
 -- groups behind stored games have one account
 pub record OneAccount : Type 0 where
-  pub batches : (stored : List Game) (groups : List (List Cut)) (batches others : List Batch) (refused other : List Refusal) → Accounted stored groups batches refused → Accounted stored groups others other → batches ≡ others
-  pub refused : (stored : List Game) (groups : List (List Cut)) (batches others : List Batch) (refused other : List Refusal) → Accounted stored groups batches refused → Accounted stored groups others other → refused ≡ other
+  pub batches : (stored : List Game) (groups : List (List Cut)) (batches others : List Batch) (refused other : List Refusal) → Accounted no_label stored groups batches refused → Accounted no_label stored groups others other → batches ≡ others
+  pub refused : (stored : List Game) (groups : List (List Cut)) (batches others : List Batch) (refused other : List Refusal) → Accounted no_label stored groups batches refused → Accounted no_label stored groups others other → refused ≡ other
 
 pub accounted_by : (stored : List Game) (groups : List (List Cut)) (examinations : List (List Examination)) → AreExaminations groups examinations
-    → Accounted stored groups (batches_behind stored examinations) (refused_behind stored examinations)
+    → Accounted no_label stored groups (batches_behind stored examinations) (refused_behind stored examinations)
 accounted_by stored groups examinations each = record { examinations = examinations; are_examinations = each; yields = record { batches_are = refl; refused_are = refl } }
 
 abbrev one_batch : List Game → List Examination → List Batch
-one_batch stored group = cons_option (batch_of (candidates (verdicts_behind (numbers_of stored) group))) []
+one_batch stored group = cons_option (batch_of no_label (candidates (verdicts_behind (numbers_of stored) group))) []
 
 single : (stored : List Game) (group : List Examination) → batches_behind stored (group ∷ []) ≡ one_batch stored group
 unfolding verdicts_in_turn
@@ -55,7 +56,7 @@ cons_more (Some batch) rest = refl
 
 first_batch : (stored : List Game) (group : List Examination) (rest : List (List Examination)) → batches_behind stored (group ∷ rest) ≡ one_batch stored group ++ batches_behind (and_games stored group) rest
 unfolding verdicts_in_turn
-first_batch stored group rest = cons_more (batch_of (candidates (verdicts_behind (numbers_of stored) group))) (batches_behind (and_games stored group) rest)
+first_batch stored group rest = cons_more (batch_of no_label (candidates (verdicts_behind (numbers_of stored) group))) (batches_behind (and_games stored group) rest)
 
 turn_split : (stored : List Game) (front back : List (List Examination)) → verdicts_in_turn stored (front ++ back) ≡ verdicts_in_turn stored front ++ verdicts_in_turn (games_after stored front) back
 unfolding verdicts_in_turn
@@ -74,7 +75,7 @@ games_are journal games [] [] are each = let P : List Batch → Type 0 = λ j. A
 games_are journal games [] (group ∷ examinations) are each = absurd each
 games_are journal games (cuts ∷ groups) [] are each = absurd each
 games_are journal games (cuts ∷ groups) (group ∷ examinations) are each =
-    let batch = batch_of (candidates (verdicts_behind (numbers_of games) group)) in
+    let batch = batch_of no_label (candidates (verdicts_behind (numbers_of games) group)) in
     let rest = batches_behind (and_games games group) examinations in
     let later = games_are (journal ++ cons_option batch []) (and_games games group) groups examinations (by_batch journal games cuts group are each.0 batch refl) each.1 in
     let P : List Batch → Type 0 = λ j. AreGamesOf j (games_after (and_games games group) examinations) in
@@ -110,11 +111,11 @@ games-append a b = ap (λ (l : List (List ℕ)). length l) (flat_map-append _ a 
 bytes-append : (a b : List Batch) → byte_count (a ++ b) ≡ byte_count a + byte_count b
 bytes-append a b = ap (sum_by (λ (text : List ℕ). length text)) (flat_map-append _ a b) ∙ sum_by-append (λ (text : List ℕ). length text) (texts_of a) (texts_of b)
 
-games_of_one : (list : List Candidate) → game_count (cons_option (batch_of list) []) ≡ length list
+games_of_one : (list : List Candidate) → game_count (cons_option (batch_of no_label list) []) ≡ length list
 games_of_one [] = refl
 games_of_one (first ∷ rest) = ap (λ (l : List (List ℕ)). length l) (append-nil (map (λ (candidate : Candidate). candidate.text) (first ∷ rest))) ∙ texts_long (first ∷ rest)
 
-bytes_of_one : (list : List Candidate) → byte_count (cons_option (batch_of list) []) ≡ candidate_bytes list
+bytes_of_one : (list : List Candidate) → byte_count (cons_option (batch_of no_label list) []) ≡ candidate_bytes list
 bytes_of_one [] = refl
 bytes_of_one (first ∷ rest) =
     ap (sum_by (λ (text : List ℕ). length text)) (append-nil (map (λ (candidate : Candidate). candidate.text) (first ∷ rest))) ∙ texts_bytes (first ∷ rest)
@@ -151,17 +152,17 @@ module _ (one : OneGame) (accounts : OneAccount) (start : Known) (is_open : star
       let P : Option (ℕ × ℕ) → Type 0 = λ f. lost (stored_by f ends.known.games) (verdicts ends.examinations) ≡ refused_behind ends.known.games (ends.examinations ∷ []) in
       subst P (sym none_known) (sym (single_refused ends.known.games ends.examinations))
 
-  batch_is : (group : List Examination) → AllZip IsExaminationOf ends.next group → one_batch ends.known.games group ≡ cons_option (batch_of left) []
+  batch_is : (group : List Examination) → AllZip IsExaminationOf ends.next group → one_batch ends.known.games group ≡ cons_option (batch_of no_label left) []
   batch_is group each =
       sym (single ends.known.games group)
       ∙ accounts.batches ends.known.games (ends.next ∷ []) (batches_behind ends.known.games (group ∷ [])) (batches_behind ends.known.games (ends.examinations ∷ [])) (refused_behind ends.known.games (group ∷ []))
       (refused_behind ends.known.games (ends.examinations ∷ [])) (accounted_by ends.known.games (ends.next ∷ []) (group ∷ []) (each, tt)) (accounted_by ends.known.games (ends.next ∷ []) (ends.examinations ∷ []) (ends.are_examinations, tt))
-      ∙ single ends.known.games ends.examinations ∙ ap (λ (cs : List Candidate). cons_option (batch_of cs) []) (sym left_is)
+      ∙ single ends.known.games ends.examinations ∙ ap (λ (cs : List Candidate). cons_option (batch_of no_label cs) []) (sym left_is)
 
   module _ (games bytes : ℕ) (no_room : FindsNoRoom (start.journal ++ batches) games bytes left) where
-    over : (others last : List Batch) → others ≡ (batches ++ cons_option (batch_of left) []) ++ last → IsWithin (start.journal ++ others) → ⊥
+    over : (others last : List Batch) → others ≡ (batches ++ cons_option (batch_of no_label left) []) ++ last → IsWithin (start.journal ++ others) → ⊥
     over others last is within =
-        let more = cons_option (batch_of left) [] in
+        let more = cons_option (batch_of no_label left) [] in
         let all : start.journal ++ others ≡ ((start.journal ++ batches) ++ more) ++ last =
         ap (λ (l : List Batch). start.journal ++ l) (is ∙ append_assoc batches more last) ∙ sym (append_assoc start.journal batches (more ++ last))
         ∙ sym (append_assoc (start.journal ++ batches) more last) in
@@ -178,14 +179,14 @@ module _ (one : OneGame) (accounts : OneAccount) (start : Known) (is_open : star
     behind front group back others each here is within =
         let games = games_after start.games front in
         let rest = batches_behind (and_games games group) back in
-        let group_is : one_batch games group ≡ cons_option (batch_of left) [] = ap (λ (g : List Game). one_batch g group) (front_games front each) ∙ batch_is group here in
+        let group_is : one_batch games group ≡ cons_option (batch_of no_label left) [] = ap (λ (g : List Game). one_batch g group) (front_games front each) ∙ batch_is group here in
         over others rest
         (is ∙ batches_split start.games front (group ∷ back)
         ∙ ap₂ (λ (a : List Batch) (b : List Batch). a ++ b) (front_batches front each) (first_batch games group back ∙ ap (λ (l : List Batch). l ++ rest) group_is)
-        ∙ sym (append_assoc batches (cons_option (batch_of left) []) rest))
+        ∙ sym (append_assoc batches (cons_option (batch_of no_label left) []) rest))
         within
 
-    pub not_stored : (more : List (List Cut)) (others : List Batch) (other : List Refusal) → Accounted start.games (ends.done ++ ends.next ∷ more) others other → IsWithin (start.journal ++ others) → ⊥
+    pub not_stored : (more : List (List Cut)) (others : List Batch) (other : List Refusal) → Accounted no_label start.games (ends.done ++ ends.next ∷ more) others other → IsWithin (start.journal ++ others) → ⊥
     not_stored more others other stored within =
         let parts = zip_front ends.done (ends.next ∷ more) stored.examinations stored.are_examinations in
         by_back parts.0 parts.1 parts.2 parts.3 parts.4
@@ -196,7 +197,7 @@ module _ (one : OneGame) (accounts : OneAccount) (start : Known) (is_open : star
 
     -- nor at the end of a stream, where the cuts behind it are of the last group
     pub not_ended : (closed : List (List Cut)) (hand : List Cut) (tail : List (List Cut)) (back : List (List Examination)) (others : List Batch) (other : List Refusal) → closed ++ hand ∷ [] ≡ ends.done ++ ends.next ∷ tail
-        → AllByRecursion IsWhole closed → texts_in hand ≤ 512 → AreExaminations tail back → Accounted start.games (groups (all_cuts closed ++ hand)) others other → IsWithin (start.journal ++ others) → ⊥
+        → AllByRecursion IsWhole closed → texts_in hand ≤ 512 → AreExaminations tail back → Accounted no_label start.games (groups (all_cuts closed ++ hand)) others other → IsWithin (start.journal ++ others) → ⊥
     not_ended closed hand tail back others other all whole few each stored within =
         let front = ends.settled.accounted.examinations in
         let examined = zip-append (AllZip IsExaminationOf) ends.done (ends.next ∷ tail) front (ends.examinations ∷ back) ends.settled.accounted.are_examinations (ends.are_examinations, each) in

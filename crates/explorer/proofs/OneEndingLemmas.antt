@@ -13,6 +13,7 @@ use Rattle.explorer_model.specs.declared.fault.Why.TheVariants as causes
 use Rattle.explorer_model.specs.declared.query.BadParameter.{BadParameter}
 use Rattle.explorer_model.specs.declared.query.Query.{Query}
 use Rattle.explorer_model.specs.Cuts.{Cut, Preamble, Text, TooLong, cuts}
+use Rattle.explorer_model.specs.Labels.{no_label}
 use Rattle.explorer_model.specs.Imports.{Accounted, Examination, IsExaminationOf, Unread, groups}
 use Rattle.explorer_model.specs.Journal.{IsSound, IsWithin}
 use Rattle.explorer_model.specs.Query.{QueryReads}
@@ -149,13 +150,13 @@ each_front [] more next each = (each.0, tt)
 each_front (group ∷ done) more next each = (each.0, each_front done more next each.1)
 
 pub done_or_full : (start : Known) → start.fault ≡ None → (stream : List ℕ) (all : List (List Cut)) (games bytes : ℕ) (batches others : List Batch) (refused other : List Refusal) → OneGame → OneAccount
-    → Accounted start.games (groups (cuts stream)) others other → IsWithin (start.journal ++ others) → AreAllGroups (cuts stream) all → IsFullBehind start games bytes all batches refused → ⊥
+    → Accounted no_label start.games (groups (cuts stream)) others other → IsWithin (start.journal ++ others) → AreAllGroups (cuts stream) all → IsFullBehind start games bytes all batches refused → ⊥
 done_or_full start is_open stream all games bytes batches others refused other one accounts stored within groups_are (left, ends, full) =
     by_place (last_or_within ends.done ends.rest groups_are.whole ends.next groups_are.hand (sym ends.so_far_is ∙ groups_are.all_are))
   where
     by_place : LastOrWithin ends.done ends.next ends.rest groups_are.whole groups_are.hand → ⊥
     by_place (inl (same, last)) =
-        let A : List Cut → Type 0 = λ l. Accounted start.games (groups l) others other in
+        let A : List Cut → Type 0 = λ l. Accounted no_label start.games (groups l) others other in
         not_ended one accounts start is_open all batches refused left ends games bytes full groups_are.whole groups_are.hand [] [] others other
         (sym (ap₂ (λ (w : List (List Cut)) (h : List Cut). w ++ h ∷ []) same last)) groups_are.in_groups.each (omega (arith, groups_are.in_groups.few)) tt (subst A groups_are.in_groups.all stored) within
     by_place (inr (more, is)) =
@@ -169,12 +170,12 @@ done_or_full start is_open stream all games bytes batches others refused other o
         by_texts : (rest : List Cut) → cuts stream ≡ all_cuts (ends.done ++ ends.next ∷ []) ++ rest → AllByRecursion IsWhole (ends.done ++ ends.next ∷ []) → (texts_in rest ≡ 0) ⊎ (0 < texts_in rest) → ⊥
         by_texts rest cuts_are each (inl none) =
             let examined = unread_examinations rest none in
-            let A : List Cut → Type 0 = λ l. Accounted start.games (groups l) others other in
+            let A : List Cut → Type 0 = λ l. Accounted no_label start.games (groups l) others other in
             not_ended one accounts start is_open all batches refused left ends games bytes full (ends.done ++ ends.next ∷ []) rest (rest ∷ []) (examined.0 ∷ []) others other
             (append_assoc ends.done (ends.next ∷ []) (rest ∷ [])) each (omega (arith, none)) (examined.1, tt) (subst A cuts_are stored) within
         by_texts rest cuts_are each (inr some) =
             let split : groups (cuts stream) ≡ ends.done ++ ends.next ∷ groups rest = ap groups cuts_are ∙ groups_closed (ends.done ++ ends.next ∷ []) rest each some ∙ append_assoc ends.done (ends.next ∷ []) (groups rest) in
-            let A : List (List Cut) → Type 0 = λ l. Accounted start.games l others other in
+            let A : List (List Cut) → Type 0 = λ l. Accounted no_label start.games l others other in
             not_stored one accounts start is_open all batches refused left ends games bytes full (groups rest) others other (subst A split stored) within
 
 -- ---- what is written
@@ -248,12 +249,12 @@ comes stream all query before after (Stopped (faults.CannotOpen name)) told grou
 comes stream all query before after (Stopped faults.CannotAccept) told groups_are faultless counts = absurd counts
 
 -- an answer is one over the groups of the whole stream
-whole_stored : (stream : List ℕ) (query : Query) (before after : World) → IsTold stream before → (answers : Answers query before after) → Accounted [] (groups (cuts stream)) answers.batches answers.refused
+whole_stored : (stream : List ℕ) (query : Query) (before after : World) → IsTold stream before → (answers : Answers query before after) → Accounted no_label [] (groups (cuts stream)) answers.batches answers.refused
 whole_stored stream query before after told answers =
     let read = answers.imports.stream in
     let rest = told_rest before.input.left after.input.left stream answers.imports.stream told.input answers.imports.reads.next in
     let same : answers.imports.stream ≡ stream = sym (rest.1 ∙ ap (λ (l : List ℕ). answers.imports.stream ++ l) (end_is after.input.left rest.0 rest.2 answers.imports.stands.at_end) ∙ append-nil answers.imports.stream) in
-    subst (λ (l : List ℕ). Accounted [] (groups (cuts l)) answers.batches answers.refused) same answers.imports.stands.settled.accounted
+    subst (λ (l : List ℕ). Accounted no_label [] (groups (cuts l)) answers.batches answers.refused) same answers.imports.stands.settled.accounted
 
 abbrev Alike : World → World → Ending → Ending → Type 0
 Alike after other ending ending' = (ending ≡ ending') × WroteAlike after other

@@ -14,6 +14,7 @@ use Rattle.explorer_model.specs.Cuts.{cuts}
 use Rattle.explorer_model.specs.declared.query.Query.{Query}
 use Rattle.explorer_model.specs.Fen.{FenReads, fen_text}
 use Rattle.explorer_model.specs.Finds.{IsFound}
+use Rattle.explorer_model.specs.Labels.{no_label}
 use Rattle.explorer_model.specs.Imports.{Accounted, groups}
 use Rattle.explorer_model.specs.Visits.{IsTextOf, texts_of}
 use Rattle.ingest_desk.specs.Importers.{ending_of}
@@ -127,7 +128,7 @@ module _ {D J : Type 0} (disk : D → DiskState) (left_since : D → ℕ → Lis
       let games_are : is.start.games ≡ [] = ap (λ (k : Known). k.games) start_is in
       let stream_is : is.stream ≡ joined texts = all_taken source.left source_after.left stream is.stream told is.reads.next stands.0 ∙ of_texts in
       let batches_are : is.batches ≡ journal after = sym (stores.0 ∙ ap (λ (j : List Batch). j ++ is.batches) start_journal) in
-      let A : List Game → List ℕ → List Batch → List Refusal → Type 0 = λ g s b r. Accounted g (groups (cuts s)) b r in
+      let A : List Game → List ℕ → List Batch → List Refusal → Type 0 = λ g s b r. Accounted no_label g (groups (cuts s)) b r in
       record {
         accounted =
             subst (λ (r : List Refusal). A [] (joined texts) (journal after) r) whole_all.0

@@ -9,6 +9,7 @@ use Rattle.host.specs.Hosts.{AreFresh, DiskBack, DiskOut, DoorBack, DoorsOut, Fi
 use Rattle.explorer_model.specs.declared.archive.Batch.{Batch}
 use Rattle.explorer_model.specs.declared.fault.Refusal.{Refusal}
 use Rattle.explorer_model.specs.Cuts.{Cut, cuts}
+use Rattle.explorer_model.specs.Labels.{no_label}
 use Rattle.explorer_model.specs.Imports.{AccountedBeside, Candidate, groups}
 use Rattle.explorer_model.specs.Journal.{IsSound, input_limit}
 use Rattle.explorer_model.specs.Timeline.{IsPrefix}
@@ -48,7 +49,7 @@ pub record FileRun : Type 0 where
 
 -- the groups of the cuts are accounted so far by batches and by what is refused
 abbrev pub AccountsSo : ImportEnding → List (List Cut) → List Batch → List Refusal → Type 0
-AccountsSo endings.Whole groups batches refused = AccountedBeside groups batches refused
+AccountsSo endings.Whole groups batches refused = AccountedBeside no_label groups batches refused
 AccountsSo (endings.DiskFault before after) groups batches refused =
     (left : List Candidate) × BreaksAt groups batches refused left
 AccountsSo (endings.Closed before after) groups batches refused =

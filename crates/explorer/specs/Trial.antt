@@ -13,6 +13,7 @@ use Rattle.explorer_model.specs.Chess.{after}
 use Rattle.explorer_model.specs.Cuts.{cuts}
 use Rattle.explorer_model.specs.Fen.{FenReads, fen_text}
 use Rattle.explorer_model.specs.Finds.{IsFound}
+use Rattle.explorer_model.specs.Labels.{no_label}
 use Rattle.explorer_model.specs.Imports.{Accounted, groups}
 use Rattle.explorer_model.specs.Query.{QueryReads}
 use Rattle.explorer_model.specs.Visits.{IsTextOf, texts_of}
@@ -37,7 +38,7 @@ pub record AreSamplesOf (games seed : ℕ) (texts : List (List ℕ)) : Type 0 wh
 -- The texts were imported as one stream into a new store. It has them all, in their order, and
 -- nothing was refused.
 pub record StoresTexts (texts : List (List ℕ)) (batches : List Batch) : Type 0 where
-  pub accounted : Accounted [] (groups (cuts (joined texts))) batches []
+  pub accounted : Accounted no_label [] (groups (cuts (joined texts))) batches []
   pub texts_are : texts_of batches ≡ texts
 
 -- how many games batches have, and segments

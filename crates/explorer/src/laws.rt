@@ -4,6 +4,7 @@ ghost use Rattle.std.specs.Prelude.{◌≡◌, ◌≢◌, ◌≤◌, ℕ, List, 
 ghost use Rattle.std.specs.List.{AllByRecursion};
 ghost use Rattle.outside.specs.Doors.{Connections};
 ghost use Rattle.explorer_model.specs.Cuts.{Cut};
+ghost use Rattle.explorer_model.specs.Labels.{no_label};
 ghost use Rattle.explorer_model.specs.Imports.{Accounted, AccountedApart};
 ghost use Rattle.explorer_model.specs.Journal.{IsSound};
 ghost use Rattle.explorer_model.specs.Replies.{IsFoundIn};
@@ -66,8 +67,8 @@ pub fn early_ends_are_determined()
 /// Where no cut is refused as Repeated, groups behind stored games are accounted as each by itself.
 pub fn groups_without_repeats_stand_apart()
     ensures { (stored : List Game) (groups : List (List Cut)) (batches : List Batch)
-        (refused : List Refusal) → Accounted stored groups batches refused
-        → AllByRecursion IsNoRepeat refused → AccountedApart groups batches refused }
+        (refused : List Refusal) → Accounted no_label stored groups batches refused
+        → AllByRecursion IsNoRepeat refused → AccountedApart no_label groups batches refused }
 {}
 
 /// A told input has one answer to a query, and one report.

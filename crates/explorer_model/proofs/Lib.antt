@@ -7,6 +7,7 @@ pub mod Totals
 pub mod Readings
 pub mod Lists
 pub mod Timelines
+pub mod LabelLemmas
 pub mod StoreReading
 pub mod StoreWriting
 pub mod Asking

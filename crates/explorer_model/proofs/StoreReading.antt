@@ -11,7 +11,9 @@ use Rattle.explorer_model.specs.declared.store.LogFault.{LogFault}
 use Rattle.explorer_model.specs.declared.store.LogFault.TheVariants.{NotALog, OtherFormat, Damaged}
 use Rattle.explorer_model.specs.Imports.{group_limit}
 use Rattle.explorer_model.specs.Cuts.{text_limit}
-use Rattle.explorer_model.specs.StoreFile.{header, store_format, record_bytes, front_of, text_field, payload_of, Record, gate_limit, and_record, records_from, records_of, number_at, split_behind, text_at, texts_in, batch_in, payload_limit, batches_in, journal_by, journal_of, CanStand, IsStorable, IsStoreOf, records_at, store_of}
+use Rattle.explorer_model.specs.Labels.{is_label}
+use Rattle.explorer_model.proofs.LabelLemmas.{label-short}
+use Rattle.explorer_model.specs.StoreFile.{header, store_format, record_bytes, front_of, text_field, payload_of, Record, gate_limit, and_record, records_from, records_of, number_at, split_behind, text_at, texts_in, texts_field, all_texts_in, label_at, batch_in, payload_limit, batches_in, journal_by, journal_of, CanStand, IsStorable, IsStoreOf, records_at, store_of}
 
 -- ---- lists
 
@@ -64,10 +66,18 @@ texts-read [] fit = refl
 texts-read (text ∷ texts) fit =
     rw (text-read text (flat_map text_field texts) fit.0) (rw (texts-read texts fit.1) refl)
 
+all-texts-read : (texts : List (List ℕ)) → IsInRange 1 group_limit (length texts) → AllByRecursion HasTextLength texts → all_texts_in (texts_field texts) ≡ Some texts
+all-texts-read texts few fit =
+    rw (number-of-2 (length texts) group_limit (flat_map text_field texts) few.0 few.1 (omega arith)) (texts-read texts fit)
+
+label-read : (label rest : List ℕ) → is_label label ≡ true → label_at (length label ∷ label ++ rest) ≡ Some (label, rest)
+unfolding label_at
+label-read label rest is = rw (split-front label rest) (rw is refl)
+
 pub batch-read : (batch : Batch) → IsStorable batch → batch_in (payload_of batch) ≡ Some batch
 batch-read batch fits =
-    rw (number-of-2 (length batch.texts) group_limit (flat_map text_field batch.texts) fits.texts.0 fits.texts.1 (omega arith))
-    (rw (texts-read batch.texts (recursion_from_All HasTextLength batch.texts fits.lengths)) refl)
+    rw (label-read batch.label (texts_field batch.texts) fits.label)
+    (rw (all-texts-read batch.texts fits.texts (recursion_from_All HasTextLength batch.texts fits.lengths)) refl)
 
 -- ---- records
 
@@ -196,13 +206,14 @@ length-texts (text ∷ texts) fit =
 payload-fits : (batch : Batch) → IsStorable batch → HasPayloadLength payload_limit (payload_of batch)
 payload-fits batch fits =
     let texts = length-texts batch.texts (recursion_from_All HasTextLength batch.texts fits.lengths) in
-    (omega arith, omega (arith, texts, fits.texts.1))
+    let size = length-append batch.label (texts_field batch.texts) in
+    (omega arith, omega (arith, texts, fits.texts.1, size, label-short batch.label fits.label))
 
 payloads-fit : (journal : List Batch) → AllByRecursion IsStorable journal → AllByRecursion (HasPayloadLength payload_limit) (map payload_of journal)
 payloads-fit [] fit = tt
 payloads-fit (batch ∷ journal) fit = (payload-fits batch fit.0, payloads-fit journal fit.1)
 
-batches-read : (place : ℕ) (journal : List Batch) → AllByRecursion IsStorable journal → batches_in (records_at place (map payload_of journal)) ≡ Ok journal
+batches-read : (place : ℕ) (journal : List Batch) → AllByRecursion IsStorable journal → batches_in batch_in (records_at place (map payload_of journal)) ≡ Ok journal
 unfolding batches_in
 batches-read place [] fit = refl
 batches-read place (batch ∷ journal) fit =
@@ -219,6 +230,6 @@ journal-read file journal held low =
       lengths_fit = omega arith;
       places = low;
     } in
-    ap (λ file. journal_by (records_of payload_limit store_format file)) held.is
-    ∙ ap journal_by (records-read payload_limit store_format (map payload_of journal) held.gate held.rest can held.shut)
+    ap (λ file. journal_by batch_in (records_of payload_limit store_format file)) held.is
+    ∙ ap (journal_by batch_in) (records-read payload_limit store_format (map payload_of journal) held.gate held.rest can held.shut)
     ∙ batches-read 12 journal each

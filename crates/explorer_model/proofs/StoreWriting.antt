@@ -10,7 +10,8 @@ use Rattle.explorer_model.specs.declared.archive.Batch.{Batch}
 use Rattle.explorer_model.specs.declared.store.LogFault.TheVariants.{NotALog, OtherFormat, Damaged}
 use Rattle.explorer_model.specs.Imports.{group_limit}
 use Rattle.explorer_model.specs.Cuts.{text_limit}
-use Rattle.explorer_model.specs.StoreFile.{magic, header, record_bytes, text_field, payload_of, Reading, Record, length_behind, is_whole, and_record, records_from, format_of, is_log, number_at, split_behind, text_at, texts_in, batch_in, store_format, payload_limit, and_batch, batches_in, journal_by, journal_of, IsStorable, IsStoreOf}
+use Rattle.explorer_model.specs.Labels.{is_label}
+use Rattle.explorer_model.specs.StoreFile.{magic, header, record_bytes, text_field, payload_of, Reading, Record, length_behind, is_whole, and_record, records_from, format_of, is_log, number_at, split_behind, text_at, texts_in, texts_field, all_texts_in, label_by, label_at, batch_in, store_format, payload_limit, and_batch, batches_in, journal_by, journal_of, IsStorable, IsStoreOf}
 use Rattle.explorer_model.proofs.StoreReading.{skip}
 
 -- ---- bytes
@@ -139,21 +140,70 @@ texts-were (suc count) bytes small =
 abbrev WasBatch : List ℕ → Batch → Type 0
 WasBatch payload batch = IsStorable batch × (payload ≡ payload_of batch)
 
-abbrev batch_as : List (List ℕ) → Batch
-batch_as texts = record { texts = texts }
+-- the bytes were texts behind their number
+record WereAllTexts (bytes : List ℕ) (texts : List (List ℕ)) : Type 0 where
+  few : IsInRange 1 group_limit (length texts)
+  lengths : AllByRecursion HasTextLength texts
+  are : bytes ≡ texts_field texts
+
+all-texts-were : (bytes : List ℕ) → AreBytes bytes → IfSome (all_texts_in bytes) (WereAllTexts bytes)
+all-texts-were bytes small =
+    if-then (WasNumber (to_le_bytes w16) group_limit bytes) (WereAllTexts bytes) (number_at w16 group_limit bytes)
+    (λ count. texts_in count.0 count.1) (number-was-2 group_limit bytes small) (λ count was.
+    more (texts_in count.0 count.1) count was (texts-were count.0 count.1 was.2))
+  where
+    more : (found : Option (List (List ℕ))) (count : ℕ × List ℕ) → WasNumber (to_le_bytes w16) group_limit bytes count
+        → IfSome found (WereTexts count.0 count.1) → IfSome found (WereAllTexts bytes)
+    more None count was were = tt
+    more (Some texts) count was were = record {
+      few = (omega (arith, were.0, was.0.0), omega (arith, were.0, was.0.1));
+      lengths = were.1;
+      are = was.1 ∙ ap (λ rest. to_le_bytes w16 count.0 ++ rest) were.2
+          ∙ ap (λ n. to_le_bytes w16 n ++ flat_map text_field texts) (sym were.0);
+    }
+
+-- the bytes were a label behind its length, and others
+record WasLabel (bytes : List ℕ) (found : List ℕ × List ℕ) : Type 0 where
+  is : is_label found.0 ≡ true
+  bytes_are : bytes ≡ length found.0 ∷ found.0 ++ found.1
+  small : AreBytes found.1
+
+label-was : (bytes : List ℕ) → AreBytes bytes → IfSome (label_at bytes) (WasLabel bytes)
+unfolding label_at
+label-was [] small = tt
+label-was (count ∷ bytes) small = by (nat_le count (length bytes)) refl
+  where
+    kept : (passes : Bool) → is_label (take count bytes) ≡ passes → count ≤ length bytes
+        → IfSome (if passes then Some (take count bytes, drop count bytes) else None) (WasLabel (count ∷ bytes))
+    kept true is long =
+        let size : length (take count bytes) ≡ count = omega (arith, length-take count bytes) in
+        record {
+          is = is;
+          bytes_are = ap (λ rest. count ∷ rest) (sym (take-append-drop count bytes))
+              ∙ ap (λ n. n ∷ (take count bytes ++ drop count bytes)) (sym size);
+          small = bytes-dropped count bytes small.1;
+        }
+    kept false is long = tt
+
+    by : (passes : Bool) → nat_le count (length bytes) ≡ passes → IfSome (option_and_then label_by (split_if passes count bytes)) (WasLabel (count ∷ bytes))
+    by true is = kept (is_label (take count bytes)) refl (grind (arith, nat_tests))
+    by false is = tt
+
+abbrev batch_as : List ℕ → List (List ℕ) → Batch
+batch_as label texts = record { label = label; texts = texts }
 
 batch-was : (payload : List ℕ) → AreBytes payload → IfSome (batch_in payload) (WasBatch payload)
 batch-was payload small =
-    if-then (WasNumber (to_le_bytes w16) group_limit payload) (WasBatch payload) (number_at w16 group_limit payload)
-    (λ count. option_and_then (λ texts. Some (batch_as texts)) (texts_in count.0 count.1)) (number-was-2 group_limit payload small) (λ count was.
-    if-then (WereTexts count.0 count.1) (WasBatch payload) (texts_in count.0 count.1) (λ texts. Some (batch_as texts))
-    (texts-were count.0 count.1 was.2) (λ texts were. (
+    if-then (WasLabel payload) (WasBatch payload) (label_at payload)
+    (λ label. option_and_then (λ texts. Some (batch_as label.0 texts)) (all_texts_in label.1)) (label-was payload small) (λ label was.
+    if-then (WereAllTexts label.1) (WasBatch payload) (all_texts_in label.1) (λ texts. Some (batch_as label.0 texts))
+    (all-texts-were label.1 was.small) (λ texts were. (
       record {
-        texts = (omega (arith, were.0, was.0.0), omega (arith, were.0, was.0.1));
-        lengths = All-from_recursion HasTextLength texts were.1;
+        label = was.is;
+        texts = were.few;
+        lengths = All-from_recursion HasTextLength texts were.lengths;
       },
-      was.1 ∙ ap (λ rest. to_le_bytes w16 count.0 ++ rest) were.2
-          ∙ ap (λ n. to_le_bytes w16 n ++ flat_map text_field texts) (sym were.0),
+      was.bytes_are ∙ ap (λ rest. length label.0 ∷ label.0 ++ rest) were.are,
     )))
 
 pub batch-was-stored : (payload : List ℕ) (batch : Batch) → All IsByte payload → batch_in payload ≡ Some batch → WasBatch payload batch
@@ -243,11 +293,11 @@ and-batch-was gate payload payloads (Some batch) (Ok batches) was were =
     ((was.0, were.0), λ i. was.1 i ∷ were.1 i)
 
 batches-were : (records : List Record) → AllByRecursion (λ stored. AreBytes stored.payload) records
-    → IfOk (batches_in records) (WereBatches (map payload_in records))
+    → IfOk (batches_in batch_in records) (WereBatches (map payload_in records))
 unfolding batches_in
 batches-were [] small = (tt, refl)
 batches-were (first ∷ records) small =
-    and-batch-was first.gate first.payload (map payload_in records) (batch_in first.payload) (batches_in records)
+    and-batch-was first.gate first.payload (map payload_in records) (batch_in first.payload) (batches_in batch_in records)
     (batch-was first.payload small.0) (batches-were records small.1)
 
 -- a log of the format begins with the header
@@ -272,9 +322,9 @@ header-was file log format small = by (nat_le 13 (length file)) (bytes_eq (take 
     by false same long other is = absurd (true≢false (sym is))
 
 journal-by-was : (file : List ℕ) (records : Reading (List Record)) → file ≡ header store_format ++ drop 12 file
-    → IfOk records (Were (drop 12 file)) → IfOk (journal_by records) (λ journal. IsStoreOf journal file)
+    → IfOk records (Were (drop 12 file)) → IfOk (journal_by batch_in records) (λ journal. IsStoreOf journal file)
 journal-by-was file (Err fault) is were = tt
-journal-by-was file (Ok records) is were = by (batches_in records) (batches-were records were.small)
+journal-by-was file (Ok records) is were = by (batches_in batch_in records) (batches-were records were.small)
   where
     by : (batches : Reading (List Batch)) → IfOk batches (WereBatches (map payload_in records)) → IfOk batches (λ journal. IsStoreOf journal file)
     by (Err fault) holds = tt
@@ -291,7 +341,7 @@ unfolding journal_of
 journal-was file small = by (is_log file) (format_of file == store_format) refl refl
   where
     by : (log same : Bool) → is_log file ≡ log → (format_of file == store_format) ≡ same
-        → IfOk (journal_by (if not log then Err NotALog
+        → IfOk (journal_by batch_in (if not log then Err NotALog
         else (if same then records_from payload_limit 0 12 (drop 12 file) else Err (OtherFormat (format_of file))))) (λ journal. IsStoreOf journal file)
     by true true log same =
         let was = header-was file log same small in

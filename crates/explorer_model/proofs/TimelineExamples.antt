@@ -6,7 +6,7 @@ use Rattle.explorer_model.specs.Timeline.{Timeline, Event, Put, Join, Enter, Lea
 
 -- a batch of one text of one byte
 batch : ℕ → Batch
-batch byte = record { texts = (byte ∷ []) ∷ [] }
+batch byte = record { label = []; texts = (byte ∷ []) ∷ [] }
 
 span : ℕ → List Batch → Span
 span first batches = record { first = first; batches = batches }

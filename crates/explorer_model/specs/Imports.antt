@@ -158,16 +158,19 @@ verdicts_behind number group = map (verdict_behind number) (verdicts group)
 
 -- ---- what becomes of a stream
 
--- the batch of the candidates; no batch where there is none
-abbrev pub batch_of : List Candidate → Option Batch
-batch_of [] = None
-batch_of (first ∷ rest) = Some (record { texts = map (λ candidate. candidate.text) (first ∷ rest) })
+-- the batch of the candidates under a label; no batch where there is none
+abbrev pub batch_of : List ℕ → List Candidate → Option Batch
+batch_of label [] = None
+batch_of label (first ∷ rest) = Some (record {
+  label = label;
+  texts = map (λ candidate. candidate.text) (first ∷ rest);
+})
 
--- The accepted texts of each group are one batch, and the batches stand in the order of the groups;
--- all else is refused, in the order of the stream.
-pub record Yields (groups : List (List Verdict)) (batches : List Batch)
+-- The accepted texts of each group are one batch under the label, and the batches stand in the order
+-- of the groups; all else is refused, in the order of the stream.
+pub record Yields (label : List ℕ) (groups : List (List Verdict)) (batches : List Batch)
     (refused : List Refusal) : Type 0 where
-  pub batches_are : batches ≡ filter_map (λ group. batch_of (candidates group)) groups
+  pub batches_are : batches ≡ filter_map (λ group. batch_of label (candidates group)) groups
   pub refused_are : refused ≡ flat_map refusals groups
 
 abbrev pub AreExaminations : List (List Cut) → List (List Examination) → Type 0
@@ -183,12 +186,11 @@ verdicts_in_turn stored (group ∷ groups) =
 -- An import of groups of cuts behind stored games, by which nobody else stores: these batches are
 -- stored, and these texts refused. A candidate is refused as Repeated exactly where a game that is
 -- stored when its group's turn comes has its id.
-pub record Accounted (stored : List Game) (groups : List (List Cut)) (batches : List Batch)
-    (refused : List Refusal)
-    : Type 0 where
+pub record Accounted (label : List ℕ) (stored : List Game) (groups : List (List Cut))
+    (batches : List Batch) (refused : List Refusal) : Type 0 where
   pub examinations : List (List Examination)
   pub are_examinations : AreExaminations groups examinations
-  pub yields : Yields (verdicts_in_turn stored examinations) batches refused
+  pub yields : Yields label (verdicts_in_turn stored examinations) batches refused
 
 -- the verdicts on groups, each behind what is stored when its turn comes, where others may store beside
 abbrev pub verdicts_by : List Numbering → List (List Examination) → List (List Verdict)
@@ -198,17 +200,17 @@ verdicts_by _ _ = []
 
 -- An import beside others: what is stored when a group's turn comes is not said, but one numbering
 -- of ids decides for the whole group.
-pub record AccountedBeside (groups : List (List Cut)) (batches : List Batch)
+pub record AccountedBeside (label : List ℕ) (groups : List (List Cut)) (batches : List Batch)
     (refused : List Refusal) : Type 0 where
   pub examinations : List (List Examination)
   pub are_examinations : AreExaminations groups examinations
   pub numbers : List Numbering
   pub one_each : length numbers ≡ length groups
-  pub yields : Yields (verdicts_by numbers examinations) batches refused
+  pub yields : Yields label (verdicts_by numbers examinations) batches refused
 
 -- Groups that are accounted each by itself: ids are compared within a group alone, so that none is Repeated.
-pub record AccountedApart (groups : List (List Cut)) (batches : List Batch)
+pub record AccountedApart (label : List ℕ) (groups : List (List Cut)) (batches : List Batch)
     (refused : List Refusal) : Type 0 where
   pub examinations : List (List Examination)
   pub are_examinations : AreExaminations groups examinations
-  pub yields : Yields (map verdicts examinations) batches refused
+  pub yields : Yields label (map verdicts examinations) batches refused

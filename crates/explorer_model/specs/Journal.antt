@@ -1,11 +1,12 @@
 -- A journal is a list of batches, which are stored one after another.
-use Rattle.std.specs.Prelude.{◌≢◌, ◌<◌, ◌≤◌, ◌^◌, ℕ, List, length, map, sum_by}
+use Rattle.std.specs.Prelude.{◌≡◌, ◌≢◌, true, ◌<◌, ◌≤◌, ◌^◌, ℕ, List, length, map, sum_by}
 use Rattle.std.specs.List.{All, AllPairs, AllZip}
 use Rattle.explorer_model.specs.declared.archive.Batch.{Batch}
 use Rattle.explorer_model.specs.declared.archive.Classes.{Classes}
 use Rattle.explorer_model.specs.declared.archive.Game.{Game}
 use Rattle.explorer_model.specs.Cuts.{text_limit}
 use Rattle.explorer_model.specs.Imports.{group_limit}
+use Rattle.explorer_model.specs.Labels.{is_label}
 use Rattle.explorer_model.specs.Visits.{IsTextOf, AreGamesOf, texts_of}
 
 -- ---- limits
@@ -16,11 +17,11 @@ input_limit = 2 ^ 40
 
 -- the most games of a journal
 abbrev pub game_limit : ℕ
-game_limit = 131072
+game_limit = 262144
 
 -- the most bytes of its texts
 abbrev pub byte_limit : ℕ
-byte_limit = 268435456
+byte_limit = 536870912
 
 -- how many games a journal has: each of its texts has one
 abbrev pub game_count : List Batch → ℕ
@@ -39,8 +40,9 @@ IsWithin journal = AreWithin (game_count journal) (byte_count journal)
 
 -- ---- batches and journals
 
--- one to 512 texts that can be read, each with a game
+-- a label, and one to 512 texts that can be read, each with a game
 pub record IsBatch (batch : Batch) : Type 0 where
+  pub label : is_label batch.label ≡ true
   pub some : 0 < length batch.texts
   pub few : length batch.texts ≤ group_limit
   pub short : All (λ text. length text ≤ text_limit) batch.texts

@@ -12,6 +12,7 @@ pub mod Imports
 pub mod Items
 pub mod Journal
 pub mod Keys
+pub mod Labels
 pub mod Letters
 pub mod Order
 pub mod Parts

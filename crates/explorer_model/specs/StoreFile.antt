@@ -1,6 +1,6 @@
 -- The store file: payloads behind gates, and the journal of the batches in them. Numbers are
 -- little-endian.
-use Rattle.std.specs.Prelude.{◌≡◌, ◌≢◌, ◌<◌, ◌≤◌, ℕ, zero, suc, ◌+◌, ◌^◌, Bool, not, ◌&&◌, ◌==◌, nat_le, nat_lt, List, [], ◌∷◌, ◌++◌, length, take, drop, map, All, codes, bytes_eq, if◌then◌else◌, Option, Some, None, Result, Ok, Err}
+use Rattle.std.specs.Prelude.{◌≡◌, ◌≢◌, true, ◌<◌, ◌≤◌, ℕ, zero, suc, ◌+◌, ◌^◌, Bool, not, ◌&&◌, ◌==◌, nat_le, nat_lt, List, [], ◌∷◌, ◌++◌, length, take, drop, map, All, codes, bytes_eq, if◌then◌else◌, Option, Some, None, Result, Ok, Err}
 use Rattle.std.specs.Int.{Width, w16, w32, byte_len, to_le_bytes, from_le_bytes, IsInRange}
 use Rattle.std.specs.List.{flat_map}
 use Rattle.std.specs.Result.{result_map_both}
@@ -10,6 +10,7 @@ use Rattle.explorer_model.specs.declared.store.LogFault.TheVariants.{NotALog, Ot
 use Rattle.explorer_model.specs.Cuts.{text_limit}
 use Rattle.explorer_model.specs.Imports.{group_limit}
 use Rattle.explorer_model.specs.Items.{◌>>=◌}
+use Rattle.explorer_model.specs.Labels.{is_label, no_label}
 
 -- ---- what is written
 
@@ -34,8 +35,12 @@ abbrev pub text_field : List ℕ → List ℕ
 text_field text = to_le_bytes w32 (length text) ++ text
 
 -- the texts behind their number
+abbrev pub texts_field : List (List ℕ) → List ℕ
+texts_field texts = to_le_bytes w16 (length texts) ++ flat_map text_field texts
+
+-- the texts behind the label, which stands behind its length
 abbrev pub payload_of : Batch → List ℕ
-payload_of batch = to_le_bytes w16 (length batch.texts) ++ flat_map text_field batch.texts
+payload_of batch = length batch.label ∷ batch.label ++ texts_field batch.texts
 
 -- ---- the records of a file
 
@@ -123,39 +128,75 @@ texts_in (suc count) bytes = do
   others ← texts_in count text.1
   Some (text.0 ∷ others)
 
+-- the texts behind their number, and nothing behind them
+abbrev pub all_texts_in : List ℕ → Option (List (List ℕ))
+all_texts_in bytes = do
+  count ← number_at w16 group_limit bytes
+  texts_in count.0 count.1
+
+-- the bytes before a place, where they are a label, and those behind it
+abbrev pub label_by : List ℕ × List ℕ → Option (List ℕ × List ℕ)
+label_by parts = if is_label parts.0 then Some parts else None
+
+-- a label behind its length, and what follows it
+unfoldable pub label_at : List ℕ → Option (List ℕ × List ℕ)
+label_at [] = None
+label_at (count ∷ bytes) = split_behind count bytes >>= label_by
+
 abbrev pub batch_in : List ℕ → Option Batch
 batch_in payload = do
-  count ← number_at w16 group_limit payload
-  texts ← texts_in count.0 count.1
-  Some (record { texts = texts })
+  label ← label_at payload
+  texts ← all_texts_in label.1
+  Some (record { label = label.0; texts = texts })
 
 -- ---- the journal of a file
 
 -- the number of the format of a store of batches
 abbrev pub store_format : ℕ
-store_format = 1
+store_format = 2
 
--- the longest payload: 512 texts of 65,536 bytes
+-- the longest payload: a label of 64 bytes, and 512 texts of 65,536 bytes
 abbrev pub payload_limit : ℕ
-payload_limit = 33556482
+payload_limit = 33556547
 
 abbrev pub and_batch : ℕ → Option Batch → Reading (List Batch) → Reading (List Batch)
 and_batch gate None others = Err (Damaged gate)
 and_batch gate (Some batch) others =
     result_map_both (λ batches. batch ∷ batches) (λ fault. fault) others
 
--- the batches of records, or the gate of the first whose payload is none
-unfoldable pub batches_in : List Record → Reading (List Batch)
-batches_in [] = Ok []
-batches_in (first ∷ others) = and_batch first.gate (batch_in first.payload) (batches_in others)
+-- the batches of records, by what a payload is read as; or the gate of the first whose payload is none
+unfoldable pub batches_in : (List ℕ → Option Batch) → List Record → Reading (List Batch)
+batches_in read [] = Ok []
+batches_in read (first ∷ others) =
+    and_batch first.gate (read first.payload) (batches_in read others)
 
-abbrev pub journal_by : Reading (List Record) → Reading (List Batch)
-journal_by (Ok records) = batches_in records
-journal_by (Err fault) = Err fault
+abbrev pub journal_by : (List ℕ → Option Batch) → Reading (List Record) → Reading (List Batch)
+journal_by read (Ok records) = batches_in read records
+journal_by read (Err fault) = Err fault
 
 -- the journal of a file. What is wrong with its records comes before what is wrong with a payload
 unfoldable pub journal_of : List ℕ → Reading (List Batch)
-journal_of file = journal_by (records_of payload_limit store_format file)
+journal_of file = journal_by batch_in (records_of payload_limit store_format file)
+
+-- ---- the first format, in which batches have no label
+
+abbrev pub first_format : ℕ
+first_format = 1
+
+-- its longest payload: 512 texts of 65,536 bytes
+abbrev pub first_payload_limit : ℕ
+first_payload_limit = 33556482
+
+-- texts alone, which are taken as a batch with the empty label
+abbrev pub first_batch_in : List ℕ → Option Batch
+first_batch_in payload = do
+  texts ← all_texts_in payload
+  Some (record { label = no_label; texts = texts })
+
+-- the journal of a file of the first format
+unfoldable pub first_journal_of : List ℕ → Reading (List Batch)
+first_journal_of file =
+    journal_by first_batch_in (records_of first_payload_limit first_format file)
 
 -- ---- what can be written
 
@@ -167,6 +208,7 @@ pub record CanStand (most format : ℕ) (payloads : List (List ℕ)) : Type 0 wh
   pub places : length (front_of format payloads) ≤ gate_limit
 
 pub record IsStorable (batch : Batch) : Type 0 where
+  pub label : is_label batch.label ≡ true
   pub texts : IsInRange 1 group_limit (length batch.texts)
   pub lengths : All (λ text. IsInRange 1 text_limit (length text)) batch.texts
 

@@ -5,6 +5,7 @@ ghost use Rattle.std.specs.Cmp.Rules.{comparing};
 ghost use Rattle.std.specs.Ordering.{on, nat_cmp, as_partial_cmp};
 
 use crate::chess::{Move, Position};
+use crate::label::Label;
 use crate::list::Items;
 use crate::text::Name;
 use std::cmp::Ordering;
@@ -185,8 +186,9 @@ pub struct Placed {
 /// The texts of games.
 pub type Texts = Items<Bytes>;
 
-/// Texts that are stored together: 1 to 512, each with a game.
+/// Texts that are stored together under a label: 1 to 512, each with a game.
 #[derive(Debug, Drop, PartialEq, Eq)]
 pub struct Batch {
+    pub label: Label,
     pub texts: Texts,
 }

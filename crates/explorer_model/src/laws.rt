@@ -67,15 +67,17 @@ pub fn taking_all_counts_each_visit()
 
 /// An import by which nobody else stores is an import beside others, of which none stored.
 pub fn alone_is_beside()
-    ensures { (stored : List Game) (groups : List (List Cut)) (batches : List Batch)
-        (refused : List Refusal)
-        → Accounted stored groups batches refused → AccountedBeside groups batches refused }
+    ensures { (label : List ℕ) (stored : List Game) (groups : List (List Cut))
+        (batches : List Batch) (refused : List Refusal)
+        → Accounted label stored groups batches refused
+        → AccountedBeside label groups batches refused }
 {}
 
 /// So are groups that are accounted each by itself.
 pub fn apart_is_beside()
-    ensures { (groups : List (List Cut)) (batches : List Batch) (refused : List Refusal)
-        → AccountedApart groups batches refused → AccountedBeside groups batches refused }
+    ensures { (label : List ℕ) (groups : List (List Cut)) (batches : List Batch)
+        (refused : List Refusal) → AccountedApart label groups batches refused
+        → AccountedBeside label groups batches refused }
 {}
 
 /// A candidate that is refused as Repeated names, by its number, a stored game that has the id.

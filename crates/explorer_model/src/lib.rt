@@ -13,6 +13,7 @@ pub mod answer;
 pub mod archive;
 pub mod chess;
 pub mod fault;
+pub mod label;
 pub mod laws;
 pub mod list;
 pub mod notation;

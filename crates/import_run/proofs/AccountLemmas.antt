@@ -9,6 +9,7 @@ use Rattle.explorer_model.specs.declared.archive.Placed.{Placed}
 use Rattle.explorer_model.specs.declared.fault.Refusal.{Refusal}
 use Rattle.explorer_model.specs.declared.fault.Why.TheVariants as causes
 use Rattle.explorer_model.specs.Cuts.{Cut, Text, TooLong, Preamble}
+use Rattle.explorer_model.specs.Labels.{no_label}
 use Rattle.explorer_model.specs.Imports.{AreExaminations, Candidate, Examination, IsExaminationOf, Numbering, Refused, Unread, Verdict, and_candidate, batch_of, candidate_of, candidates, groups, numbers_of, refusal_of, refusals, verdict_behind, verdict_of, verdicts, verdicts_behind, verdicts_from, verdicts_in_turn}
 use Rattle.explorer_model.proofs.Lists.{zip-append}
 use Rattle.import_run.specs.Progress.{HasNoCandidate, and_games}
@@ -92,7 +93,7 @@ refusals_more vs refused = filter_map-append refusal_of vs (map Refused refused)
 -- ---- groups that are settled alike
 
 abbrev pub batches_behind : List Game → List (List Examination) → List Batch
-batches_behind stored examinations = filter_map (λ group. batch_of (candidates group)) (verdicts_in_turn stored examinations)
+batches_behind stored examinations = filter_map (λ group. batch_of no_label (candidates group)) (verdicts_in_turn stored examinations)
 
 abbrev pub refused_behind : List Game → List (List Examination) → List Refusal
 refused_behind stored examinations = flat_map refusals (verdicts_in_turn stored examinations)
@@ -138,8 +139,8 @@ last_full stored group hand first rest full none each more =
       others = (first ++ rest) ∷ [];
       are = subst (λ (l : List (List Cut)). AreExaminations l ((first ++ rest) ∷ [])) (sym one) (zip-append IsExaminationOf group hand first rest each more, tt);
       batches =
-          ap (λ (l : List Candidate). cons_option (batch_of l) []) (ap candidates both ∙ candidates_more here no.0)
-          ∙ ap (λ (l : List Batch). cons_option (batch_of (candidates here)) l) (sym (ap (λ (l : List Candidate). cons_option (batch_of l) []) (ap candidates last ∙ no_candidates no.0)));
+          ap (λ (l : List Candidate). cons_option (batch_of no_label l) []) (ap candidates both ∙ candidates_more here no.0)
+          ∙ ap (λ (l : List Batch). cons_option (batch_of no_label (candidates here)) l) (sym (ap (λ (l : List Candidate). cons_option (batch_of no_label l) []) (ap candidates last ∙ no_candidates no.0)));
       refused =
           append-nil (refusals (verdicts_behind (numbers_of stored) (first ++ rest))) ∙ ap refusals both ∙ refusals_more here no.0
           ∙ ap (λ (l : List Refusal). refusals here ++ l) (sym (append-nil (refusals (verdicts_behind (numbers_of (and_games stored first)) rest)) ∙ ap refusals last ∙ all_refusals no.0));
@@ -153,7 +154,7 @@ unfolding verdicts_in_turn
 one_before stored group cuts first examinations full some each rest = record {
   others = first ∷ rest.others;
   are = subst (λ (l : List (List Cut)). AreExaminations l (first ∷ rest.others)) (sym (groups_first group cuts full some)) (each, rest.are);
-  batches = ap (λ (l : List Batch). cons_option (batch_of (candidates (verdicts_behind (numbers_of stored) first))) l) rest.batches;
+  batches = ap (λ (l : List Batch). cons_option (batch_of no_label (candidates (verdicts_behind (numbers_of stored) first))) l) rest.batches;
   refused = ap (λ (l : List Refusal). refusals (verdicts_behind (numbers_of stored) first) ++ l) rest.refused;
   none = λ all. (all.0, rest.none all.1);
 }

@@ -12,6 +12,7 @@ use Rattle.explorer_model.specs.declared.archive.Batch.{Batch}
 use Rattle.explorer_model.specs.declared.archive.Placed.{Placed}
 use Rattle.explorer_model.specs.declared.fault.Refusal.{Refusal}
 use Rattle.explorer_model.specs.Cuts.{Cut}
+use Rattle.explorer_model.specs.Labels.{no_label}
 use Rattle.explorer_model.specs.Imports.{AccountedBeside, AreExaminations, Candidate, Examination, IsExaminationOf, Numbering, Verdict, batch_of, candidates, numbers_of, refusals, verdicts, verdicts_behind, verdicts_by}
 use Rattle.explorer_model.specs.Journal.{AreWithin, byte_count, game_count}
 use Rattle.explorer_model.specs.Timeline.{IsPrefix}
@@ -125,11 +126,11 @@ by-more (n ∷ numbers) [] number group same = absurd (omega (arith, same))
 by-more (n ∷ numbers) (g ∷ groups) number group same = ap (λ (l : List (List Verdict)). verdicts_behind n g ∷ l) (by-more numbers groups number group (omega (arith, same)))
 
 abbrev batch_in : List Verdict → Option Batch
-batch_in group = batch_of (candidates group)
+batch_in group = batch_of no_label (candidates group)
 
-accounted_more : (groups : List (List Cut)) (batches batches' : List Batch) (refused refused' : List Refusal) (done : AccountedBeside groups batches refused) (cuts : List Cut) (examinations : List Examination) (number : Numbering)
-    → AllZip IsExaminationOf cuts examinations → batches' ≡ batches ++ cons_option (batch_of (kept number (verdicts examinations))) [] → refused' ≡ refused ++ lost number (verdicts examinations)
-    → AccountedBeside (groups ++ cuts ∷ []) batches' refused'
+accounted_more : (groups : List (List Cut)) (batches batches' : List Batch) (refused refused' : List Refusal) (done : AccountedBeside no_label groups batches refused) (cuts : List Cut) (examinations : List Examination) (number : Numbering)
+    → AllZip IsExaminationOf cuts examinations → batches' ≡ batches ++ cons_option (batch_of no_label (kept number (verdicts examinations))) [] → refused' ≡ refused ++ lost number (verdicts examinations)
+    → AccountedBeside no_label (groups ++ cuts ∷ []) batches' refused'
 accounted_more groups batches batches' refused refused' done cuts examinations number each batches_are refused_are =
     let here = verdicts_behind number examinations in
     let so_far = verdicts_by done.numbers done.examinations in
@@ -141,7 +142,7 @@ accounted_more groups batches batches' refused refused' done cuts examinations n
       numbers = done.numbers ++ number ∷ [];
       one_each = both_longer done.numbers groups done.one_each;
       yields = record {
-        batches_are = batches_are ∙ ap (λ (l : List Batch). l ++ cons_option (batch_of (candidates here)) []) done.yields.batches_are
+        batches_are = batches_are ∙ ap (λ (l : List Batch). l ++ cons_option (batch_of no_label (candidates here)) []) done.yields.batches_are
             ∙ sym (ap (filter_map batch_in) turn ∙ filter_map-append batch_in so_far (here ∷ []));
         refused_are = refused_are ∙ ap (λ (l : List Refusal). l ++ refusals here) done.yields.refused_are
             ∙ sym (ap (flat_map refusals) turn ∙ flat_map-append refusals so_far (here ∷ []) ∙ ap (λ (l : List Refusal). flat_map refusals so_far ++ l) (append-nil (refusals here)));
@@ -188,7 +189,7 @@ module _ {J : Type 0} (groups : List (List Cut)) (old new : OpenImport J) (cuts 
       (λ cut c. subst (C cut) (sym same) (Contains-append_right before cuts cut c)) (record { rest = []; is = sym (append-nil new.clashes.items) }) here in
       subst (λ (l : List Refusal). All P l) (sym refused_is) (All-append P old.refused.items done.refused.items earlier mine)
 
-  step : (o : Option Batch) → batch_of (kept s.number (verdicts s.examinations)) ≡ o → AreReceipts 0 new.receipts.items (p.batches ++ cons_option o []) → ProgressBeside (groups ++ cuts ∷ []) new
+  step : (o : Option Batch) → batch_of no_label (kept s.number (verdicts s.examinations)) ≡ o → AreReceipts 0 new.receipts.items (p.batches ++ cons_option o []) → ProgressBeside (groups ++ cuts ∷ []) new
   step o is receipts = record {
     batches = p.batches ++ cons_option o [];
     are_receipts = receipts;
@@ -204,7 +205,7 @@ module _ {J : Type 0} (groups : List (List Cut)) (old new : OpenImport J) (cuts 
       let a = subst P answer_is s.answer in
       let Q : List (Receipt J) → Type 0 = λ r. AreReceipts 0 r (p.batches ++ []) in
       let R : List Batch → Type 0 = λ b. AreReceipts 0 old.receipts.items b in
-      step None (ap batch_of a) (subst Q (sym receipts_are) (subst R (sym (append-nil p.batches)) p.are_receipts))
+      step None (ap (batch_of no_label) a) (subst Q (sym receipts_are) (subst R (sym (append-nil p.batches)) p.are_receipts))
 
   pub one_beside : (receipt : Receipt J) → done.answer ≡ Some (Ok receipt) → last_batches 0 old.receipts.items < receipt.batches → new.receipts.items ≡ old.receipts.items ++ receipt ∷ [] → ProgressBeside (groups ++ cuts ∷ []) new
   one_beside receipt answer_is above receipts_are =
@@ -220,7 +221,7 @@ module _ {J : Type 0} (groups : List (List Cut)) (old new : OpenImport J) (cuts 
 no_batch : (b : Batch) → (let o : Option Batch = None in o) ≡ Some b → ⊥
 no_batch b e = cc
 
-some_candidates : (cs : List Candidate) (batch : Batch) → batch_of cs ≡ Some batch → cs ≢ []
+some_candidates : (cs : List Candidate) (batch : Batch) → batch_of no_label cs ≡ Some batch → cs ≢ []
 some_candidates [] batch is none = no_batch batch is
 some_candidates (c ∷ cs) batch is none = cons_none c cs none
   where
@@ -231,13 +232,13 @@ sizes : (cs : List Candidate) → sum_by (λ (t : List ℕ). length t) (map (λ 
 sizes cs = sum_by-map (λ (t : List ℕ). length t) (λ (c : Candidate). c.text) cs
 
 over_not_within : (games bytes : ℕ) → is_over games bytes ≡ true → AreWithin games bytes → ⊥
-over_not_within games bytes over within = by (nat_lt 131072 games) (nat_lt 268435456 bytes) refl refl over
+over_not_within games bytes over within = by (nat_lt 262144 games) (nat_lt 536870912 bytes) refl refl over
   where
-    by : (g b : Bool) → nat_lt 131072 games ≡ g → nat_lt 268435456 bytes ≡ b → (g || b) ≡ true → ⊥
+    by : (g b : Bool) → nat_lt 262144 games ≡ g → nat_lt 536870912 bytes ≡ b → (g || b) ≡ true → ⊥
     by true b gs bs e =
-        let more : 131072 < games = grind (arith, nat_tests) in omega (arith, more, within.0)
+        let more : 262144 < games = grind (arith, nat_tests) in omega (arith, more, within.0)
     by false true gs bs e =
-        let more : 268435456 < bytes = grind (arith, nat_tests) in omega (arith, more, within.1)
+        let more : 536870912 < bytes = grind (arith, nat_tests) in omega (arith, more, within.1)
     by false false gs bs e = cc
 
 full_left : (note : List Batch) (games bytes : ℕ) (cs : List Candidate) (counted : Counted) → Counts cs counted → IsFullFor note games bytes counted → FindsNoRoom note games bytes cs

@@ -9,6 +9,7 @@ use Rattle.explorer_model.specs.declared.archive.Game.{Game}
 use Rattle.explorer_model.specs.declared.archive.Placed.{Placed}
 use Rattle.explorer_model.specs.declared.fault.Refusal.{Refusal}
 use Rattle.explorer_model.specs.Cuts.{Cut, Text, TooLong, Preamble}
+use Rattle.explorer_model.specs.Labels.{no_label}
 use Rattle.explorer_model.specs.Imports.{AccountedBeside, Accepted, Candidate, Examination, IsExaminationOf, Numbering, Refused, Verdict, and_candidate, numbers_of, refusals, verdict_behind, verdict_if_stored, verdict_of, verdicts, verdicts_from}
 use Rattle.explorer_model.specs.Timeline.{IsPrefix}
 use Rattle.explorer_model.specs.Visits.{AreGamesOf}
@@ -49,7 +50,7 @@ module _ {J : Type 0} (start : Option Store) (groups : List (List Cut)) (old new
   beside_grown : ProgressBeside groups old → ProgressBeside groups new
   beside_grown p =
       let P : List (Receipt J) → Type 0 = λ l. AreReceipts 0 l p.batches in
-      let Q : List Refusal → Type 0 = λ l. AccountedBeside groups p.batches l in
+      let Q : List Refusal → Type 0 = λ l. AccountedBeside no_label groups p.batches l in
       let S : List Refusal → Type 0 = λ l. AreRepeats (all_cuts groups) new.clashes.items l in
       record {
         batches = p.batches;

@@ -8,6 +8,7 @@ use Rattle.outside.specs.Stream.{FailsToGive, Gives, Reads, Rises, Stream, sourc
 use Rattle.explorer_model.specs.declared.archive.Batch.{Batch}
 use Rattle.explorer_model.specs.declared.fault.Refusal.{Refusal}
 use Rattle.explorer_model.specs.Cuts.{Cut, cuts}
+use Rattle.explorer_model.specs.Labels.{no_label}
 use Rattle.explorer_model.specs.Imports.{AccountedBeside, Candidate, groups}
 use Rattle.explorer_model.specs.Journal.{input_limit}
 use Rattle.explorer_model.specs.Wire.{body_limit}
@@ -241,10 +242,10 @@ module _ {J : Type 0} (stream : List ℕ) (left_over : Option (List ℕ)) where
           by : (l.done ≡ l.all.whole ++ l.all.hand ∷ []) ⊎ ((more : List (List Cut)) × (l.all.whole ≡ l.done ++ more)) → ComesQuietlyBeside stream left_over report
           by (inl all) =
               let p = l.behind.settled.beside in
-              let A : List (List Cut) → Type 0 = λ g. AccountedBeside g p.batches import.refused.items in
+              let A : List (List Cut) → Type 0 = λ g. AccountedBeside no_label g p.batches import.refused.items in
               let few : texts_in l.all.hand ≤ 512 = (let f = l.all.in_groups.few in omega (arith, f)) in
               let whole = accounted_whole l.all.whole l.all.hand p.batches import.refused.items l.all.in_groups.each few (subst A all p.accounted) in
-              let B : List Cut → Type 0 = λ k. AccountedBeside (groups k) p.batches import.refused.items in
+              let B : List Cut → Type 0 = λ k. AccountedBeside no_label (groups k) p.batches import.refused.items in
               let is : cuts stream ≡ all_cuts l.done ++ [] = l.all.in_groups.all ∙ sym (ap all_cuts all ∙ all_cuts-last l.all.whole l.all.hand) ∙ sym (append-nil (all_cuts l.done)) in
               comes_lacking l.done [] p end is (front_of_all (groups (cuts stream)) p.batches import.refused.items (subst B (sym l.all.in_groups.all) whole))
           by (inr (more, whole)) =
@@ -259,7 +260,7 @@ module _ {J : Type 0} (stream : List ℕ) (left_over : Option (List ℕ)) where
           let p = t.settled.beside in
           let few : texts_in t.hand ≤ 512 = (let f = t.in_groups.few in omega (arith, f)) in
           let whole = accounted_whole t.closed t.hand p.batches import.refused.items t.in_groups.each few p.accounted in
-          let B : List Cut → Type 0 = λ k. AccountedBeside (groups k) p.batches import.refused.items in
+          let B : List Cut → Type 0 = λ k. AccountedBeside no_label (groups k) p.batches import.refused.items in
           let P : List Refusal → Type 0 = λ l. EndsSo ends.Whole p.batches l in
           let gs = t.closed ++ t.hand ∷ [] in
           let is : cuts stream ≡ all_cuts (t.closed ++ t.hand ∷ []) ++ [] = t.in_groups.all ∙ sym (all_cuts-last t.closed t.hand) ∙ sym (append-nil (all_cuts (t.closed ++ t.hand ∷ []))) in
@@ -279,7 +280,7 @@ cut_off_beside {J} start stream after last import told report is few ready so_fa
     let t = so_far.so_far in
     let p = t.settled.beside in
     let P : List (Receipt J) → Type 0 = λ l. AreReceipts 0 l p.batches in
-    let Q : List Refusal → Type 0 = λ l. AccountedBeside t.closed p.batches l in
+    let Q : List Refusal → Type 0 = λ l. AccountedBeside no_label t.closed p.batches l in
     let R : List Refusal → Type 0 = λ l. AreRepeats (all_cuts t.closed) report.clashes.items l in
     let S : List (List Batch) → Type 0 = λ l. AreRepeats (all_cuts t.closed) l import.refused.items in
     record {

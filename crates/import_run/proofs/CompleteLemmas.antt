@@ -10,6 +10,7 @@ use Rattle.explorer_model.specs.declared.archive.Batch.{Batch}
 use Rattle.explorer_model.specs.declared.archive.Game.{Game}
 use Rattle.explorer_model.specs.declared.archive.Placed.{Placed}
 use Rattle.explorer_model.specs.Cuts.{Cut, cuts}
+use Rattle.explorer_model.specs.Labels.{no_label}
 use Rattle.explorer_model.specs.Imports.{Candidate, IsExaminationOf, batch_of, groups, verdicts_in_turn}
 use Rattle.explorer_model.specs.Journal.{AreWithin, HaveDifferentIds, byte_count, game_count}
 use Rattle.explorer_model.specs.Visits.{AreGamesOf, texts_of}
@@ -80,7 +81,7 @@ size_of_all (text ∷ texts) =
 texts_behind : (front batches : List Batch) → texts_of (front ++ batches) ≡ texts_of front ++ texts_of batches
 texts_behind front batches = flat_map-append (λ (b : Batch). b.texts) front batches
 
-last_texts : (left : List Candidate) → texts_of (cons_option (batch_of left) []) ≡ map (λ (c : Candidate). c.text) left
+last_texts : (left : List Candidate) → texts_of (cons_option (batch_of no_label left) []) ≡ map (λ (c : Candidate). c.text) left
 last_texts [] = refl
 last_texts (c ∷ left) = append-nil (map (λ (c : Candidate). c.text) (c ∷ left))
 
@@ -151,11 +152,11 @@ module _ {D J : Type 0} (disk : D → DiskState) (left_since : D → ℕ → Lis
       let each = zip-append (AllZip IsExaminationOf) e.done (e.next ∷ []) earlier (e.examinations ∷ []) e.settled.accounted.are_examinations (e.are_examinations, tt) in
       let done = all_stored one is.start.games (e.done ++ e.next ∷ []) (earlier ++ e.examinations ∷ []) front.some front.first each (all_cuts-last e.done e.next ∙ front.front_is) front.first_are front.different in
       let left_is = left_behind one is.start x.so_far is.batches report.refused.items x.left e is_open in
-      let last : batches_behind (games_after is.start.games earlier) (e.examinations ∷ []) ≡ cons_option (batch_of x.left) [] = ap (λ (cs : List Candidate). cons_option (batch_of cs) []) (sym left_is) in
-      let batches : batches_behind is.start.games (earlier ++ e.examinations ∷ []) ≡ is.batches ++ cons_option (batch_of x.left) [] =
+      let last : batches_behind (games_after is.start.games earlier) (e.examinations ∷ []) ≡ cons_option (batch_of no_label x.left) [] = ap (λ (cs : List Candidate). cons_option (batch_of no_label cs) []) (sym left_is) in
+      let batches : batches_behind is.start.games (earlier ++ e.examinations ∷ []) ≡ is.batches ++ cons_option (batch_of no_label x.left) [] =
       batches-append is.start.games earlier (e.examinations ∷ []) ∙ (λ i. sym e.settled.accounted.yields.batches_are i ++ last i) in
       let texts : texts_of is.batches ++ map (λ (c : Candidate). c.text) x.left ≡ bytes_of front.some =
-      ap (λ (l : List (List ℕ)). texts_of is.batches ++ l) (sym (last_texts x.left)) ∙ sym (ap texts_of batches ∙ texts_behind is.batches (cons_option (batch_of x.left) [])) ∙ done.texts_are in
+      ap (λ (l : List (List ℕ)). texts_of is.batches ++ l) (sym (last_texts x.left)) ∙ sym (ap texts_of batches ∙ texts_behind is.batches (cons_option (batch_of no_label x.left) [])) ∙ done.texts_are in
       let R : List Batch → Type 0 = λ j. FindRoom j new.texts in
       let within = within_all is.start.journal is.batches x.left new.texts front.some front.more (subst R (sym journal_is) room) front.is texts in
       let games = none.games_are ∙ ap game_count stands.1 in

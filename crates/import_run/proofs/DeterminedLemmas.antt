@@ -6,6 +6,7 @@ use Rattle.outside.specs.Stream.{Stream}
 use Rattle.explorer_model.specs.declared.archive.Batch.{Batch}
 use Rattle.explorer_model.specs.declared.archive.Game.{Game}
 use Rattle.explorer_model.specs.Cuts.{Cut, cuts}
+use Rattle.explorer_model.specs.Labels.{no_label}
 use Rattle.explorer_model.specs.Imports.{Accounted, AreExaminations, groups}
 use Rattle.explorer_model.specs.Journal.{IsSound, byte_count, game_count}
 use Rattle.explorer_model.specs.Visits.{AreGamesOf, texts_of}
@@ -216,8 +217,8 @@ module _ {D J : Type 0} (disk : D → DiskState) (left_since : D → ℕ → Lis
 
     not_full : (a b : ℕ) → first.start.fault ≡ None → FindsNoRoom (first.start.journal ++ first.batches) a b x.left → ⊥
     not_full a b is_open no_room =
-        let A : List Game → Type 0 = λ g. Accounted g (groups (cuts bytes)) second.batches other.refused.items in
-        let B : List (List Cut) → Type 0 = λ gs. Accounted first.start.games gs second.batches other.refused.items in
+        let A : List Game → Type 0 = λ g. Accounted no_label g (groups (cuts bytes)) second.batches other.refused.items in
+        let B : List (List Cut) → Type 0 = λ gs. Accounted no_label first.start.games gs second.batches other.refused.items in
         let accounted = subst B among.is (subst A games_are settled_all.accounted) in
         let has = stored_among one same_batches same_refused first.start x.so_far first.batches report.refused.items x.left x.ends among.extra among.rest second.batches other.refused.items among.none accounted is_open in
         let stores = subst (λ (e : End J). StoresBy e (second.start.journal ++ second.batches) second.start.fault (stored_in other_after)) ended second.stores in

@@ -11,6 +11,7 @@ use Rattle.explorer_model.specs.declared.archive.Game.{Game}
 use Rattle.explorer_model.specs.declared.fault.Refusal.{Refusal}
 use Rattle.explorer_model.specs.declared.fault.GameFault.{GameFault}
 use Rattle.explorer_model.specs.Cuts.{Cut, Preamble, Text, TooLong}
+use Rattle.explorer_model.specs.Labels.{no_label}
 use Rattle.explorer_model.specs.Imports.{Accounted, AreExaminations, Candidate, Examination, IsExaminationOf, Read, Verdict, batch_of, candidates, numbers_of, verdicts, verdicts_behind, verdicts_in_turn}
 use Rattle.explorer_model.specs.Journal.{IsSound, byte_count, game_count}
 use Rattle.explorer_model.specs.Visits.{AreGamesOf, texts_of}
@@ -70,7 +71,7 @@ after_groups journal games [] [] are each = subst (λ (j : List Batch). AreGames
 after_groups journal games [] (group ∷ examinations) are each = absurd each
 after_groups journal games (cuts ∷ groups) [] are each = absurd each
 after_groups journal games (cuts ∷ groups) (group ∷ examinations) are each =
-    let o = batch_of (candidates (verdicts_behind (numbers_of games) group)) in
+    let o = batch_of no_label (candidates (verdicts_behind (numbers_of games) group)) in
     let more = batches_behind (and_games games group) examinations in
     let last = games_after (and_games games group) examinations in
     let here = by_batch journal games cuts group are each.0 o refl in
@@ -160,7 +161,7 @@ one_longer batches others left has same = omega (arith, ap length has.is, length
 
 -- ---- two ends
 
-some_batch : (cs : List Candidate) → (cs ≡ [] → ⊥) → (batch : Batch) × (batch_of cs ≡ Some batch)
+some_batch : (cs : List Candidate) → (cs ≡ [] → ⊥) → (batch : Batch) × (batch_of no_label cs ≡ Some batch)
 some_batch [] some = absurd (some refl)
 some_batch (c ∷ cs) some = (_, refl)
 
@@ -197,7 +198,7 @@ module _ (one : OneGame) (same_batches : SameBatches) (same_refused : SameRefuse
   module _ (start : Known) (so_far : List (List Cut)) (batches : List Batch) (refused : List Refusal) (left : List Candidate) (e : EndsIn start so_far batches refused left)
       (extra : List Cut) (rest : List (List Cut)) where
     -- it was stored among others
-    pub stored_among : (batches' : List Batch) (refused' : List Refusal) → texts_in extra ≡ 0 → Accounted start.games (e.done ++ (e.next ++ extra) ∷ rest) batches' refused' → start.fault ≡ None → HasBatchOf batches batches' left
+    pub stored_among : (batches' : List Batch) (refused' : List Refusal) → texts_in extra ≡ 0 → Accounted no_label start.games (e.done ++ (e.next ++ extra) ∷ rest) batches' refused' → start.fault ≡ None → HasBatchOf batches batches' left
     unfolding verdicts_in_turn
     stored_among batches' refused' none accounted is_open =
         let parts = split_zip (AllZip IsExaminationOf) e.done (e.next ++ extra) rest accounted.examinations accounted.are_examinations in
@@ -213,8 +214,8 @@ module _ (one : OneGame) (same_batches : SameBatches) (same_refused : SameRefuse
         let more : candidates (verdicts_behind (numbers_of stored) parts.at) ≡ candidates (verdicts_behind (numbers_of stored) e.examinations) =
         ap (λ (l : List Examination). candidates (verdicts_behind (numbers_of stored) l)) both.is ∙ ap candidates (behind_refused (numbers_of stored) both.first both.second no.0 no.1)
         ∙ candidates_more (verdicts_behind (numbers_of stored) both.first) no.0 ∙ ap (λ (l : List Examination). candidates (verdicts_behind (numbers_of stored) l)) (sym here) in
-        let made : batch_of (candidates (verdicts_behind (numbers_of (games_after start.games parts.front)) parts.at)) ≡ Some some.0 =
-        ap (λ (l : List (List Examination)). batch_of (candidates (verdicts_behind (numbers_of (games_after start.games l)) parts.at))) (sym front) ∙ ap batch_of (more ∙ sym left_is) ∙ some.1 in
+        let made : batch_of no_label (candidates (verdicts_behind (numbers_of (games_after start.games parts.front)) parts.at)) ≡ Some some.0 =
+        ap (λ (l : List (List Examination)). batch_of no_label (candidates (verdicts_behind (numbers_of (games_after start.games l)) parts.at))) (sym front) ∙ ap (batch_of no_label) (more ∙ sym left_is) ∙ some.1 in
         record {
           batch = some.0;
           more = last;
@@ -250,8 +251,8 @@ module _ (one : OneGame) (same_batches : SameBatches) (same_refused : SameRefuse
     -- at one group
     pub same_there : e.done ≡ f.done → e.next ≡ f.next → (batches ≡ batches') × ((refused ≡ refused') × (left ≡ left'))
     same_there done next =
-        let A : List Game → Type 0 = λ g. Accounted g f.done batches' f.earlier in
-        let B : List (List Cut) → Type 0 = λ d. Accounted start.games d batches' f.earlier in
+        let A : List Game → Type 0 = λ g. Accounted no_label g f.done batches' f.earlier in
+        let B : List (List Cut) → Type 0 = λ d. Accounted no_label start.games d batches' f.earlier in
         let accounted = subst B (sym done) (subst A games_are f.settled.accounted) in
         let bs = same_batches start.games e.done batches batches' e.earlier f.earlier e.settled.accounted accounted in
         let rs = same_refused start.games e.done batches batches' e.earlier f.earlier e.settled.accounted accounted in
@@ -271,9 +272,9 @@ module _ (one : OneGame) (same_batches : SameBatches) (same_refused : SameRefuse
     -- the group was stored by the other import
     pub stored_later : GoesOnWith f.done e.done e.next → start.fault ≡ None → HasBatchOf batches batches' left
     stored_later goes is_open =
-        let A : List Game → Type 0 = λ g. Accounted g f.done batches' f.earlier in
-        let B : List (List Cut) → Type 0 = λ d. Accounted start.games d batches' f.earlier in
-        let C : List Cut → Type 0 = λ group. Accounted start.games (e.done ++ group ∷ goes.rest) batches' f.earlier in
+        let A : List Game → Type 0 = λ g. Accounted no_label g f.done batches' f.earlier in
+        let B : List (List Cut) → Type 0 = λ d. Accounted no_label start.games d batches' f.earlier in
+        let C : List Cut → Type 0 = λ group. Accounted no_label start.games (e.done ++ group ∷ goes.rest) batches' f.earlier in
         let accounted = subst C (sym (append-nil e.next)) (subst B goes.is (subst A games_are f.settled.accounted)) in
         stored_among start so_far batches refused left e [] goes.rest batches' f.earlier refl accounted is_open
 

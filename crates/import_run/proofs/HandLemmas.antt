@@ -9,6 +9,7 @@ use Rattle.explorer_model.specs.declared.archive.Game.{Game}
 use Rattle.explorer_model.specs.declared.archive.Placed.{Placed}
 use Rattle.explorer_model.specs.declared.fault.Refusal.{Refusal}
 use Rattle.explorer_model.specs.Cuts.{Cut}
+use Rattle.explorer_model.specs.Labels.{no_label}
 use Rattle.explorer_model.specs.Imports.{Candidate, Numbering, batch_of, candidates, numbers_of, refusals, verdicts}
 use Rattle.published_index.specs.Changes.{Change}
 use Rattle.tally_rows.specs.Tally.{Counted}
@@ -32,7 +33,7 @@ use Rattle.import_run.proofs.VerdictLemmas.{OneGame, again, ascends, exact, fewe
 
 -- ---- the tally of candidates
 
-pub batch_texts : (cs : List Candidate) (batch : Batch) → batch_of cs ≡ Some batch → batch.texts ≡ map (λ c. c.text) cs
+pub batch_texts : (cs : List Candidate) (batch : Batch) → batch_of no_label cs ≡ Some batch → batch.texts ≡ map (λ c. c.text) cs
 batch_texts [] batch e = absurd (none_some batch e)
   where
     none_some : (b : Batch) → None ≡ Some b → ⊥

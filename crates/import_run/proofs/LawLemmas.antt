@@ -8,6 +8,7 @@ use Rattle.explorer_model.specs.declared.archive.Batch.{Batch}
 use Rattle.explorer_model.specs.declared.archive.Game.{Game}
 use Rattle.explorer_model.specs.declared.fault.Refusal.{Refusal}
 use Rattle.explorer_model.specs.Cuts.{Cut, cuts}
+use Rattle.explorer_model.specs.Labels.{no_label}
 use Rattle.explorer_model.specs.Imports.{Accounted, groups}
 use Rattle.explorer_model.specs.Visits.{AreGamesOf, texts_of}
 use Rattle.ingest_desk.specs.Stored.{Stored}
@@ -73,10 +74,10 @@ all_taken (Some xs) (Some ys) bytes stream is next at_end =
     sym (next ∙ ap (λ (l : List ℕ). stream ++ l) at_end ∙ append-nil stream) ∙ same
 
 abbrev pub SameBatches : Type 0
-SameBatches = (stored : List Game) (groups : List (List Cut)) (batches others : List Batch) (refused other : List Refusal) → Accounted stored groups batches refused → Accounted stored groups others other → batches ≡ others
+SameBatches = (stored : List Game) (groups : List (List Cut)) (batches others : List Batch) (refused other : List Refusal) → Accounted no_label stored groups batches refused → Accounted no_label stored groups others other → batches ≡ others
 
 abbrev pub SameRefused : Type 0
-SameRefused = (stored : List Game) (groups : List (List Cut)) (batches others : List Batch) (refused other : List Refusal) → Accounted stored groups batches refused → Accounted stored groups others other → refused ≡ other
+SameRefused = (stored : List Game) (groups : List (List Cut)) (batches others : List Batch) (refused other : List Refusal) → Accounted no_label stored groups batches refused → Accounted no_label stored groups others other → refused ≡ other
 
 -- whole groups of the same bytes are settled alike
 pub same_settled : SameBatches → SameRefused → (start other : Known) (stream : List ℕ) (whole whole' : List (List Cut)) (hand hand' : List Cut) (batches batches' : List Batch) (refused refused' : List Refusal) → other.games ≡ start.games
@@ -84,8 +85,8 @@ pub same_settled : SameBatches → SameRefused → (start other : Known) (stream
     → (batches ≡ batches') × (refused ≡ refused')
 same_settled same_batches same_refused start other stream whole whole' hand hand' batches batches' refused refused' games are are' settled settled' =
     let same = (same_groups (ended_cuts stream) whole' whole hand' hand are' are).0 in
-    let G : List Game → Type 0 = λ gs. Accounted gs whole' batches' refused' in
-    let W : List (List Cut) → Type 0 = λ ws. Accounted start.games ws batches' refused' in
+    let G : List Game → Type 0 = λ gs. Accounted no_label gs whole' batches' refused' in
+    let W : List (List Cut) → Type 0 = λ ws. Accounted no_label start.games ws batches' refused' in
     let b = subst W same (subst G games settled'.accounted) in
     (same_batches start.games whole batches batches' refused refused' settled.accounted b, same_refused start.games whole batches batches' refused refused' settled.accounted b)
 
@@ -114,7 +115,7 @@ module _ {D J : Type 0} (disk : D → DiskState) (left_since : D → ℕ → Lis
       let journals : second.start.journal ≡ first.start.journal = ap (λ (s : Store). s.journal) second.start_is ∙ sym (ap (λ (s : Store). s.journal) first.start_is) in
       let G : List Batch → Type 0 = λ j. AreGamesOf j second.start.games in
       let games = same_games one (texts_of first.start.journal) second.start.games first.start.games (subst G journals second.start.are_games) first.start.are_games in
-      let A : List Game → Type 0 = λ gs. Accounted gs (groups (cuts bytes)) second.batches other.refused.items in
+      let A : List Game → Type 0 = λ gs. Accounted no_label gs (groups (cuts bytes)) second.batches other.refused.items in
       let a = (whole_of bytes source source_after before after report told first is).accounted in
       let b = subst A games (whole_of bytes source source_other before other_after other told second also).accounted in (
         same_batches first.start.games (groups (cuts bytes)) first.batches second.batches report.refused.items other.refused.items a b,

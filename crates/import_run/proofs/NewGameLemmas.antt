@@ -9,6 +9,7 @@ use Rattle.explorer_model.specs.declared.archive.Classes.{Classes}
 use Rattle.explorer_model.specs.declared.archive.Game.{Game}
 use Rattle.explorer_model.specs.declared.archive.Placed.{Placed}
 use Rattle.explorer_model.specs.Cuts.{Cut, Text}
+use Rattle.explorer_model.specs.Labels.{no_label}
 use Rattle.explorer_model.specs.Imports.{AreExaminations, Candidate, Examination, IsExaminationOf, Numbering, batch_of, candidates, has_id_of, numbers_of, refusals, verdicts, verdicts_behind, verdicts_in_turn}
 use Rattle.explorer_model.specs.Journal.{HaveDifferentIds}
 use Rattle.explorer_model.specs.Visits.{texts_of}
@@ -181,7 +182,7 @@ pub record AreAllStored (stored : List Game) (texts : List Placed) (examinations
   pub texts_are : texts_of (batches_behind stored examinations) ≡ bytes_of texts
   pub none_refused : refused_behind stored examinations ≡ []
 
-texts_first : (cs : List Candidate) (batches : List Batch) → texts_of (cons_option (batch_of cs) batches) ≡ map (λ (c : Candidate). c.text) cs ++ texts_of batches
+texts_first : (cs : List Candidate) (batches : List Batch) → texts_of (cons_option (batch_of no_label cs) batches) ≡ map (λ (c : Candidate). c.text) cs ++ texts_of batches
 texts_first [] batches = refl
 texts_first (c ∷ cs) batches = refl
 

@@ -7,6 +7,7 @@ use Rattle.explorer_model.specs.declared.archive.Batch.{Batch}
 use Rattle.explorer_model.specs.declared.archive.Game.{Game}
 use Rattle.explorer_model.specs.declared.fault.Refusal.{Refusal}
 use Rattle.explorer_model.specs.Cuts.{Cut}
+use Rattle.explorer_model.specs.Labels.{no_label}
 use Rattle.explorer_model.specs.Imports.{Accounted, Candidate, Examination, IsExaminationOf, Verdict, batch_of, candidates, numbers_of, refusals, verdict_behind, verdicts, verdicts_behind}
 use Rattle.explorer_model.specs.Visits.{AreGamesOf}
 use Rattle.ingest_desk.specs.Causes.{Cause, IsClosed, cause}
@@ -33,7 +34,7 @@ read_kept games cuts examinations each =
     let P : List Candidate → Type 0 = λ cs. AreRead cs in
     subst P (sym (kept-left (numbers_of games) (verdicts examinations))) (fewer_read (λ c. is_none (numbers_of games (id_of c))) (candidates (verdicts examinations)) (fresh cuts [] examinations each).1)
 
-no_kept : (cs : List Candidate) → batch_of cs ≡ None → cs ≡ []
+no_kept : (cs : List Candidate) → batch_of no_label cs ≡ None → cs ≡ []
 no_kept [] e = refl
 no_kept (c ∷ cs) e = absurd (some_none _ e)
   where
@@ -41,7 +42,7 @@ no_kept (c ∷ cs) e = absurd (some_none _ e)
     some_none b e = cc
 
 pub by_batch : (journal : List Batch) (games : List Game) (cuts : List Cut) (examinations : List Examination) → AreGamesOf journal games → AllZip IsExaminationOf cuts examinations
-    → (o : Option Batch) → batch_of (candidates (verdicts_behind (numbers_of games) examinations)) ≡ o → AreGamesOf (journal ++ cons_option o []) (and_games games examinations)
+    → (o : Option Batch) → batch_of no_label (candidates (verdicts_behind (numbers_of games) examinations)) ≡ o → AreGamesOf (journal ++ cons_option o []) (and_games games examinations)
 by_batch journal games cuts examinations are each None is =
     let P : List Game → Type 0 = λ g. AreGamesOf (journal ++ []) g in
     let Q : List Batch → Type 0 = λ j. AreGamesOf j games in
@@ -102,15 +103,15 @@ module _ {J : Type 0} where
 module _ {J : Type 0} (start : Known) (groups : List (List Cut)) (receipts receipts' : List (Receipt J)) (refused refused' : List Refusal) (told told' : Option Store) (cuts : List Cut) (p : Progress start groups receipts refused told) where
   -- the batch of the group, or none
   step : (examinations : List Examination) → AllZip IsExaminationOf cuts examinations → (IsSome start.fault → HasNoCandidate examinations) → refused' ≡ refused ++ refusals (verdicts_behind (numbers_of p.known.games) examinations)
-      → (o : Option Batch) → batch_of (candidates (verdicts_behind (numbers_of p.known.games) examinations)) ≡ o → AreReceiptsOf start.journal receipts' (p.batches ++ cons_option o [])
+      → (o : Option Batch) → batch_of no_label (candidates (verdicts_behind (numbers_of p.known.games) examinations)) ≡ o → AreReceiptsOf start.journal receipts' (p.batches ++ cons_option o [])
       → told' ≡ Some (record { journal = p.known.journal ++ cons_option o []; fault = p.known.fault })
       → Progress start (groups ++ cuts ∷ []) receipts' refused' told'
   unfolding one_more
   step examinations each closed refused_is o is receipts_are still =
       let more = one_more start.games groups p.batches refused p.accounted cuts examinations each in
-      let B : List Game → Option Batch = λ g. batch_of (candidates (verdicts_behind (numbers_of g) examinations)) in
+      let B : List Game → Option Batch = λ g. batch_of no_label (candidates (verdicts_behind (numbers_of g) examinations)) in
       let R : List Game → List Refusal = λ g. refusals (verdicts_behind (numbers_of g) examinations) in
-      let acc : Accounted start.games (groups ++ cuts ∷ []) (p.batches ++ cons_option o []) refused' = record {
+      let acc : Accounted no_label start.games (groups ++ cuts ∷ []) (p.batches ++ cons_option o []) refused' = record {
         examinations = p.accounted.examinations ++ examinations ∷ [];
         are_examinations = more.are_examinations;
         yields = record {
@@ -142,7 +143,7 @@ module _ {J : Type 0} (start : Known) (groups : List (List Cut)) (receipts recei
       let D : List Batch → Type 0 = λ b. AreReceiptsOf start.journal receipts b in
       step s.examinations s.are_examinations (λ some. none_kept p.known.fault p.known.games vs (is_some_by start.fault p.known.fault p.fault some) a.0)
       (refused_is ∙ ap (λ (l : List Refusal). refused ++ l) (s.refused ∙ ap refusals same))
-      None (ap (λ (v : List Verdict). batch_of (candidates v)) (sym same) ∙ ap batch_of a.0)
+      None (ap (λ (v : List Verdict). batch_of no_label (candidates v)) (sym same) ∙ ap (batch_of no_label) a.0)
       (subst C (sym receipts_is) (subst D (sym (append-nil p.batches)) p.receipts_are))
       (a.1 ∙ ap (λ (j : List Batch). Some (record { journal = j; fault = p.known.fault })) (sym (append-nil p.known.journal)))
 
@@ -158,7 +159,7 @@ module _ {J : Type 0} (start : Known) (groups : List (List Cut)) (receipts recei
       let I : List Batch → Type 0 = λ j. IsReceiptOf receipt j a.0.batch in
       step s.examinations s.are_examinations (λ some. absurd (none_some p.known.fault (is_some_by start.fault p.known.fault p.fault some) (not_closed receipt p.known.fault p.known.games p.known.journal a.0 commits.held commits.refused)))
       (refused_is ∙ ap (λ (l : List Refusal). refused ++ l) (s.refused ∙ ap refusals same))
-      (Some a.0.batch) (ap (λ (v : List Verdict). batch_of (candidates v)) (sym same) ∙ a.1.batch)
+      (Some a.0.batch) (ap (λ (v : List Verdict). batch_of no_label (candidates v)) (sym same) ∙ a.1.batch)
       (subst C (sym receipts_is) (receipts_more start.journal receipts p.batches receipt a.0.batch p.receipts_are (subst I p.journal commits.receives.0)
       (commits.receives.1 ∙ commits.stores ∙ ap (λ (j : List Batch). j ++ a.0.batch ∷ []) p.journal)))
       (commits.still ∙ (λ i. Some (record { journal = commits.stores i; fault = commits.fault i })))

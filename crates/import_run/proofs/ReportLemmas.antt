@@ -9,6 +9,7 @@ use Rattle.explorer_model.specs.declared.archive.Batch.{Batch}
 use Rattle.explorer_model.specs.declared.fault.Refusal.{Refusal}
 use Rattle.explorer_model.specs.declared.fault.Why.TheVariants as causes
 use Rattle.explorer_model.specs.Cuts.{Cut, Text, TooLong, Preamble}
+use Rattle.explorer_model.specs.Labels.{no_label}
 use Rattle.explorer_model.specs.Imports.{AccountedBeside, AreExaminations, Candidate, Examination, IsExaminationOf, Numbering, Refused, Unread, Verdict, Accepted, batch_of, candidates, groups, refusals, verdict_behind, verdict_if_stored, verdicts, verdicts_behind, verdicts_by, verdicts_from}
 use Rattle.explorer_model.specs.Journal.{game_count}
 use Rattle.explorer_model.specs.Visits.{texts_of}
@@ -90,7 +91,7 @@ unread_last (g ∷ next ∷ gs) group unread left = unread_last (next ∷ gs) gr
 -- ---- a last group without a text, and one with such cuts behind it
 
 abbrev batch_in : List Verdict → Option Batch
-batch_in group = batch_of (candidates group)
+batch_in group = batch_of no_label (candidates group)
 
 abbrev batches_by : List Numbering → List (List Examination) → List Batch
 batches_by numbers examinations = filter_map batch_in (verdicts_by numbers examinations)
@@ -107,7 +108,7 @@ record HasMore (gs : List (List Cut)) (batches : List Batch) (refused : List Ref
   batches_are : batches_by numbers others ≡ batches
   refused_are : refused_by numbers others ≡ refused
 
-of_more : (gs : List (List Cut)) (batches : List Batch) (refused : List Refusal) → HasMore gs batches refused → AccountedBeside gs batches refused
+of_more : (gs : List (List Cut)) (batches : List Batch) (refused : List Refusal) → HasMore gs batches refused → AccountedBeside no_label gs batches refused
 of_more gs batches refused m = record {
   examinations = m.others;
   are_examinations = m.are;
@@ -135,7 +136,7 @@ with_behind [] group rest (first ∷ []) (n ∷ []) none each long =
       are = (zip-append IsExaminationOf group rest first (unexamined rest) each.0 more, tt);
       numbers = n ∷ [];
       one_each = refl;
-      batches_are = ap (λ (l : List Candidate). cons_option (batch_of l) []) (ap candidates both ∙ candidates_more here (unread_in rest));
+      batches_are = ap (λ (l : List Candidate). cons_option (batch_of no_label l) []) (ap candidates both ∙ candidates_more here (unread_in rest));
       refused_are = append-nil (refusals (verdicts_behind n (first ++ unexamined rest))) ∙ ap refusals both ∙ refusals_more here (unread_in rest)
           ∙ ap (λ (l : List Refusal). l ++ unread_in rest) (sym (append-nil (refusals here)));
     }
@@ -174,7 +175,7 @@ without_last [] hand (first ∷ []) (n ∷ []) none each long =
         are = tt;
         numbers = [];
         one_each = refl;
-        batches_are = sym (ap (λ (l : List Candidate). cons_option (batch_of l) []) (ap candidates last ∙ no_candidates (unread_in hand)));
+        batches_are = sym (ap (λ (l : List Candidate). cons_option (batch_of no_label l) []) (ap candidates last ∙ no_candidates (unread_in hand)));
         refused_are = refl;
       };
       refused_is = append-nil (refusals (verdicts_behind n first)) ∙ ap refusals last ∙ all_refusals (unread_in hand);
@@ -197,24 +198,24 @@ without_last (g ∷ gs) hand (first ∷ examinations) (n ∷ numbers) none each 
       refused_is = ap (λ (l : List Refusal). refusals here ++ l) later.refused_is ∙ sym (append_assoc (refusals here) later.before (unread_in hand));
     }
 
-pub beside_more : (gs : List (List Cut)) (group rest : List Cut) (batches : List Batch) (refused : List Refusal) → texts_in rest ≡ 0 → AccountedBeside (gs ++ group ∷ []) batches refused
-    → AccountedBeside (gs ++ (group ++ rest) ∷ []) batches (refused ++ unread_in rest)
+pub beside_more : (gs : List (List Cut)) (group rest : List Cut) (batches : List Batch) (refused : List Refusal) → texts_in rest ≡ 0 → AccountedBeside no_label (gs ++ group ∷ []) batches refused
+    → AccountedBeside no_label (gs ++ (group ++ rest) ∷ []) batches (refused ++ unread_in rest)
 beside_more gs group rest batches refused none a =
     let m = with_behind gs group rest a.examinations a.numbers none a.are_examinations a.one_each in
-    let P : List Batch → Type 0 = λ l. AccountedBeside (gs ++ (group ++ rest) ∷ []) l (refused ++ unread_in rest) in
-    let Q : List Refusal → Type 0 = λ l. AccountedBeside (gs ++ (group ++ rest) ∷ []) (batches_by a.numbers a.examinations) (l ++ unread_in rest) in
+    let P : List Batch → Type 0 = λ l. AccountedBeside no_label (gs ++ (group ++ rest) ∷ []) l (refused ++ unread_in rest) in
+    let Q : List Refusal → Type 0 = λ l. AccountedBeside no_label (gs ++ (group ++ rest) ∷ []) (batches_by a.numbers a.examinations) (l ++ unread_in rest) in
     subst P (sym a.yields.batches_are) (subst Q (sym a.yields.refused_are) (of_more (gs ++ (group ++ rest) ∷ []) _ _ m))
 
 pub record WithoutLast (gs : List (List Cut)) (batches : List Batch) (refused unread : List Refusal) : Type 0 where
   pub before : List Refusal
-  pub accounted : AccountedBeside gs batches before
+  pub accounted : AccountedBeside no_label gs batches before
   pub is : refused ≡ before ++ unread
 
-pub beside_less : (gs : List (List Cut)) (hand : List Cut) (batches : List Batch) (refused : List Refusal) → texts_in hand ≡ 0 → AccountedBeside (gs ++ hand ∷ []) batches refused
+pub beside_less : (gs : List (List Cut)) (hand : List Cut) (batches : List Batch) (refused : List Refusal) → texts_in hand ≡ 0 → AccountedBeside no_label (gs ++ hand ∷ []) batches refused
     → WithoutLast gs batches refused (unread_in hand)
 beside_less gs hand batches refused none a =
     let l = without_last gs hand a.examinations a.numbers none a.are_examinations a.one_each in
-    let P : List Batch → Type 0 = λ b. AccountedBeside gs b l.before in
+    let P : List Batch → Type 0 = λ b. AccountedBeside no_label gs b l.before in
     record {
       before = l.before;
       accounted = subst P (sym a.yields.batches_are) (of_more gs _ _ l.has);
@@ -275,13 +276,13 @@ pub record AccountedFront (gs : List (List Cut)) (batches : List Batch) (refused
   pub left_unread : LeftUnreadIn (take finished gs) unread
   pub accounts : AccountsUpTo finished gs batches (refused ++ unread)
 
-front_of : (gs more : List (List Cut)) (all : List (List Cut)) (batches : List Batch) (refused unread : List Refusal) → all ≡ gs ++ more → LeftUnreadIn gs unread → AccountedBeside gs batches (refused ++ unread)
+front_of : (gs more : List (List Cut)) (all : List (List Cut)) (batches : List Batch) (refused unread : List Refusal) → all ≡ gs ++ more → LeftUnreadIn gs unread → AccountedBeside no_label gs batches (refused ++ unread)
     → AccountedFront all batches refused
 front_of gs more all batches refused unread is left a =
     let same : take (length gs) all ≡ gs = ap (λ (l : List (List Cut)). take (length gs) l) is ∙ take_all_of gs more in
     let long = ap (λ (l : List (List Cut)). length l) is in
     let P : List (List Cut) → Type 0 = λ l. LeftUnreadIn l unread in
-    let Q : List (List Cut) → Type 0 = λ l. AccountedBeside l batches (refused ++ unread) in
+    let Q : List (List Cut) → Type 0 = λ l. AccountedBeside no_label l batches (refused ++ unread) in
     record {
       finished = length gs;
       unread = unread;
@@ -290,23 +291,23 @@ front_of gs more all batches refused unread is left a =
     }
 
 -- all groups are accounted
-pub front_of_all : (all : List (List Cut)) (batches : List Batch) (refused : List Refusal) → AccountedBeside all batches refused → AccountedFront all batches refused
+pub front_of_all : (all : List (List Cut)) (batches : List Batch) (refused : List Refusal) → AccountedBeside no_label all batches refused → AccountedFront all batches refused
 front_of_all all batches refused a =
-    let P : List Refusal → Type 0 = λ l. AccountedBeside all batches l in
+    let P : List Refusal → Type 0 = λ l. AccountedBeside no_label all batches l in
     front_of all [] all batches refused [] (sym (append-nil all)) (nothing_behind_all all) (subst P (sym (append-nil refused)) a)
 
 -- closed groups are the first of the groups of their cuts and of those behind them
 pub accounted_front : (closed : List (List Cut)) (rest : List Cut) (batches : List Batch) (refused : List Refusal) → AllByRecursion IsWhole closed → (0 < length (all_cuts closed) → AllByRecursion NotPreamble rest)
-    → AccountedBeside closed batches refused → AccountedFront (groups (all_cuts closed ++ rest)) batches refused
+    → AccountedBeside no_label closed batches refused → AccountedFront (groups (all_cuts closed ++ rest)) batches refused
 accounted_front closed rest batches refused each first a = by_texts (none_or_some (texts_in rest))
   where
     P : List Refusal → Type 0
-    P l = AccountedBeside closed batches l
+    P l = AccountedBeside no_label closed batches l
 
-    by_last : (closed : List (List Cut)) → AllByRecursion IsWhole closed → (0 < length (all_cuts closed) → AllByRecursion NotPreamble rest) → AccountedBeside closed batches refused → texts_in rest ≡ 0
+    by_last : (closed : List (List Cut)) → AllByRecursion IsWhole closed → (0 < length (all_cuts closed) → AllByRecursion NotPreamble rest) → AccountedBeside no_label closed batches refused → texts_in rest ≡ 0
         → AccountedFront (groups (all_cuts closed ++ rest)) batches refused
     by_last [] each first a none =
-        let Q : List Refusal → Type 0 = λ l. AccountedBeside [] batches l in
+        let Q : List Refusal → Type 0 = λ l. AccountedBeside no_label [] batches l in
         front_of [] (groups rest) (groups rest) batches refused [] refl refl (subst Q (sym (append-nil refused)) a)
     by_last (g ∷ gs) each first a none =
         let l = last_of g gs in
@@ -315,7 +316,7 @@ accounted_front closed rest batches refused each first a = by_texts (none_or_som
         let is : groups (all_cuts (g ∷ gs) ++ rest) ≡ (l.before ++ (l.last ++ rest) ∷ []) ++ [] =
         ap (λ (x : List (List Cut)). groups (all_cuts x ++ rest)) l.is ∙ groups_last l.before l.last rest (each_front l.before (l.last ∷ []) all) whole none ∙ sym (append-nil (l.before ++ (l.last ++ rest) ∷ [])) in
         let no_preamble = first (let some = some_whole g each.0 in omega (arith, some, length-append g (all_cuts gs))) in
-        let acc : AccountedBeside (l.before ++ l.last ∷ []) batches refused = subst (λ (x : List (List Cut)). AccountedBeside x batches refused) l.is a in
+        let acc : AccountedBeside no_label (l.before ++ l.last ∷ []) batches refused = subst (λ (x : List (List Cut)). AccountedBeside no_label x batches refused) l.is a in
         front_of (l.before ++ (l.last ++ rest) ∷ []) [] (groups (all_cuts (g ∷ gs) ++ rest)) batches refused (unread_in rest) is
         (unread_last l.before (l.last ++ rest) (unread_in rest) (unread_behind l.last rest whole none no_preamble))
         (beside_more l.before l.last rest batches refused none acc)
@@ -327,22 +328,22 @@ accounted_front closed rest batches refused each first a = by_texts (none_or_som
 -- ---- a whole import
 
 -- a group in hand without a text, and nothing before it
-only_hand : (hand : List Cut) (batches : List Batch) (refused : List Refusal) → texts_in hand ≡ 0 → AccountedBeside (hand ∷ []) batches refused → AccountedBeside (groups hand) batches refused
+only_hand : (hand : List Cut) (batches : List Batch) (refused : List Refusal) → texts_in hand ≡ 0 → AccountedBeside no_label (hand ∷ []) batches refused → AccountedBeside no_label (groups hand) batches refused
 unfolding groups
 only_hand [] batches refused none a =
     let l = beside_less [] [] batches refused none a in
-    let P : List Refusal → Type 0 = λ x. AccountedBeside [] batches x in
+    let P : List Refusal → Type 0 = λ x. AccountedBeside no_label [] batches x in
     subst P (sym (l.is ∙ append-nil l.before)) l.accounted
 only_hand (cut ∷ hand) batches refused none a =
-    let P : List (List Cut) → Type 0 = λ x. AccountedBeside x batches refused in
+    let P : List (List Cut) → Type 0 = λ x. AccountedBeside no_label x batches refused in
     subst P (sym (groups_one (cut ∷ hand) (omega arith) (omega (arith, none)))) a
 
 -- closed groups and the one in hand at the end are the groups of their cuts
 pub accounted_whole : (closed : List (List Cut)) (hand : List Cut) (batches : List Batch) (refused : List Refusal) → AllByRecursion IsWhole closed → texts_in hand ≤ 512
-    → AccountedBeside (closed ++ hand ∷ []) batches refused → AccountedBeside (groups (all_cuts closed ++ hand)) batches refused
+    → AccountedBeside no_label (closed ++ hand ∷ []) batches refused → AccountedBeside no_label (groups (all_cuts closed ++ hand)) batches refused
 accounted_whole closed hand batches refused each few a = by_texts (none_or_some (texts_in hand))
   where
-    by_last : (closed : List (List Cut)) → AllByRecursion IsWhole closed → AccountedBeside (closed ++ hand ∷ []) batches refused → texts_in hand ≡ 0 → AccountedBeside (groups (all_cuts closed ++ hand)) batches refused
+    by_last : (closed : List (List Cut)) → AllByRecursion IsWhole closed → AccountedBeside no_label (closed ++ hand ∷ []) batches refused → texts_in hand ≡ 0 → AccountedBeside no_label (groups (all_cuts closed ++ hand)) batches refused
     by_last [] each a none = only_hand hand batches refused none a
     by_last (g ∷ gs) each a none =
         let l = last_of g gs in
@@ -350,15 +351,15 @@ accounted_whole closed hand batches refused each few a = by_texts (none_or_some 
         let is : groups (all_cuts (g ∷ gs) ++ hand) ≡ l.before ++ (l.last ++ hand) ∷ [] =
         ap (λ (x : List (List Cut)). groups (all_cuts x ++ hand)) l.is ∙ groups_last l.before l.last hand (each_front l.before (l.last ∷ []) all) (each_last l.before l.last all) none in
         let less = beside_less (g ∷ gs) hand batches refused none a in
-        let acc : AccountedBeside (l.before ++ l.last ∷ []) batches less.before = subst (λ (x : List (List Cut)). AccountedBeside x batches less.before) l.is less.accounted in
-        let P : List Refusal → Type 0 = λ x. AccountedBeside (l.before ++ (l.last ++ hand) ∷ []) batches x in
-        let Q : List (List Cut) → Type 0 = λ x. AccountedBeside x batches refused in
+        let acc : AccountedBeside no_label (l.before ++ l.last ∷ []) batches less.before = subst (λ (x : List (List Cut)). AccountedBeside no_label x batches less.before) l.is less.accounted in
+        let P : List Refusal → Type 0 = λ x. AccountedBeside no_label (l.before ++ (l.last ++ hand) ∷ []) batches x in
+        let Q : List (List Cut) → Type 0 = λ x. AccountedBeside no_label x batches refused in
         subst Q (sym is) (subst P (sym less.is) (beside_more l.before l.last hand batches less.before none acc))
 
-    by_texts : (texts_in hand ≡ 0) ⊎ (0 < texts_in hand) → AccountedBeside (groups (all_cuts closed ++ hand)) batches refused
+    by_texts : (texts_in hand ≡ 0) ⊎ (0 < texts_in hand) → AccountedBeside no_label (groups (all_cuts closed ++ hand)) batches refused
     by_texts (inl none) = by_last closed each a none
     by_texts (inr some) =
-        let Q : List (List Cut) → Type 0 = λ x. AccountedBeside x batches refused in
+        let Q : List (List Cut) → Type 0 = λ x. AccountedBeside no_label x batches refused in
         subst Q (sym (groups_closed closed hand each some ∙ ap (λ (l : List (List Cut)). closed ++ l) (groups_one hand (some_cuts hand some) few))) a
 
 -- ---- a group that ended an import
@@ -377,13 +378,13 @@ judged_more group rest left hand none j =
       refused_are = ap (λ (l : List Refusal). l ++ unread_in rest) j.refused_are ∙ sym (ap refusals both ∙ refusals_more here (unread_in rest));
     }
 
-module _ (gs : List (List Cut)) (closed : List (List Cut)) (group : List Cut) (batches : List Batch) (before hand refused : List Refusal) (left : List Candidate) (a : AccountedBeside closed batches before)
+module _ (gs : List (List Cut)) (closed : List (List Cut)) (group : List Cut) (batches : List Batch) (before hand refused : List Refusal) (left : List Candidate) (a : AccountedBeside no_label closed batches before)
     (j : IsJudged group left hand) (some : left ≢ []) (refused_is : refused ≡ before ++ hand) where
   breaks : (rest : List Cut) (more : List (List Cut)) → gs ≡ closed ++ (group ++ rest) ∷ more → texts_in rest ≡ 0 → LeftUnread (group ++ rest) (unread_in rest) → BreaksAt gs batches refused left
   breaks rest more is none unread =
       let front : take (length closed) gs ≡ closed = ap (λ (l : List (List Cut)). take (length closed) l) is ∙ take_all_of closed ((group ++ rest) ∷ more) in
       let long = ap (λ (l : List (List Cut)). length l) is in
-      let Q : List (List Cut) → Type 0 = λ l. AccountedBeside l batches before in
+      let Q : List (List Cut) → Type 0 = λ l. AccountedBeside no_label l batches before in
       record {
         finished = length closed;
         before = before;
@@ -405,7 +406,7 @@ module _ (gs : List (List Cut)) (closed : List (List Cut)) (group : List Cut) (b
       breaks [] more (is ∙ ap (λ (g : List Cut). closed ++ g ∷ more) (sym (append-nil group))) refl (subst P (sym (append-nil group)) (nothing_behind group))
 
 -- a whole group of cuts ended the import, and other cuts stand behind it
-pub breaks_within : (closed : List (List Cut)) (group rest : List Cut) (batches : List Batch) (before hand refused : List Refusal) (left : List Candidate) → AccountedBeside closed batches before → IsJudged group left hand → left ≢ []
+pub breaks_within : (closed : List (List Cut)) (group rest : List Cut) (batches : List Batch) (before hand refused : List Refusal) (left : List Candidate) → AccountedBeside no_label closed batches before → IsJudged group left hand → left ≢ []
     → refused ≡ before ++ hand → AllByRecursion IsWhole closed → IsWhole group → AllByRecursion NotPreamble rest → BreaksAt (groups (all_cuts closed ++ (group ++ rest))) batches refused left
 breaks_within closed group rest batches before hand refused left a j some refused_is each whole first = by_texts (none_or_some (texts_in rest))
   where
@@ -426,7 +427,7 @@ breaks_within closed group rest batches before hand refused left a j some refuse
         breaks_here gs closed group batches before hand refused left a j some refused_is (groups rest) (behind ∙ ap (λ (l : List (List Cut)). closed ++ l) (groups_first group rest whole more))
 
 -- the last group ended the import; some of its texts were left
-pub breaks_last : (closed : List (List Cut)) (group : List Cut) (batches : List Batch) (before hand refused : List Refusal) (left : List Candidate) → AccountedBeside closed batches before → IsJudged group left hand → left ≢ []
+pub breaks_last : (closed : List (List Cut)) (group : List Cut) (batches : List Batch) (before hand refused : List Refusal) (left : List Candidate) → AccountedBeside no_label closed batches before → IsJudged group left hand → left ≢ []
     → refused ≡ before ++ hand → AllByRecursion IsWhole closed → texts_in group ≤ 512 → BreaksAt (groups (all_cuts closed ++ group)) batches refused left
 breaks_last closed group batches before hand refused left a j some refused_is each few = by_texts (none_or_some (texts_in group))
   where
@@ -449,7 +450,7 @@ kept_few number (Accepted c ∷ vs) = by (number c.game.classes.id.bytes) (kept_
     by None rest = omega (arith, rest)
     by (Some n) rest = omega (arith, rest)
 
-batch_few : (cs : List Candidate) (batches : List Batch) → game_count (cons_option (batch_of cs) batches) ≡ length cs + game_count batches
+batch_few : (cs : List Candidate) (batches : List Batch) → game_count (cons_option (batch_of no_label cs) batches) ≡ length cs + game_count batches
 batch_few [] batches = omega arith
 batch_few (c ∷ cs) batches =
     length-append (map (λ (c : Candidate). c.text) (c ∷ cs)) (texts_of batches) ∙ ap (λ n. n + game_count batches) (length-map (c ∷ cs) (λ (c : Candidate). c.text))
@@ -472,7 +473,7 @@ receipts_count least (r ∷ receipts) (b ∷ batches) are =
     sym (omega (arith, sum_by-cons (λ (receipt : Receipt _). receipt.games) r receipts, are.2.games, receipts_count (are.0 + 1) receipts batches are.3, length-append b.texts (texts_of batches)))
 
 -- the games that are stored are no more than the cuts of their groups
-pub games_within : {J : Type 0} (gs : List (List Cut)) (receipts : List (Receipt J)) (batches : List Batch) (refused : List Refusal) → AreReceipts 0 receipts batches → AccountedBeside gs batches refused
+pub games_within : {J : Type 0} (gs : List (List Cut)) (receipts : List (Receipt J)) (batches : List Batch) (refused : List Refusal) → AreReceipts 0 receipts batches → AccountedBeside no_label gs batches refused
     → games_of receipts ≤ length (all_cuts gs)
 games_within gs receipts batches refused are a =
     let count = receipts_count 0 receipts batches are in

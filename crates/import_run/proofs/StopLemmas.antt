@@ -10,6 +10,7 @@ use Rattle.explorer_model.specs.declared.archive.Batch.{Batch}
 use Rattle.explorer_model.specs.declared.archive.Game.{Game}
 use Rattle.explorer_model.specs.declared.fault.Refusal.{Refusal}
 use Rattle.explorer_model.specs.Cuts.{Cut}
+use Rattle.explorer_model.specs.Labels.{no_label}
 use Rattle.explorer_model.specs.Imports.{Candidate, batch_of, numbers_of, verdicts}
 use Rattle.explorer_model.specs.Journal.{AreWithin, byte_count, byte_limit, game_count, game_limit, input_limit}
 use Rattle.explorer_model.specs.Visits.{texts_of}
@@ -100,12 +101,12 @@ texts_bytes (first ∷ rest) =
     ∙ ap (λ (n : ℕ). length first.text + n) (texts_bytes rest)
     ∙ sym (sum_by-cons (λ (candidate : Candidate). length candidate.text) first rest)
 
-games_with : (journal : List Batch) (cs : List Candidate) (batch : Batch) → batch_of cs ≡ Some batch → game_count (journal ++ batch ∷ []) ≡ game_count journal + length cs
+games_with : (journal : List Batch) (cs : List Candidate) (batch : Batch) → batch_of no_label cs ≡ Some batch → game_count (journal ++ batch ∷ []) ≡ game_count journal + length cs
 games_with journal cs batch is =
     ap length (texts_more journal batch) ∙ length-append (texts_of journal) batch.texts
     ∙ ap (λ (n : ℕ). game_count journal + n) (ap length (batch_texts cs batch is) ∙ length-map cs (λ (c : Candidate). c.text))
 
-bytes_with : (journal : List Batch) (cs : List Candidate) (batch : Batch) → batch_of cs ≡ Some batch → byte_count (journal ++ batch ∷ []) ≡ byte_count journal + sum_by (λ candidate. length candidate.text) cs
+bytes_with : (journal : List Batch) (cs : List Candidate) (batch : Batch) → batch_of no_label cs ≡ Some batch → byte_count (journal ++ batch ∷ []) ≡ byte_count journal + sum_by (λ candidate. length candidate.text) cs
 bytes_with journal cs batch is =
     ap (sum_by (λ (text : List ℕ). length text)) (texts_more journal batch) ∙ sum_by-append (λ (text : List ℕ). length text) (texts_of journal) batch.texts
     ∙ ap (λ (n : ℕ). byte_count journal + n) (ap (sum_by (λ (text : List ℕ). length text)) (batch_texts cs batch is) ∙ texts_bytes cs)
@@ -126,14 +127,14 @@ over_true games bytes is within = by_tests (nat_lt game_limit games) (nat_lt byt
     by_tests false true a b e = let more : byte_limit < bytes = ltb-true byte_limit bytes b in omega (arith, more, within.1)
     by_tests false false a b e = cc
 
-over_with : (journal : List Batch) (cs : List Candidate) (batch : Batch) → batch_of cs ≡ Some batch
+over_with : (journal : List Batch) (cs : List Candidate) (batch : Batch) → batch_of no_label cs ≡ Some batch
     → has_no_room journal batch ≡ is_over (game_count journal + length cs) (byte_count journal + sum_by (λ candidate. length candidate.text) cs)
 over_with journal cs batch is =
     let g = games_with journal cs batch is in
     let b = bytes_with journal cs batch is in
     λ i. is_over (g i) (b i)
 
-some_left : (cs : List Candidate) (batch : Batch) → batch_of cs ≡ Some batch → cs ≡ [] → ⊥
+some_left : (cs : List Candidate) (batch : Batch) → batch_of no_label cs ≡ Some batch → cs ≡ [] → ⊥
 some_left [] batch is none = cc
 some_left (c ∷ cs) batch is none = cc
 

@@ -12,6 +12,7 @@ use Rattle.explorer_model.specs.declared.fault.Refusal.{Refusal}
 use Rattle.explorer_model.specs.declared.fault.Stop.{Stop}
 use Rattle.explorer_model.specs.declared.fault.Stop.TheVariants as stops
 use Rattle.explorer_model.specs.Cuts.{Cut, text_limit}
+use Rattle.explorer_model.specs.Labels.{no_label}
 use Rattle.explorer_model.specs.Imports.{Accounted, AccountedBeside, verdicts_in_turn}
 use Rattle.ingest_desk.specs.Reporting.{AreReceipts}
 use Rattle.ingest_desk.specs.declared.receipt.Receipt.{Receipt}
@@ -78,7 +79,7 @@ all_cuts-more : (closed : List (List Cut)) (hand : List Cut) → all_cuts (close
 all_cuts-more closed hand =
     append-nil (all_cuts (closed ++ hand ∷ [])) ∙ flat_map-append (λ (group : List Cut). group) closed (hand ∷ []) ∙ ap (λ (l : List Cut). all_cuts closed ++ l) (append-nil hand)
 
-unfoldable accounted_none : (stored : List Game) → Accounted stored [] [] []
+unfoldable accounted_none : (stored : List Game) → Accounted no_label stored [] [] []
 unfolding verdicts_in_turn
 accounted_none stored = record { examinations = []; are_examinations = tt; yields = record { batches_are = refl; refused_are = refl } }
 
@@ -115,7 +116,7 @@ module _ {J : Type 0} (start : Option Store) where
   unfolding verdicts_in_turn
   beside_none import receipts refused =
       let P : List (Receipt J) → Type 0 = λ l. AreReceipts 0 l [] in
-      let Q : List Refusal → Type 0 = λ l. AccountedBeside [] [] l in
+      let Q : List Refusal → Type 0 = λ l. AccountedBeside no_label [] [] l in
       let S : List Refusal → Type 0 = λ l. AreRepeats [] import.clashes.items l in
       record {
         batches = [];
@@ -128,7 +129,7 @@ module _ {J : Type 0} (start : Option Store) where
       → ProgressBeside groups old → ProgressBeside groups new
   same_beside groups old new receipts refused clashes p =
       let P : List (Receipt J) → Type 0 = λ l. AreReceipts 0 l p.batches in
-      let Q : List Refusal → Type 0 = λ l. AccountedBeside groups p.batches l in
+      let Q : List Refusal → Type 0 = λ l. AccountedBeside no_label groups p.batches l in
       let S : List Refusal → Type 0 = λ l. AreRepeats (all_cuts groups) new.clashes.items l in
       let T : List (List Batch) → Type 0 = λ l. AreRepeats (all_cuts groups) l old.refused.items in
       record {

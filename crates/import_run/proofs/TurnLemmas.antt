@@ -8,6 +8,7 @@ use Rattle.explorer_model.specs.declared.archive.Batch.{Batch}
 use Rattle.explorer_model.specs.declared.archive.Game.{Game}
 use Rattle.explorer_model.specs.declared.fault.Refusal.{Refusal}
 use Rattle.explorer_model.specs.Cuts.{Cut}
+use Rattle.explorer_model.specs.Labels.{no_label}
 use Rattle.explorer_model.specs.Imports.{Accounted, Candidate, Examination, IsExaminationOf, Verdict, batch_of, candidates, numbers_of, refusals, verdicts_behind, verdicts_in_turn}
 use Rattle.explorer_model.specs.Visits.{AreGamesOf, IsTextOf, texts_of}
 use Rattle.explorer_model.proofs.Lists.{zip-append}
@@ -26,11 +27,11 @@ turn-more stored [] group = refl
 turn-more stored (g ∷ groups) group = ap (λ (l : List (List Verdict)). verdicts_behind (numbers_of stored) g ∷ l) (turn-more (and_games stored g) groups group)
 
 abbrev pub batch_in : List Verdict → Option Batch
-batch_in group = batch_of (candidates group)
+batch_in group = batch_of no_label (candidates group)
 
-unfoldable pub one_more : (stored : List Game) (groups : List (List Cut)) (batches : List Batch) (refused : List Refusal) (done : Accounted stored groups batches refused) (cuts : List Cut) (examinations : List Examination)
+unfoldable pub one_more : (stored : List Game) (groups : List (List Cut)) (batches : List Batch) (refused : List Refusal) (done : Accounted no_label stored groups batches refused) (cuts : List Cut) (examinations : List Examination)
     → AllZip IsExaminationOf cuts examinations
-    → Accounted stored (groups ++ cuts ∷ []) (batches ++ cons_option (batch_of (candidates (verdicts_behind (numbers_of (games_after stored done.examinations)) examinations))) [])
+    → Accounted no_label stored (groups ++ cuts ∷ []) (batches ++ cons_option (batch_of no_label (candidates (verdicts_behind (numbers_of (games_after stored done.examinations)) examinations))) [])
     (refused ++ refusals (verdicts_behind (numbers_of (games_after stored done.examinations)) examinations))
 one_more stored groups batches refused done cuts examinations each =
     let here = verdicts_behind (numbers_of (games_after stored done.examinations)) examinations in
@@ -40,7 +41,7 @@ one_more stored groups batches refused done cuts examinations each =
       examinations = done.examinations ++ examinations ∷ [];
       are_examinations = zip-append (AllZip IsExaminationOf) groups (cuts ∷ []) done.examinations (examinations ∷ []) done.are_examinations (each, tt);
       yields = record {
-        batches_are = ap (λ (l : List Batch). l ++ cons_option (batch_of (candidates here)) []) done.yields.batches_are
+        batches_are = ap (λ (l : List Batch). l ++ cons_option (batch_of no_label (candidates here)) []) done.yields.batches_are
             ∙ sym (ap (filter_map batch_in) turn ∙ filter_map-append batch_in so_far (here ∷ []));
         refused_are = ap (λ (l : List Refusal). l ++ refusals here) done.yields.refused_are
             ∙ sym (ap (flat_map refusals) turn ∙ flat_map-append refusals so_far (here ∷ []) ∙ ap (λ (l : List Refusal). flat_map refusals so_far ++ l) (append-nil (refusals here)));
@@ -58,7 +59,7 @@ texts_more journal batch =
     flat_map-append (λ (b : Batch). b.texts) journal (batch ∷ [])
     ∙ ap (λ (l : List (List ℕ)). texts_of journal ++ l) (append-nil batch.texts)
 
-pub games_more : (journal : List Batch) (games : List Game) (cs : List Candidate) (batch : Batch) → AreGamesOf journal games → AreRead cs → batch_of cs ≡ Some batch
+pub games_more : (journal : List Batch) (games : List Game) (cs : List Candidate) (batch : Batch) → AreGamesOf journal games → AreRead cs → batch_of no_label cs ≡ Some batch
     → AreGamesOf (journal ++ batch ∷ []) (games ++ map (λ c. c.game) cs)
 games_more journal games cs batch are read is =
     let more = map (λ (c : Candidate). c.game) cs in

@@ -5,6 +5,7 @@ use Rattle.explorer_model.specs.declared.archive.Batch.{Batch}
 use Rattle.explorer_model.specs.declared.archive.Game.{Game}
 use Rattle.explorer_model.specs.declared.fault.Refusal.{Refusal}
 use Rattle.explorer_model.specs.Cuts.{Cut}
+use Rattle.explorer_model.specs.Labels.{no_label}
 use Rattle.explorer_model.specs.Imports.{AccountedBeside, Candidate, Examination, IsExaminationOf, Numbering, numbers_of, verdicts}
 use Rattle.explorer_model.specs.Journal.{byte_count, game_count}
 use Rattle.explorer_model.specs.Visits.{AreGamesOf}
@@ -100,7 +101,7 @@ pub record ProgressBeside {J : Type 0} (groups : List (List Cut)) (import : Open
     : Type 0 where
   pub batches : List Batch
   pub are_receipts : AreReceipts 0 import.receipts.items batches
-  pub accounted : AccountedBeside groups batches import.refused.items
+  pub accounted : AccountedBeside no_label groups batches import.refused.items
   pub repeats :
       AreRepeats (flat_map (λ group. group) groups) import.clashes.items import.refused.items
 

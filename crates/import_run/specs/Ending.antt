@@ -7,6 +7,7 @@ use Rattle.outside.specs.Stream.{Stream, Rises}
 use Rattle.explorer_model.specs.declared.archive.Batch.{Batch}
 use Rattle.explorer_model.specs.declared.fault.Refusal.{Refusal}
 use Rattle.explorer_model.specs.Cuts.{Cut, cuts}
+use Rattle.explorer_model.specs.Labels.{no_label}
 use Rattle.explorer_model.specs.Imports.{Accounted, Candidate, Examination, IsExaminationOf, groups, verdicts}
 use Rattle.explorer_model.specs.Journal.{AreWithin, byte_count, game_count, input_limit}
 use Rattle.ingest_desk.specs.Reporting.{FindsNoRoom}
@@ -25,7 +26,7 @@ use Rattle.import_run.specs.SoFar.{AreGroupsSoFar, AreInGroups, ended_cuts}
 -- them has a candidate.
 pub record AreSettled (start : Known) (groups : List (List Cut)) (batches : List Batch)
     (refused : List Refusal) : Type 0 where
-  pub accounted : Accounted start.games groups batches refused
+  pub accounted : Accounted no_label start.games groups batches refused
   pub closed : IsSome start.fault → AllByRecursion HasNoCandidate accounted.examinations
 
 -- ---- streams that break off

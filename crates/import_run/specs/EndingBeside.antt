@@ -5,6 +5,7 @@ use Rattle.outside.specs.Stream.{Stream, Reads}
 use Rattle.explorer_model.specs.declared.archive.Batch.{Batch}
 use Rattle.explorer_model.specs.declared.fault.Refusal.{Refusal}
 use Rattle.explorer_model.specs.Cuts.{Cut, cuts}
+use Rattle.explorer_model.specs.Labels.{no_label}
 use Rattle.explorer_model.specs.Imports.{AccountedBeside}
 use Rattle.explorer_model.specs.Journal.{input_limit}
 use Rattle.ingest_desk.specs.Reporting.{Reports, games_of}
@@ -20,7 +21,7 @@ pub record IsCutBeside (stream : List ℕ) (batches : List Batch) (refused : Lis
   pub whole : List (List Cut)
   pub hand : List Cut
   pub in_groups : AreInGroups (ended_cuts stream) whole hand
-  pub accounted : AccountedBeside whole batches refused
+  pub accounted : AccountedBeside no_label whole batches refused
 
 -- all groups are accounted that are whole before the last byte that an import takes
 pub record IsTooMuchBeside (stream : List ℕ) (batches : List Batch) (refused : List Refusal)

@@ -6,6 +6,7 @@ use Rattle.outside.specs.Stream.{Stream, Reads}
 use Rattle.explorer_model.specs.declared.archive.Batch.{Batch}
 use Rattle.explorer_model.specs.declared.fault.Refusal.{Refusal}
 use Rattle.explorer_model.specs.Cuts.{Cut, cuts, text_limit}
+use Rattle.explorer_model.specs.Labels.{no_label}
 use Rattle.explorer_model.specs.Imports.{AccountedBeside, group_limit}
 use Rattle.ingest_desk.specs.Reporting.{AreReceipts}
 use Rattle.ingest_desk.specs.declared.receipt.Receipt.{Receipt}
@@ -190,7 +191,7 @@ pub record IsWholeBeside {J : Type 0} (stream : List ℕ) (report : Report J) : 
       → (more : List Cut) × (cuts (stream ++ rest) ≡ flat_map (λ group. group) whole ++ more)
   pub batches : List Batch
   pub are_receipts : AreReceipts 0 report.receipts.items batches
-  pub accounted : AccountedBeside whole batches report.refused.items
+  pub accounted : AccountedBeside no_label whole batches report.refused.items
   pub repeats :
       AreRepeats (flat_map (λ group. group) whole) report.clashes.items report.refused.items
 

@@ -4,13 +4,14 @@ use Rattle.std.proofs.lemmas.Bool.Decides.{nat_tests}
 use Rattle.std.proofs.lemmas.List.Elements.{All-nil}
 use Rattle.explorer_model.specs.declared.fault.Refusal.{Refusal}
 use Rattle.explorer_model.specs.Cuts.{Cut, cuts, cuts_from, cuts_of, parted, preamble}
+use Rattle.explorer_model.specs.Labels.{no_label}
 use Rattle.explorer_model.specs.Imports.{AccountedBeside, groups}
 use Rattle.ingest_desk.specs.declared.report.End.{End}
 use Rattle.ingest_desk.specs.declared.report.End.TheVariants as ends
 use Rattle.ingest_desk.specs.declared.report.Report.{Report}
 use Rattle.ingest_desk.specs.Reporting.{AccountsTo, RepeatsBy, Reports}
 
-none-beside : AccountedBeside [] [] []
+none-beside : AccountedBeside no_label [] [] []
 none-beside = record {
   examinations = [];
   are_examinations = tt;
@@ -41,7 +42,7 @@ reports-nothing {J} body report receipts refused end =
 pub reports-empty : {J : Type 0} (body : List ℕ) (report : Report J) → body ≡ [] → report.receipts.items ≡ []
     → report.refused.items ≡ [] → report.end ≡ ends.Whole → Reports (cuts body) report
 reports-empty {J} body report empty receipts refused end =
-    let whole : AccountedBeside (groups (cuts body)) [] [] = rw (empty, no-groups) none-beside in
+    let whole : AccountedBeside no_label (groups (cuts body)) [] [] = rw (empty, no-groups) none-beside in
     reports (cuts body) report receipts refused (subst (λ (e : End J). AccountsTo e (groups (cuts body)) [] []) (sym end) whole)
 
 pub empty-list : (xs : List ℕ) → (length xs == 0) ≡ true → xs ≡ []

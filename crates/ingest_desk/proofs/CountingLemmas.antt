@@ -167,7 +167,7 @@ module _ (journal : List Batch) (gate : ℕ) (register : Register) (list : List 
     pub journal-behind : journal_of (list ++ segment ∷ []) ≡ is.so_far.before ++ next-in.batch ∷ []
     journal-behind = journal_more journal gate register list is.others next-in.later next-in.batch is.so_far next-in.are new segment more
 
-    pub reaches-more : (after : List CountedSpan) → IsList after → journal_of after ≡ journal_of (list ++ segment ∷ []) → length after ≤ 17
+    pub reaches-more : (after : List CountedSpan) → IsList after → journal_of after ≡ journal_of (list ++ segment ∷ []) → length after ≤ 18
         → Reaches journal (gate + (5 + one.size)) new after rest
     reaches-more after list_is same few = record {
       others = next-in.later;

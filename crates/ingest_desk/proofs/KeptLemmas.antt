@@ -1,8 +1,9 @@
 -- What an ingest keeps, step by step.
-use Rattle.std.proofs.Common.{◌≡◌, ◌<◌, ◌≤◌, ◌+◌, ◌*◌, inl, ℕ, zero, suc, List, [], ◌∷◌, ◌++◌, length, map, get_or, flat_map, Option, None, Some, Result, Ok, Err, refl, sym, ap, ◌∙◌, subst, arith, length-append}
+use Rattle.std.proofs.Common.{◌≡◌, ◌<◌, ◌≤◌, ◌+◌, ◌*◌, inl, ℕ, zero, suc, true, sum_by, List, [], ◌∷◌, ◌++◌, length, map, get_or, flat_map, Option, None, Some, Result, Ok, Err, refl, sym, ap, ◌∙◌, subst, arith, length-append}
 use Rattle.std.proofs.lemmas.Grind.{flat_map-append}
-use Rattle.std.proofs.lemmas.List.Sums.{sum_by-append}
-use Rattle.std.specs.List.{AllZip}
+use Rattle.std.proofs.lemmas.List.Elements.{recursion_from_All}
+use Rattle.std.proofs.lemmas.List.Sums.{sum_by-append, sum_by-cons}
+use Rattle.std.specs.List.{AllByRecursion, AllZip}
 use Rattle.std.specs.Prelude.{IsOk, OnOk}
 use Rattle.disk_model.specs.Disk.{DiskState, LeavesOnly, MayLeave}
 use Rattle.explorer_model.specs.declared.archive.Batch.{Batch}
@@ -15,9 +16,11 @@ use Rattle.explorer_model.specs.Classes.{classes, is_standard, agrees_on_set_up}
 use Rattle.explorer_model.specs.Games.{Score, tagged, GameOf, GameOfScore}
 use Rattle.explorer_model.specs.Items.{items, items_from}
 use Rattle.explorer_model.specs.Journal.{IsBatch, IsSound, byte_count, game_count}
+use Rattle.explorer_model.specs.Labels.{is_label}
 use Rattle.explorer_model.specs.Parts.{meaning, parts}
-use Rattle.explorer_model.specs.StoreFile.{IsStorable, gate_limit, payload_of, record_bytes, store_of}
+use Rattle.explorer_model.specs.StoreFile.{IsStorable, gate_limit, payload_of, record_bytes, store_of, texts_field}
 use Rattle.explorer_model.specs.Visits.{IsTextOf, texts_of}
+use Rattle.explorer_model.proofs.LabelLemmas.{label-short}
 use Rattle.manifest.proofs.PayloadLemmas.{length-texts}
 use Rattle.manifest.specs.Manifest.{IsManifestOf, IsWithOrWithoutBatch}
 use Rattle.record_log.specs.Log.{IsNotAdded, Log}
@@ -114,14 +117,28 @@ some_texts (text ∷ texts) (game ∷ games) zip (suc k) d lt =
 
 pub storable : (batch : Batch) → IsBatch batch → IsStorable batch
 storable batch is = record {
+  label = is.label;
   texts = (is.some, is.few);
   lengths = λ k d lt. (some_texts batch.texts is.games is.are_games k d lt, is.short k d lt);
 }
 
 -- ---- room in the file
 
+abbrev label_bytes : List Batch → ℕ
+label_bytes journal = sum_by (λ (batch : Batch). length batch.label) journal
+
+short_labels : (journal : List Batch) → AllByRecursion IsBatch journal → label_bytes journal ≤ 64 * length journal
+short_labels [] each = omega arith
+short_labels (batch ∷ journal) each =
+    omega (
+      arith,
+      short_labels journal each.1,
+      label-short batch.label each.0.label,
+      sum_by-cons (λ (b : Batch). length b.label) batch journal,
+    )
+
 size_of : (journal : List Batch) → length (flat_map record_bytes (map payload_of journal))
-    ≡ 7 * length journal + 4 * length (texts_of journal) + byte_count journal
+    ≡ 8 * length journal + label_bytes journal + 4 * length (texts_of journal) + byte_count journal
 size_of [] = refl
 size_of (batch ∷ journal) =
     let rest = flat_map record_bytes (map payload_of journal) in
@@ -129,20 +146,25 @@ size_of (batch ∷ journal) =
       arith,
       size_of journal,
       length-append (record_bytes (payload_of batch)) rest,
+      length-append batch.label (texts_field batch.texts),
+      sum_by-cons (λ (b : Batch). length b.label) batch journal,
       length-texts batch.texts,
       length-append batch.texts (texts_of journal),
       sum_by-append (λ (text : List ℕ). length text) batch.texts (texts_of journal),
     )
 
 pub low : (journal : List Batch) (batch : Batch) (gate : ℕ) → IsSound journal
-    → gate ≡ length (store_of journal) → length batch.texts ≤ 512 → text_bytes batch ≤ 33554432
-    → gate + 5 + length (payload_of batch) ≤ gate_limit
-low journal batch gate sound place few short =
+    → gate ≡ length (store_of journal) → is_label batch.label ≡ true → length batch.texts ≤ 512
+    → text_bytes batch ≤ 33554432 → gate + 5 + length (payload_of batch) ≤ gate_limit
+low journal batch gate sound place label few short =
     omega (
       arith,
       place,
       size_of journal,
       length-texts batch.texts,
+      length-append batch.label (texts_field batch.texts),
+      label-short batch.label label,
+      short_labels journal (recursion_from_All IsBatch journal sound.batches),
       fewer_batches journal sound,
       sound.within.0,
       sound.within.1,

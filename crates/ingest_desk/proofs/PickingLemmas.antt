@@ -160,23 +160,23 @@ grown first (second ∷ list) steep some =
     pow-suc 2 (length (second ∷ list)) in
     omega (arith, pair.more, rest, twice)
 
-few_by : (n : ℕ) (over : Bool) → nat_lt 17 n ≡ over → 2 ^ n ≤ 131073 → n ≤ 17
+few_by : (n : ℕ) (over : Bool) → nat_lt 18 n ≡ over → 2 ^ n ≤ 262145 → n ≤ 18
 few_by n true is small =
-    let above : 18 ≤ n = grind (arith, nat_tests) in
-    let much : 2 ^ 18 ≤ 2 ^ n = pow_mono above in
+    let above : 19 ≤ n = grind (arith, nat_tests) in
+    let much : 2 ^ 19 ≤ 2 ^ n = pow_mono above in
     absurd (omega (arith, much, small))
 few_by n false is small = grind (arith, nat_tests)
 
 few_steep : (list : List CountedSpan) → AreSteepFrom 0 list
-    → game_count (journal_of list) ≤ game_limit → length list ≤ 17
+    → game_count (journal_of list) ≤ game_limit → length list ≤ 18
 few_steep [] steep few = omega arith
 few_steep (first ∷ []) steep few = omega arith
 few_steep (first ∷ second ∷ list) steep few =
     let pair = steep 0 first second (omega arith) (record { left_is = refl; right_is = refl }) in
     let big = grown first (second ∷ list) steep (some_games first pair.left_is) in
-    let small : 2 ^ length (first ∷ second ∷ list) ≤ 131073 =
+    let small : 2 ^ length (first ∷ second ∷ list) ≤ 262145 =
     omega (arith, big, games_of first pair.left_is, games-cons first (second ∷ list), few) in
-    few_by (length (first ∷ second ∷ list)) (nat_lt 17 (length (first ∷ second ∷ list))) refl small
+    few_by (length (first ∷ second ∷ list)) (nat_lt 18 (length (first ∷ second ∷ list))) refl small
 
 pub none_due : (first : ℕ) (list : List CountedSpan) → AreSteepFrom first list
     → NoneDueFrom first list
@@ -287,11 +287,14 @@ joined_length list at segment inside =
 text_same : (a b : List ℕ) → Decides (pointwise (λ (x y : ℕ). x == y) a b) (a ≡ b)
 text_same a b = slice_eq-Decides Decides-eqb a b _ refl
 
+pub label_same : (a b : List ℕ) (r : Bool) → r ≡ pointwise (λ (x y : ℕ). x == y) a b → Decides r (a ≡ b)
+label_same a b r is = slice_eq-Decides Decides-eqb a b r is
+
 pub batch_same : (a b : Batch) (r : Bool)
-    → r ≡ pointwise (pointwise (λ (x y : ℕ). x == y)) a.texts b.texts → Decides r (a ≡ b)
-batch_same a b r is =
+    → r ≡ pointwise (pointwise (λ (x y : ℕ). x == y)) a.texts b.texts → a.label ≡ b.label → Decides r (a ≡ b)
+batch_same a b r is label =
     let texts = slice_eq-Decides text_same a.texts b.texts r is in (
-      λ e. ap (λ (ts : List (List ℕ)). record { texts = ts }) (texts.0 e),
+      λ e. (let same = texts.0 e in λ i. record { label = label i; texts = same i }),
       λ e. texts.1 (ap (λ (x : Batch). x.texts) e),
     )
 

@@ -96,14 +96,14 @@ all_new stored classes different k d lt =
     (ap (λ (x : Classes). x.id.bytes) (left ∙ sym first) ∙ same ∙ ap (λ (x : Classes). x.id.bytes) (sym right))))
 
 within_room : (games bytes : ℕ) → AreWithin games bytes → is_over games bytes ≡ false
-within_room games bytes within = by (nat_lt 131072 games) (nat_lt 268435456 bytes) refl refl
+within_room games bytes within = by (nat_lt 262144 games) (nat_lt 536870912 bytes) refl refl
   where
-    by : (g b : Bool) → nat_lt 131072 games ≡ g → nat_lt 268435456 bytes ≡ b
+    by : (g b : Bool) → nat_lt 262144 games ≡ g → nat_lt 536870912 bytes ≡ b
         → is_over games bytes ≡ false
     by true b gs bs =
-        let more : 131072 < games = grind (arith, nat_tests) in absurd (omega (arith, more, within.0))
+        let more : 262144 < games = grind (arith, nat_tests) in absurd (omega (arith, more, within.0))
     by false true gs bs =
-        let more : 268435456 < bytes = grind (arith, nat_tests) in absurd (omega (arith, more, within.1))
+        let more : 536870912 < bytes = grind (arith, nat_tests) in absurd (omega (arith, more, within.1))
     by false false gs bs = rw (gs, bs) refl
 
 pub no_cause_of : OneGame → (journal : List Batch) (tally : Counted) (front : IsSound journal)
@@ -137,7 +137,7 @@ pub record IsCountedUpTo (journal : List Batch) (gate : ℕ) (register : Registe
   pub knows : IsRegisterOf before register
   pub list_is : IsList list
   pub whole : journal_of list ≡ before
-  pub few : length list ≤ 17
+  pub few : length list ≤ 18
   pub place : gate ≡ length (store_of before)
 
 module _ (journal : List Batch) (gate : ℕ) (register : Register) (list : List CountedSpan)
@@ -180,7 +180,7 @@ module _ (journal : List Batch) (gate : ℕ) (register : Register) (list : List 
   -- with the segment of the batch
   pub counted_more : (new : Register) (segment : CountedSpan) (after : List CountedSpan) (further : ℕ)
       → HasOneMore so_far.before batch new segment
-      → IsList after → journal_of after ≡ journal_of (list ++ segment ∷ []) → length after ≤ 17
+      → IsList after → journal_of after ≡ journal_of (list ++ segment ∷ []) → length after ≤ 18
       → further ≡ gate + (5 + length (payload_of batch)) → IsCountedUpTo journal further new after rest
   counted_more new segment after further more list_is same few place = record {
     before = so_far.before ++ batch ∷ [];
@@ -218,14 +218,12 @@ fields_size (text ∷ texts) =
       sum_by-cons (λ (text : List ℕ). 4 + length text) text texts,
     )
 
-pub payload_sum : (texts : List (List ℕ)) (n size : ℕ) → n ≡ length texts
-    → size ≡ 2 + sum_by (λ (text : List ℕ). 4 + length text) (take n texts)
-    → size ≡ 2 + length (flat_map text_field texts)
-payload_sum texts n size all is =
+pub payload_sum : (texts : List (List ℕ)) (n : ℕ) → n ≡ length texts
+    → sum_by (λ (text : List ℕ). 4 + length text) (take n texts) ≡ length (flat_map text_field texts)
+payload_sum texts n all =
     let whole : take n texts ≡ texts = ap (λ k. take k texts) all ∙ take-length texts in
     omega (
       arith,
-      is,
       ap (sum_by (λ (text : List ℕ). 4 + length text)) whole,
       fields_size texts,
     )
@@ -276,11 +274,14 @@ none_refused_of one journal batch front texts tallying same is whole =
     (classes_of last.games) different)
 
 -- the batch that was counted is the whole batch
-pub counted_batch : (texts : List Placed) (tallying : Tallying) (counted : Counted) (batch : Batch)
+pub counted_batch : (texts : List Placed) (tallying : Tallying) (counted : Counted) (batch : Batch) (label : List ℕ)
+    → label ≡ batch.label
     → map (λ (text : Placed). text.bytes) texts ≡ batch.texts → IsTallying texts tallying
-    → tallying.refused.items ≡ [] → tallying.tally ≡ Some counted → counted.batch ≡ batch
-counted_batch texts tallying counted batch same is none made =
-    ap (λ (ts : List (List ℕ)). record { texts = ts }) (counts_all texts tallying counted is none made ∙ same)
+    → tallying.refused.items ≡ [] → tallying.tally ≡ Some counted
+    → record { label = label; texts = counted.batch.texts } ≡ batch
+counted_batch texts tallying counted batch label is_label same is none made =
+    let whole : counted.batch.texts ≡ batch.texts = counts_all texts tallying counted is none made ∙ same in
+    λ i. record { label = is_label i; texts = whole i }
 
 pub judged_fits : (verdict : Verdict) (k : Option Cause) → Judges verdict k → k ≡ None
     → (verdict ≡ verdicts.Fits → ⊥) → ⊥

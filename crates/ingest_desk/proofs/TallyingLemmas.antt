@@ -9,6 +9,7 @@ use Rattle.explorer_model.specs.declared.archive.Game.{Game}
 use Rattle.explorer_model.specs.declared.archive.Placed.{Placed}
 use Rattle.explorer_model.specs.declared.fault.GameFault.{GameFault}
 use Rattle.explorer_model.specs.declared.fault.Refusal.{Refusal}
+use Rattle.explorer_model.specs.Labels.{no_label}
 use Rattle.explorer_model.specs.Imports.{Accepted, Candidate, Examination, Read, Refused, Verdict, and_candidate, batch_of, candidates, has_id_of, refusals, Replayed, verdict_by, verdict_of, verdicts, verdicts_from}
 use Rattle.explorer_model.specs.Journal.{HaveDifferentIds}
 use Rattle.explorer_model.specs.Visits.{IsTextOf}
@@ -150,7 +151,7 @@ same_batch a b e = cc
 none_batch : (b : Batch) → Path (Option Batch) None (Some b) → ⊥
 none_batch b e = cc
 
-batch_texts : (cs : List Candidate) (batch : Batch) → batch_of cs ≡ Some batch
+batch_texts : (cs : List Candidate) (batch : Batch) → batch_of no_label cs ≡ Some batch
     → batch.texts ≡ map (λ (c : Candidate). c.text) cs
 batch_texts [] batch e = absurd (none_batch batch e)
 batch_texts (c ∷ cs) batch e = ap (λ (b : Batch). b.texts) (sym (same_batch _ batch e))

@@ -27,7 +27,7 @@ pub record IsLastDue (list : List CountedSpan) (at : ℕ) : Type 0 where
 
 -- the most segments of a list in which no neighbours are to become one
 abbrev pub rest_limit : ℕ
-rest_limit = 17
+rest_limit = 18
 
 -- there are no such neighbours; then the segments are few
 pub record HasNoneDue (list : List CountedSpan) : Type 0 where

@@ -8,6 +8,7 @@ use Rattle.explorer_model.specs.declared.fault.Why.{Why}
 use Rattle.explorer_model.specs.declared.fault.Why.TheVariants.{Repeated, TooLong}
 use Rattle.explorer_model.specs.Cuts.{Cut, Text, cuts}
 use Rattle.explorer_model.specs.Cuts as pieces
+use Rattle.explorer_model.specs.Labels.{no_label}
 use Rattle.explorer_model.specs.Imports.{AccountedBeside, Candidate, Examination, IsExaminationOf, Numbering, candidates, group_limit, groups, is_text, numbers_of, refusals, verdicts_behind}
 use Rattle.explorer_model.specs.Journal.{AreWithin, byte_count, game_count}
 use Rattle.explorer_model.specs.Visits.{AreGamesOf, IsTextOf, texts_of}
@@ -87,7 +88,7 @@ LeftUnreadIn (group ∷ next ∷ rest) unread = LeftUnreadIn (next ∷ rest) unr
 pub record AccountsUpTo (finished : ℕ) (groups : List (List Cut)) (batches : List Batch)
     (refused : List Refusal) : Type 0 where
   pub within : finished ≤ length groups
-  pub accounted : AccountedBeside (take finished groups) batches refused
+  pub accounted : AccountedBeside no_label (take finished groups) batches refused
 
 -- a group as it is judged behind some numbering of stored ids
 pub record IsJudged (group : List Cut) (left : List Candidate) (refused : List Refusal)
@@ -128,7 +129,7 @@ pub record FindsNoRoom (journal : List Batch) (games bytes : ℕ) (left : List C
 
 -- an import that ended so has these batches stored and these texts refused
 abbrev pub AccountsTo : {J : Type 0} → End J → List (List Cut) → List Batch → List Refusal → Type 0
-AccountsTo ends.Whole groups batches refused = AccountedBeside groups batches refused
+AccountsTo ends.Whole groups batches refused = AccountedBeside no_label groups batches refused
 AccountsTo (ends.DiskFault before after mark) groups batches refused =
     (mark.kind ≡ kinds.DiskFault) × (left : List Candidate) × BreaksAt groups batches refused left
 AccountsTo (ends.Closed before after mark) groups batches refused =

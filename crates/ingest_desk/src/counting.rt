@@ -8,7 +8,8 @@ ghost use Rattle.ingest_desk.specs.Recounts.{AllFrom, IsAloneAt, IsAt, IsBatchTa
 
 use crate::commit::share_of;
 use batch_tally::{Tallying, tally};
-use explorer_model::archive::{Batch, Placed};
+use explorer_model::archive::{Batch, Placed, Texts};
+use explorer_model::label::Label;
 use game_replay::laws::game_is_determined;
 use outside::FreeGate;
 use published_index::SharedSegment;
@@ -96,20 +97,25 @@ fn count_alone<R: Threads + Sync>(
     ensures { IfOk result (IsCountedAt at.place at.batch) }
 {
     let size = payload_size(&at.batch);
-    let texts = placed_texts(alloc, at.batch)?;
+    let BatchAt {
+        place,
+        batch: Batch { label, texts },
+    } = at;
+    let texts = placed_texts(alloc, texts)?;
     let tallying = tally(rt, alloc, texts, 1, &FreeGate)?;
-    let segment = segment_of(alloc, at.place, tallying)?;
+    let segment = segment_of(alloc, place, label, tallying)?;
     Ok(CountedBatch { size, segment })
 }
 
-/// The segment of a batch that was tallied. There is none where no journal is sound with the batch.
+/// The segment of a batch that was tallied, under its label. There is none where no journal is sound with the batch.
 fn segment_of(
     alloc: Global,
     place: u32,
+    label: Label,
     tallying: Tallying,
 ) -> Result<Option<SharedSegment>, AllocError>
     requires { place + 1 < 2 ^ 32 }
-    ensures { IfOk result (λ found. (batch : StoredBatch) → IsStorable batch
+    ensures { IfOk result (λ found. (batch : StoredBatch) → IsStorable batch → label ≡ batch.label
         → IsBatchTallied batch tallying → MatchOption found (IsNeverSound batch)
         (λ segment. IsAloneAt place batch (arc_value segment))) }
 {
@@ -125,19 +131,20 @@ fn segment_of(
     let Some(counted) = counted else {
         return Ok(None);
     };
+    let counted = counted.labelled(label);
     let _batch = counted.batch();
     Ok(Some(share_of(alloc, place, counted)?))
 }
 
 /// The texts of a batch. Their places do not count.
-fn placed_texts(alloc: Global, batch: Batch) -> Result<Vec<Placed>, AllocError>
-    ensures { IfOk result (λ texts. map (λ text. text.bytes) texts.items ≡ batch.texts) }
+fn placed_texts(alloc: Global, texts: Texts) -> Result<Vec<Placed>, AllocError>
+    ensures { IfOk result (λ placed. map (λ text. text.bytes) placed.items ≡ texts) }
 {
-    let mut texts = Vec::with_capacity(alloc, batch.texts.len())?;
-    for bytes in batch.texts.into_vec() {
-        texts.push(Placed { place: 0, bytes })?;
+    let mut placed = Vec::with_capacity(alloc, texts.len())?;
+    for bytes in texts.into_vec() {
+        placed.push(Placed { place: 0, bytes })?;
     }
-    Ok(texts)
+    Ok(placed)
 }
 
 /// How many bytes the payload of a batch has.
@@ -145,7 +152,8 @@ fn payload_size(batch: &Batch) -> u64
     requires { IsStorable batch.now }
     ensures { result ≡ length (payload_of batch.now) }
 {
-    let mut size = 2;
+    let label = batch.label.as_str().as_bytes();
+    let mut size = 3 + label.len() as u64;
     for text in batch.texts.as_slice() {
         size += 4 + text.len() as u64;
     }

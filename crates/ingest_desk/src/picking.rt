@@ -85,7 +85,16 @@ fn has_span_of(segment: &Segment, other: &Segment) -> bool
 fn is_same(batch: &Batch, other: &Batch) -> bool
     ensures { IsTrue result ↔ batch.now ≡ other.now }
 {
+    if !have_one_label(batch, other) {
+        return false;
+    }
     batch.texts == other.texts
+}
+
+fn have_one_label(batch: &Batch, other: &Batch) -> bool
+    ensures { IsTrue result ↔ batch.now.label ≡ other.now.label }
+{
+    batch.label == other.label
 }
 
 /// Where the segments stand.

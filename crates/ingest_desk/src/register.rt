@@ -23,10 +23,10 @@ use std::alloc::{AllocError, Global};
 use tally_rows::Tally;
 
 /// The most games of a journal.
-const GAME_LIMIT: u64 = 131_072;
+const GAME_LIMIT: u64 = 262_144;
 
 /// The most bytes of its texts.
-const BYTE_LIMIT: u64 = 268_435_456;
+const BYTE_LIMIT: u64 = 536_870_912;
 
 /// The ids of a journal's games, and how much the journal has.
 #[derive(Drop)]

@@ -35,12 +35,12 @@ payloads_size journal = length (flat_map record_bytes (map payload_of journal))
 
 -- batches stand before what is read behind them
 batches-behind : (place : ℕ) (journal : List Batch) (payloads : List (List ℕ)) → AllByRecursion IsStorable journal
-    → batches_in (records_at place (map payload_of journal ++ payloads))
-    ≡ with_front journal (batches_in (records_at (place + payloads_size journal) payloads))
+    → batches_in batch_in (records_at place (map payload_of journal ++ payloads))
+    ≡ with_front journal (batches_in batch_in (records_at (place + payloads_size journal) payloads))
 unfolding batches_in
 batches-behind place [] payloads fit =
-    with-none (batches_in (records_at place payloads))
-    ∙ ap (λ (at : ℕ). with_front [] (batches_in (records_at at payloads))) (sym (add-zero place))
+    with-none (batches_in batch_in (records_at place payloads))
+    ∙ ap (λ (at : ℕ). with_front [] (batches_in batch_in (records_at at payloads))) (sym (add-zero place))
 batches-behind place (batch ∷ journal) payloads fit =
     let size = length (record_bytes (payload_of batch)) in
     let rest = payloads_size journal in
@@ -48,27 +48,27 @@ batches-behind place (batch ∷ journal) payloads fit =
     omega (arith, length-append (record_bytes (payload_of batch)) (flat_map record_bytes (map payload_of journal))) in
     rw (batch-read batch fit.0)
     (ap (λ (r : Reading (List Batch)). and_batch place (Some batch) r) (batches-behind (place + size) journal payloads fit.1)
-    ∙ with-one place batch journal (batches_in (records_at ((place + size) + rest) payloads))
-    ∙ ap (λ (at : ℕ). with_front (batch ∷ journal) (batches_in (records_at at payloads))) whole)
+    ∙ with-one place batch journal (batches_in batch_in (records_at ((place + size) + rest) payloads))
+    ∙ ap (λ (at : ℕ). with_front (batch ∷ journal) (batches_in batch_in (records_at at payloads))) whole)
 
-pub batches-read : (journal : List Batch) → All IsStorable journal → batches_in (records_at 12 (map payload_of journal)) ≡ Ok journal
+pub batches-read : (journal : List Batch) → All IsStorable journal → batches_in batch_in (records_at 12 (map payload_of journal)) ≡ Ok journal
 unfolding batches_in
 batches-read journal fit =
     let done : List Batch → Reading (List Batch) = λ batches. Ok batches in
-    ap (λ (l : List (List ℕ)). batches_in (records_at 12 l)) (sym (append-nil (map payload_of journal)))
+    ap (λ (l : List (List ℕ)). batches_in batch_in (records_at 12 l)) (sym (append-nil (map payload_of journal)))
     ∙ batches-behind 12 journal [] (recursion_from_All IsStorable journal fit) ∙ ap done (append-nil journal)
 
 -- a payload off the form
 pub batches-damaged : (gate : ℕ) (journal : List Batch) (payload : List ℕ) (payloads : List (List ℕ)) → All IsStorable journal
     → gate ≡ length (store_of journal) → batch_in payload ≡ None
-    → batches_in (records_at 12 (map payload_of journal ++ payload ∷ payloads)) ≡ Err (Damaged gate)
+    → batches_in batch_in (records_at 12 (map payload_of journal ++ payload ∷ payloads)) ≡ Err (Damaged gate)
 unfolding batches_in
 batches-damaged gate journal payload payloads fit place none =
     let at : 12 + payloads_size journal ≡ gate = omega (arith, place) in
     let fault : ℕ → Reading (List Batch) = λ g. Err (Damaged g) in
     batches-behind 12 journal (payload ∷ payloads) (recursion_from_All IsStorable journal fit)
     ∙ ap (λ (found : Option Batch). with_front journal (and_batch (12 + payloads_size journal) found
-    (batches_in (records_at ((12 + payloads_size journal) + length (record_bytes payload)) payloads)))) none
+    (batches_in batch_in (records_at ((12 + payloads_size journal) + length (record_bytes payload)) payloads)))) none
     ∙ ap fault at
 
 -- ---- where the gates stand
@@ -92,9 +92,9 @@ front-longer number payloads payload = omega (arith, length-front number payload
 -- ---- journals of images
 
 pub journal-of-payloads : (payloads : List (List ℕ)) (image : List ℕ) (reading : Reading (List Batch))
-    → HasPayloads batch_format payloads image → batches_in (records_at 12 payloads) ≡ reading → journal_of image ≡ reading
+    → HasPayloads batch_format payloads image → batches_in batch_in (records_at 12 payloads) ≡ reading → journal_of image ≡ reading
 unfolding journal_of
-journal-of-payloads payloads image reading has read = ap journal_by has ∙ read
+journal-of-payloads payloads image reading has read = ap (journal_by batch_in) has ∙ read
 
 pub has-journal : (journal : List Batch) (image : List ℕ) → All IsStorable journal
     → HasPayloads batch_format (map payload_of journal) image → HasJournal journal image
@@ -198,9 +198,9 @@ module _ (payloads : List (List ℕ)) (gate : ℕ) (batches : List Batch) (paylo
     place = omega (arith, place, so_far.place, length-more batches batch, ap length is);
   }
 
-  pub decoded-damaged : None ≡ batch_in payload → batches_in (records_at 12 payloads) ≡ Err (Damaged gate)
+  pub decoded-damaged : None ≡ batch_in payload → batches_in batch_in (records_at 12 payloads) ≡ Err (Damaged gate)
   decoded-damaged none =
-      ap (λ (l : List (List ℕ)). batches_in (records_at 12 l)) split_next
+      ap (λ (l : List (List ℕ)). batches_in batch_in (records_at 12 l)) split_next
       ∙ batches-damaged gate batches payload rest so_far.storable so_far.place (sym none)
 
   -- the gate behind the next payload is not too far
@@ -215,6 +215,6 @@ decoded-all payloads gate batches others so_far none =
     so_far.split ∙ ap (λ (l : List (List ℕ)). map payload_of batches ++ l) none ∙ append-nil (map payload_of batches)
 
 pub decoded-read : (payloads : List (List ℕ)) (batches : List Batch) → All IsStorable batches → payloads ≡ map payload_of batches
-    → batches_in (records_at 12 payloads) ≡ Ok batches
+    → batches_in batch_in (records_at 12 payloads) ≡ Ok batches
 decoded-read payloads batches fit are =
-    ap (λ (l : List (List ℕ)). batches_in (records_at 12 l)) are ∙ batches-read batches fit
+    ap (λ (l : List (List ℕ)). batches_in batch_in (records_at 12 l)) are ∙ batches-read batches fit

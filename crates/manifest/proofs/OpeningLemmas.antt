@@ -6,7 +6,7 @@ use Rattle.explorer_model.specs.declared.fault.Stop.{Stop}
 use Rattle.explorer_model.specs.declared.fault.Stop.TheVariants as stops
 use Rattle.explorer_model.specs.declared.store.LogFault.{LogFault}
 use Rattle.explorer_model.specs.Stop.{Fails}
-use Rattle.explorer_model.specs.StoreFile.{payload_of, batches_in, records_at, journal_by, journal_of, IsStorable}
+use Rattle.explorer_model.specs.StoreFile.{payload_of, batch_in, batches_in, records_at, journal_by, journal_of, IsStorable}
 use Rattle.record_log.specs.declared.fault.OpenFault.{OpenFault}
 use Rattle.record_log.specs.declared.fault.OpenFault.TheVariants as opening
 use Rattle.record_log.specs.Log as log
@@ -20,7 +20,7 @@ told-weaker (Some file) P Q to given = to file given
 -- a fault of the log
 refused-log : (file : List ℕ) (fault : LogFault) → log.reading_of batch_format file ≡ Err fault → journal_of file ≡ Err fault
 unfolding journal_of
-refused-log file fault is = ap journal_by is
+refused-log file fault is = ap (journal_by batch_in) is
 
 module _ {D : Type 0} (disk : D → DiskState) where
   pub not-opened : (fault : OpenFault) (old new : D) → log.IsNotOpened disk batch_format fault old new → IsNotOpened disk fault old new
@@ -32,7 +32,7 @@ module _ {D : Type 0} (disk : D → DiskState) where
 
   module _ (left_since : D → ℕ → List ℕ → Type 0) (payloads : List (List ℕ)) (before : D) (manifest : log.Log D)
       (is : log.IsOpened disk left_since batch_format payloads before manifest) where
-    pub opened-by : (journal : List Batch) → batches_in (records_at 12 payloads) ≡ Ok journal → All IsStorable journal
+    pub opened-by : (journal : List Batch) → batches_in batch_in (records_at 12 payloads) ≡ Ok journal → All IsStorable journal
         → payloads ≡ map payload_of journal → IsOpened disk left_since journal before manifest
     opened-by journal read fit are = record {
       read =
@@ -44,7 +44,7 @@ module _ {D : Type 0} (disk : D → DiskState) where
     }
 
     -- a payload off the form
-    pub refused-by : (stop : Stop LogFault) (new : D) → Fails stop (batches_in (records_at 12 payloads))
+    pub refused-by : (stop : Stop LogFault) (new : D) → Fails stop (batches_in batch_in (records_at 12 payloads))
         → IsNotOpened disk (open_fault stop) before new
     refused-by (stops.Fault fault) new fails =
         told-weaker (disk before).content (log.HasPayloads batch_format payloads) (λ file. journal_of file ≡ Err fault)

@@ -6,7 +6,8 @@ use Rattle.std.proofs.lemmas.List.Elements.{recursion_from_All}
 use Rattle.std.proofs.lemmas.List.Sums.{sum_by-cons}
 use Rattle.explorer_model.specs.declared.archive.Batch.{Batch}
 use Rattle.explorer_model.specs.Cuts.{text_limit}
-use Rattle.explorer_model.specs.StoreFile.{text_field, payload_of, payload_limit, IsStorable}
+use Rattle.explorer_model.specs.StoreFile.{text_field, texts_field, payload_of, payload_limit, IsStorable}
+use Rattle.explorer_model.proofs.LabelLemmas.{label-short}
 
 abbrev HasTextLength : List ℕ → Type 0
 HasTextLength text = IsInRange 1 text_limit (length text)
@@ -33,4 +34,5 @@ pub payload-fits : (batch : Batch) → IsStorable batch → IsInRange 1 payload_
 payload-fits batch fits =
     let size = length-texts batch.texts in
     let most = texts-fit batch fits in
-    (omega arith, omega (arith, size, most, fits.texts.1))
+    let whole = length-append batch.label (texts_field batch.texts) in
+    (omega arith, omega (arith, size, most, fits.texts.1, whole, label-short batch.label fits.label))

@@ -1,14 +1,16 @@
 -- A payload read from left to right.
-use Rattle.std.proofs.Common.{◌≡◌, ℕ, suc, ◌+◌, ◌-◌, ◌<◌, ◌≤◌, Bool, true, false, ◌&&◌, nat_le, if◌then◌else◌, List, [], ◌∷◌, ◌++◌, length, take, drop, get_or, Option, Some, None, refl, sym, ap, ◌∙◌, arith, append_assoc, append-nil}
+use Rattle.std.proofs.Common.{slice_index_or, subst, ◌≡◌, ℕ, suc, ◌+◌, ◌-◌, ◌<◌, ◌≤◌, Bool, true, false, ◌&&◌, nat_le, if◌then◌else◌, List, [], ◌∷◌, ◌++◌, length, take, drop, get_or, Option, Some, None, refl, sym, ap, ◌∙◌, arith, append_assoc, append-nil}
 use Rattle.std.specs.Int.{w16, w32, from_le_bytes}
 use Rattle.std.proofs.lemmas.Bool.Decides.{nat_tests}
+use Rattle.std.proofs.Math.Seq.{take-length}
 use Rattle.std.proofs.lemmas.List.Elements.{All-from_get_or}
 use Rattle.byteorder.specs.Endian.{little_number}
 use Rattle.explorer_model.specs.declared.archive.Batch.{Batch}
 use Rattle.explorer_model.specs.Cuts.{text_limit}
 use Rattle.explorer_model.specs.Imports.{group_limit}
 use Rattle.explorer_model.specs.Items.{◌>>=◌}
-use Rattle.explorer_model.specs.StoreFile.{payload_of, number_at, split_behind, text_at, texts_in, batch_in, IsStorable}
+use Rattle.explorer_model.specs.Labels.{is_label}
+use Rattle.explorer_model.specs.StoreFile.{payload_of, number_at, split_behind, text_at, texts_in, all_texts_in, label_at, batch_in, IsStorable}
 use Rattle.explorer_model.proofs.StoreWriting.{batch-was-stored}
 
 -- ---- numbers
@@ -169,18 +171,95 @@ ends_well front count i (b ∷ bytes) total so_far all none = absurd (omega arit
 
 -- ---- a batch
 
-abbrev batch_by : Option (ℕ × List ℕ) → Option Batch
-batch_by found = found >>= (λ count. texts_in count.0 count.1 >>= (λ texts. Some (record { texts = texts })))
+abbrev all_by : Option (ℕ × List ℕ) → Option (List (List ℕ))
+all_by found = found >>= (λ count. texts_in count.0 count.1)
 
-abbrev batch_with : Option (List (List ℕ)) → Option Batch
-batch_with found = found >>= (λ texts. Some (record { texts = texts }))
+pub no-count : (bytes : List ℕ) → None ≡ number_at w16 group_limit bytes → None ≡ all_texts_in bytes
+no-count bytes none = ap all_by none
 
-pub no-count : (payload : List ℕ) → None ≡ number_at w16 group_limit payload → None ≡ batch_in payload
-no-count payload none = ap batch_by none
+pub all-texts-are : (bytes rest : List ℕ) (n : ℕ) (found : Option (List (List ℕ))) → Some (n, rest) ≡ number_at w16 group_limit bytes
+    → found ≡ texts_in n rest → found ≡ all_texts_in bytes
+all-texts-are bytes rest n found is texts = texts ∙ ap all_by is
 
-pub batch-is : (payload rest : List ℕ) (n : ℕ) (found : Option (List (List ℕ))) → Some (n, rest) ≡ number_at w16 group_limit payload
-    → found ≡ texts_in n rest → batch_with found ≡ batch_in payload
-batch-is payload rest n found is texts = ap batch_with texts ∙ ap batch_by is
+-- ---- a label
+
+pub no-label-at-all : (bytes : List ℕ) → length bytes ≡ 0 → None ≡ label_at bytes
+unfolding label_at
+no-label-at-all [] none = refl
+no-label-at-all (b ∷ bytes) none = absurd (omega arith)
+
+module _ (count : ℕ) (bytes : List ℕ) where
+  pub label-cut-off : length bytes < count → None ≡ label_at (count ∷ bytes)
+  unfolding label_at
+  label-cut-off short =
+      let fails : nat_le count (length bytes) ≡ false = grind (arith, nat_tests) in
+      rw fails refl
+
+  module _ (long : count ≤ length bytes) where
+    split-is : split_behind count bytes ≡ Some (take count bytes, drop count bytes)
+    split-is =
+        let passes : nat_le count (length bytes) ≡ true = grind (arith, nat_tests) in
+        rw passes refl
+
+    pub no-label : is_label (take count bytes) ≡ false → None ≡ label_at (count ∷ bytes)
+    unfolding label_at
+    no-label is = rw split-is (rw is refl)
+
+    pub label-found : (label rest : List ℕ) → is_label (take count bytes) ≡ true → label ≡ take count bytes → rest ≡ drop count bytes
+        → Some (label, rest) ≡ label_at (count ∷ bytes)
+    unfolding label_at
+    label-found label rest is is_label_of is_rest =
+        let pair : List ℕ → List ℕ → Option (List ℕ × List ℕ) = λ a b. Some (a, b) in
+        rw split-is (rw is (λ i. pair (is_label_of i) (is_rest i)))
+
+-- what stands behind the first byte
+behind-first : (count : ℕ) (bytes : List ℕ) → take (length (count ∷ bytes) - 1) bytes ≡ bytes
+behind-first count bytes =
+    let size : length (count ∷ bytes) - 1 ≡ length bytes = omega arith in
+    ap (λ k. take k bytes) size ∙ take-length bytes
+
+pub label-cut-off-in : (bytes : List ℕ) → 0 < length bytes
+    → length (take (length bytes - 1) (drop 1 bytes)) < slice_index_or bytes 0 0 → None ≡ label_at bytes
+label-cut-off-in [] some short = absurd (omega (arith, some))
+label-cut-off-in (count ∷ bytes) some short =
+    label-cut-off count bytes (subst (λ (l : List ℕ). length l < count) (behind-first count bytes) short)
+
+pub no-label-in : (bytes front : List ℕ) → 0 < length bytes
+    → slice_index_or bytes 0 0 ≤ length (take (length bytes - 1) (drop 1 bytes))
+    → front ≡ take (slice_index_or bytes 0 0) (take (length bytes - 1) (drop 1 bytes)) → is_label front ≡ false
+    → None ≡ label_at bytes
+no-label-in [] front some long is_front is = absurd (omega (arith, some))
+no-label-in (count ∷ bytes) front some long is_front is =
+    let same = behind-first count bytes in
+    let fits : count ≤ length bytes = omega (arith, long, ap length same) in
+    no-label count bytes fits (ap is_label (sym (is_front ∙ ap (take count) same)) ∙ is)
+
+pub label-found-in : (bytes front back label : List ℕ) → 0 < length bytes
+    → slice_index_or bytes 0 0 ≤ length (take (length bytes - 1) (drop 1 bytes))
+    → front ≡ take (slice_index_or bytes 0 0) (take (length bytes - 1) (drop 1 bytes))
+    → back ≡ drop (slice_index_or bytes 0 0) (take (length bytes - 1) (drop 1 bytes))
+    → is_label front ≡ true → label ≡ front → Some (label, back) ≡ label_at bytes
+label-found-in [] front back label some long is_front is_back is same_label = absurd (omega (arith, some))
+label-found-in (count ∷ bytes) front back label some long is_front is_back is same_label =
+    let same = behind-first count bytes in
+    let fits : count ≤ length bytes = omega (arith, long, ap length same) in
+    let front_is = is_front ∙ ap (take count) same in
+    label-found count bytes fits label back (ap is_label (sym front_is) ∙ is) (same_label ∙ front_is) (is_back ∙ ap (drop count) same)
+
+-- ---- a batch
+
+abbrev batch_by : Option (List ℕ × List ℕ) → Option Batch
+batch_by found = found >>= (λ label. all_texts_in label.1 >>= (λ texts. Some (record { label = label.0; texts = texts })))
+
+abbrev batch_with : List ℕ → Option (List (List ℕ)) → Option Batch
+batch_with label found = found >>= (λ texts. Some (record { label = label; texts = texts }))
+
+pub no-label-then : (payload : List ℕ) → None ≡ label_at payload → None ≡ batch_in payload
+no-label-then payload none = ap batch_by none
+
+pub batch-is : (payload label rest : List ℕ) (found : Option (List (List ℕ))) → Some (label, rest) ≡ label_at payload
+    → found ≡ all_texts_in rest → batch_with label found ≡ batch_in payload
+batch-is payload label rest found is texts = ap (batch_with label) texts ∙ ap batch_by is
 
 pub was-stored : (payload : List ℕ) (batch : Batch) → ((i : ℕ) → get_or payload i 0 < 256) → Some batch ≡ batch_in payload
     → IsStorable batch × (payload ≡ payload_of batch)

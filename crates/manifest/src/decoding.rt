@@ -4,11 +4,12 @@ ghost use Rattle.std.specs.Int.{w16, w32};
 ghost use Rattle.std.specs.Option.{option_map};
 ghost use Rattle.explorer_model.specs.Cuts.{text_limit};
 ghost use Rattle.explorer_model.specs.Imports.{group_limit};
-ghost use Rattle.explorer_model.specs.StoreFile.{payload_of, number_at, text_at, texts_in, batch_in, IsStorable};
+ghost use Rattle.explorer_model.specs.StoreFile.{payload_of, number_at, text_at, texts_in, all_texts_in, label_at, batch_in, IsStorable};
 
 use crate::format::{TEXT_LIMIT, TEXTS_LIMIT};
 use byteorder::{ByteOrder, LittleEndian};
 use explorer_model::archive::{Batch, Bytes, Texts};
+use explorer_model::label::Label;
 use std::alloc::{AllocError, Global};
 
 /// Decodes a payload. No memory is taken for a length that the payload does not hold.
@@ -17,13 +18,42 @@ pub(crate) fn decode(alloc: Global, payload: &[u8]) -> Result<Option<Batch>, All
     ensures stored { IfOk result (λ found. IfSome found
         (λ batch. IsStorable batch × (payload.now ≡ payload_of batch))) }
 {
-    let Some((count, rest)) = count_at(payload) else {
+    let Some((label, rest)) = label_of(payload) else {
         return Ok(None);
     };
-    let Some(texts) = texts_of(alloc, count, rest)? else {
+    let Some(texts) = all_texts_of(alloc, rest)? else {
         return Ok(None);
     };
-    Ok(Some(Batch { texts }))
+    Ok(Some(Batch { label, texts }))
+}
+
+/// Reads a label behind its length.
+fn label_of(bytes: &[u8]) -> Option<(Label, &[u8])>
+    ensures { option_map (λ x. (x.0, x.1.now)) result ≡ label_at bytes.now }
+{
+    if bytes.is_empty() {
+        return None;
+    }
+    let count = bytes[0] as usize;
+    let rest = &bytes[1..];
+    if rest.len() < count {
+        return None;
+    }
+    let (label, rest) = rest.split_at(count);
+    match Label::of(label) {
+        Some(label) => Some((label, rest)),
+        None => None,
+    }
+}
+
+/// Reads texts behind their number, behind which nothing stands.
+fn all_texts_of(alloc: Global, bytes: &[u8]) -> Result<Option<Texts>, AllocError>
+    ensures { IfOk result (λ found. found ≡ all_texts_in bytes.now) }
+{
+    let Some((count, rest)) = count_at(bytes) else {
+        return Ok(None);
+    };
+    texts_of(alloc, count, rest)
 }
 
 /// Reads so many texts, behind which nothing stands.

@@ -1,7 +1,7 @@
 ghost use Rattle.std.specs.Prelude.{◌≡◌, map, All, IfOk, IfErr};
 ghost use Rattle.disk_model.specs.Disk.{IsQuiet};
 ghost use Rattle.explorer_model.specs.Stop.{GivesBy};
-ghost use Rattle.explorer_model.specs.StoreFile.{payload_of, batches_in, records_at, store_format, payload_limit, CanStand, IsStorable};
+ghost use Rattle.explorer_model.specs.StoreFile.{payload_of, batch_in, batches_in, records_at, store_format, payload_limit, CanStand, IsStorable};
 ghost use Rattle.manifest.specs.Manifest.{IsOpened, IsNotOpened, open_fault};
 
 use crate::decoding::decode;
@@ -51,7 +51,7 @@ pub fn open<D: Disk>(alloc: Global, disk: D) -> Result<Opened<D>, Back<D, OpenFa
 fn batches_of(alloc: Global, payloads: Vec<Bytes>) -> Result<Vec<Batch>, Stop<LogFault>>
     requires { CanStand payload_limit store_format payloads.items }
     ensures read { GivesBy (λ batches. batches.items) result
-        (batches_in (records_at 12 payloads.items)) }
+        (batches_in batch_in (records_at 12 payloads.items)) }
     ensures storable { IfOk result (λ batches. All IsStorable batches.items) }
     ensures payloads { IfOk result (λ batches. payloads.items ≡ map payload_of batches.items) }
 {

@@ -29,10 +29,12 @@ use Rattle.explorer_model.specs.Counting.{games_with_move, months_counted, moves
 use Rattle.explorer_model.specs.Cuts.{cut_at, cuts, cuts_from, cuts_of, is_white_space, onto, parted, preamble}
 use Rattle.explorer_model.specs.Finds.{IsFound}
 use Rattle.explorer_model.specs.Games.{Score, GameOf, GameOfScore}
+use Rattle.explorer_model.specs.Labels.{no_label}
 use Rattle.explorer_model.specs.Imports.{Accounted, Examination, Read, Unread, groups, verdicts_from, verdicts_in_turn}
 use Rattle.explorer_model.specs.Journal.{IsBatch, IsSound}
 use Rattle.explorer_model.specs.San.{SanReads, SanText}
 use Rattle.explorer_model.specs.Visits.{IsTextOf}
+use Rattle.explorer_model.proofs.LabelLemmas.{none-is-label}
 use Rattle.legal_moves.proofs.StartIsValid.{start_is_valid}
 use Rattle.chess_reference.proofs.Boards.{boards_compute, uci}
 use Rattle.chess_reference.proofs.DecisionLemmas.{apart_by, decides-in_check, decides-legal}
@@ -91,7 +93,7 @@ the-text-of-d4 = (_, (Ok start, refl, refl), (Ok (d4 ∷ []), inl (d4, Ok [], d4
 -- ---- what is found
 
 journal : List Batch
-journal = record { texts = text-of-e4 ∷ text-of-d4 ∷ [] } ∷ []
+journal = record { label = no_label; texts = text-of-e4 ∷ text-of-d4 ∷ [] } ∷ []
 
 itself : (p : Position) → Same p p
 itself p = (refl, refl, refl, λ s. (λ h. h, λ h. h))
@@ -215,7 +217,7 @@ unfoldable imports_compute : ⊤
 unfolding texts_compute cuts cuts_from preamble parted onto is_white_space cuts_of cut_at groups verdicts_from verdicts_in_turn text-of-e4 text-of-d4 game-of-e4 game-of-d4 ann_and_bob later
 imports_compute = tt
 
-nothing-is-imported : Accounted [] (groups (cuts (codes "\n"))) [] []
+nothing-is-imported : Accounted no_label [] (groups (cuts (codes "\n"))) [] []
 unfolding imports_compute
 nothing-is-imported = record { examinations = []; are_examinations = tt; yields = record { batches_are = refl; refused_are = refl } }
 
@@ -227,7 +229,7 @@ read-d4 : ℕ → Examination
 read-d4 place = Read (record { place = place; text = text-of-d4; game = Ok game-of-d4 })
 
 -- both are one batch
-two-texts : Accounted [] (groups (cuts (text-of-e4 ++ text-of-d4))) (record { texts = text-of-e4 ∷ text-of-d4 ∷ [] } ∷ []) []
+two-texts : Accounted no_label [] (groups (cuts (text-of-e4 ++ text-of-d4))) (record { label = no_label; texts = text-of-e4 ∷ text-of-d4 ∷ [] } ∷ []) []
 unfolding imports_compute read-e4 read-d4
 two-texts = record {
   examinations = (read-e4 0 ∷ read-d4 200 ∷ []) ∷ [];
@@ -236,8 +238,8 @@ two-texts = record {
 }
 
 -- the first has its id twice in the stream, and the other one is stored already, as the game with the number 0
-a-text-twice-and-a-stored-one : Accounted (game-of-d4 ∷ []) (groups (cuts (text-of-e4 ++ (text-of-e4 ++ text-of-d4))))
-    (record { texts = text-of-e4 ∷ [] } ∷ [])
+a-text-twice-and-a-stored-one : Accounted no_label (game-of-d4 ∷ []) (groups (cuts (text-of-e4 ++ (text-of-e4 ++ text-of-d4))))
+    (record { label = no_label; texts = text-of-e4 ∷ [] } ∷ [])
     (record { place = 200; why = causes.Twice 0 } ∷ record { place = 400; why = causes.Repeated 0 } ∷ [])
 unfolding imports_compute read-e4 read-d4
 a-text-twice-and-a-stored-one = record {
@@ -247,7 +249,7 @@ a-text-twice-and-a-stored-one = record {
 }
 
 -- what stands before the first text, and a text that is cut off, are refused; where no text is stored there is no batch
-all-is-refused : Accounted [] (groups (cuts (codes "% \n" ++ heading ++ codes "1. e4"))) []
+all-is-refused : Accounted no_label [] (groups (cuts (codes "% \n" ++ heading ++ codes "1. e4"))) []
     (record { place = 0; why = causes.Preamble } ∷ record { place = 3; why = causes.Game NoTermination } ∷ [])
 unfolding imports_compute
 all-is-refused = record {
@@ -262,9 +264,10 @@ all-is-refused = record {
 abbrev IsShort : List ℕ → Type 0
 IsShort text = length text ≤ 65536
 
-two-texts-in-a-batch : IsBatch (record { texts = text-of-e4 ∷ text-of-d4 ∷ [] })
+two-texts-in-a-batch : IsBatch (record { label = no_label; texts = text-of-e4 ∷ text-of-d4 ∷ [] })
 unfolding texts_compute text-of-e4 text-of-d4
 two-texts-in-a-batch = record {
+  label = none-is-label;
   some = lit< tt;
   few = lit≤ tt;
   short = All-cons IsShort text-of-e4 (text-of-d4 ∷ []) (lit≤ tt) (All-cons IsShort text-of-d4 [] (lit≤ tt) (All-nil IsShort));
@@ -272,10 +275,10 @@ two-texts-in-a-batch = record {
   are_games = (the-text-of-e4, (the-text-of-d4, tt));
 }
 
-a-batch-has-a-text : ¬ IsBatch (record { texts = [] })
+a-batch-has-a-text : ¬ IsBatch (record { label = no_label; texts = [] })
 a-batch-has-a-text h = let some = h.some in absurd (omega (arith, some))
 
-a-batch-has-512-at-most : ¬ IsBatch (record { texts = repeat 513 ((42 ∷ []) ∷ []) })
+a-batch-has-512-at-most : ¬ IsBatch (record { label = no_label; texts = repeat 513 ((42 ∷ []) ∷ []) })
 a-batch-has-512-at-most h = let few = h.few in absurd (omega (arith, few))
 
 -- a text that is cut off has no game
@@ -286,7 +289,7 @@ no-game (game ∷ games) ((scored, (Ok root, begins, same), is), rest) =
     let P : Result Score GameFault → Type 0 = λ r. GameOfScore r (Ok game) in true≢false (ap is_ok (subst P same is))
 no-game (game ∷ games) ((scored, (Err fault, begins, same), is), rest) = true≢false (ap is_ok (sym begins))
 
-each-text-has-a-game : ¬ IsBatch (record { texts = (heading ++ codes "1. e4") ∷ [] })
+each-text-has-a-game : ¬ IsBatch (record { label = no_label; texts = (heading ++ codes "1. e4") ∷ [] })
 each-text-has-a-game h = no-game h.games h.are_games
 
 nothing-is-sound : IsSound []
@@ -309,7 +312,7 @@ other-ids same = let last = ap (λ (id : List ℕ). slice_index id 7) same in ab
 two-games-are-sound : IsSound journal
 unfolding journal texts_compute text-of-e4 text-of-d4 game-of-e4 game-of-d4
 two-games-are-sound = record {
-  batches = All-cons IsBatch (record { texts = text-of-e4 ∷ text-of-d4 ∷ [] }) [] two-texts-in-a-batch (All-nil IsBatch);
+  batches = All-cons IsBatch (record { label = no_label; texts = text-of-e4 ∷ text-of-d4 ∷ [] }) [] two-texts-in-a-batch (All-nil IsBatch);
   games = game-of-e4 ∷ game-of-d4 ∷ [];
   are_games = (the-text-of-e4, (the-text-of-d4, tt));
   different =
@@ -319,8 +322,8 @@ two-games-are-sound = record {
   within = (lit≤ tt, lit≤ tt);
 }
 
-an-empty-batch-is-not-sound : ¬ IsSound (record { texts = [] } ∷ [])
-an-empty-batch-is-not-sound h = a-batch-has-a-text (h.batches 0 (record { texts = [] }) (lit< tt))
+an-empty-batch-is-not-sound : ¬ IsSound (record { label = no_label; texts = [] } ∷ [])
+an-empty-batch-is-not-sound h = a-batch-has-a-text (h.batches 0 (record { label = no_label; texts = [] }) (lit< tt))
 
-a-text-without-a-game-is-not-sound : ¬ IsSound (record { texts = (heading ++ codes "1. e4") ∷ [] } ∷ [])
-a-text-without-a-game-is-not-sound h = each-text-has-a-game (h.batches 0 (record { texts = [] }) (lit< tt))
+a-text-without-a-game-is-not-sound : ¬ IsSound (record { label = no_label; texts = (heading ++ codes "1. e4") ∷ [] } ∷ [])
+a-text-without-a-game-is-not-sound h = each-text-has-a-game (h.batches 0 (record { label = no_label; texts = [] }) (lit< tt))

@@ -9,7 +9,7 @@ use Rattle.segment_blocks.specs.Segment.{CountedSpan}
 
 -- a batch of a segment
 abbrev pub batch_at : CountedSpan → ℕ → Batch
-batch_at segment place = slice_index_or segment.span.batches place (record { texts = [] })
+batch_at segment place = slice_index_or segment.span.batches place (record { label = []; texts = [] })
 
 -- a beginning of the history of a book
 pub record Reached : Type 0 where

@@ -93,7 +93,7 @@ pub struct NoEntry;
 impl Plain<NoEntry, Batch, u64> for NoEntry {
     ghost use Rattle.std.specs.Prelude.{None, []};
 
-    ghost ask = { λ entry. record { texts = [] } };
+    ghost ask = { λ entry. record { label = []; texts = [] } };
 
     ghost state = { λ entry. None };
 }

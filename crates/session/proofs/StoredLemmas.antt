@@ -9,6 +9,7 @@ use Rattle.explorer_model.specs.declared.fault.Refusal.{Refusal}
 use Rattle.explorer_model.specs.declared.fault.Why.{Why}
 use Rattle.explorer_model.specs.declared.fault.Why.TheVariants.{Preamble, TooLong, Game, Twice, Repeated}
 use Rattle.explorer_model.specs.Cuts.{Cut, cuts}
+use Rattle.explorer_model.specs.Labels.{no_label}
 use Rattle.explorer_model.specs.Imports.{AccountedBeside, groups}
 use Rattle.explorer_model.specs.Journal.{game_count}
 use Rattle.explorer_model.specs.Timeline.{IsPrefix}
@@ -114,7 +115,7 @@ has-imported body report journal reports in_memory knows notes told = record {
 -- a whole import stored its body in a journal that has all that was told
 pub has-stored-body : {J : Type 0} (body : List ℕ) (report : Report J) (journal : List Batch)
     → (reports : Reports (cuts body) report)
-    → AccountedBeside (groups (cuts body)) reports.batches report.refused.items
+    → AccountedBeside no_label (groups (cuts body)) reports.batches report.refused.items
     → KnowsReceipts report.receipts.items journal → KnowsNotes report.clashes.items journal
     → HasStoredBody journal body (games_of report.receipts.items) report.refused.items
 has-stored-body body report journal reports accounts knows notes = record {

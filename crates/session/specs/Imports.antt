@@ -8,6 +8,7 @@ use Rattle.explorer_model.specs.declared.fault.Why.TheVariants.{Repeated}
 use Rattle.explorer_model.specs.declared.wire.Reply.{Reply}
 use Rattle.explorer_model.specs.declared.wire.Reply.TheVariants as replies
 use Rattle.explorer_model.specs.Cuts.{Cut, cuts}
+use Rattle.explorer_model.specs.Labels.{no_label}
 use Rattle.explorer_model.specs.Imports.{AccountedBeside, Candidate, groups}
 use Rattle.explorer_model.specs.Journal.{game_count}
 use Rattle.explorer_model.specs.Replies.{stored_body}
@@ -42,7 +43,7 @@ pub record HasNoRoom (journal : List Batch) (games bytes : ℕ) (left : List Can
 -- those before the one at which it broke off. Where that found no room, the journal has none for it.
 abbrev pub AccountsBy : ImportEnding → List Batch → List (List Cut) → List Batch → List Refusal
     → Type 0
-AccountsBy endings.Whole journal groups batches refused = AccountedBeside groups batches refused
+AccountsBy endings.Whole journal groups batches refused = AccountedBeside no_label groups batches refused
 AccountsBy (endings.DiskFault before after) journal groups batches refused =
     (left : List Candidate) × BreaksAt groups batches refused left
 AccountsBy (endings.Closed before after) journal groups batches refused =

@@ -5,6 +5,7 @@ ghost use Rattle.tally_rows.specs.Tally.{IsCounted};
 
 use crate::Row;
 use explorer_model::archive::{Batch, Classes};
+use explorer_model::label::Label;
 use explorer_model::list::Items;
 use std::marker::Model;
 
@@ -55,6 +56,19 @@ impl Tally {
             batch,
             classes,
             rows,
+        }
+    }
+
+    /// The same under this label.
+    pub fn labelled(self, label: Label) -> Tally
+        ensures { result ≡ record self { batch = record self.batch { label = label } } }
+    {
+        let _label = label.as_str();
+        let Batch { texts, .. } = self.batch;
+        Tally {
+            batch: Batch { label, texts },
+            classes: self.classes,
+            rows: self.rows,
         }
     }
 

@@ -4,14 +4,15 @@ ghost use Rattle.std.specs.Prelude.{◌≡◌, ◌∷◌, [], IfOk};
 use super::disks::{content, disk_of, disk_with};
 use disk_model::{Disk, MemDisk};
 use explorer_model::archive::{Batch, Bytes, Texts};
+use explorer_model::label::Label;
 use explorer_model::store::LogFault;
 use manifest::{Manifest, create, open};
 use record_log::{AppendFault, CreateFault, OpenFault};
 use std::alloc::{AllocError, Global};
 use std::test::Fail;
 
-/// A store of format 1 with one batch of one text, `x`, byte by byte.
-const ONE: [u8; 25] = *b"OPENEXP1\x01\x00\x00\x00\x01\x07\x00\x00\x00\x01\x00\x01\x00\x00\x00x\x00";
+/// A store of format 2 with one batch of one text, `x`, without a label, byte by byte.
+const ONE: [u8; 26] = *b"OPENEXP1\x02\x00\x00\x00\x01\x08\x00\x00\x00\x00\x01\x00\x01\x00\x00\x00x\x00";
 
 /// The room of a disk that has bytes from the start.
 const ROOM: usize = 70_000;
@@ -36,7 +37,8 @@ fn batch_of(alloc: Global, text: &[u8]) -> Result<Batch, AllocError>
 {
     let text = Bytes::from_vec(text.to_vec(alloc)?);
     let texts = Texts::from_vec(vec![in alloc; text]?);
-    Ok(Batch { texts })
+    let label = Label::none();
+    Ok(Batch { label, texts })
 }
 
 /// How many batches a disk has, or why it is no store.
@@ -88,18 +90,18 @@ fn store_is_written_byte_by_byte(rt: HostRuntime) -> Result<(), Fail> {
     let mut manifest = new_store(alloc, 100)?;
     assert_eq!(rt; manifest.gate(), 12);
     assert_eq!(rt; store_text(alloc, &mut manifest, b"x"), Ok(()));
-    assert_eq!(rt; manifest.gate(), 24);
+    assert_eq!(rt; manifest.gate(), 25);
     let mut disk = manifest.into_disk();
     assert_eq!(rt; content(&mut disk), Ok(ONE));
     let (fault, disk) = not_created(disk)?;
-    assert_eq!(rt; fault, CreateFault::NotEmpty { size: 25 });
+    assert_eq!(rt; fault, CreateFault::NotEmpty { size: 26 });
     let (gate, journal) = journal_on(alloc, disk)?;
-    assert_eq!(rt; (gate, journal.len()), (24, 1));
+    assert_eq!(rt; (gate, journal.len()), (25, 1));
     assert_eq!(rt; told_of(&journal[0]), (1, true));
     Ok(())
 }
 
-/// A store with the batch of `ONE` and, behind the gate 24, a record with this payload.
+/// A store with the batch of `ONE` and, behind the gate 25, a record with this payload.
 fn bytes_behind_one(alloc: Global, payload: &[u8]) -> Result<Vec<u8>, Fail> {
     if payload.len() > 66_000 {
         return Err(Fail::from("too long"));
@@ -119,9 +121,10 @@ fn count_behind_one(alloc: Global, payload: &[u8]) -> Result<Result<usize, OpenF
     Ok(count_of(alloc, disk_with(alloc, ROOM, &bytes, &[])?))
 }
 
-/// The payload of so many texts of this length, all of whose bytes are `x`.
+/// The payload of so many texts of this length without a label, all of whose bytes are `x`.
 fn payload_of(alloc: Global, count: u16, length: u32) -> Result<Vec<u8>, Fail> {
-    let mut payload = count.to_le_bytes().as_slice().to_vec(alloc)?;
+    let mut payload = vec![in alloc; 0]?;
+    payload.extend_from_slice(&count.to_le_bytes())?;
     for _ in 0..count {
         payload.extend_from_slice(&length.to_le_bytes())?;
         for _ in 0..length {
@@ -131,20 +134,26 @@ fn payload_of(alloc: Global, count: u16, length: u32) -> Result<Vec<u8>, Fail> {
     Ok(payload)
 }
 
-const DAMAGED: Result<usize, OpenFault> = Err(OpenFault::Log(LogFault::Damaged { at: 24 }));
+const DAMAGED: Result<usize, OpenFault> = Err(OpenFault::Log(LogFault::Damaged { at: 25 }));
 
 #[test]
 fn payload_off_the_form_is_damaged_at_its_gate(rt: HostRuntime) -> Result<(), Fail> {
     let table = [
-        b"\x01\x00\x01\x00\x00".as_slice(),
-        b"\x00\x00".as_slice(),
-        b"\x00\x00\x01\x00\x00\x00x".as_slice(),
-        b"\x01".as_slice(),
-        b"\x01\x00\x00\x00\x00\x00".as_slice(),
-        b"\x01\x00\x02\x00\x00\x00x".as_slice(),
-        b"\x01\x00\x01\x00\x00\x00xy".as_slice(),
-        b"\x02\x00\x01\x00\x00\x00x".as_slice(),
-        b"\x00\x01\x00\x00\x00\x01x".as_slice(),
+        b"\x00\x01\x00\x01\x00\x00".as_slice(),
+        b"\x00\x00\x00".as_slice(),
+        b"\x00\x00\x00\x01\x00\x00\x00x".as_slice(),
+        b"\x00\x01".as_slice(),
+        b"\x00\x01\x00\x00\x00\x00\x00".as_slice(),
+        b"\x00\x01\x00\x02\x00\x00\x00x".as_slice(),
+        b"\x00\x01\x00\x01\x00\x00\x00xy".as_slice(),
+        b"\x00\x02\x00\x01\x00\x00\x00x".as_slice(),
+        b"\x00\x00\x01\x00\x00\x00\x01x".as_slice(),
+        // Labels: cut off, a control character, not UTF-8; and texts without one, as format 1 had them.
+        b"\x02a".as_slice(),
+        b"\x01\x0a\x01\x00\x01\x00\x00\x00x".as_slice(),
+        b"\x01\x7f\x01\x00\x01\x00\x00\x00x".as_slice(),
+        b"\x01\xff\x01\x00\x01\x00\x00\x00x".as_slice(),
+        b"\x01\x00\x01\x00\x00\x00x".as_slice(),
     ];
     for payload in table {
         assert_eq!(rt; count_behind_one(rt.alloc(), payload)?, DAMAGED);

@@ -11,8 +11,8 @@ use std::sync::Wait;
 use std::test::Fail;
 use std::thread::Threads;
 
-/// A store of format 1 without a batch.
-const EMPTY_STORE: [u8; 13] = *b"OPENEXP1\x01\x00\x00\x00\x00";
+/// A store of format 2 without a batch.
+const EMPTY_STORE: [u8; 13] = *b"OPENEXP1\x02\x00\x00\x00\x00";
 
 /// Whether these bytes stand on a disk of the host.
 fn stands<H: Host>(host: &mut H, name: &str, bytes: &[u8; 13]) -> Result<bool, Failed> {
@@ -75,7 +75,7 @@ fn opens_what_is_named(rt: HostRuntime) -> Result<(), Fail> {
     let alloc = rt.alloc();
     let mut host = MemHost::new(alloc);
     host.add_disk("a", MemDisk::new(alloc, 100, Vec::new(alloc))?)?;
-    host.add_disk("short", disk_with(alloc, b"OPENEXP1\x01\x00\x00\x00")?)?;
+    host.add_disk("short", disk_with(alloc, b"OPENEXP1\x02\x00\x00\x00")?)?;
     host.add_disk("other", disk_with(alloc, b"OPENEXP1\x09\x00\x00\x00\x00")?)?;
     host.add_file("f", file_of(alloc, "")?)?;
     let table: [(&[&str], _); 10] = [

@@ -5,6 +5,7 @@ use super::stores::{commit_games, games, join_twice, named, new_store};
 use super::{tally_of, text};
 use disk_model::{Disk, MemDisk};
 use explorer_model::archive::{Batch, Bytes, Texts};
+use explorer_model::label::Label;
 use explorer_model::store::LogFault;
 use ingest_desk::{Clashing, CommitFault, Ingest, Marks, Receipt, Standing, Unnamed, open};
 use manifest::{Manifest, create};
@@ -279,6 +280,7 @@ fn batch_of(alloc: Global, text: Bytes) -> Result<Batch, AllocError>
     ensures { IfOk result (λ batch. batch.texts ≡ text ∷ []) }
 {
     Ok(Batch {
+        label: Label::none(),
         texts: Texts::from_vec(vec![in alloc; text]?),
     })
 }
@@ -289,8 +291,8 @@ fn damaged_store_is_not_opened(rt: HostRuntime) -> Result<(), Fail> {
     let game = text(alloc, 1, 0, "")?.bytes;
     let again = text(alloc, 1, 0, "")?.bytes;
     assert_eq!(rt; game.len(), 195);
-    // The same id again, behind a record of one text: its gate, its length, and that of its text.
-    assert_eq!(rt; damaged_at(&rt, alloc, game, again)?, 12 + 5 + 2 + 4 + 195);
+    // The same id again, behind a record of one text: its gate, its length, no label, and that of its text.
+    assert_eq!(rt; damaged_at(&rt, alloc, game, again)?, 12 + 5 + 3 + 4 + 195);
     // A text without a game.
     let other = Bytes::from_vec(vec![in alloc; b'x']?);
     let game = text(alloc, 1, 0, "")?.bytes;

@@ -16,14 +16,14 @@ use std::test::Fail;
 use std::thread::Threads;
 
 /// How many games a store may have.
-const LIMIT: u32 = 131_072;
+const LIMIT: u32 = 262_144;
 
 /// The file of a store: batches of so many games without a move, with ids by their numbers. It has
 /// at most one batch more than a store of whole batches may have.
 pub(super) fn store_file(alloc: Global, games: u32, size: u32) -> Result<Vec<u8>, AllocError> {
-    let mut file = b"OPENEXP1\x01\0\0\0".to_vec(alloc)?;
+    let mut file = b"OPENEXP1\x02\0\0\0".to_vec(alloc)?;
     let size = size.min(512);
-    for batch in 0..257u32 {
+    for batch in 0..513u32 {
         let first = batch * size;
         if first < games {
             push_record(alloc, &mut file, first, (games - first).min(size))?;
@@ -33,14 +33,14 @@ pub(super) fn store_file(alloc: Global, games: u32, size: u32) -> Result<Vec<u8>
     Ok(file)
 }
 
-/// Puts the record of a batch behind a file: its gate, its length, and its texts behind their count.
+/// Puts the record of a batch behind a file: its gate, its length, no label, and its texts behind their count.
 fn push_record(
     alloc: Global,
     file: &mut Vec<u8>,
     first: u32,
     count: u32,
 ) -> Result<(), AllocError> {
-    let mut payload = Vec::new(alloc);
+    let mut payload = vec![in alloc; 0]?;
     payload.extend_from_slice(&count.to_le_bytes()[..2])?;
     for number in first..first.saturating_add(count) {
         let game = text(alloc, number, 0, "")?.bytes;
@@ -97,11 +97,11 @@ fn fill<J: Index, R: Threads + Wait + Abort + Sync>(
 ) -> Result<(), Fail> {
     // Each text has 195 bytes.
     let full = room_for(rt, alloc, ingest, LIMIT - 1, 2)?;
-    assert_eq!(rt; full, Some((131_071, 131_071 * 195)));
+    assert_eq!(rt; full, Some((262_143, 262_143 * 195)));
     let last = commit_games(rt, alloc, ingest, LIMIT - 1, 1)?;
-    assert_eq!(rt; last, Some((257, 131_071, 1)));
+    assert_eq!(rt; last, Some((513, 262_143, 1)));
     let full = room_for(rt, alloc, ingest, LIMIT, 1)?;
-    assert_eq!(rt; full, Some((131_072, 131_072 * 195)));
+    assert_eq!(rt; full, Some((262_144, 262_144 * 195)));
     Ok(())
 }
 
@@ -138,8 +138,8 @@ fn store_beyond_its_limit_is_damaged_at_the_last_record(rt: HostRuntime) -> Resu
             let OpenFault::Log(LogFault::Damaged { at }) = back.fault else {
                 return Err(Fail::from("another fault"));
             };
-            // A record has a gate, a length, a count, and each text behind its length.
-            assert_eq!(rt; at, 12 + 256 * (1 + 4 + 2 + 512 * (4 + 195)));
+            // A record has a gate, a length, an empty label, a count, and each text behind its length.
+            assert_eq!(rt; at, 12 + 512 * (1 + 4 + 3 + 512 * (4 + 195)));
             Ok(())
         }
     }

@@ -13,15 +13,15 @@ row_parts-requires-clause-counted g c = λ κs within.
     subst P (sym c.as_slice.ensures.value) c.requires.counted
 
 pub new-requires : goal.new-requires
-new-requires g c = made-counted c.args.accepted.items _ _ _
+new-requires g c = rw c.none.ensures (made-counted c.args.accepted.items _ _ _
     (made-of c.args.accepted.items _ _ _ _ _ _ _ (search rules) c.requires.candidates c.as_slice.ensures.value
     c.from_vec.ensures c.in_ok-texts.ensures.texts c.from_vec-2.ensures c.in_ok-texts.ensures.classes
-    refl c.in_ok-parts.ensures)
+    refl c.in_ok-parts.ensures))
 
 pub returns : goal.returns
 returns g c =
     let P : Counted → Type 0 = λ counted. Counts (map candidate_as c.args.accepted.items) counted in
-    subst P (sym c.new.ensures) (made-counts c.args.accepted.items _ _ _
+    subst P (sym c.new.ensures) (rw c.none.ensures (made-counts c.args.accepted.items _ _ _
     (made-of c.args.accepted.items _ _ _ _ _ _ _ (search rules) c.requires.candidates c.as_slice.ensures.value
     c.from_vec.ensures c.in_ok-texts.ensures.texts c.from_vec-2.ensures c.in_ok-texts.ensures.classes
-    refl c.in_ok-parts.ensures))
+    refl c.in_ok-parts.ensures)))

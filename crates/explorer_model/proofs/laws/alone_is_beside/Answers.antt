@@ -4,8 +4,8 @@ use Rattle.explorer_model.proofs.Accounts.{numbers_in_turn, in_turn-by, one_each
 use Rattle.explorer_model.proofs.laws.alone_is_beside.Goals as goal
 
 pub returns : goal.returns
-returns c = λ stored groups batches refused is.
-    let Y : List (List Verdict) → Type 0 = λ done. Yields done batches refused in
+returns c = λ label stored groups batches refused is.
+    let Y : List (List Verdict) → Type 0 = λ done. Yields label done batches refused in
     record {
       examinations = is.examinations;
       are_examinations = is.are_examinations;

@@ -4,8 +4,8 @@ use Rattle.explorer_model.proofs.Accounts.{none_stored, apart-by, one_each-none}
 use Rattle.explorer_model.proofs.laws.apart_is_beside.Goals as goal
 
 pub returns : goal.returns
-returns c = λ groups batches refused is.
-    let Y : List (List Verdict) → Type 0 = λ done. Yields done batches refused in
+returns c = λ label groups batches refused is.
+    let Y : List (List Verdict) → Type 0 = λ done. Yields label done batches refused in
     record {
       examinations = is.examinations;
       are_examinations = is.are_examinations;

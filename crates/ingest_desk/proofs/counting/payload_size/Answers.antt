@@ -1,4 +1,5 @@
-use Rattle.std.proofs.Common.{◌≡◌, ◌+◌, ℕ, List, length, take, sum_by, ap, ◌∙◌, arith}
+use Rattle.std.proofs.Common.{◌≡◌, ◌+◌, ℕ, List, length, take, sum_by, ap, ◌∙◌, arith, length-append}
+use Rattle.explorer_model.specs.StoreFile.{texts_field}
 use Rattle.ingest_desk.proofs.RecountLemmas.{payload_sum}
 use Rattle.ingest_desk.proofs.counting.payload_size.Goals as goal
 
@@ -6,10 +7,10 @@ pub returns : goal.returns
 returns c =
     let l = c.loop-text in
     let items = c.as_slice-text-items.result.now in
-    let texts = c.args.batch.now.texts in
-    let same : items ≡ texts = c.as_slice-text-items.ensures in
-    let all : l.text-index ≡ length texts =
+    let batch = c.args.batch.now in
+    let same : items ≡ batch.texts = c.as_slice-text-items.ensures in
+    let all : l.text-index ≡ length batch.texts =
     omega (arith, l.auto.text-index-end, c.loop-text-test.false, ap length same) in
-    let sum : l.size ≡ 2 + sum_by (λ (text : List ℕ). 4 + length text) (take l.text-index texts) =
-    l.invariant.sum ∙ ap (λ ts. 2 + sum_by (λ (text : List ℕ). 4 + length text) (take l.text-index ts)) same in
-    omega (arith, payload_sum texts l.text-index l.size all sum)
+    let sum = ap (λ ts. sum_by (λ (text : List ℕ). 4 + length text) (take l.text-index ts)) same in
+    let label = ap length (c.as_bytes-label.ensures.value ∙ c.as_str.ensures.text) in
+    omega (arith, l.invariant.sum, sum, label, payload_sum batch.texts l.text-index all, length-append batch.label (texts_field batch.texts))

@@ -1,18 +1,19 @@
 use Rattle.std.proofs.Common.{◌≡◌, [], map, length, sym, ap, ◌∙◌, arith}
 use Rattle.explorer_model.specs.declared.archive.Placed.{Placed}
+use Rattle.tally_rows.specs.Tally.{Counted}
 use Rattle.ingest_desk.proofs.RecountLemmas.{counted_batch, none_in, none_refused_of, some_in}
 use Rattle.ingest_desk.proofs.TallyingLemmas.{counts_none}
 use Rattle.ingest_desk.proofs.counting.segment_of.Goals as goal
 
 pub returns-then-not-is_empty : goal.returns-then-not-is_empty
-returns-then-not-is_empty c = λ batch storable tallied journal front sound.
+returns-then-not-is_empty c = λ batch storable label tallied journal front sound.
     let refused = c.args.tallying.refused in
     some_in refused.items _ (omega (arith, refused.ok.0))
     (sym c.is_empty.ensures ∙ c.if-not-is_empty.true)
     (none_refused_of c.game_is_determined.ensures journal batch front tallied.texts c.args.tallying tallied.same tallied.is sound)
 
 pub returns-in_default : goal.returns-in_default
-returns-in_default c = λ batch storable tallied journal front sound.
+returns-in_default c = λ batch storable label tallied journal front sound.
     let refused = c.args.tallying.refused in
     let none = none_in refused.items _ (omega (arith, refused.ok.0)) (sym c.is_empty.ensures ∙ c.if-not-is_empty.false) in
     let empty : map (λ (text : Placed). text.bytes) tallied.texts ≡ [] =
@@ -20,14 +21,15 @@ returns-in_default c = λ batch storable tallied journal front sound.
     absurd (omega (arith, storable.texts.0, ap length (sym tallied.same ∙ empty)))
 
 pub returns : goal.returns
-returns c = λ batch storable tallied.
+returns c = λ batch storable label tallied.
     let refused = c.args.tallying.refused in
     let none = none_in refused.items _ (omega (arith, refused.ok.0)) (sym c.is_empty.ensures ∙ c.if-not-is_empty.false) in
-    let tally = c.in-Some.counted in
+    let tally = c.labelled-counted.result in
     record {
       tally = tally;
       counted = c.batch-batch.ensures.counted;
-      batch_is = counted_batch tallied.texts c.args.tallying tally batch tallied.same tallied.is none c.in-Some.is;
+      batch_is = ap (λ (t : Counted). t.batch) c.labelled-counted.ensures
+        ∙ counted_batch tallied.texts c.args.tallying c.in-Some.counted batch c.args.label label tallied.same tallied.is none c.in-Some.is;
       made_of = c.in_ok-share_of.ensures.tally;
       first = λ below. c.in_ok-share_of.ensures.first;
     }

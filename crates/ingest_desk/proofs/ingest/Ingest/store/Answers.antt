@@ -59,7 +59,7 @@ store-requires-clause-low g c =
     let batch = first_is _ tally.batch _ batches c.batch_of.ensures in
     let open_is = rw (← s.view_is) at c.requires.open in
     let is = sound_manifest d.disk d.left_since j m s.invariant.keeps open_is in
-    rw batch (low j tally.batch m.gate s.invariant.knows.sound is.place counted.batch.few
+    rw batch (low j tally.batch m.gate s.invariant.knows.sound is.place counted.batch.label counted.batch.few
     (texts-fit tally.batch (storable tally.batch counted.batch)))
 
 pub invariant_of-self-in-Err : goal.invariant_of-self-in-Err
