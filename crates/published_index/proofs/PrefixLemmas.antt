@@ -1,7 +1,7 @@
 -- Beginnings of one list.
 use Rattle.std.proofs.Common.{◌≡◌, ◌↔◌, ℕ, ◌≤◌, Bool, IsTrue, true≢false, true, false, List, [], ◌∷◌, ◌++◌, length, refl, sym, ap, ◌∙◌, arith, append-nil, append_assoc, length-append}
 use Rattle.std.proofs.lemmas.Bool.Decides.{nat_tests}
-use Rattle.std.proofs.Common.{leb}
+use Rattle.std.proofs.Common.{leb, nat_eq}
 use mathlib.Core.List.{IsPrefix as Begins}
 use Rattle.explorer_model.specs.Timeline.{IsPrefix}
 
@@ -56,3 +56,27 @@ where-shorter m n xs ys zs p q m-is n-is = (begins (leb m n) refl, is_no_more (l
     is_no_more : (test : Bool) → leb m n ≡ test → IsPrefix xs ys → IsTrue test
     is_no_more true is h = refl
     is_no_more false is h = absurd (grind (arith, nat_tests, prefix-length xs ys h))
+
+-- two beginnings of one list that are as long are the same
+pub same-length : {A : Type 0} (xs ys zs : List A) → Begins xs zs → Begins ys zs → length xs ≡ length ys → ys ≡ xs
+same-length [] [] zs p q e = refl
+same-length [] (y ∷ ys) zs p q e = absurd (omega arith)
+same-length (x ∷ xs) [] zs p q e = absurd (omega arith)
+same-length (x ∷ xs) (y ∷ ys) [] p q e = absurd (cc (p.1))
+same-length (x ∷ xs) (y ∷ ys) (z ∷ zs) p q e =
+    let heads : x ≡ y = cc (p.1, q.1) in
+    let rest : ys ≡ xs = same-length xs ys zs (p.0, cc (p.1)) (q.0, cc (q.1)) (omega arith) in
+    cc (heads, rest)
+
+-- of two beginnings of one list the counts are equal exactly where they are the same
+pub where-same : {A : Type 0} (m n : ℕ) (xs ys zs : List A) → Begins xs zs → Begins ys zs → m ≡ length xs → n ≡ length ys
+    → IsTrue (nat_eq m n) ↔ (ys ≡ xs)
+where-same m n xs ys zs p q m-is n-is = (same (nat_eq m n) refl, is_one (nat_eq m n) refl)
+  where
+    same : (test : Bool) → nat_eq m n ≡ test → IsTrue test → ys ≡ xs
+    same true is h = same-length xs ys zs p q (grind (arith, nat_tests))
+    same false is h = absurd (true≢false (sym h))
+
+    is_one : (test : Bool) → nat_eq m n ≡ test → ys ≡ xs → IsTrue test
+    is_one true is h = refl
+    is_one false is h = absurd (grind (arith, nat_tests, ap length h))

@@ -55,6 +55,16 @@ impl Front {
         }
     }
 
+    /// Whether the other is as long, which it is exactly where it is the same.
+    pub fn is_same(&self, other: &Front) -> bool
+        requires { other.now.book ≡ self.now.book }
+        ensures { IsTrue result ↔ (other.now.log ≡ self.now.log) }
+    {
+        let mut both = self.seen.again();
+        both.learn(&other.seen);
+        self.count == other.count
+    }
+
     /// Whether the other begins with this one, which it does exactly where it is no shorter.
     pub fn begins(&self, other: &Front) -> bool
         requires { other.now.book ≡ self.now.book }

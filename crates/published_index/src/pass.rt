@@ -1,5 +1,5 @@
 //! Passes: a reader's way into an index.
-ghost use Rattle.std.specs.Prelude.{◌≡◌, length};
+ghost use Rattle.std.specs.Prelude.{◌≡◌, ◌↔◌, IsTrue, length};
 ghost use Rattle.published_index.specs.Calls.{Enters, Learns};
 
 use crate::fault::EnterFault;
@@ -41,6 +41,23 @@ impl<J: Index> Pass<J> {
         ensures { Learns self.old self.new note }
     {
         self.seat.learn(note.front);
+    }
+
+    /// A note of all that the pass has seen. It takes no memory.
+    pub fn tell(&self) -> Note<J>
+        ensures { result ≡ self.now.seen }
+    {
+        Note {
+            front: self.seat.front().again(),
+            of: PhantomData,
+        }
+    }
+
+    /// Whether the note has just what the pass has seen.
+    pub fn is_at(&self, note: &Note<J>) -> bool
+        ensures { IsTrue result ↔ (note.now ≡ self.now.seen) }
+    {
+        self.seat.front().is_same(&note.front)
     }
 
     /// How many batches the pass has seen.

@@ -3,5 +3,6 @@ pub mod Imports
 pub mod Exchanges
 pub mod Serving
 pub mod Doors
+pub mod KeptAnswers
 pub mod Laws
 pub mod Steps

@@ -2,7 +2,8 @@
 ghost use Rattle.session.specs.Doors.{DoorServed, EndsDoor};
 ghost use Rattle.session.specs.Exchanges.{backend};
 
-use crate::serving::serve_connection;
+use crate::kept_answers::Answers;
+use crate::serving::serve_by;
 use ingest_desk::Importer;
 use outside::{Door, Failed};
 use published_index::{Index, Pass};
@@ -31,11 +32,12 @@ pub fn serve_door<J: Index, D: Door, I: Importer<J>, R: Wait + Threads + Sync>(
         (D.door door.new) (backend pass.new (I.importer importer.new)) }
     ensures ends { EndsDoor result (D.door door.old) (D.door door.new) }
 {
+    let mut kept = Answers::new(alloc);
     'accepting: loop {
         match door.accept() {
             Ok(Some(link)) => {
                 let mut link = link;
-                let _ = serve_connection(rt, alloc, &mut link, pass, importer);
+                let _ = serve_by(rt, alloc, &mut link, pass, importer, &mut kept);
                 door.finish(link);
             }
             Ok(None) => return DoorEnd::Whole,

@@ -4,6 +4,7 @@
 mod answering;
 mod doors;
 mod importing;
+mod kept_answers;
 pub mod laws;
 mod replying;
 mod serving;

@@ -6,8 +6,9 @@ ghost use Rattle.session.specs.Exchanges.{backend};
 ghost use Rattle.session.specs.Replies.{closes, refusal_reply};
 ghost use Rattle.session.specs.Steps.{IsReplied, Replied};
 
-use crate::answering::answer;
+use crate::answering::answer_by;
 use crate::importing::import;
+use crate::kept_answers::Answers;
 use explorer_model::wire::{Asked, Method, Path, Reply, Request, RequestFault};
 use ingest_desk::Importer;
 use published_index::{Index, Pass};
@@ -32,13 +33,14 @@ pub fn reply_to<J: Index, I: Importer<J>, R: Wait + Threads + Sync>(
     asked: &Asked,
     pass: &mut Pass<J>,
     importer: &mut I,
+    kept: &mut Answers<J>,
 ) -> Reply
     requires { IsReplied asked.now }
     ensures { Replied asked.now (backend pass.old (I.importer importer.old)) result
         (backend pass.new (I.importer importer.new)) }
 {
     match asked {
-        Asked::Wanted(request) => reply_to_request(rt, alloc, request, pass, importer),
+        Asked::Wanted(request) => reply_to_request(rt, alloc, request, pass, importer, kept),
         Asked::Refused(fault) => refusal_reply(*fault),
         Asked::NoMemory => Reply::NoMemory,
         Asked::Done | Asked::Cut | Asked::ReadFault => unreachable!(),
@@ -61,6 +63,7 @@ fn reply_to_request<J: Index, I: Importer<J>, R: Wait + Threads + Sync>(
     request: &Request,
     pass: &mut Pass<J>,
     importer: &mut I,
+    kept: &mut Answers<J>,
 ) -> Reply
     requires { length request.now.body ≤ body_limit }
     ensures { Replied (Wanted request.now) (backend pass.old (I.importer importer.old)) result
@@ -68,7 +71,7 @@ fn reply_to_request<J: Index, I: Importer<J>, R: Wait + Threads + Sync>(
 {
     match request.path {
         Path::Lichess => match request.method {
-            Method::Get => answer(alloc, pass, request.query.as_slice()),
+            Method::Get => answer_by(alloc, pass, kept, request.query.as_slice()),
             _ => Reply::NotAllowed { allow: Method::Get },
         },
         Path::Import => match request.method {

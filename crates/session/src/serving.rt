@@ -5,6 +5,7 @@ ghost use Rattle.session.specs.Exchanges.{Backend, backend};
 ghost use Rattle.session.specs.Serving.{Served};
 ghost use Rattle.session.specs.Steps.{IsServing};
 
+use crate::kept_answers::Answers;
 use crate::replying::{closes, reply_to};
 use explorer_model::wire::Asked;
 use http_wire::Wire;
@@ -38,9 +39,24 @@ pub fn serve_connection<J: Index, L: Link, I: Importer<J>, R: Wait + Threads + S
     ensures { Served (L.source link.old) (backend pass.old (I.importer importer.old)) result
         (L.source link.new) (backend pass.new (I.importer importer.new)) }
 {
+    serve_by(rt, alloc, link, pass, importer, &mut Answers::none())
+}
+
+/// The same, with answers that are kept.
+pub fn serve_by<J: Index, L: Link, I: Importer<J>, R: Wait + Threads + Sync>(
+    rt: &R,
+    alloc: Global,
+    link: &mut L,
+    pass: &mut Pass<J>,
+    importer: &mut I,
+    kept: &mut Answers<J>,
+) -> Ended
+    ensures { Served (L.source link.old) (backend pass.old (I.importer importer.old)) result
+        (L.source link.new) (backend pass.new (I.importer importer.new)) }
+{
     let mut wire = Wire::new();
     'serving: loop {
-        if let Some(ended) = serve_one(rt, alloc, &mut wire, link, pass, importer) {
+        if let Some(ended) = serve_one(rt, alloc, &mut wire, link, pass, importer, kept) {
             return ended;
         }
     }
@@ -54,6 +70,7 @@ fn serve_one<J: Index, L: Link, I: Importer<J>, R: Wait + Threads + Sync>(
     link: &mut L,
     pass: &mut Pass<J>,
     importer: &mut I,
+    kept: &mut Answers<J>,
 ) -> Option<Ended>
     requires { 0 < wire.old.more }
     ensures serving { (before : Stream) (start : Backend)
@@ -76,7 +93,7 @@ fn serve_one<J: Index, L: Link, I: Importer<J>, R: Wait + Threads + Sync>(
         Asked::ReadFault => return Some(Ended::ReadFault),
         _ => {}
     }
-    let reply = reply_to(rt, alloc, &asked, pass, importer);
+    let reply = reply_to(rt, alloc, &asked, pass, importer, kept);
     let last = closes(&asked);
     let Ok(()) = wire.reply(link, &reply, last) else {
         return Some(Ended::WriteFault);

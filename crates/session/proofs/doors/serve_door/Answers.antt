@@ -11,13 +11,13 @@ accepting-preserved g c =
     let accepts = rw c.in-Ok-Some.field-0-is at c.in-Ok-Some.ensures.next in
     let before = backend c.args.pass.now (g.I.Importer.importer c.args.importer.now) in
     let middle = backend c.accepting.pass (g.I.Importer.importer c.accepting.importer) in
-    let after = backend c.serve_connection.new.pass (g.I.Importer.importer c.serve_connection.new.importer) in
-    let stay = faults-stay (g.D.Link.Source.source c.in-Ok-Some.link) (g.D.Link.Source.source c.serve_connection.new.link)
+    let after = backend c.serve_by.new.pass (g.I.Importer.importer c.serve_by.new.importer) in
+    let stay = faults-stay (g.D.Link.Source.source c.in-Ok-Some.link) (g.D.Link.Source.source c.serve_by.new.link)
     (g.D.Door.door c.accepting.door) (g.D.Door.door c.accept.new.self) (g.D.Door.door c.finish.new.self) accepts c.finish.ensures in
     record {
       served = served-more (g.D.Door.door c.args.door.now) before (g.D.Door.door c.accepting.door) middle
           (g.D.Link.Source.source c.in-Ok-Some.link) (g.D.Door.door c.accept.new.self)
-          (g.D.Link.Source.source c.serve_connection.new.link) c.serve_connection.result (g.D.Door.door c.finish.new.self) after
-          c.accepting.invariant.served accepts c.serve_connection.ensures c.finish.ensures;
+          (g.D.Link.Source.source c.serve_by.new.link) c.serve_by.result (g.D.Door.door c.finish.new.self) after
+          c.accepting.invariant.served accepts c.serve_by.ensures c.finish.ensures;
       faults = stay ∙ c.accepting.invariant.faults;
     }

@@ -1,7 +1,7 @@
 use Rattle.std.proofs.Common.{lit<}
 use Rattle.session.specs.Exchanges.{backend}
 use Rattle.session.proofs.ConnectionLemmas.{serving-none}
-use Rattle.session.proofs.serving.serve_connection.Goals as goal
+use Rattle.session.proofs.serving.serve_by.Goals as goal
 
 pub serving-init : goal.serving-init
 serving-init g c = record {

@@ -1,7 +1,7 @@
 use Rattle.std.proofs.Common.{◌<◌}
 use Rattle.session.specs.Exchanges.{backend}
 use Rattle.session.specs.Steps.{IsServing}
-use Rattle.session.proofs.serving.serve_connection.Given as goal
+use Rattle.session.proofs.serving.serve_by.Given as goal
 
 abbrev pub invariant-serving : goal.invariant-serving
 invariant-serving g l = record {
