@@ -14,6 +14,8 @@ use Rattle.explorer_model.specs.declared.archive.Outcome.TheVariants as outcomes
 use Rattle.explorer_model.specs.declared.archive.Player.{Player}
 use Rattle.explorer_model.specs.declared.archive.Speed.{Speed}
 use Rattle.explorer_model.specs.declared.archive.Speed.TheVariants.{UltraBullet, Bullet, Blitz, Rapid, Classical, Correspondence}
+use Rattle.explorer_model.specs.declared.opening.Naming.{Naming}
+use Rattle.explorer_model.specs.declared.opening.Opening.{Opening}
 use Rattle.explorer_model.specs.Uci.{uci_text}
 
 abbrev pub count_value : ℕ → Data
@@ -80,16 +82,6 @@ game_value None = null
 game_value (Some game) = listed_value game
 
 -- ---- openings
-
--- the name of an opening, with its code
-pub record Opening : Type 0 where
-  pub eco : List ℕ
-  pub name : List ℕ
-
--- what openings an answer shows: that of the position asked for, and that of each move of its list
-pub record Naming : Type 0 where
-  pub whole : Option Opening
-  pub moves : List (Option Opening)
 
 -- no opening is known
 abbrev pub unnamed : List MoveLine → Naming

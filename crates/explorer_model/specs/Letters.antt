@@ -1,8 +1,13 @@
 -- The letters and digits that SAN, FEN and UCI share (PGN 8.2.3.1, 8.2.3.2).
 use Prim.Native.String.{String}
-use Rattle.std.specs.Prelude.{ℕ, ◌+◌, ◌-◌, ◌*◌, ◌/◌, ◌%◌, ◌==◌, ◌&&◌, nat_le, Option, Some, None, option_map, option_and_then, List, [], ◌∷◌, find, slice_index_or, codes, if◌then◌else◌}
+use Rattle.std.specs.Prelude.{ℕ, Bool, map, bytes_eq, ◌+◌, ◌-◌, ◌*◌, ◌/◌, ◌%◌, ◌==◌, ◌&&◌, nat_le, Option, Some, None, option_map, option_and_then, List, [], ◌∷◌, find, slice_index_or, codes, if◌then◌else◌}
+use Rattle.std.specs.Char.{to_ascii_lowercase}
 use Rattle.explorer_model.specs.declared.chess.Role.{Role}
 use Rattle.explorer_model.specs.declared.chess.Role.TheVariants.{Pawn, Knight, Bishop, Rook, Queen, King}
+
+-- the same letters, in any case
+abbrev pub is_same_word : List ℕ → List ℕ → Bool
+is_same_word a b = bytes_eq (map to_ascii_lowercase a) (map to_ascii_lowercase b)
 
 -- the byte of a character
 abbrev pub byte : String → ℕ

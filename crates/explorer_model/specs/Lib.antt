@@ -14,8 +14,10 @@ pub mod Journal
 pub mod Keys
 pub mod Labels
 pub mod Letters
+pub mod Openings
 pub mod Order
 pub mod Parts
+pub mod Players
 pub mod Query
 pub mod Refusals
 pub mod Replies

@@ -11,6 +11,8 @@ use Rattle.explorer_model.specs.declared.chess.Move.{Move}
 use Rattle.explorer_model.specs.declared.chess.Position.{Position}
 use Rattle.explorer_model.specs.declared.notation.FenFault.{FenFault}
 use Rattle.explorer_model.specs.declared.notation.UciFault.{UciFault}
+use Rattle.explorer_model.specs.declared.player.PlayerParameter.{PlayerParameter}
+use Rattle.explorer_model.specs.declared.player.PlayerParameter.TheVariants as players
 use Rattle.explorer_model.specs.declared.query.BadParameter.{BadParameter}
 use Rattle.explorer_model.specs.declared.query.Parameter.{Parameter}
 use Rattle.explorer_model.specs.declared.query.Parameter.TheVariants.{Variant, Fen, Play, Speeds, Ratings, Since, Until, Moves, TopGames, RecentGames, History}
@@ -43,6 +45,13 @@ parameter_text TopGames = codes "topGames"
 parameter_text RecentGames = codes "recentGames"
 parameter_text History = codes "history"
 
+-- the names of a query for a player's games
+abbrev pub player_parameter_text : PlayerParameter → List ℕ
+player_parameter_text players.Player = codes "player"
+player_parameter_text players.Color = codes "color"
+player_parameter_text players.Modes = codes "modes"
+player_parameter_text (players.Common name) = parameter_text name
+
 -- ---- values
 
 -- a name may be given once; where it is not, its value is empty
@@ -51,10 +60,13 @@ at_most_one [] = Some []
 at_most_one (value ∷ []) = Some value
 at_most_one _ = None
 
--- the value of a parameter; None where it is given twice
+-- the value under a name; None where it is given twice
+abbrev pub value_named : List ℕ → List (List ℕ × List ℕ) → Option (List ℕ)
+value_named text pairs = at_most_one (map (λ p. p.1) (filter (λ p. bytes_eq p.0 text) pairs))
+
+-- the value of a parameter
 unfoldable pub value_in : Parameter → List (List ℕ × List ℕ) → Option (List ℕ)
-value_in name pairs =
-    at_most_one (map (λ p. p.1) (filter (λ p. bytes_eq p.0 (parameter_text name)) pairs))
+value_in name pairs = value_named (parameter_text name) pairs
 
 abbrev pub bad : Parameter → BadParameter
 bad name = record { name = name }

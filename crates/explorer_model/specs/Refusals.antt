@@ -1,4 +1,4 @@
--- How the report lines say why a piece of a stream is not counted.
+-- How the report lines say why a piece of a stream is not counted, or a line of openings is refused.
 use Rattle.std.specs.Prelude.{ℕ, List, ◌++◌, codes}
 use Rattle.std.specs.Fmt.{decimal}
 use Rattle.explorer_model.specs.declared.fault.TagName.{TagName}
@@ -9,6 +9,8 @@ use Rattle.explorer_model.specs.declared.fault.GameFault.{GameFault}
 use Rattle.explorer_model.specs.declared.fault.GameFault.TheVariants as game
 use Rattle.explorer_model.specs.declared.fault.Why.{Why}
 use Rattle.explorer_model.specs.declared.fault.Why.TheVariants as why
+use Rattle.explorer_model.specs.declared.opening.BookCause.{BookCause}
+use Rattle.explorer_model.specs.declared.opening.BookCause.TheVariants as cause
 
 -- a tag's name as PGN spells it
 abbrev pub tag_text : TagName → List ℕ
@@ -51,3 +53,9 @@ why_text (why.TooLong length) = codes "TooLong " ++ decimal length
 why_text (why.Game fault) = game_fault_text fault
 why_text (why.Twice first) = codes "Twice " ++ decimal first
 why_text (why.Repeated number) = codes "Repeated " ++ decimal number
+
+abbrev pub book_cause_text : BookCause → List ℕ
+book_cause_text cause.NotThree = codes "NotThree"
+book_cause_text cause.NotUtf8 = codes "NotUtf8"
+book_cause_text cause.TooLong = codes "TooLong"
+book_cause_text cause.BadMove = codes "BadMove"

@@ -1,18 +1,20 @@
 -- What is written to a connection, and the reply to a query (RFC 9112, 4 to 6).
-use Rattle.std.specs.Prelude.{◌≡◌, ℕ, Bool, List, [], ◌∷◌, ◌++◌, length, codes, decimal, if◌then◌else◌, Ok, Err}
+use Rattle.std.specs.Prelude.{◌≡◌, ℕ, Bool, List, [], ◌∷◌, ◌++◌, length, map, codes, decimal, if◌then◌else◌, Ok, Err}
 use Rattle.serde_json.specs.Data.{Data, string, object, Members, member, no_members}
 use Rattle.serde_json.specs.Written.{compact_text}
 use Rattle.explorer_model.specs.declared.answer.Found.{Found}
 use Rattle.explorer_model.specs.declared.archive.Batch.{Batch}
 use Rattle.explorer_model.specs.declared.fault.Refusal.{Refusal}
+use Rattle.explorer_model.specs.declared.opening.Naming.{Naming}
 use Rattle.explorer_model.specs.declared.query.Query.{Query}
 use Rattle.explorer_model.specs.declared.wire.Method.{Method}
 use Rattle.explorer_model.specs.declared.wire.Method.TheVariants as methods
 use Rattle.explorer_model.specs.declared.wire.Reply.{Reply}
 use Rattle.explorer_model.specs.declared.wire.Reply.TheVariants as replies
-use Rattle.explorer_model.specs.Answer.{answer_body, array_by, count_value}
+use Rattle.explorer_model.specs.Answer.{answer_body, named_body, array_by, count_value}
 use Rattle.explorer_model.specs.Finds.{IsFound}
-use Rattle.explorer_model.specs.Query.{QueryReads, parameter_text}
+use Rattle.explorer_model.specs.Openings.{IsNaming, NamedPosition}
+use Rattle.explorer_model.specs.Query.{QueryReads, parameter_text, player_parameter_text}
 use Rattle.explorer_model.specs.Refusals.{why_text}
 
 -- ---- bodies
@@ -54,6 +56,9 @@ reply_body (replies.Stored batches body) = body
 reply_body (replies.BadParameter name) =
     error_body (codes "malformed parameter")
     (member (codes "parameter") (string (parameter_text name)) no_members)
+reply_body (replies.BadPlayerParameter name) =
+    error_body (codes "malformed parameter")
+    (member (codes "parameter") (string (player_parameter_text name)) no_members)
 reply_body replies.BadRequest = error_body (codes "bad request") no_members
 reply_body replies.NotFound = error_body (codes "not found") no_members
 reply_body (replies.NotAllowed allow) = error_body (codes "method not allowed") no_members
@@ -71,6 +76,7 @@ abbrev pub status_text : Reply → List ℕ
 status_text (replies.Found batches body) = codes "200 OK"
 status_text (replies.Stored batches body) = codes "200 OK"
 status_text (replies.BadParameter name) = codes "400 Bad Request"
+status_text (replies.BadPlayerParameter name) = codes "400 Bad Request"
 status_text replies.BadRequest = codes "400 Bad Request"
 status_text replies.NotFound = codes "404 Not Found"
 status_text (replies.NotAllowed allow) = codes "405 Method Not Allowed"
@@ -132,3 +138,26 @@ abbrev pub IsAnswerOf : List ℕ → List Batch → Reply → Type 0
 IsAnswerOf text journal (replies.Found batches body) = IsFoundIn text journal batches body
 IsAnswerOf text journal (replies.BadParameter name) = QueryReads text (Err (record { name = name }))
 IsAnswerOf text journal _ = ⊥
+
+-- ---- the reply to a query, with openings
+
+-- the body is that of what is found in the journal with the openings that the book names for it,
+-- and the number is that of the journal's batches
+pub record IsNamedFoundIn (book : List NamedPosition) (text : List ℕ) (journal : List Batch)
+    (batches : ℕ) (body : List ℕ) : Type 0 where
+  pub number : batches ≡ length journal
+  pub query : Query
+  pub asks : QueryReads text (Ok query)
+  pub found : Found
+  pub is_found : IsFound journal query found
+  pub naming : Naming
+  pub is_naming : IsNaming book query (map (λ line. line.next) found.moves) naming
+  pub is_body : body ≡ named_body found naming
+
+-- the reply answers the query string over the journal by the book
+abbrev pub IsNamedAnswerOf : List NamedPosition → List ℕ → List Batch → Reply → Type 0
+IsNamedAnswerOf book text journal (replies.Found batches body) =
+    IsNamedFoundIn book text journal batches body
+IsNamedAnswerOf book text journal (replies.BadParameter name) =
+    QueryReads text (Err (record { name = name }))
+IsNamedAnswerOf book text journal _ = ⊥

@@ -1,6 +1,5 @@
 -- What is asked in the bytes of a connection: requests, one after another, and refusals (RFC 9112).
 use Rattle.std.specs.Prelude.{◌≡◌, ◌≤◌, ◌⊎◌, ⊤, ℕ, ◌+◌, ◌-◌, Bool, ◌&&◌, ◌||◌, ◌==◌, nat_le, MatchBool, List, [], ◌∷◌, length, take, drop, map, filter, count_by, bytes_eq, codes, if◌then◌else◌, Option, Some, None, option_map, Result, Ok, Err}
-use Rattle.std.specs.Char.{to_ascii_lowercase}
 use Rattle.std.specs.List.{list_any, prefix_len, slice_split, before_first, after_first}
 use Rattle.std.specs.Option.{option_or}
 use Rattle.std.specs.Result.{result_map_both}
@@ -17,6 +16,7 @@ use Rattle.explorer_model.specs.declared.wire.RequestFault.{RequestFault}
 use Rattle.explorer_model.specs.declared.wire.RequestFault.TheVariants.{BadRequest, TooLarge, HeadTooLarge}
 use Rattle.explorer_model.specs.Classes.{number_of}
 use Rattle.explorer_model.specs.Items.{ends_line}
+use Rattle.explorer_model.specs.Letters.{is_same_word}
 
 -- ---- limits
 
@@ -92,10 +92,6 @@ pub record IsHeadOf (text : List ℕ) (head : RequestHead) : Type 0 where
   pub reads : ReadsRequest text head []
   pub few : length head.fields ≤ 32
 
--- the same letters, in any case
-abbrev pub is_same_word : List ℕ → List ℕ → Bool
-is_same_word a b = bytes_eq (map to_ascii_lowercase a) (map to_ascii_lowercase b)
-
 -- the values of the fields of a name
 unfoldable pub values_of : List ℕ → RequestHead → List (List ℕ)
 values_of name head =
@@ -139,7 +135,8 @@ method_of text =
 abbrev pub path_of : List ℕ → Path
 path_of text =
     if bytes_eq text (codes "/lichess") then paths.Lichess
-    else (if bytes_eq text (codes "/import") then paths.Import else paths.Other)
+    else (if bytes_eq text (codes "/player") then paths.Player
+    else (if bytes_eq text (codes "/import") then paths.Import else paths.Other))
 
 abbrev pub request_of : ℕ → RequestHead → List ℕ → Request
 request_of more head body = record {

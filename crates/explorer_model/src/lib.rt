@@ -17,6 +17,8 @@ pub mod label;
 pub mod laws;
 pub mod list;
 pub mod notation;
+pub mod opening;
+pub mod player;
 pub mod query;
 pub mod square;
 pub mod store;

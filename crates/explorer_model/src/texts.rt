@@ -3,6 +3,8 @@
 ghost use Rattle.std.specs.Prelude.{◌≡◌, Some};
 
 use crate::fault::{GameFault, TagFault, TagName, Why};
+use crate::opening::BookCause;
+use crate::player::PlayerParameter;
 use crate::query::Parameter;
 use std::fmt;
 
@@ -117,6 +119,58 @@ impl fmt::Display for Parameter {
     ghost use Rattle.explorer_model.specs.Query.{parameter_text};
 
     ghost output = { λ name. Some (parameter_text name) };
+
+    fn fmt<W: fmt::Write>(&self, f: &mut fmt::Formatter<W>) -> fmt::Result {
+        f.write_str(self.as_str())
+    }
+}
+
+impl PlayerParameter {
+    ghost use Rattle.explorer_model.specs.Query.{player_parameter_text};
+
+    /// The name as a query string spells it.
+    pub fn as_str(self) -> &'static str
+        ensures { result.now ≡ player_parameter_text self }
+    {
+        match self {
+            PlayerParameter::Player => "player",
+            PlayerParameter::Color => "color",
+            PlayerParameter::Modes => "modes",
+            PlayerParameter::Common(name) => name.as_str(),
+        }
+    }
+}
+
+impl fmt::Display for PlayerParameter {
+    ghost use Rattle.explorer_model.specs.Query.{player_parameter_text};
+
+    ghost output = { λ name. Some (player_parameter_text name) };
+
+    fn fmt<W: fmt::Write>(&self, f: &mut fmt::Formatter<W>) -> fmt::Result {
+        f.write_str(self.as_str())
+    }
+}
+
+impl BookCause {
+    ghost use Rattle.explorer_model.specs.Refusals.{book_cause_text};
+
+    /// The word that names the cause.
+    pub fn as_str(self) -> &'static str
+        ensures { result.now ≡ book_cause_text self }
+    {
+        match self {
+            BookCause::NotThree => "NotThree",
+            BookCause::NotUtf8 => "NotUtf8",
+            BookCause::TooLong => "TooLong",
+            BookCause::BadMove => "BadMove",
+        }
+    }
+}
+
+impl fmt::Display for BookCause {
+    ghost use Rattle.explorer_model.specs.Refusals.{book_cause_text};
+
+    ghost output = { λ cause. Some (book_cause_text cause) };
 
     fn fmt<W: fmt::Write>(&self, f: &mut fmt::Formatter<W>) -> fmt::Result {
         f.write_str(self.as_str())

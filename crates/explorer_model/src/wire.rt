@@ -1,4 +1,5 @@
 use crate::archive::Bytes;
+use crate::player::PlayerParameter;
 use crate::query::Parameter;
 
 /// The method of a request (RFC 9110, 9.3).
@@ -14,6 +15,8 @@ pub enum Method {
 pub enum Path {
     /// `/lichess`
     Lichess,
+    /// `/player`
+    Player,
     /// `/import`
     Import,
     Other,
@@ -64,6 +67,8 @@ pub enum Reply {
     /// An import that was read to its end; `batches` is the journal's length as it is known then.
     Stored { batches: u32, body: Bytes },
     BadParameter { name: Parameter },
+    /// The parameter of a query for a player's games that is malformed.
+    BadPlayerParameter { name: PlayerParameter },
     BadRequest,
     NotFound,
     /// The path takes another method.

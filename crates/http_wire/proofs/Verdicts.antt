@@ -7,7 +7,8 @@ use Rattle.httparse.specs.declared.spans.HeaderSpan.{HeaderSpan}
 use Rattle.httparse.specs.declared.spans.RequestSpans.{RequestSpans}
 use Rattle.httparse.specs.Grammar.{Field, field_value, RequestHead, print_request, ReadsRequest}
 use Rattle.httparse.specs.Spans.{header_bytes, name_and_value, span_bytes, IsRequestAt}
-use Rattle.explorer_model.specs.Wire.{is_same_word, values_of, body_len, has_close, is_last, method_of, path_of, request_of, IsHeadOf, HeadReads}
+use Rattle.explorer_model.specs.Letters.{is_same_word}
+use Rattle.explorer_model.specs.Wire.{values_of, body_len, has_close, is_last, method_of, path_of, request_of, IsHeadOf, HeadReads}
 use Rattle.explorer_model.specs.declared.wire.RequestFault.{RequestFault}
 use Rattle.explorer_model.specs.declared.wire.RequestFault.TheVariants.{BadRequest}
 use Rattle.http_wire.specs.Fields.{values_in, body_len_in}

@@ -1,6 +1,7 @@
 -- Fields by their names.
 use Rattle.std.specs.Prelude.{ℕ, List, map, filter, codes, if◌then◌else◌, Result, Err}
-use Rattle.explorer_model.specs.Wire.{is_same_word, is_there, length_by, within_limit}
+use Rattle.explorer_model.specs.Letters.{is_same_word}
+use Rattle.explorer_model.specs.Wire.{is_there, length_by, within_limit}
 use Rattle.explorer_model.specs.declared.wire.RequestFault.{RequestFault}
 use Rattle.explorer_model.specs.declared.wire.RequestFault.TheVariants.{BadRequest}
 

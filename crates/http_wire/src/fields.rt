@@ -6,7 +6,8 @@ ghost use Rattle.std.specs.Str.Parse.{digits_value};
 ghost use Rattle.httparse.specs.Grammar.{is_ows, trim_ows};
 ghost use Rattle.httparse.specs.Spans.{IsHeaderWithin, header_bytes};
 ghost use Rattle.explorer_model.specs.Classes.{number_of};
-ghost use Rattle.explorer_model.specs.Wire.{is_same_word, has_close, length_by};
+ghost use Rattle.explorer_model.specs.Letters.{is_same_word};
+ghost use Rattle.explorer_model.specs.Wire.{has_close, length_by};
 ghost use Rattle.http_wire.specs.Fields.{values_in};
 
 use arrayvec::ArrayVec;

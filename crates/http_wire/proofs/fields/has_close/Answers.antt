@@ -2,7 +2,7 @@ use Rattle.std.proofs.Common.{rules, tests, ◌==◌, ℕ, List, codes}
 use Rattle.std.proofs.lemmas.Iterator.Search.{any_from_yields_List}
 use Rattle.std.proofs.lemmas.Iterator.Splits.{YieldsList-from_slice_split}
 use Rattle.httparse.specs.Grammar.{trim_ows}
-use Rattle.explorer_model.specs.Wire.{is_same_word}
+use Rattle.explorer_model.specs.Letters.{is_same_word}
 use Rattle.http_wire.proofs.fields.has_close.Goals as goal
 
 pub returns : goal.returns
