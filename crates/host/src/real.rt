@@ -9,12 +9,13 @@ use disk_model::{Disk, FileDisk};
 use explorer_model::fault::Stop;
 use outside::{Failed, Source, StdSource, TcpDoor};
 use std::alloc::Global;
-use std::fs::{File, Files, OpenOptions};
+use std::fs::{File, Files, OpenOptions, canonicalize};
 use std::io;
 use std::marker::Model;
 use std::net::{Net, TcpListener, TcpStream};
+use std::os::fd::AsRawFd;
 
-/// The system as a host: names are paths, addresses those of TCP. It tells nothing of what stands
+/// The system as a host: names are paths, addresses those of TCP. A disk is locked while it is out. It tells nothing of what stands
 /// there, and counts each error of the system as a refusal.
 #[derive(Drop)]
 pub struct RealHost<
@@ -112,17 +113,45 @@ impl<'a, R: AllocGlobal + Files<File = File> + Net<Stream = TcpStream, Listener 
     }
 }
 
-fn open_disk<R: Files<File = File>>(rt: &R, path: &str) -> io::Result<FileDisk>
+/// A disk over the file at a path, and over no directory, pipe or device. The file is made where
+/// there is none, and is locked until the disk is let go: one that another program has as a disk is
+/// refused.
+fn open_disk<R: AllocGlobal + Files<File = File>>(rt: &R, path: &str) -> io::Result<FileDisk>
     ensures content { IfOk result (λ disk. disk.content ≡ None) }
     ensures faults { IfOk result (λ disk. disk.faults ≡ 0) }
 {
-    FileDisk::new(
-        OpenOptions::new()
-            .read(true)
-            .write(true)
-            .create(true)
-            .open(rt, path)?,
-    )
+    let file = open_to_write(rt, path)?;
+    file.try_lock()?;
+    let found = file.metadata()?;
+    if !found.is_file() {
+        return Err(io::Error::from(io::ErrorKind::Unsupported));
+    }
+    if found.len() == 0 {
+        sync_folder(rt, path)?;
+    }
+    FileDisk::new(file)
+}
+
+/// Opens a file for reading and writing, and makes it where there is none.
+fn open_to_write<R: Files<File = File>>(rt: &R, path: &str) -> io::Result<File> {
+    let file = OpenOptions::new()
+        .read(true)
+        .write(true)
+        .create(true)
+        .open(rt, path)?;
+    // What is meant for a standard stream that was closed must not land in a store.
+    if file.as_raw_fd() <= 2 {
+        return file.try_clone();
+    }
+    Ok(file)
+}
+
+/// Brings a new file's name to the device. An empty file may have been made by a run that was cut
+/// off before it did so.
+fn sync_folder<R: AllocGlobal + Files<File = File>>(rt: &R, path: &str) -> io::Result<()> {
+    let mut folder = canonicalize(rt, path)?;
+    folder.pop();
+    File::open(rt, folder.as_str())?.sync_all()
 }
 
 /// Opens a file that is no directory.

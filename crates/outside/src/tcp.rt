@@ -3,15 +3,18 @@ ghost use Rattle.outside.specs.Stream.{source_alone, sink_alone, link_of};
 
 use crate::door::Door;
 use crate::faults::Faults;
+use crate::peer;
+use crate::peer::Peer;
 use crate::standard::{StdSource, write_whole};
 use crate::stream::{Failed, Link, Sink, Source};
 use std::marker::Model;
 use std::net::{TcpListener, TcpStream};
 
-/// A connection over TCP. It tells none of its bytes, and counts each error of the socket.
+/// A connection over TCP. It tells none of its bytes, and counts each error of the socket. A read or
+/// a write that waits longer than the socket allows is such an error.
 #[derive(Drop)]
 pub struct TcpLink {
-    source: StdSource<TcpStream>,
+    source: StdSource<Peer>,
     write_faults: Faults,
 }
 
@@ -29,8 +32,15 @@ impl TcpLink {
         ensures { result ≡ link_of (source_alone None 0 0) (sink_alone None 0) }
     {
         TcpLink {
-            source: StdSource::new(stream),
+            source: StdSource::new(Peer::new(stream)),
             write_faults: Faults::new(),
+        }
+    }
+
+    /// Closes the connection: at once where a call has failed, and else by a farewell.
+    fn close(self) {
+        if self.source.read_faults() == 0 && self.write_faults.count() == 0 {
+            self.source.reader.leave();
         }
     }
 }
@@ -64,8 +74,9 @@ impl Link for TcpLink {
     ghost one_stream = { λ _. refl };
 }
 
-/// A door over a listening socket. Doors that share the socket, each with a handle that
-/// `TcpListener::try_clone` gave, accept whichever connection comes while they wait.
+/// A door over a listening socket, which gives each link ten seconds for a read and for a write.
+/// Doors that share the socket, each with a handle that `TcpListener::try_clone` gave, accept
+/// whichever connection comes while they wait.
 #[derive(Drop)]
 pub struct TcpDoor {
     listener: TcpListener,
@@ -127,10 +138,8 @@ impl Door for TcpDoor {
         if self.left == 0 {
             return Ok(None);
         }
-        match self.listener.accept() {
-            Ok((stream, _)) => {
-                // Else the second chunk of a reply waits for the peer's delayed acknowledgement.
-                let _ = stream.set_nodelay(true);
+        match peer::accept(&self.listener) {
+            Ok(stream) => {
                 self.left -= 1;
                 self.out += 1;
                 Ok(Some(TcpLink::new(stream)))
@@ -139,8 +148,9 @@ impl Door for TcpDoor {
         }
     }
 
-    /// Closes the connection.
-    fn finish(&mut self, _link: TcpLink) {
+    /// Closes the connection, for which it may listen to the peer for a second.
+    fn finish(&mut self, link: TcpLink) {
         self.out -= 1;
+        link.close();
     }
 }
