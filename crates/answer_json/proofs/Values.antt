@@ -17,7 +17,6 @@ use Rattle.explorer_model.specs.declared.archive.Outcome.TheVariants as outcomes
 use Rattle.explorer_model.specs.declared.fault.Refusal.{Refusal}
 use Rattle.explorer_model.specs.Answer.{items_by, array_by, winner_value, listed_value, game_value, move_value, move_items, month_value, answer_value, unnamed}
 use Rattle.explorer_model.specs.Replies.{refusal_value}
-use Rattle.answer_json.specs.Stored.{stored_value}
 
 items_of-map : {A : Type 0} (value : A → Data) (xs : List A) → items_of (map value xs) ≡ items_by value xs
 items_of-map value [] = refl
@@ -70,10 +69,13 @@ pub moves-unnamed : (lines : List MoveLine) → items_by plain_move lines ≡ mo
 moves-unnamed [] = refl
 moves-unnamed (line ∷ lines) = ap (λ (items : Items). item (plain_move line) items) (moves-unnamed lines)
 
-no_float-month : (line : MonthLine) → has_float (month_value line) ≡ false
+pub no_float-month : (line : MonthLine) → has_float (month_value line) ≡ false
 no_float-month line = refl
 
-no_float-moves : (lines : List MoveLine) → items_have_float (move_items lines (unnamed lines).moves) ≡ false
+pub no_float-games : (games : List Listed) → items_have_float (items_by listed_value games) ≡ false
+no_float-games games = no_float_in listed_value no_float-listed games
+
+pub no_float-moves : (lines : List MoveLine) → items_have_float (move_items lines (unnamed lines).moves) ≡ false
 no_float-moves lines = ap items_have_float (sym (moves-unnamed lines)) ∙ no_float_in plain_move no_float-move lines
 
 with_months : (found : Found) (history : Option (List MonthLine))
@@ -86,8 +88,5 @@ with_months found (Some months) =
 pub no_float-answer : (found : Found) → has_float (answer_value found (unnamed found.moves)) ≡ false
 no_float-answer found = with_months found found.history
 
-no_float-refusal : (refusal : Refusal) → has_float (refusal_value refusal) ≡ false
+pub no_float-refusal : (refusal : Refusal) → has_float (refusal_value refusal) ≡ false
 no_float-refusal refusal = refl
-
-pub no_float-stored : (batches stored : ℕ) (refused : List Refusal) → has_float (stored_value batches stored refused) ≡ false
-no_float-stored batches stored refused = rw (no_float_in refusal_value no_float-refusal refused) refl

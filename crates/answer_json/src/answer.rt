@@ -1,10 +1,12 @@
-ghost use Rattle.std.specs.Prelude.{◌≡◌, IfOk, None, Some};
+ghost use Rattle.std.specs.Prelude.{◌≡◌, ◌++◌, IfOk, OnOk, None, Some};
 ghost use Rattle.serde_json.specs.View.{view};
 ghost use Rattle.explorer_model.specs.Answer.{answer_value, answer_body, unnamed};
+ghost use Rattle.answer_json.specs.Lists.{lists_text};
 ghost use Rattle.answer_json.specs.Plain.{IsPlainFound};
 
 use crate::game::games_value;
-use crate::line::{history_value, moves_value};
+use crate::line::{moves_value, push_months};
+use crate::pieces::push_value;
 use explorer_model::answer::{Found, MonthLine};
 use explorer_model::list::Items;
 use serde_json::{Value, json};
@@ -15,16 +17,9 @@ pub fn body(alloc: Global, found: &Found) -> Result<Vec<u8>, AllocError>
     requires { IsPlainFound found.now }
     ensures { IfOk result (λ bytes. bytes.items ≡ answer_body found.now) }
 {
-    answer_value(alloc, found)?.to_vec(alloc)
-}
-
-fn answer_value(alloc: Global, found: &Found) -> Result<Value, AllocError>
-    requires { IsPlainFound found.now }
-    ensures { IfOk result (λ value. view value ≡ answer_value found.now (unnamed found.now.moves)) }
-{
     match &found.history {
-        None => value_without_history(alloc, found),
-        Some(months) => value_with_history(alloc, found, months),
+        None => value_without_history(alloc, found)?.to_vec(alloc),
+        Some(months) => body_with_history(alloc, found, months),
     }
 }
 
@@ -45,25 +40,38 @@ fn value_without_history(alloc: Global, found: &Found) -> Result<Value, AllocErr
     })
 }
 
-fn value_with_history(
+/// The body where the months are asked for, which may be many: it is written member by member.
+fn body_with_history(
     alloc: Global,
     found: &Found,
     months: &Items<MonthLine>,
-) -> Result<Value, AllocError>
+) -> Result<Vec<u8>, AllocError>
     requires plain { IsPlainFound found.now }
     requires with { found.now.history ≡ Some months.now }
-    ensures { IfOk result (λ value. view value ≡ answer_value found.now (unnamed found.now.moves)) }
+    ensures { IfOk result (λ bytes. bytes.items ≡ answer_body found.now) }
 {
     let totals = &found.totals;
-    let (recent, top) = (found.recent.as_slice(), found.top.as_slice());
-    json!(in alloc; {
-        "black": totals.black,
-        "draws": totals.draws,
-        "history": history_value(alloc, months.as_slice())?,
-        "moves": moves_value(alloc, found.moves.as_slice())?,
-        "opening": null,
-        "recentGames": games_value(alloc, recent)?,
-        "topGames": games_value(alloc, top)?,
-        "white": totals.white
-    })
+    let mut body = Vec::new(alloc);
+    push_value(alloc, &mut body, b"{\"black\":", &Value::from(totals.black))?;
+    push_value(alloc, &mut body, b",\"draws\":", &Value::from(totals.draws))?;
+    body.extend_from_slice(b",\"history\":")?;
+    push_months(alloc, &mut body, months.as_slice())?;
+    push_lists(alloc, &mut body, found)?;
+    push_value(alloc, &mut body, b",\"white\":", &Value::from(totals.white))?;
+    body.push(b'}')?;
+    Ok(body)
+}
+
+/// Writes the members behind the months, up to the last one.
+fn push_lists(alloc: Global, body: &mut Vec<u8>, found: &Found) -> Result<(), AllocError>
+    requires { IsPlainFound found.now }
+    ensures { OnOk result (body.new.items ≡ body.old.items ++ lists_text found.now) }
+{
+    let moves = moves_value(alloc, found.moves.as_slice())?;
+    push_value(alloc, body, b",\"moves\":", &moves)?;
+    let recent = games_value(alloc, found.recent.as_slice())?;
+    push_value(alloc, body, b",\"opening\":null,\"recentGames\":", &recent)?;
+    let top = games_value(alloc, found.top.as_slice())?;
+    push_value(alloc, body, b",\"topGames\":", &top)?;
+    Ok(())
 }

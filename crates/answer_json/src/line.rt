@@ -1,12 +1,14 @@
 //! The lines of an answer: one for a move, and one for a month.
-ghost use Rattle.std.specs.Prelude.{◌≡◌, IfOk, None};
+ghost use Rattle.std.specs.Prelude.{◌≡◌, ◌++◌, IfOk, OnOk, None};
 ghost use Rattle.std.specs.List.{All};
 ghost use Rattle.serde_json.specs.Data.{array};
 ghost use Rattle.serde_json.specs.View.{view};
+ghost use Rattle.serde_json.specs.Written.{compact_text};
 ghost use Rattle.explorer_model.specs.Answer.{array_by, move_items, move_value, month_value, unnamed};
 ghost use Rattle.answer_json.specs.Plain.{IsPlainLine};
 
 use crate::game::game_value;
+use crate::pieces::push_value;
 use crate::texts::{month_text, text_of};
 use explorer_model::answer::{MonthLine, MoveLine};
 use fen_uci::write_uci;
@@ -54,12 +56,18 @@ fn month_value(alloc: Global, line: &MonthLine) -> Result<Value, AllocError>
     })
 }
 
-pub fn history_value(alloc: Global, lines: &[MonthLine]) -> Result<Value, AllocError>
-    ensures { IfOk result (λ value. view value ≡ array_by month_value lines.now) }
+/// Writes the months as an array, one after another, since there may be many.
+pub fn push_months(alloc: Global, body: &mut Vec<u8>, lines: &[MonthLine]) -> Result<(), AllocError>
+    ensures { OnOk result (body.new.items
+        ≡ body.old.items ++ compact_text (array_by month_value lines.now)) }
 {
-    let mut values = Vec::with_capacity(alloc, lines.len())?;
+    body.push(b'[')?;
+    let mut comma: &[u8] = b"";
     for line in lines {
-        values.push(month_value(alloc, line)?)?;
+        let value = month_value(alloc, line)?;
+        push_value(alloc, body, comma, &value)?;
+        comma = b",";
     }
-    Ok(Value::Array(values))
+    body.push(b']')?;
+    Ok(())
 }

@@ -1,10 +1,11 @@
 //! The body that tells what an import stored.
-ghost use Rattle.std.specs.Prelude.{◌≡◌, IfOk};
+ghost use Rattle.std.specs.Prelude.{◌≡◌, ◌++◌, IfOk, OnOk};
 ghost use Rattle.serde_json.specs.View.{view};
+ghost use Rattle.serde_json.specs.Written.{compact_text};
 ghost use Rattle.explorer_model.specs.Answer.{array_by};
 ghost use Rattle.explorer_model.specs.Replies.{refusal_value, stored_body};
-ghost use Rattle.answer_json.specs.Stored.{stored_value};
 
+use crate::pieces::push_value;
 use explorer_model::fault::Refusal;
 use serde_json::{Value, json};
 use std::alloc::{AllocError, Global};
@@ -19,32 +20,29 @@ pub fn stored_body(
 ) -> Result<Vec<u8>, AllocError>
     ensures { IfOk result (λ bytes. bytes.items ≡ stored_body batches stored refused.now) }
 {
-    stored_value(alloc, batches, stored, refused)?.to_vec(alloc)
+    let mut body = Vec::new(alloc);
+    push_value(alloc, &mut body, b"{\"batches\":", &Value::from(batches))?;
+    body.extend_from_slice(b",\"refused\":")?;
+    push_refusals(alloc, &mut body, refused)?;
+    push_value(alloc, &mut body, b",\"stored\":", &Value::from(stored))?;
+    body.push(b'}')?;
+    Ok(body)
 }
 
-fn stored_value(
-    alloc: Global,
-    batches: u32,
-    stored: u32,
-    refused: &[Refusal],
-) -> Result<Value, AllocError>
-    ensures { IfOk result (λ value. view value ≡ stored_value batches stored refused.now) }
+/// Writes the refusals as an array, one after another, since there may be many.
+fn push_refusals(alloc: Global, body: &mut Vec<u8>, refused: &[Refusal]) -> Result<(), AllocError>
+    ensures { OnOk result (body.new.items
+        ≡ body.old.items ++ compact_text (array_by refusal_value refused.now)) }
 {
-    json!(in alloc; {
-        "batches": batches,
-        "refused": refusals_value(alloc, refused)?,
-        "stored": stored
-    })
-}
-
-fn refusals_value(alloc: Global, refused: &[Refusal]) -> Result<Value, AllocError>
-    ensures { IfOk result (λ value. view value ≡ array_by refusal_value refused.now) }
-{
-    let mut values = Vec::with_capacity(alloc, refused.len())?;
+    body.push(b'[')?;
+    let mut comma: &[u8] = b"";
     for refusal in refused {
-        values.push(refusal_value(alloc, refusal)?)?;
+        let value = refusal_value(alloc, refusal)?;
+        push_value(alloc, body, comma, &value)?;
+        comma = b",";
     }
-    Ok(Value::Array(values))
+    body.push(b']')?;
+    Ok(())
 }
 
 fn refusal_value(alloc: Global, refusal: &Refusal) -> Result<Value, AllocError>

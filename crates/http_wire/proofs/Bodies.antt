@@ -1,12 +1,13 @@
 -- A body that is filled by reads.
-use Rattle.std.proofs.Common.{◌≡◌, ℕ, suc, ◌+◌, ◌<◌, ◌≤◌, List, [], ◌∷◌, ◌++◌, length, take, drop, min, refl, sym, ap, ◌∙◌, subst, arith, append_assoc, length-append}
-use Rattle.std.proofs.lemmas.List.{append-nil, take_all, drop_all, length-take-le}
+use Rattle.std.proofs.Common.{◌≡◌, Bool, true, false, if◌then◌else◌, ℕ, suc, ◌+◌, ◌<◌, ◌≤◌, List, [], ◌∷◌, ◌++◌, length, take, drop, min, refl, sym, ap, ◌∙◌, subst, arith, append_assoc, length-append}
+use Rattle.std.proofs.lemmas.List.{append-nil, take_all, take-append-le, drop_all, length-take-le}
 use borrow.Rule.Slice.PartMut.{put_mid}
 use Rattle.outside.specs.Stream.{Stream, Reads, Rises, Gives, FailsToGive}
 use Rattle.outside.proofs.StreamLemmas.{reads-none, reads-trans, reads-gives, reads-fails}
 use Rattle.explorer_model.specs.declared.wire.Asked.{Asked}
 use Rattle.explorer_model.specs.declared.wire.Asked.TheVariants.{Wanted, Refused, Done, NoMemory, Cut, ReadFault}
-use Rattle.http_wire.specs.Steps.{IsAskedShort, TakesBody, LacksBody, Completes, Breaks}
+use Rattle.http_wire.specs.Steps.{IsAskedShort, TakesBody, LacksBody, TakesAhead, Grows, Completes, Breaks}
+use Rattle.http_wire.specs.Asking.{FaultsBy}
 use Rattle.http_wire.proofs.Places.{take-put}
 
 -- reads filled the bytes from start up to a place
@@ -72,6 +73,68 @@ breaks-fault start at size old new before mid after short filled fails = record 
   short = omega (arith, filled.counted, ap length (append-nil filled.got));
 }
 
+-- ---- a body that grows
+
+pub grows-none : (old : List ℕ) (s : Stream) → Grows old old s s
+grows-none old s = record { got = []; reads = reads-none s; faults = refl; grown = sym (append-nil old) }
+
+-- room that was made behind a body is filled
+pub grows-more : (old body zeros new : List ℕ) (before mid after : Stream)
+    → Grows old body before mid → Completes (length body) (body ++ zeros) new mid after
+    → Grows old new before after
+grows-more old body zeros new before mid after grows completes =
+    let front : take (length body) (body ++ zeros) ≡ body =
+    take-append-le (length body) body zeros (omega arith) ∙ take_all (length body) body (omega arith) in
+    record {
+      got = grows.got ++ completes.got;
+      reads = reads-trans grows.got completes.got before mid after grows.reads completes.reads;
+      faults = completes.faults ∙ grows.faults;
+      grown =
+          completes.filled
+          ∙ ap (λ bytes. bytes ++ completes.got) (front ∙ grows.grown)
+          ∙ append_assoc old grows.got completes.got;
+    }
+
+-- both of two numbers are within a bound, so whichever is taken
+pub either-within : (taken : Bool) (first second bound : ℕ) → first ≤ bound → second ≤ bound
+    → (if taken then first else second) ≤ bound
+either-within true first second bound first_within second_within = first_within
+either-within false first second bound first_within second_within = second_within
+
+-- what is less than a part is less than all
+short-more : (asked : Asked) (part all there other : ℕ) → (there < part → other < all)
+    → IsAskedShort asked part there → IsAskedShort asked all other
+short-more Cut part all there other less short = less short
+short-more ReadFault part all there other less short = less short
+short-more NoMemory part all there other less short = tt
+short-more (Wanted request) part all there other less short = absurd short
+short-more (Refused fault) part all there other less short = absurd short
+short-more Done part all there other less short = absurd short
+
+faults-more : (asked : Asked) (before mid after : ℕ) → mid ≡ before → FaultsBy asked mid after
+    → FaultsBy asked before after
+faults-more asked before mid after same faults = subst (λ n. FaultsBy asked n after) same faults
+
+-- reads came to no end within a part
+pub breaks-more : (asked : Asked) (old body : List ℕ) (start part all : ℕ) (before mid after : Stream)
+    → Grows old body before mid → start ≡ length body → part ≤ all → Breaks asked start part mid after
+    → Breaks asked (length old) all before after
+breaks-more asked old body start part all before mid after grows begun within breaks = record {
+  got = grows.got ++ breaks.got;
+  reads = reads-trans grows.got breaks.got before mid after grows.reads breaks.reads;
+  faults = faults-more asked before.read_faults mid.read_faults after.read_faults grows.faults breaks.faults;
+  ended = breaks.ended;
+  short =
+      short-more asked part all (start + length breaks.got) (length old + length (grows.got ++ breaks.got))
+      (λ less. omega (arith, ap length grows.grown, length-append old grows.got, length-append grows.got breaks.got))
+      breaks.short;
+}
+
+pub breaks-memory : (old body : List ℕ) (all : ℕ) (before after : Stream) → Grows old body before after
+    → Breaks NoMemory (length old) all before after
+breaks-memory old body all before after grows =
+    record { got = grows.got; reads = grows.reads; faults = grows.faults; ended = tt; short = tt }
+
 -- ---- behind what was read ahead
 
 -- bytes that follow on those held of a list: all of it, or there are none
@@ -95,43 +158,39 @@ split-take list (x ∷ got) count held least full =
     )
 
 -- those held of the list, and those that were read, are the body
-pub takes-body : (count held : ℕ) (zeros body ahead new : List ℕ) (before after : Stream)
-    → held ≡ min (length ahead) count → length zeros ≡ count → take held zeros ≡ take held ahead
-    → new ≡ drop held ahead → Completes held zeros body before after
+pub takes-body : (count : ℕ) (first body ahead new : List ℕ) (before after : Stream)
+    → TakesAhead first count ahead new → Grows first body before after → length body ≡ count
     → TakesBody body count ahead new before after
-takes-body count held zeros body ahead new before after least size front rest completes =
-    let full : held + length completes.got ≡ count = completes.full ∙ size in
-    let split = split-take ahead completes.got count held least full in
+takes-body count first body ahead new before after taken grows whole =
+    let held = min (length ahead) count in
+    let size : length first ≡ held = ap length taken.body ∙ length-take-le held ahead (omega arith) in
+    let full : held + length grows.got ≡ count =
+    omega (arith, size, ap length grows.grown, length-append first grows.got, whole) in
+    let split = split-take ahead grows.got count held refl full in
     record {
-      got = completes.got;
-      reads = completes.reads;
-      faults = completes.faults;
+      got = grows.got;
+      reads = grows.reads;
+      faults = grows.faults;
       within = split.0;
-      body = completes.filled ∙ ap (λ bytes. bytes ++ completes.got) front ∙ split.1;
-      behind = rest ∙ split.2;
+      body = grows.grown ∙ ap (λ bytes. bytes ++ grows.got) taken.body ∙ split.1;
+      behind = taken.behind ∙ split.2;
     }
 
-short-ahead : (asked : Asked) (count held some all : ℕ) → (held + some < count → all < count)
-    → IsAskedShort asked count (held + some) → IsAskedShort asked count all
-short-ahead Cut count held some all less short = less short
-short-ahead ReadFault count held some all less short = less short
-short-ahead NoMemory count held some all less short = tt
-short-ahead (Wanted request) count held some all less short = absurd short
-short-ahead (Refused fault) count held some all less short = absurd short
-short-ahead Done count held some all less short = absurd short
-
-pub lacks-body : (asked : Asked) (count held : ℕ) (ahead : List ℕ) (before after : Stream)
-    → held ≡ min (length ahead) count → Breaks asked held count before after
+pub lacks-body : (asked : Asked) (count : ℕ) (first ahead new : List ℕ) (before after : Stream)
+    → TakesAhead first count ahead new → Breaks asked (length first) count before after
     → LacksBody asked count ahead before after
-lacks-body asked count held ahead before after least breaks = record {
-  got = breaks.got;
-  reads = breaks.reads;
-  faults = breaks.faults;
-  ended = breaks.ended;
-  short =
-      short-ahead asked count held (length breaks.got) (length (ahead ++ breaks.got))
-      (λ less. omega (arith, length-append ahead breaks.got)) breaks.short;
-}
+lacks-body asked count first ahead new before after taken breaks =
+    let held = min (length ahead) count in
+    let size : length first ≡ held = ap length taken.body ∙ length-take-le held ahead (omega arith) in
+    record {
+      got = breaks.got;
+      reads = breaks.reads;
+      faults = breaks.faults;
+      ended = breaks.ended;
+      short =
+          short-more asked count count (length first + length breaks.got) (length (ahead ++ breaks.got))
+          (λ less. omega (arith, size, length-append ahead breaks.got)) breaks.short;
+    }
 
 pub lacks-memory : (count : ℕ) (ahead : List ℕ) (s : Stream) → LacksBody NoMemory count ahead s s
 lacks-memory count ahead s = record { got = []; reads = reads-none s; faults = refl; ended = tt; short = tt }

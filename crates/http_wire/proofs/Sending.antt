@@ -8,11 +8,13 @@ use Rattle.serde_json.proofs.OnLiterals.{serde_json_on_literals}
 use Rattle.outside.specs.Stream.{Stream, Rises, Takes, FailsToTake}
 use Rattle.outside.proofs.StreamLemmas.{takes-faults}
 use Rattle.explorer_model.specs.Replies.{line, reply_body, reply_text}
-use Rattle.explorer_model.specs.Query.{parameter_text}
+use Rattle.explorer_model.specs.Query.{parameter_text, player_parameter_text}
+use Rattle.explorer_model.specs.declared.player.PlayerParameter.{PlayerParameter}
+use Rattle.explorer_model.specs.declared.player.PlayerParameter.TheVariants as players
 use Rattle.explorer_model.specs.declared.query.Parameter.{Parameter}
 use Rattle.explorer_model.specs.declared.query.Parameter.TheVariants.{Variant, Fen, Play, Speeds, Ratings, Since, Until, Moves, TopGames, RecentGames, History}
 use Rattle.explorer_model.specs.declared.wire.Reply.{Reply}
-use Rattle.explorer_model.specs.declared.wire.Reply.TheVariants.{BadParameter}
+use Rattle.explorer_model.specs.declared.wire.Reply.TheVariants.{BadParameter, BadPlayerParameter}
 use Rattle.http_wire.specs.Replying.{head_text}
 
 -- the first of two writes failed
@@ -84,6 +86,15 @@ parameter-is Moves = refl
 parameter-is TopGames = refl
 parameter-is RecentGames = refl
 parameter-is History = refl
+
+pub player-parameter-is : (name : PlayerParameter)
+    → codes "{\"error\":\"malformed parameter\",\"parameter\":\"" ++ player_parameter_text name ++ codes "\"}"
+    ≡ reply_body (BadPlayerParameter name)
+unfolding reply_body serde_json_on_literals
+player-parameter-is players.Player = refl
+player-parameter-is players.Color = refl
+player-parameter-is players.Modes = refl
+player-parameter-is (players.Common name) = parameter-is name
 
 -- a head and a body, as they lie in slices
 pub chunks-are : (reply : Reply) (last : Bool) (shown head body : List ℕ) → shown ≡ head

@@ -1,5 +1,5 @@
 -- What the steps of reading one request come to.
-use Rattle.std.specs.Prelude.{◌≡◌, ◌⊎◌, ◌<◌, ◌≤◌, ⊤, ℕ, ◌+◌, List, ◌++◌, length, take, drop}
+use Rattle.std.specs.Prelude.{◌≡◌, ◌⊎◌, ◌<◌, ◌≤◌, ⊤, ℕ, ◌+◌, List, ◌++◌, length, take, drop, min}
 use Rattle.std.specs.Io.KnownBytes.{IsAtEnd}
 use Rattle.std.specs.List.{prefix_len}
 use Rattle.outside.specs.Stream.{Stream, Reads}
@@ -86,6 +86,18 @@ pub record LacksBody (asked : Asked) (count : ℕ) (old : List ℕ) (before afte
   pub faults : FaultsBy asked before.read_faults after.read_faults
   pub ended : EndsAt asked after.left
   pub short : IsAskedShort asked count (length (old ++ got))
+
+-- the body begins with those of the old bytes that it takes, and the new ones follow
+pub record TakesAhead (bytes : List ℕ) (count : ℕ) (old new : List ℕ) : Type 0 where
+  pub body : bytes ≡ take (min (length old) count) old
+  pub behind : new ≡ drop (min (length old) count) old
+
+-- reads gave the bytes that stand behind the old ones
+pub record Grows (old new : List ℕ) (before after : Stream) : Type 0 where
+  pub got : List ℕ
+  pub reads : Reads got before after
+  pub faults : after.read_faults ≡ before.read_faults
+  pub grown : new ≡ old ++ got
 
 -- reads filled the bytes from start on
 pub record Completes (start : ℕ) (old new : List ℕ) (before after : Stream) : Type 0 where

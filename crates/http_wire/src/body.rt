@@ -1,13 +1,16 @@
 //! The body of a request (RFC 9112, 6).
 ghost use Rattle.std.specs.Prelude.{◌≡◌, ◌≤◌, length, IfOk, IfErr, OnOk};
-ghost use Rattle.http_wire.specs.Steps.{TakesBody, LacksBody, Completes, Breaks};
+ghost use Rattle.http_wire.specs.Steps.{TakesBody, LacksBody, TakesAhead, Grows, Completes, Breaks};
 
 use crate::ahead::ReadAhead;
 use explorer_model::wire::Asked;
 use outside::{Failed, Link};
-use std::alloc::Global;
+use std::alloc::{AllocError, Global};
 
-/// Reads a body of `count` bytes.
+/// For how many bytes room is made before any has come.
+const FIRST_ROOM: usize = 16 * 1024;
+
+/// Reads a body of `count` bytes. Its room grows with the bytes that come.
 pub(crate) fn read_body<L: Link>(
     alloc: Global,
     ahead: &mut ReadAhead,
@@ -19,26 +22,47 @@ pub(crate) fn read_body<L: Link>(
     ensures lacked { IfErr result (λ asked. LacksBody asked count
         ahead.old (L.source link.old) (L.source link.new)) }
 {
-    let Ok(mut body) = vec![in alloc; 0; count] else {
+    let Ok(mut body) = take_ahead(alloc, ahead, count) else {
         return Err(Asked::NoMemory);
     };
-    match fill_body(&mut body, ahead, link) {
+    match fill_body(&mut body, link, count) {
         Ok(()) => Ok(body),
         Err(asked) => Err(asked),
     }
 }
 
-/// Fills a body: first with bytes that were read ahead, then with those that the link gives.
-fn fill_body<L: Link>(body: &mut [u8], ahead: &mut ReadAhead, link: &mut L) -> Result<(), Asked>
-    ensures took { OnOk result (TakesBody body.new (length body.old)
-        ahead.old ahead.new (L.source link.old) (L.source link.new)) }
-    ensures lacked { IfErr result (λ asked. LacksBody asked (length body.old)
-        ahead.old (L.source link.old) (L.source link.new)) }
+/// The first bytes of a body of `count` bytes, as far as they were read ahead.
+fn take_ahead(alloc: Global, ahead: &mut ReadAhead, count: usize) -> Result<Vec<u8>, AllocError>
+    ensures { IfOk result (λ body. TakesAhead body.items count ahead.old ahead.new) }
 {
-    let held = ahead.as_slice().len().min(body.len());
-    body[..held].copy_from_slice(&ahead.as_slice()[..held]);
+    let held = ahead.as_slice().len().min(count);
+    let body = Vec::from_slice(alloc, &ahead.as_slice()[..held])?;
     ahead.skip(held);
-    read_rest(body, held, link)
+    Ok(body)
+}
+
+/// Fills a body up to `count` bytes. It makes room for as many bytes as have come, not for those
+/// that were declared: a peer that sends nothing takes no more than the first room.
+fn fill_body<L: Link>(body: &mut Vec<u8>, link: &mut L, count: usize) -> Result<(), Asked>
+    requires { length body.old.items ≤ count }
+    ensures took { OnOk result
+        (Grows body.old.items body.new.items (L.source link.old) (L.source link.new)) }
+    ensures whole { OnOk result (length body.new.items ≡ count) }
+    ensures broken { IfErr result (λ asked.
+        Breaks asked (length body.old.items) count (L.source link.old) (L.source link.new)) }
+{
+    while body.len() < count {
+        let start = body.len();
+        let room = start.max(FIRST_ROOM).min(count - start);
+        if body.resize(start + room, 0).is_err() {
+            return Err(Asked::NoMemory);
+        }
+        match read_rest(body, start, link) {
+            Ok(()) => {}
+            Err(asked) => return Err(asked),
+        }
+    }
+    Ok(())
 }
 
 /// Reads the bytes of a body from `start` on.

@@ -154,6 +154,9 @@ fn path_of(text: &[u8]) -> Path
     if text == b"/lichess".as_slice() {
         return Path::Lichess;
     }
+    if text == b"/player".as_slice() {
+        return Path::Player;
+    }
     if text == b"/import".as_slice() {
         return Path::Import;
     }

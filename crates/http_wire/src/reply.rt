@@ -3,11 +3,9 @@ ghost use Rattle.std.specs.Prelude.{◌≡◌, ◌+◌, ◌≤◌, [], ◌++◌,
 ghost use Rattle.arrayvec.specs.ArrayVec.{array_vec_len};
 ghost use Rattle.outside.specs.Stream.{Takes, FailsToTake};
 ghost use Rattle.explorer_model.specs.Replies.{status_text, own_line, close_line, method_text, reply_body, reply_text};
-ghost use Rattle.explorer_model.specs.declared.wire.Reply.TheVariants.{BadParameter};
 ghost use Rattle.http_wire.specs.Replying.{head_text, own_body};
 
 use arrayvec::ArrayVec;
-use explorer_model::query::Parameter;
 use explorer_model::wire::{Method, Reply};
 use itoa::Buffer;
 use outside::{Failed, Link};
@@ -126,7 +124,9 @@ fn status_text(reply: &Reply) -> &'static [u8]
 {
     match reply {
         Reply::Found { .. } | Reply::Stored { .. } => b"200 OK",
-        Reply::BadParameter { .. } | Reply::BadRequest => b"400 Bad Request",
+        Reply::BadParameter { .. } | Reply::BadPlayerParameter { .. } | Reply::BadRequest => {
+            b"400 Bad Request"
+        }
         Reply::NotFound => b"404 Not Found",
         Reply::NotAllowed { .. } => b"405 Method Not Allowed",
         Reply::TooLarge => b"413 Content Too Large",
@@ -143,7 +143,8 @@ fn own_body(reply: &Reply) -> ArrayVec<u8, 128>
 {
     match reply {
         Reply::Found { .. } | Reply::Stored { .. } => body_from(b""),
-        Reply::BadParameter { name } => parameter_body(*name),
+        Reply::BadParameter { name } => parameter_body(name.as_str()),
+        Reply::BadPlayerParameter { name } => parameter_body(name.as_str()),
         Reply::BadRequest => body_from(b"{\"error\":\"bad request\"}"),
         Reply::NotFound => body_from(b"{\"error\":\"not found\"}"),
         Reply::NotAllowed { .. } => body_from(b"{\"error\":\"method not allowed\"}"),
@@ -170,11 +171,14 @@ fn body_from(bytes: &[u8]) -> ArrayVec<u8, 128>
     body
 }
 
-fn parameter_body(name: Parameter) -> ArrayVec<u8, 128>
-    ensures { result.items ≡ reply_body (BadParameter name) }
+/// The body that names a malformed parameter.
+fn parameter_body(name: &str) -> ArrayVec<u8, 128>
+    requires { length name.now ≤ 16 }
+    ensures { result.items ≡ codes "{\"error\":\"malformed parameter\",\"parameter\":\""
+        ++ name.now ++ codes "\"}" }
 {
     let mut body = body_from(b"{\"error\":\"malformed parameter\",\"parameter\":\"");
-    push(&mut body, name.as_str().as_bytes());
+    push(&mut body, name.as_bytes());
     push(&mut body, b"\"}");
     body
 }

@@ -135,6 +135,13 @@ impl Block {
         })
     }
 
+    /// Gives back the room that the rows do not take.
+    pub fn shrink_to_fit(&mut self)
+        ensures { self.new ≡ self.old }
+    {
+        self.rows.shrink_to_fit();
+    }
+
     /// The place before the first row.
     pub fn cursor(&self) -> BlockCursor<'_>
         ensures rows { result ≡ self.now }

@@ -122,6 +122,15 @@ impl EncodedRows {
         })
     }
 
+    /// Gives back the room that the rows do not take.
+    pub fn shrink_to_fit(&mut self)
+        ensures { self.new ≡ self.old }
+    {
+        self.marks.shrink_to_fit();
+        self.tails.shrink_to_fit();
+        self.whole.shrink_to_fit();
+    }
+
     /// The place before the first row, which stands behind the key `before`.
     pub fn cursor(&self, before: [u8; 34]) -> BlockCursor<'_>
         ensures { result ≡ rows_of self.now before }

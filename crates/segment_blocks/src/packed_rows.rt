@@ -65,6 +65,7 @@ impl PackedRows {
         for part in parts {
             packed.push_all(alloc, part.as_slice())?;
         }
+        packed.shrink_last();
         Ok(packed)
     }
 
@@ -79,7 +80,7 @@ impl PackedRows {
         Ok(())
     }
 
-    /// The rows of parts, one part after another. Their blocks stay as they are.
+    /// The rows of parts, one part after another. Their blocks keep their rows.
     pub(crate) fn of_parts(alloc: Global, parts: Vec<PackedRows>) -> Result<PackedRows, AllocError>
         requires in_order { AreInOrder (rows_of_parts parts.items) }
         ensures { IfOk result (λ packed. packed.rows ≡ rows_of_parts parts.items) }
@@ -88,6 +89,8 @@ impl PackedRows {
             blocks: Vec::with_capacity(alloc, count_blocks(parts.as_slice()))?,
         };
         for part in parts {
+            let mut part = part;
+            part.shrink_last();
             all.append(part)?;
         }
         Ok(all)
@@ -206,6 +209,17 @@ impl PackedRows {
         ensures { result ≡ slice_get (map (λ row. row.key) self.now.rows) n }
     {
         key_of(self.blocks.as_slice(), n)
+    }
+
+    /// Gives back the room that the rows of the last block do not take, where no more rows come. The
+    /// blocks before it have just the room that theirs take.
+    fn shrink_last(&mut self)
+        ensures { self.new ≡ self.old }
+    {
+        let count = self.blocks.as_slice().len();
+        if count > 0 {
+            self.blocks[count - 1].shrink_to_fit();
+        }
     }
 
     /// Puts other rows behind these. After a refusal these are as before, and the others are lost.

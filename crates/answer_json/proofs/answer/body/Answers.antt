@@ -4,9 +4,9 @@ use Rattle.explorer_model.specs.Answer.{named_body}
 use Rattle.answer_json.proofs.Values.{no_float-answer}
 use Rattle.answer_json.proofs.answer.body.Goals as goal
 
-pub returns : goal.returns
+pub returns-in_ok-value_without_history-in-None : goal.returns-in_ok-value_without_history-in-None
 unfolding named_body
-returns c =
-    let is = c.in_ok-answer_value.ensures in
+returns-in_ok-value_without_history-in-None c =
+    let is = c.in_ok-value_without_history-in-None.ensures in
     let sound = ap has_float is ∙ no_float-answer c.args.found.now in
     grind (arith, c.to_vec.ensures.text, is, sound)

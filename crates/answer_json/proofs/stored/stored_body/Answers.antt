@@ -1,12 +1,20 @@
-use Rattle.std.proofs.Common.{◌∙◌, ap, arith}
-use Rattle.serde_json.specs.Written.{has_float}
-use Rattle.explorer_model.specs.Replies.{stored_body}
-use Rattle.answer_json.proofs.Values.{no_float-stored}
+use Rattle.std.proofs.Common.{◌≡◌}
+use Rattle.explorer_model.specs.Answer.{array_by}
+use Rattle.explorer_model.specs.Replies.{refusal_value, stored_body}
+use Rattle.answer_json.proofs.Writing.{stored-pieces}
 use Rattle.answer_json.proofs.stored.stored_body.Goals as goal
 
 pub returns : goal.returns
 unfolding stored_body
 returns c =
-    let is = c.in_ok-stored_value.ensures in
-    let sound = ap has_float is ∙ no_float-stored c.args.batches c.args.stored c.args.refused.now in
-    grind (arith, c.to_vec.ensures.text, is, sound)
+    rw (
+      c.in_ok-push.ensures.items,
+      c.in_ok-push_value-2.ensures,
+      c.from-2.ensures,
+      c.in_ok-push_refusals.ensures,
+      c.in_ok-extend_from_slice.ensures.items,
+      c.in_ok-push_value.ensures,
+      c.from.ensures,
+      c.new-body.ensures.items,
+    )
+    (stored-pieces c.args.batches c.args.stored (array_by refusal_value c.args.refused.now))

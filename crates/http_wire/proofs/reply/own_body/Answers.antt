@@ -1,7 +1,23 @@
-use Rattle.std.proofs.Common.{◌∙◌, append_assoc}
+use Rattle.std.proofs.Common.{◌++◌, codes, ap, ◌∙◌, append_assoc}
 use Rattle.serde_json.proofs.OnLiterals.{serde_json_on_literals}
 use Rattle.explorer_model.specs.Replies.{reply_body}
+use Rattle.http_wire.proofs.Sending.{parameter-is, player-parameter-is}
 use Rattle.http_wire.proofs.reply.own_body.Goals as goal
+
+pub returns-in-BadParameter : goal.returns-in-BadParameter
+returns-in-BadParameter c =
+    rw c.in-BadParameter.is
+    (c.parameter_body.ensures
+    ∙ ap (λ text. codes "{\"error\":\"malformed parameter\",\"parameter\":\"" ++ text ++ codes "\"}") c.as_str.ensures
+    ∙ parameter-is c.in-BadParameter.name)
+
+pub returns-in-BadPlayerParameter : goal.returns-in-BadPlayerParameter
+returns-in-BadPlayerParameter c =
+    rw c.in-BadPlayerParameter.is
+    (c.parameter_body-in-BadPlayerParameter.ensures
+    ∙ ap (λ text. codes "{\"error\":\"malformed parameter\",\"parameter\":\"" ++ text ++ codes "\"}")
+    c.as_str-in-BadPlayerParameter.ensures
+    ∙ player-parameter-is c.in-BadPlayerParameter.name)
 
 pub returns-in-BadRequest : goal.returns-in-BadRequest
 unfolding reply_body serde_json_on_literals

@@ -1,5 +1,4 @@
 use Rattle.std.proofs.Common.{◌++◌, codes, ap, ◌∙◌}
-use Rattle.http_wire.proofs.Sending.{parameter-is}
 use Rattle.http_wire.proofs.reply.parameter_body.Goals as goal
 
 pub returns : goal.returns
@@ -8,5 +7,4 @@ returns c =
     ∙ ap (λ text. text ++ codes "\"}")
     (c.push.ensures.text
     ∙ ap (λ text. text ++ c.as_bytes.result.now) c.body_from-body.ensures
-    ∙ ap (λ text. codes "{\"error\":\"malformed parameter\",\"parameter\":\"" ++ text) (c.as_bytes.ensures.value ∙ c.as_str.ensures))
-    ∙ parameter-is c.args.name
+    ∙ ap (λ text. codes "{\"error\":\"malformed parameter\",\"parameter\":\"" ++ text) c.as_bytes.ensures.value)

@@ -14,4 +14,6 @@ append-requires c =
     let rest = rows_of_parts c.next.new.self.rest.items in
     let whole : rows_of_parts c.args.parts.items ≡ (all ++ part.rows) ++ rest =
     sym c.loop-part.invariant ∙ ap (λ parts. all ++ rows_of_parts parts) c.in-Some.ensures.steps.0 ∙ sym (append_assoc all part.rows rest) in
-    record { in_order = in_order-front (all ++ part.rows) rest (subst AreInOrder whole c.requires.in_order) }
+    let ordered : AreInOrder (all ++ part.rows) =
+    in_order-front (all ++ part.rows) rest (subst AreInOrder whole c.requires.in_order) in
+    record { in_order = subst AreInOrder (ap (λ shrunk. all ++ shrunk.rows) (sym c.shrink_last.ensures)) ordered }

@@ -1,7 +1,0 @@
-use Rattle.std.proofs.Common.{◌≡◌, map, take}
-use Rattle.serde_json.specs.View.{view}
-use Rattle.explorer_model.specs.Answer.{month_value}
-use Rattle.answer_json.proofs.line.history_value.Given as goal
-
-abbrev pub invariant-loop-line : goal.invariant-loop-line
-invariant-loop-line l = map view l.values.items ≡ map month_value (take l.line-index l.lines)
