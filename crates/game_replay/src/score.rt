@@ -19,6 +19,7 @@ use std::alloc::Global;
 /// The most moves of a game.
 const PLY_LIMIT: usize = 1024;
 
+/// What is known of a game before its moves are played: its move tokens are spans of the text.
 #[derive(Debug, Drop)]
 pub struct Scored {
     pub classes: Classes,
@@ -26,8 +27,8 @@ pub struct Scored {
     pub spans: Vec<Span>,
 }
 
-/// The classes, the position that the moves begin in and the move tokens of a text, as spans of it, or the first fault
-/// that does not ask what the moves are.
+/// The classes of a text, the position that it begins in and its move tokens, or the first fault that does not ask
+/// what the moves are.
 pub fn score(alloc: Global, text: &[u8]) -> Result<Scored, Stop<GameFault>>
     requires { length text.now ≤ 65536 }
     ensures score { GivesScore text.now result }
@@ -40,7 +41,8 @@ pub fn score(alloc: Global, text: &[u8]) -> Result<Scored, Stop<GameFault>>
     score_of(tagged, root)
 }
 
-/// The position that the tag FEN sets up, or its first faulty field; the starting position where there is no such tag.
+/// The position that the tag FEN sets up, or the fault of its first faulty field; without such a tag the starting
+/// position.
 fn root_of(tags: &Tags) -> Result<Board, Stop<GameFault>>
     ensures { Answers result (RootReads (start_text tags.now)) }
 {
@@ -53,7 +55,7 @@ fn root_of(tags: &Tags) -> Result<Board, Stop<GameFault>>
     }
 }
 
-/// The score of a text with these tags.
+/// The score of a text that says this and begins there, or the first fault that is left to be told.
 #[tactic(auto, unfolding(explorer_model::specs::Games::score))]
 fn score_of(tagged: TaggedText, root: Board) -> Result<Scored, Stop<GameFault>>
     ensures score { (text : List ℕ)

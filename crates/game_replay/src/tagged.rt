@@ -17,6 +17,7 @@ use game_classes::classes;
 use pgn_lex::{SpannedParts, spanned_parts};
 use std::alloc::Global;
 
+/// The parts of a text, and the classes that its tags tell.
 #[derive(Debug, Drop)]
 pub struct TaggedText {
     pub spanned: SpannedParts,
