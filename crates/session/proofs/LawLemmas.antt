@@ -26,7 +26,7 @@ use Rattle.ingest_desk.specs.declared.report.ImportEnding.TheVariants as endings
 use Rattle.session.specs.Exchanges.{Exchange, Grants, Moment, AreExchanges}
 use Rattle.session.specs.Imports.{TellsEnding}
 use Rattle.session.specs.Laws.{AscendFrom, IsOverFront, IsTold, number_of, numbers, unread_in, unread_one}
-use Rattle.session.specs.Replies.{AnswersQuery, Answer, Fixed, Import, Readings, Route, Silence, route_by, route_of}
+use Rattle.session.specs.Replies.{AnswersQuery, Answer, Fixed, Import, PlayerAnswer, Readings, Route, Silence, no_offer, route_by, route_of}
 
 length-front : (n : ℕ) (xs : List Batch) → n ≤ length xs → length (take n xs) ≡ n
 length-front n xs few = omega (arith, length-take n xs)
@@ -77,6 +77,7 @@ route-number : (route : Route) (journal : List Batch) (before after : Moment) (c
     → IsUnnumbered route → Grants route journal before after call reply → number_of reply ≡ Some n → n ≡ length journal
 unfolding IsUnnumbered
 route-number (Answer text) journal before after call reply n none a e = answer-number text journal before.readings after.readings reply n a.answers e
+route-number (PlayerAnswer text) journal before after call reply n none a e = absurd a
 route-number (Import body) journal before after call reply n none a e =
     ending-number a.made.ending (length journal) a.made.games a.replies.refused reply n a.replies.tells e
 route-number (Fixed fixed) journal before after call reply n none a e = absurd (same-number reply fixed n none a.is_fixed e)
@@ -98,11 +99,12 @@ IsRead : Route → Type 0
 IsRead (Fixed fixed) = unread_one fixed ≡ 0
 IsRead _ = Unit {0}
 
-is-read-by : (path : Path) (method : Method) (query body : List ℕ) → IsRead (route_by path method query body)
+is-read-by : (path : Path) (method : Method) (query body : List ℕ) → IsRead (route_by no_offer path method query body)
 unfolding IsRead
 is-read-by paths.Lichess methods.Get query body = tt
 is-read-by paths.Lichess methods.Post query body = refl
 is-read-by paths.Lichess methods.Other query body = refl
+is-read-by paths.Player method query body = refl
 is-read-by paths.Import methods.Get query body = refl
 is-read-by paths.Import methods.Post query body = tt
 is-read-by paths.Import methods.Other query body = refl
@@ -119,11 +121,12 @@ is-read asks.Done = tt
 is-read asks.Cut = tt
 is-read asks.ReadFault = tt
 
-unnumbered-by : (path : Path) (method : Method) (query body : List ℕ) → IsUnnumbered (route_by path method query body)
+unnumbered-by : (path : Path) (method : Method) (query body : List ℕ) → IsUnnumbered (route_by no_offer path method query body)
 unfolding IsUnnumbered
 unnumbered-by paths.Lichess methods.Get query body = tt
 unnumbered-by paths.Lichess methods.Post query body = refl
 unnumbered-by paths.Lichess methods.Other query body = refl
+unnumbered-by paths.Player method query body = refl
 unnumbered-by paths.Import methods.Get query body = refl
 unnumbered-by paths.Import methods.Post query body = tt
 unnumbered-by paths.Import methods.Other query body = refl
@@ -178,6 +181,7 @@ route-unread : (route : Route) (journal : List Batch) (before after : Moment) (c
     → before.readings.unread + unread_one reply ≤ after.readings.unread
 unfolding IsRead
 route-unread (Answer text) journal before after call reply read a = answer-unread text journal before.readings after.readings reply a.answers
+route-unread (PlayerAnswer text) journal before after call reply read a = absurd a
 route-unread (Import body) journal before after call reply read a =
     let none = ending-unread a.made.ending (length journal) a.made.games a.replies.refused reply a.replies.tells in
     let same : after.readings.unread ≡ before.readings.unread = ap (λ (r : Readings). r.unread) a.readings in

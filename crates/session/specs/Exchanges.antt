@@ -9,7 +9,7 @@ use Rattle.published_index.specs.States.{Watching}
 use Rattle.ingest_desk.specs.declared.report.ImportCall.{ImportCall}
 use Rattle.ingest_desk.specs.Importers.{CountsRose, ImportCounts, ImporterState}
 use Rattle.session.specs.Imports.{RepliesTo}
-use Rattle.session.specs.Replies.{AnswersQuery, Readings, Route, Answer, Import, Fixed, Silence, closes, readings_of, route_of}
+use Rattle.session.specs.Replies.{AnswersQuery, Readings, Route, Answer, PlayerAnswer, Import, Fixed, Silence, closes, readings_of, route_of}
 
 -- what stays from one connection to the next: the pass, and the importer
 pub record Backend : Type 0 where
@@ -65,10 +65,12 @@ pub record GrantsFixed (fixed : Reply) (before after : Moment) (call : Option Im
   pub uncalled : call ≡ None
   pub stays : after ≡ before
 
--- the reply is one to what is asked for, over the journal that the pass has seen then
+-- The reply is one to what is asked for, over the journal that the pass has seen then. A player's
+-- games are not offered, so that no reply is granted to their route.
 abbrev pub Grants : Route → List Batch → Moment → Moment → Option ImportCall → Reply → Type 0
 Grants (Answer text) journal before after call reply =
     GrantsAnswer text journal before after call reply
+Grants (PlayerAnswer text) journal before after call reply = ⊥
 Grants (Import body) journal before after call reply =
     GrantsImport body journal before after call reply
 Grants (Fixed fixed) journal before after call reply = GrantsFixed fixed before after call reply

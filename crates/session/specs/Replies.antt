@@ -1,5 +1,5 @@
 -- Statement: what is replied to what a connection asks.
-use Rattle.std.specs.Prelude.{◌≡◌, ◌⊎◌, ◌+◌, ◌<◌, ℕ, Bool, true, List, Err}
+use Rattle.std.specs.Prelude.{◌≡◌, ◌⊎◌, ◌+◌, ◌<◌, ℕ, Bool, true, false, List, Err}
 use Rattle.explorer_model.specs.declared.archive.Batch.{Batch}
 use Rattle.explorer_model.specs.declared.wire.Asked.{Asked}
 use Rattle.explorer_model.specs.declared.wire.Asked.TheVariants as asks
@@ -17,10 +17,20 @@ use Rattle.published_index.specs.States.{Watching}
 
 -- ---- what is asked for
 
+-- what is served beside answers over all games and imports
+pub record Offer : Type 0 where
+  -- answers over a player's games
+  pub players : Bool
+
+abbrev pub no_offer : Offer
+no_offer = record { players = false }
+
 -- what a connection asks for
 pub data Route : Type 0 where
   -- an answer to the query string
   Answer : List ℕ → Route
+  -- an answer to the query string over a player's games
+  PlayerAnswer : List ℕ → Route
   -- an import of the body
   Import : List ℕ → Route
   -- a reply that nothing else decides
@@ -28,21 +38,30 @@ pub data Route : Type 0 where
   -- no reply
   Silence : Route
 
+-- where no player's games are offered, their path is none, whatever the method
+abbrev pub player_route : Bool → Method → List ℕ → Route
+player_route true methods.Get query = PlayerAnswer query
+player_route true _ query = Fixed (replies.NotAllowed methods.Get)
+player_route false _ query = Fixed replies.NotFound
+
 -- paths take one method each
-abbrev pub route_by : Path → Method → List ℕ → List ℕ → Route
-route_by paths.Lichess methods.Get query body = Answer query
-route_by paths.Lichess _ query body = Fixed (replies.NotAllowed methods.Get)
-route_by paths.Import methods.Post query body = Import body
-route_by paths.Import _ query body = Fixed (replies.NotAllowed methods.Post)
-route_by paths.Other _ query body = Fixed replies.NotFound
+abbrev pub route_by : Offer → Path → Method → List ℕ → List ℕ → Route
+route_by offer paths.Lichess methods.Get query body = Answer query
+route_by offer paths.Lichess _ query body = Fixed (replies.NotAllowed methods.Get)
+route_by offer paths.Player method query body = player_route offer.players method query
+route_by offer paths.Import methods.Post query body = Import body
+route_by offer paths.Import _ query body = Fixed (replies.NotAllowed methods.Post)
+route_by offer paths.Other _ query body = Fixed replies.NotFound
 
 abbrev pub refusal_reply : RequestFault → Reply
 refusal_reply faults.BadRequest = replies.BadRequest
 refusal_reply faults.TooLarge = replies.TooLarge
 refusal_reply faults.HeadTooLarge = replies.HeadTooLarge
 
+-- nothing but answers over all games and imports is served
 abbrev pub route_of : Asked → Route
-route_of (asks.Wanted request) = route_by request.path request.method request.query request.body
+route_of (asks.Wanted request) =
+    route_by no_offer request.path request.method request.query request.body
 route_of (asks.Refused fault) = Fixed (refusal_reply fault)
 route_of asks.NoMemory = Fixed replies.NoMemory
 route_of asks.Done = Silence

@@ -36,7 +36,8 @@ pub fn answer<J: Index>(alloc: Global, pass: &mut Pass<J>, text: &[u8]) -> Reply
     answer_by(alloc, pass, &mut Answers::none(), text)
 }
 
-/// The same. An answer that is kept over that journal is given again, and the others are kept.
+/// The same, with answers that are kept: one over that journal is given again, and a new one is kept.
+/// A malformed query is told without entering, and each answer enters once, kept or not.
 pub fn answer_by<J: Index>(
     alloc: Global,
     pass: &mut Pass<J>,

@@ -9,13 +9,15 @@ use std::hash::{DefaultHasher, Hash, Hasher};
 use std::marker::Model;
 use std::num::NonZeroUsize;
 
-/// How many answers are kept.
+/// How many answers a reader keeps.
 const COUNT_LIMIT: usize = 128;
 
-/// The most bytes of a query string and of a body that are kept.
+/// The most bytes of a query string that is kept, and of a body. A request's head has no query
+/// string above 8,192, so a reader that serves connections keeps at most 3 MiB.
 const SIZE_LIMIT: usize = 16_384;
 
-/// An answer that was given: the query string, what the pass had seen then, and the body.
+/// An answer that was given: the query string, what the pass had seen then, and the body. That the
+/// one is the other's stands in the value itself, whatever becomes of the map that holds it.
 #[derive(Drop)]
 pub struct KeptAnswer<J: Index> {
     text: Vec<u8>,
@@ -42,7 +44,8 @@ impl<J: Index> Model for KeptAnswer<J> {
 }
 
 impl<J: Index> KeptAnswer<J> {
-    /// The body, where it answers the query string over all that the pass has seen.
+    /// The body, where the query string is its own and the pass has seen just what it is over. A merge
+    /// leaves what is seen as it is.
     fn body_for(&self, pass: &Pass<J>, text: &[u8]) -> Option<&[u8]>
         ensures { IfSome result (λ body.
             IsFoundIn text.now pass.now.seen (length pass.now.seen) body.now) }
@@ -55,21 +58,22 @@ impl<J: Index> KeptAnswer<J> {
     }
 }
 
-/// The answers that were given last over what one pass has seen. Each says by itself over which
-/// journal it is, so nothing has to be known of them. Where there is no memory none are kept.
+/// The answers that were given last, up to 128 of them: those that were asked for longest ago go
+/// first. Each says by itself over which journal it is, so they may go with any pass of the index.
+/// Where there is no memory for an answer it is not kept.
 #[derive(Drop)]
 pub struct Answers<J: Index> {
-    /// By a hash of the query string, which is compared itself.
+    /// By a hash of the query string. Nothing rests on the hash, since the string is compared.
     kept: Option<LruCache<u64, KeptAnswer<J>>>,
 }
 
 impl<J: Index> Answers<J> {
-    /// None are kept.
+    /// No answer, and none is ever kept.
     pub fn none() -> Self {
         Answers { kept: None }
     }
 
-    /// No answer yet.
+    /// No answer yet. Where there is no memory none is ever kept.
     pub fn new(alloc: Global) -> Self {
         let Some(most) = NonZeroUsize::new(COUNT_LIMIT) else {
             return Answers::none();
@@ -79,8 +83,8 @@ impl<J: Index> Answers<J> {
         }
     }
 
-    /// A copy of a body that answers the query string over all that the pass has seen, where one
-    /// is kept and there is memory for the copy.
+    /// A copy of the body that answers the query string over all that the pass has seen, where one is
+    /// kept and there is memory for the copy.
     pub fn find(&mut self, alloc: Global, pass: &Pass<J>, text: &[u8]) -> Option<Vec<u8>>
         ensures { IfSome result (λ body.
             IsFoundIn text.now pass.now.seen (length pass.now.seen) body.items) }
@@ -91,7 +95,8 @@ impl<J: Index> Answers<J> {
         body.to_vec(alloc).ok()
     }
 
-    /// Keeps an answer over all that the pass has seen, where it is small and there is memory.
+    /// Keeps an answer over all that the pass has seen, where neither the query string nor the body
+    /// has more than 16,384 bytes and there is memory.
     pub fn keep(&mut self, alloc: Global, pass: &Pass<J>, text: &[u8], body: &[u8])
         requires { IsFoundIn text.now pass.now.seen (length pass.now.seen) body.now }
     {

@@ -9,7 +9,8 @@ pub mod laws;
 mod replying;
 mod serving;
 
-pub use answering::answer;
+pub use answering::{answer, answer_by};
 pub use doors::{DoorEnd, serve_door};
 pub use importing::{import, learn_notes, learn_receipts};
+pub use kept_answers::Answers;
 pub use serving::{Ended, serve_connection};

@@ -80,6 +80,8 @@ fn reply_to_request<J: Index, I: Importer<J>, R: Wait + Threads + Sync>(
                 allow: Method::Post,
             },
         },
+        // No player's games are offered.
+        Path::Player => Reply::NotFound,
         Path::Other => Reply::NotFound,
     }
 }
