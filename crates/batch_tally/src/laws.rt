@@ -66,12 +66,12 @@ pub fn accounting_is_determined()
 pub fn accounting_apart_is_determined()
     ensures batches { (groups : List (List Cut)) (batches others : List Batch)
         (refused other : List Refusal)
-        → AccountedApart no_label groups batches refused → AccountedApart no_label groups others other → batches
-        ≡ others }
+        → AccountedApart no_label groups batches refused
+        → AccountedApart no_label groups others other → batches ≡ others }
     ensures refused { (groups : List (List Cut)) (batches others : List Batch)
         (refused other : List Refusal)
-        → AccountedApart no_label groups batches refused → AccountedApart no_label groups others other → refused
-        ≡ other }
+        → AccountedApart no_label groups batches refused
+        → AccountedApart no_label groups others other → refused ≡ other }
 {
     game_is_determined();
 }

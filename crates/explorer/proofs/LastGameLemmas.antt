@@ -5,9 +5,12 @@ use Rattle.explorer_model.specs.declared.archive.Game.{Game}
 use Rattle.explorer_model.specs.declared.chess.Move.{Move}
 use Rattle.explorer_model.specs.declared.chess.Position.{Position}
 use Rattle.explorer_model.specs.declared.fault.GameFault.{GameFault}
+use Rattle.explorer_model.specs.declared.fault.Stop.{Stop}
+use Rattle.explorer_model.specs.declared.fault.Stop.TheVariants as stops
 use Rattle.explorer_model.specs.Chess.{IsValid, Legal, after, start}
 use Rattle.explorer_model.specs.Fen.{FenReads, fen_text}
 use Rattle.explorer_model.specs.Games.{GameOf}
+use Rattle.explorer_model.specs.Stop.{Answers}
 use Rattle.explorer_model.specs.Visits.{AreLegalFrom, IsTextOf}
 use Rattle.rand_pcg.specs.Lcg.{Lcg}
 use Rattle.sample_games.specs.Samples as samples
@@ -33,6 +36,14 @@ pub no_fault : OneGame → (text : List ℕ) (game : Game) (fault : GameFault) �
 no_fault one text game fault is bad =
     let same : (let r : Result Game GameFault = Ok game in r) ≡ Err fault = one text (Ok game) (Err fault) is bad in
     cc
+
+-- so no fault is answered for it
+pub answers_no_fault : OneGame → (text : List ℕ) (game : Game) (answer : Result Game (Stop GameFault)) (stop : Stop GameFault) (fault : GameFault)
+    → IsTextOf text game → Answers answer (GameOf text) → answer ≡ Err stop → stop ≡ stops.Fault fault → ⊥
+answers_no_fault one text game answer stop fault is answers err told =
+    let P : Result Game (Stop GameFault) → Type 0 = λ r. Answers r (GameOf text) in
+    let S : Stop GameFault → Type 0 = λ s. P (Err s) in
+    no_fault one text game fault is (subst S told (subst P err answers))
 
 -- ---- moves one behind another
 

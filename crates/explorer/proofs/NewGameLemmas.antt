@@ -57,8 +57,8 @@ size_of (text ∷ texts) short = omega (arith, sum_by-cons (λ (x : List ℕ). l
 
 pub find_room : (journal : List Batch) (texts : List (List ℕ)) (stream : List ℕ) → journal ≡ [] → IsStreamOf texts stream → FindRoom journal (placed_at 0 texts)
 find_room journal texts stream empty is =
-    let games : 0 + length (placed_at 0 texts) ≤ 131072 = omega (arith, count_placed 0 texts, is.few) in
-    let bytes : 0 + sum_by (λ (text : Placed). length text.bytes) (placed_at 0 texts) ≤ 268435456 = omega (arith, size_placed 0 texts is.short, is.few) in
+    let games : 0 + length (placed_at 0 texts) ≤ 262144 = omega (arith, count_placed 0 texts, is.few) in
+    let bytes : 0 + sum_by (λ (text : Placed). length text.bytes) (placed_at 0 texts) ≤ 536870912 = omega (arith, size_placed 0 texts is.short, is.few) in
     subst (λ (j : List Batch). FindRoom j (placed_at 0 texts)) (sym empty) (games, bytes)
 
 pub below_limit : (texts : List (List ℕ)) (stream : List ℕ) → IsStreamOf texts stream → length stream < input_limit

@@ -107,7 +107,8 @@ fn count_alone<R: Threads + Sync>(
     Ok(CountedBatch { size, segment })
 }
 
-/// The segment of a batch that was tallied, under its label. There is none where no journal is sound with the batch.
+/// The segment of a batch that was tallied, under its label. There is none where no journal is sound
+/// with the batch.
 fn segment_of(
     alloc: Global,
     place: u32,

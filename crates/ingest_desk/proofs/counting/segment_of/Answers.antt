@@ -29,7 +29,7 @@ returns c = λ batch storable label tallied.
       tally = tally;
       counted = c.batch-batch.ensures.counted;
       batch_is = ap (λ (t : Counted). t.batch) c.labelled-counted.ensures
-        ∙ counted_batch tallied.texts c.args.tallying c.in-Some.counted batch c.args.label label tallied.same tallied.is none c.in-Some.is;
+          ∙ counted_batch tallied.texts c.args.tallying c.in-Some.counted batch c.args.label label tallied.same tallied.is none c.in-Some.is;
       made_of = c.in_ok-share_of.ensures.tally;
       first = λ below. c.in_ok-share_of.ensures.first;
     }
