@@ -1,15 +1,20 @@
 #!/usr/bin/env python3
 """Tests of bench/run on a few games: what it writes, and what it says where a measure cannot be taken; of the right bodies that
-stand beside wrong ones: that each is such; and of what is told of the prover's time."""
+stand beside wrong ones: that each is such; of which wrong bodies are due; and of what is told of the prover's time."""
 import importlib.machinery
 import importlib.util
 import os
 import pathlib
+import shutil
 import sys
 import tempfile
 import unittest
 
 import support
+
+sys.path.insert(0, str(support.TOP / "bench"))
+import bodies
+import measuring
 
 TOOL = str(support.TOP / "bench/run")
 
@@ -76,8 +81,6 @@ class Run(unittest.TestCase):
 
 class Programs(unittest.TestCase):
     def test_a_program_stands_on_the_crates_below(self):
-        sys.path.insert(0, str(support.TOP / "bench"))
-        import measuring
         found = measuring.crates_below(["fen_uci", "clap"])
         self.assertEqual(found, {"fen_uci", "explorer_model", "legal_moves", "step_tables"})
         sums = [measuring.sum_of_sources(name) for name in ("lookup", "perft", "segments", "steps", "store", "tally", "wire")]
@@ -125,6 +128,127 @@ class ProofTimes(unittest.TestCase):
         self.assertIn("there is no command", errors)
 
 
+SOURCE = """//! Halves.
+use std::alloc::Global;
+
+/// The half of a number.
+fn half(n: u8) -> u8
+    ensures low { result + result ≤ n } // rounded down
+{
+    n / 2
+}
+
+pub trait Halved {
+    fn halved(&self) -> u8
+        ensures { self ≡ record { half = 1; } };
+}
+
+pub const MOST: u8 = 127;
+"""
+SAID = ["fn half(n: u8) -> u8", "ensures low { result + result ≤ n }", "{", "pub trait Halved {", "fn halved(&self) -> u8",
+        "ensures { self ≡ record { half = 1; } };", "}", "pub const MOST: u8 = 127;"]
+STUB = """#!/usr/bin/env bash
+echo "$* $(ls crates/"$2"/must-fail | xargs)" >>"$RT_CALLS"
+[ "$2" != "${RT_LETS_THROUGH:-}" ]
+"""
+
+
+class WrongBodies(unittest.TestCase):
+    """Over two crates, `high` and below it `low`, and a command `rt` that only notes what it is asked."""
+
+    def setUp(self):
+        folder = tempfile.TemporaryDirectory()
+        self.addCleanup(folder.cleanup)
+        self.top = pathlib.Path(folder.name)
+        self.calls = self.top / "calls"
+        self.write("bin/rt", STUB).chmod(0o755)
+        for name in ("bodies.py", "measuring.py", "wrong-bodies"):
+            shutil.copy(support.TOP / "bench" / name, self.write(f"bench/{name}", ""))
+        self.write("crates.txt", "low:\nhigh: low std\n")
+        self.write("HANDLES", "")
+        for crate in ("low", "high"):
+            self.write(f"crates/{crate}/src/lib.rt", SOURCE)
+            self.write(f"crates/{crate}/specs/Lib.antt", "-- Halves.\npub mod Half\n")
+            self.write(f"bench/wrong/{crate}/is_whole.edit", "file: src/lib.rt\nold:     n / 2\nnew:     n\n")
+
+    def write(self, name, text):
+        place = self.top / name
+        place.parent.mkdir(parents=True, exist_ok=True)
+        place.write_text(text, encoding="utf-8")
+        return place
+
+    def run_tool(self, *words, **environment):
+        """A run as (status, lines of output, calls of rt)."""
+        self.calls.unlink(missing_ok=True)
+        env = {**os.environ, "PATH": f"{self.top}/bin:{os.environ['PATH']}", "RT_CALLS": str(self.calls), **environment}
+        status, output, errors = support.run_tool(str(self.top / "bench/wrong-bodies"), *words, env=env)
+        self.assertEqual(errors, "")
+        return status, output.splitlines(), self.calls.read_text().splitlines() if self.calls.exists() else []
+
+    def due_after(self, name, text):
+        """What is due where a file has another text for a while."""
+        place = self.top / name
+        before = place.read_text(encoding="utf-8") if place.exists() else None
+        self.write(name, text)
+        found = self.run_tool("--list")[1]
+        if before is None:
+            place.unlink()
+        else:
+            self.write(name, before)
+        return found
+
+    def test_what_a_contract_says(self):
+        self.assertEqual(list(loaded("wrong-bodies").said_in_source(SOURCE.splitlines())), SAID)
+
+    def test_a_change_of_a_contract_makes_due_what_stands_on_it(self):
+        self.assertEqual(self.run_tool("--list")[1], ["high/is_whole", "low/is_whole"])
+        self.assertEqual(self.run_tool()[2], ["must-fail high is_whole.edit", "must-fail low is_whole.edit"])
+        self.assertEqual(self.run_tool(), (0, ["none is due"], []))
+        for name, text, found in (
+            ("crates/low/src/lib.rt", SOURCE.replace("n / 2", "n.div(2)"), []),
+            ("crates/low/src/lib.rt", SOURCE.replace("down", "to the lesser").replace("    ensures low", "  ensures  low"), []),
+            ("crates/low/src/tests.rt", "fn a_half() {}", []),
+            ("crates/low/specs/Lib.antt", "pub mod Half", []),
+            ("crates/low/specs/Half.antt", "half n = n", ["high/is_whole", "low/is_whole"]),
+            ("crates/low/src/lib.rt", SOURCE.replace("≤ n", "≤ n + 1"), ["high/is_whole", "low/is_whole"]),
+            ("crates/low/src/lib.rt", SOURCE.replace("127", "126"), ["high/is_whole", "low/is_whole"]),
+            ("crates/high/src/lib.rt", SOURCE.replace("-> u8", "-> u16"), ["high/is_whole"]),
+            ("bench/wrong/low/is_nothing.edit", "file: src/lib.rt\nold:     n / 2\nnew:     0\n", ["low/is_nothing"]),
+        ):
+            self.assertEqual(self.due_after(name, text), found, (name, text))
+
+    def test_one_that_is_not_refused_stays_due(self):
+        status, output, calls = self.run_tool(RT_LETS_THROUGH="low")
+        self.assertEqual((status, output[-1], len(calls)), (1, "not all refused: low", 2))
+        self.assertEqual(self.run_tool("--list")[1], ["low/is_whole"])
+        self.assertEqual(self.run_tool("--all", "high")[2], ["must-fail high is_whole.edit"])
+
+    def test_one_whose_text_is_gone_is_told(self):
+        self.write("crates/low/src/lib.rt", SOURCE.replace("n / 2", "n >> 1"))
+        status, output, calls = self.run_tool("low")
+        self.assertEqual((status, output[-1], calls), (1, "not all refused: low", []))
+        self.assertIn("'    n / 2' stands 0 times in src/lib.rt", output[-2])
+
+    def test_help_and_faulty_words(self):
+        tool = str(support.TOP / "bench/wrong-bodies")
+        self.assertIn("usage: bench/wrong-bodies", support.run_tool(tool, "--help")[1])
+        status, _, errors = support.run_tool(tool, "nowhere")
+        self.assertEqual(status, 2)
+        self.assertIn("there is no wrong body of nowhere", errors)
+
+    def test_each_crate_has_at_most_six_which_fit_it(self):
+        crates = sorted(place.name for place in (support.TOP / "crates").iterdir())
+        found = {crate: bodies.wrong_bodies(crate) for crate in crates}
+        self.assertEqual(sum(map(len, found.values())), len(list(support.TOP.glob("bench/wrong/*/*.edit")))
+                         + len(list(support.TOP.glob("crates/*/must-fail/*.edit"))))
+        for crate, edits in found.items():
+            self.assertLessEqual(len(edits), 6, crate)
+            self.assertEqual(len({edit.name for edit in edits}), len(edits), crate)
+            for edit in edits:
+                for place, text in bodies.texts_with(support.TOP / "crates" / crate, edit).items():
+                    self.assertNotEqual(place.read_text(encoding="utf-8"), text, edit)
+
+
 class RightBodies(unittest.TestCase):
     def test_each_stands_beside_a_wrong_one(self):
         tool = loaded("right-bodies")
@@ -132,8 +256,8 @@ class RightBodies(unittest.TestCase):
         self.assertTrue(edits)
         for edit in edits:
             crate = support.TOP / "crates" / edit.parent.name
-            wrong = {(file, old) for file, old, _ in tool.replacements(crate / "must-fail" / edit.name)}
-            for file, old, new in tool.replacements(edit):
+            wrong = {(file, old) for file, old, _ in bodies.replacements(bodies.wrong_body(edit.parent.name, edit.stem))}
+            for file, old, new in bodies.replacements(edit):
                 self.assertNotEqual(old, new, edit)
                 if old is None:
                     self.assertTrue(file.startswith("proofs/") and not (crate / file).parent.exists(), edit)
