@@ -8,5 +8,3 @@ pub mod geometry;
 pub mod legal;
 pub mod play;
 pub mod pseudo_legal;
-#[cfg(test)]
-mod tests;

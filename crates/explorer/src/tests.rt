@@ -1,7 +1,9 @@
 //! Runs of the program over inputs in memory, against what its rules say of them.
 mod answers;
+mod formats;
 mod imports;
 mod serving;
+mod set_ups;
 mod stores;
 mod streams;
 mod trials;
@@ -178,19 +180,31 @@ type Failing = [u64; 3];
 
 const FAULTLESS: Failing = [NEVER, NEVER, NEVER];
 
-/// What a run came to.
+/// The streams of a run.
 #[derive(Drop)]
-struct Seen {
-    status: u8,
+struct RunStreams {
+    input: MemSource,
     output: MemSink,
     errors: MemSink,
 }
 
+impl RunStreams {
+    /// Whether this was printed and reported.
+    fn have(&self, printed: &str, reported: &str) -> bool {
+        self.output.bytes() == printed.as_bytes() && self.errors.bytes() == reported.as_bytes()
+    }
+}
+
+/// What a run came to.
+#[derive(Drop)]
+struct Seen {
+    status: u8,
+    streams: RunStreams,
+}
+
 impl Seen {
     fn is(&self, status: u8, output: &str, errors: &str) -> bool {
-        self.status == status
-            && self.output.bytes() == output.as_bytes()
-            && self.errors.bytes() == errors.as_bytes()
+        self.status == status && self.streams.have(output, errors)
     }
 }
 
@@ -219,6 +233,38 @@ fn sink_of(alloc: Global, failing: u64) -> Result<MemSink, AllocError> {
     MemSink::new(alloc, 4096, failing)
 }
 
+/// Streams over an input that gives at most `most` bytes in a read.
+fn streams_of(
+    alloc: Global,
+    text: &str,
+    most: usize,
+    failing: Failing,
+) -> Result<RunStreams, AllocError>
+    requires { 0 < most }
+{
+    let [read, write, report] = failing;
+    Ok(RunStreams {
+        input: input_of(alloc, text, most, read)?,
+        output: sink_of(alloc, write)?,
+        errors: sink_of(alloc, report)?,
+    })
+}
+
+/// Runs with these words, of which the first is the program's name, and gives the status.
+fn status_of<R: AllocGlobal + Wait + Threads + Sync>(
+    rt: &R,
+    words: &[String],
+    streams: &mut RunStreams,
+    host: &mut MemHost,
+) -> u8 {
+    let RunStreams {
+        input,
+        output,
+        errors,
+    } = streams;
+    run(rt, words, input, output, errors, host).number
+}
+
 /// Runs with the words behind the program's name, over an input that gives at most `most` bytes in
 /// a read.
 fn run_on<R: AllocGlobal + Wait + Threads + Sync>(
@@ -230,25 +276,11 @@ fn run_on<R: AllocGlobal + Wait + Threads + Sync>(
 ) -> Result<Seen, AllocError>
     requires { 0 < most }
 {
-    let alloc = rt.alloc();
-    let all = with_name(alloc, words)?;
-    let [read, write, report] = failing;
-    let mut input = input_of(alloc, text, most, read)?;
-    let mut output = sink_of(alloc, write)?;
-    let mut errors = sink_of(alloc, report)?;
-    let status = run(
-        rt,
-        all.as_slice(),
-        &mut input,
-        &mut output,
-        &mut errors,
-        &mut MemHost::new(alloc),
-    );
-    Ok(Seen {
-        status: status.number,
-        output,
-        errors,
-    })
+    let all = with_name(rt.alloc(), words)?;
+    let mut streams = streams_of(rt.alloc(), text, most, failing)?;
+    let mut host = MemHost::new(rt.alloc());
+    let status = status_of(rt, all.as_slice(), &mut streams, &mut host);
+    Ok(Seen { status, streams })
 }
 
 /// Runs on a host without an input, and says whether it ends with this status, and prints and
@@ -259,23 +291,9 @@ fn ends<R: AllocGlobal + Wait + Threads + Sync>(
     words: &[&str],
     ending: (u8, &str, &str),
 ) -> Result<bool, AllocError> {
-    let alloc = rt.alloc();
     let (status, printed, reported) = ending;
-    let all = with_name(alloc, words)?;
-    let mut input = input_of(alloc, "", 1, NEVER)?;
-    let mut output = sink_of(alloc, NEVER)?;
-    let mut errors = sink_of(alloc, NEVER)?;
-    let ended = run(
-        rt,
-        all.as_slice(),
-        &mut input,
-        &mut output,
-        &mut errors,
-        host,
-    );
-    Ok(
-        ended.number == status
-            && output.bytes() == printed.as_bytes()
-            && errors.bytes() == reported.as_bytes(),
-    )
+    let all = with_name(rt.alloc(), words)?;
+    let mut streams = streams_of(rt.alloc(), "", 1, FAULTLESS)?;
+    let ended = status_of(rt, all.as_slice(), &mut streams, host);
+    Ok(ended == status && streams.have(printed, reported))
 }

@@ -1,1 +1,2 @@
 mod NoReports
+mod RouteExamples

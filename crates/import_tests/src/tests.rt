@@ -3,6 +3,7 @@ mod connections;
 mod desks;
 mod doors;
 mod imports;
+mod kept;
 
 ghost use Rattle.std.specs.Prelude.{◌≡◌};
 

@@ -44,19 +44,19 @@ use Rattle.notation_tests.proofs.GameExamples.{a-game-of-one-move, ann_and_bob, 
 
 -- ---- two games: 1. e4 1-0 in January, and 1. d4 0-1 in February
 
-e4 : Move
+unfoldable pub e4 : Move
 e4 = uci (codes "e2e4")
 
-d4 : Move
+unfoldable pub d4 : Move
 d4 = uci (codes "d2d4")
 
-text-of-e4 : List ℕ
+unfoldable pub text-of-e4 : List ℕ
 text-of-e4 = heading ++ codes "1. e4 1-0\n"
 
-text-of-d4 : List ℕ
+unfoldable pub text-of-d4 : List ℕ
 text-of-d4 = heading-of (codes "abcdEF13") (codes "0-1") (codes "2020.02.01") ++ codes "1. d4 0-1\n"
 
-later : Classes
+unfoldable pub later : Classes
 later = record {
   id = record { bytes = codes "abcdEF13" };
   white = record { name = codes "Ann"; rating = 1500 };
@@ -68,25 +68,25 @@ later = record {
   month = record { year = 2020; month = 2 };
 }
 
-game-of-e4 : Game
+unfoldable pub game-of-e4 : Game
 game-of-e4 = record { classes = ann_and_bob; root = start; moves = e4 ∷ [] }
 
-game-of-d4 : Game
+unfoldable pub game-of-d4 : Game
 game-of-d4 = record { classes = later; root = start; moves = d4 ∷ [] }
 
-d4-is-read : SanReads start (codes "d4") (Ok d4)
+pub d4-is-read : SanReads start (codes "d4") (Ok d4)
 unfolding boards_compute d4
 d4-is-read = move_reads start d4 (codes "d4") [] start_is_valid ((decides-legal start d4).0 refl) (inr (refl, (Pawn, Unnamed, refl, refl, refl))) refl
 
-d4-is-written : SanText start d4 (codes "d4")
+pub d4-is-written : SanText start d4 (codes "d4")
 unfolding boards_compute d4
 d4-is-written = (codes "d4", marks.Quiet, inr (refl, (Pawn, Unnamed, refl, refl, refl)), not_from_Decides _ (decides-in_check (after start d4).squares Black) refl, refl)
 
-the-text-of-e4 : GameOf text-of-e4 (Ok game-of-e4)
+pub the-text-of-e4 : GameOf text-of-e4 (Ok game-of-e4)
 unfolding text-of-e4 game-of-e4 e4
 the-text-of-e4 = a-game-of-one-move
 
-the-text-of-d4 : GameOf text-of-d4 (Ok game-of-d4)
+pub the-text-of-d4 : GameOf text-of-d4 (Ok game-of-d4)
 unfolding texts_compute text-of-d4 game-of-d4 later d4
 the-text-of-d4 = (_, (Ok start, refl, refl), (Ok (d4 ∷ []), inl (d4, Ok [], d4-is-read, refl, refl), refl))
 
@@ -95,7 +95,7 @@ the-text-of-d4 = (_, (Ok start, refl, refl), (Ok (d4 ∷ []), inl (d4, Ok [], d4
 journal : List Batch
 journal = record { label = no_label; texts = text-of-e4 ∷ text-of-d4 ∷ [] } ∷ []
 
-itself : (p : Position) → Same p p
+pub itself : (p : Position) → Same p p
 itself p = (refl, refl, refl, λ s. (λ h. h, λ h. h))
 
 -- what is unfolded where answers compute
@@ -103,10 +103,10 @@ unfoldable answers_compute : ⊤
 unfolding boards_compute passes games_with_move moves_played months_counted best best_one others game-of-e4 game-of-d4 ann_and_bob later e4 d4
 answers_compute = tt
 
-listed-e4 : Listed
+unfoldable pub listed-e4 : Listed
 listed-e4 = record { next = e4; classes = ann_and_bob }
 
-listed-d4 : Listed
+unfoldable pub listed-d4 : Listed
 listed-d4 = record { next = d4; classes = later }
 
 at-start : Query

@@ -2,5 +2,8 @@ mod AgreementLemmas
 mod Examples
 mod GameExamples
 mod QueryExamples
+mod SetUpExamples
 mod FoundExamples
 mod CountingExamples
+mod OpeningExamples
+mod PlayerExamples

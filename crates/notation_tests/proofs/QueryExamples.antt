@@ -110,7 +110,7 @@ a-line-from-a-position =
     )
 
 -- a board without kings is none, and where there is no position no line is read
-no-kings : FenReads (codes "8/8/8/8/8/8/8/8 w - -") (Err (record { field = 1 }))
+pub no-kings : FenReads (codes "8/8/8/8/8/8/8/8 w - -") (Err (record { field = 1 }))
 no-kings = first_1 (codes "8/8/8/8/8/8/8/8 w - -") (λ squares places.
     let same : replicate 64 None ≡ squares = same_Some (replicate 64 None) squares places.0 in
     let one : 0 ≡ 1 = subst (λ (xs : List (Option Piece)). count_by (is_king_of White) xs ≡ 1) (sym same) places.1.0 in

@@ -1,4 +1,5 @@
 //! Tables of texts whose meaning is known from outside.
+mod chess;
 mod classes;
 mod cuts;
 mod games;
@@ -7,3 +8,4 @@ mod positions;
 mod queries;
 mod samples;
 mod san;
+mod set_ups;

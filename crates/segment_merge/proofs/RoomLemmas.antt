@@ -3,7 +3,7 @@ use Rattle.std.proofs.Common.{◌≡◌, ℕ, ◌+◌, ◌<◌, ◌≤◌, ◌^�
 use Rattle.std.specs.List.{All, AllByRecursion, AllZip}
 use Rattle.std.proofs.lemmas.List.{map-append, map-id, length-map}
 use Rattle.std.proofs.lemmas.List.Concat.{flat_map-append}
-use Rattle.std.proofs.lemmas.List.Elements.{recursion_from_All, All-nil, All-cons}
+use Rattle.std.proofs.lemmas.List.Elements.{recursion_from_All}
 use Rattle.std.proofs.lemmas.List.Sums.{count_by-le-length}
 use Rattle.best_lists.specs.Ranking.{before_by_rating, before_by_month}
 use Rattle.best_lists.specs.declared.entry.Entry.{Entry}
@@ -13,15 +13,13 @@ use Rattle.explorer_model.specs.Visits.{IsTextOf, texts_of}
 use Rattle.tally_rows.specs.declared.row.Row.{Row}
 use Rattle.explorer_model.specs.declared.chess.Move.{Move}
 use Rattle.tally_rows.specs.declared.single.Single.{Single}
-use Rattle.tally_rows.specs.Row.{row_key_of, row_of, month_rank, is_white, is_draw, is_black, shifted_row}
+use Rattle.tally_rows.specs.Row.{row_key_of, row_of, month_rank, shifted_row}
 use Rattle.tally_rows.specs.Tallied.{rating_sum, track_month, entries, has_move, IsTally, Tallied}
 use Rattle.tally_rows.specs.Tally.{IsTallyOf, IsTrackOf}
 use Rattle.tally_rows.specs.Track.{has}
 use Rattle.tally_rows.proofs.AddsUp.{count-outcomes}
 use Rattle.tally_rows.proofs.TrackBounds.{ratings-bound, track-ratings, best-fit}
 use Rattle.tally_rows.proofs.Members.{IsIn, All-IsIn, recursion-from_IsIn}
-use Rattle.std.specs.List.Sorted.{IsStrictlySortedBy}
-use Rattle.segment_blocks.specs.PackedRows.{AreInOrder}
 use Rattle.segment_blocks.specs.Segment.{CountedSpan, IsSegment, IsTallyOfBoth, segment_limit}
 use Rattle.segment_merge.specs.Merged.{merged}
 use Rattle.segment_merge.specs.Merging.{rows_of_both}
@@ -149,36 +147,3 @@ ended-game-shifted by game d = λ i. record (row_of game) {
 pub small-shifted : (by : ℕ) (row : Row) → HasRoom by row → IsSmall (shifted_row by row)
 unfolding shifted_row
 small-shifted by row h = record { white = h.small.white; draws = h.small.draws; black = h.small.black; ratings = h.small.ratings }
-
--- ---- one game
-
-all-listed : (P : Entry → Type 0) (b : Bool) (e : Entry) → P e → All P (cond b (e ∷ []) [])
-all-listed P true e h = All-cons P e [] h (All-nil P)
-all-listed P false e h = All-nil P
-
-one-or-none : (b : Bool) → cond b 1 0 < 2 ^ 31
-one-or-none true = omega arith
-one-or-none false = omega arith
-
-rated-or-none : (b : Bool) (rating : ℕ) → rating < 2 ^ 16 → cond b rating 0 < 2 ^ 63
-rated-or-none true rating h = omega (arith, h)
-rated-or-none false rating h = omega arith
-
-pub room-of-game : (by : ℕ) (game : Single) → game.number + by < 2 ^ 32 → game.rating < 2 ^ 16 → HasRoom by (row_of game)
-unfolding row_of
-room-of-game by game number rating =
-    let fits = λ (e : Entry). e.number + by < 2 ^ 32 in
-    record {
-      small = record {
-        white = one-or-none (is_white game.outcome);
-        draws = one-or-none (is_draw game.outcome);
-        black = one-or-none (is_black game.outcome);
-        ratings = rated-or-none (is_some game.row_key.next) game.rating rating;
-      };
-      top = all-listed fits (is_some game.row_key.next) (record { rank = game.sum; number = game.number }) number;
-      recent = all-listed fits (is_some game.row_key.next) (record { rank = month_rank game.row_key.month; number = game.number }) number;
-    }
-
-pub in_order-one : (row : Row) → AreInOrder (row ∷ [])
-unfolding IsStrictlySortedBy
-in_order-one row = (tt, tt)

@@ -6,7 +6,5 @@ mod merging;
 mod ranges;
 mod shifting;
 mod side;
-#[cfg(test)]
-mod tests;
 
 pub use ranges::merge;

@@ -165,3 +165,24 @@ fn disk_over_a_file_keeps_what_is_written(rt: HostRuntime) -> Result<(), Fail> {
     fs::remove_file(&rt, path)?;
     Ok(())
 }
+
+/// Cuts the file of this name to two bytes.
+fn cut_to_two<R: Files<File = File>>(rt: &R, path: &str) -> Result<(), Fail> {
+    OpenOptions::new().write(true).open(rt, path)?.set_len(2)?;
+    Ok(())
+}
+
+#[test]
+fn disk_over_a_file_that_was_cut_short_writes_nothing(rt: HostRuntime) -> Result<(), Fail> {
+    let path = "disk_that_was_cut_short";
+    let mut disk = empty_file(&rt, path)?;
+    assert_eq!(rt; put(&mut disk, 0, b"abc"), Ok(()));
+    cut_to_two(&rt, path)?;
+    assert_eq!(rt; put(&mut disk, 3, b"de"), Err(Failed));
+    assert_eq!(rt; sync(&mut disk), Err(Failed));
+    assert_eq!(rt; disk.faults(), 2);
+    assert_eq!(rt; fs::read(&rt, path)?.as_slice(), b"ab".as_slice());
+    drop(disk);
+    fs::remove_file(&rt, path)?;
+    Ok(())
+}

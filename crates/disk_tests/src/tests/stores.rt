@@ -12,37 +12,47 @@ use std::alloc::{AllocError, Global};
 use std::test::Fail;
 
 /// A store of format 2 with one batch of one text, `x`, without a label, byte by byte.
-const ONE: [u8; 26] = *b"OPENEXP1\x02\x00\x00\x00\x01\x08\x00\x00\x00\x00\x01\x00\x01\x00\x00\x00x\x00";
+const ONE: [u8; 26] =
+    *b"OPENEXP1\x02\x00\x00\x00\x01\x08\x00\x00\x00\x00\x01\x00\x01\x00\x00\x00x\x00";
 
 /// The room of a disk that has bytes from the start.
 const ROOM: usize = 70_000;
 
-/// Stores a batch of one short text.
+/// Stores a batch of one short text without a label.
 fn store_text<D: Disk>(
     alloc: Global,
     manifest: &mut Manifest<D>,
     text: &[u8],
 ) -> Result<(), AppendFault> {
+    store_under(alloc, manifest, Label::none(), text)
+}
+
+/// Stores a batch of one short text under a label.
+pub(super) fn store_under<D: Disk>(
+    alloc: Global,
+    manifest: &mut Manifest<D>,
+    label: Label,
+    text: &[u8],
+) -> Result<(), AppendFault> {
     if text.is_empty() || text.len() > 100 || manifest.gate() > 70_000 {
         return Err(AppendFault::OutOfMemory);
     }
-    let Ok(batch) = batch_of(alloc, text) else {
+    let Ok(batch) = batch_of(alloc, label, text) else {
         return Err(AppendFault::OutOfMemory);
     };
     manifest.store(alloc, &batch)
 }
 
-fn batch_of(alloc: Global, text: &[u8]) -> Result<Batch, AllocError>
+fn batch_of(alloc: Global, label: Label, text: &[u8]) -> Result<Batch, AllocError>
     ensures { IfOk result (λ batch. batch.texts ≡ text.now ∷ []) }
 {
     let text = Bytes::from_vec(text.to_vec(alloc)?);
     let texts = Texts::from_vec(vec![in alloc; text]?);
-    let label = Label::none();
     Ok(Batch { label, texts })
 }
 
 /// How many batches a disk has, or why it is no store.
-fn count_of<D: Disk + Drop>(alloc: Global, disk: D) -> Result<usize, OpenFault> {
+pub(super) fn count_of<D: Disk + Drop>(alloc: Global, disk: D) -> Result<usize, OpenFault> {
     match open(alloc, disk) {
         Ok(opened) => Ok(opened.journal.len()),
         Err(back) => Err(back.fault),
@@ -50,7 +60,7 @@ fn count_of<D: Disk + Drop>(alloc: Global, disk: D) -> Result<usize, OpenFault> 
 }
 
 /// A new store on an empty disk with room for so many bytes.
-fn new_store(alloc: Global, room: usize) -> Result<Manifest<MemDisk>, Fail> {
+pub(super) fn new_store(alloc: Global, room: usize) -> Result<Manifest<MemDisk>, Fail> {
     match create(disk_of(alloc, room, &[])?) {
         Ok(manifest) => Ok(manifest),
         Err(_) => Err(Fail::from("not created")),
@@ -66,7 +76,7 @@ fn not_created(disk: MemDisk) -> Result<(CreateFault, MemDisk), Fail> {
 }
 
 /// Where the gate of the store on a disk stands, and its journal.
-fn journal_on(alloc: Global, disk: MemDisk) -> Result<(u64, Vec<Batch>), Fail> {
+pub(super) fn journal_on(alloc: Global, disk: MemDisk) -> Result<(u64, Vec<Batch>), Fail> {
     match open(alloc, disk) {
         Ok(opened) => Ok((opened.manifest.gate(), opened.journal)),
         Err(_) => Err(Fail::from("not opened")),
@@ -116,7 +126,10 @@ fn bytes_behind_one(alloc: Global, payload: &[u8]) -> Result<Vec<u8>, Fail> {
 }
 
 /// How many batches such a store has, or why it is none.
-fn count_behind_one(alloc: Global, payload: &[u8]) -> Result<Result<usize, OpenFault>, Fail> {
+pub(super) fn count_behind_one(
+    alloc: Global,
+    payload: &[u8],
+) -> Result<Result<usize, OpenFault>, Fail> {
     let bytes = bytes_behind_one(alloc, payload)?;
     Ok(count_of(alloc, disk_with(alloc, ROOM, &bytes, &[])?))
 }
@@ -134,7 +147,9 @@ fn payload_of(alloc: Global, count: u16, length: u32) -> Result<Vec<u8>, Fail> {
     Ok(payload)
 }
 
-const DAMAGED: Result<usize, OpenFault> = Err(OpenFault::Log(LogFault::Damaged { at: 25 }));
+pub(super) const DAMAGED: Result<usize, OpenFault> = Err(OpenFault::Log(LogFault::Damaged {
+    at: 25,
+}));
 
 #[test]
 fn payload_off_the_form_is_damaged_at_its_gate(rt: HostRuntime) -> Result<(), Fail> {
@@ -148,11 +163,7 @@ fn payload_off_the_form_is_damaged_at_its_gate(rt: HostRuntime) -> Result<(), Fa
         b"\x00\x01\x00\x01\x00\x00\x00xy".as_slice(),
         b"\x00\x02\x00\x01\x00\x00\x00x".as_slice(),
         b"\x00\x00\x01\x00\x00\x00\x01x".as_slice(),
-        // Labels: cut off, a control character, not UTF-8; and texts without one, as format 1 had them.
-        b"\x02a".as_slice(),
-        b"\x01\x0a\x01\x00\x01\x00\x00\x00x".as_slice(),
-        b"\x01\x7f\x01\x00\x01\x00\x00\x00x".as_slice(),
-        b"\x01\xff\x01\x00\x01\x00\x00\x00x".as_slice(),
+        // As in format 1, whose batches have no label.
         b"\x01\x00\x01\x00\x00\x00x".as_slice(),
     ];
     for payload in table {

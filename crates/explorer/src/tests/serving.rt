@@ -1,7 +1,7 @@
 //! Stores that are served over a host in memory.
 ghost use Rattle.std.specs.Prelude.{◌≡◌, [], IfOk};
 
-use super::{NO_GAME, ONE_WHITE, ends, five_games, games, joined, named, numbered};
+use super::{NO_GAME, ONE_WHITE, ends, games, joined, named};
 use disk_model::MemDisk;
 use host::{Host, MemCall, MemFile, MemHost, MemLinks};
 use outside::{MemLink, MemSink, MemSource};
@@ -73,29 +73,6 @@ fn was_written(host: &MemHost, at: usize, told: &str) -> bool {
         }
     }
     same
-}
-
-/// Whether the links of the last door that came back were written these.
-fn wrote(host: &MemHost, told: &[&str]) -> bool {
-    let mut same = false;
-    for call in host.calls() {
-        if let MemCall::DoorBack { door } = call {
-            same = were_written(door.taken_back(), told);
-        }
-    }
-    same
-}
-
-fn were_written(links: &[MemLink], told: &[&str]) -> bool {
-    if links.len() != told.len() {
-        return false;
-    }
-    for at in 0..told.len() {
-        if links[at].written() != told[at].as_bytes() {
-            return false;
-        }
-    }
-    true
 }
 
 const SERVE: [&str; 7] = ["serve", "s", "a", "--readers", "1", "--connections", "2"];
@@ -212,40 +189,6 @@ fn an_accept_fails(rt: HostRuntime) -> Result<(), Fail> {
     Ok(())
 }
 
-/// Posts of five games.
-fn five_posts(alloc: Global) -> Result<String, AllocError> {
-    let mut posts = String::new(alloc);
-    for number in 0..5u32 {
-        let game = numbered(alloc, number)?;
-        posts.push_str(post(alloc, game.as_str())?.as_str())?;
-    }
-    Ok(posts)
-}
-
-#[test]
-fn batches_are_merged_beside_answers(rt: HostRuntime) -> Result<(), Fail> {
-    let alloc = rt.alloc();
-    let posts = five_posts(alloc)?;
-    let mut host = host_with(alloc, &[], one_link(alloc, &[posts.as_str()])?, &[])?;
-    host.add_links("b", door(alloc, one_link(alloc, &[GET])?, &[])?)?;
-    for (address, listening) in [("a", "listening a\n"), ("b", "listening b\n")] {
-        let words = [
-            "serve",
-            "s",
-            address,
-            "--readers",
-            "1",
-            "--connections",
-            "1",
-        ];
-        assert!(rt; ends(&rt, &mut host, &words, (0, listening, ""))?);
-    }
-    let answer = five_games(alloc, &[0, 1, 2, 3], &[4, 3, 2, 1])?;
-    let told = found(alloc, "5", answer.as_str())?;
-    assert!(rt; wrote(&host, &[told.as_str()]));
-    Ok(())
-}
-
 /// How many games each batch of the store `s` has.
 fn batch_sizes(alloc: Global, host: &mut MemHost) -> Result<Vec<usize>, Fail> {
     let Ok(opened) = manifest::open(alloc, host.disk("s")?) else {
@@ -279,7 +222,7 @@ fn imports_a_file_of_two_groups(rt: HostRuntime) -> Result<(), Fail> {
         "1",
     ];
     assert!(rt; ends(&rt, &mut host, &words, (0, "listening a\n", ""))?);
-    assert!(rt; wrote(&host, &[""]));
+    assert!(rt; was_written(&host, 0, ""));
     assert_eq!(rt; batch_sizes(alloc, &mut host)?, vec![in alloc; 512, 1]?);
     Ok(())
 }

@@ -2,8 +2,7 @@
 ghost use Rattle.std.specs.Prelude.{◌<◌};
 
 use super::{
-    FAULTLESS, NEVER, NO_GAME, ONE_DRAW, ONE_WHITE, Tags, game, games, named, one_move, run_on,
-    tagged,
+    FAULTLESS, NEVER, NO_GAME, ONE_DRAW, ONE_WHITE, Tags, game, games, one_move, run_on, tagged,
 };
 use std::alloc::{AllocError, Global};
 use std::sync::Wait;
@@ -25,21 +24,6 @@ fn counts<R: AllocGlobal + Wait + Threads + Sync>(
     Ok(seen.is(0, answer, report))
 }
 
-#[test]
-fn answers_alike_at_each_read_size(rt: HostRuntime) -> Result<(), Fail> {
-    let alloc = rt.alloc();
-    let unknown = game(alloc, "*", "*")?;
-    let differs = game(alloc, "1-0", "0-1")?;
-    let draw = game(alloc, "1/2-1/2", "1/2-1/2")?;
-    let text = format!(in alloc; "hello\n{unknown}\n{differs}{draw}")?;
-    let report = "0 Preamble\n6 UnknownResult\n197 ResultDiffers\n";
-    for most in 1..=100 {
-        let counts = counts(&rt, text.as_str(), most, ONE_DRAW, report)?;
-        assert!(rt; counts, "{most}");
-    }
-    Ok(())
-}
-
 /// Whether the counts of the text at three read sizes are so.
 fn counts_at_each_size<R: AllocGlobal + Wait + Threads + Sync>(
     rt: &R,
@@ -56,20 +40,31 @@ fn counts_at_each_size<R: AllocGlobal + Wait + Threads + Sync>(
 /// A part of a stream: a game, or what stands between games.
 #[derive(Clone, Copy, Debug)]
 enum Part {
-    Win,
+    /// A game that White won by its tags, with this movetext.
+    Won(&'static str),
     Draw,
     Unknown,
-    Illegal,
+    /// A moveless game with this id, rating of White and time control.
+    Tagged(&'static str, &'static str, &'static str),
     Between(&'static str),
 }
 
 impl Part {
     fn text(self, alloc: Global) -> Result<String, AllocError> {
         match self {
-            Part::Win => game(alloc, "1-0", "1-0"),
+            Part::Won(movetext) => game(alloc, "1-0", movetext),
             Part::Draw => game(alloc, "1/2-1/2", "1/2-1/2"),
             Part::Unknown => game(alloc, "*", "*"),
-            Part::Illegal => game(alloc, "1-0", "1. e4 e5 2. Ke3 1-0"),
+            Part::Tagged(id, white_rating, time) => {
+                let tags = Tags {
+                    id,
+                    outcome: "1-0",
+                    white_rating,
+                    black_rating: "1400",
+                    time,
+                };
+                tagged(alloc, &tags, "1-0")
+            }
             Part::Between(text) => String::from_str(alloc, text),
         }
     }
@@ -84,101 +79,81 @@ fn stream_of(alloc: Global, parts: &[Part]) -> Result<String, AllocError> {
     Ok(all)
 }
 
+/// Whether the stream of the parts is counted so.
+fn parts_are_counted<R: AllocGlobal + Wait + Threads + Sync>(
+    rt: &R,
+    parts: &[Part],
+    answer: &str,
+    report: &str,
+) -> Result<bool, AllocError> {
+    let text = stream_of(rt.alloc(), parts)?;
+    counts_at_each_size(rt, text.as_str(), answer, report)
+}
+
+const WIN: Part = Part::Won("1-0");
+
 #[test]
 fn counts_games_and_reports_the_rest(rt: HostRuntime) -> Result<(), Fail> {
-    let table: [(&[Part], &str, &str); 9] = [
+    let mark = Part::Between("\u{feff}");
+    let line = Part::Between("\n");
+    let table: [(&[Part], &str, &str); 19] = [
         (&[], NO_GAME, ""),
+        (&[WIN], ONE_WHITE, ""),
         (&[Part::Draw, Part::Between("\n\n")], ONE_DRAW, ""),
-        (
-            &[Part::Unknown, Part::Between("\n"), Part::Win],
-            ONE_WHITE,
-            "0 UnknownResult\n",
-        ),
-        (&[Part::Illegal, Part::Win], ONE_WHITE, "0 Illegal 3 202\n"),
-        (
-            &[Part::Between("hello\n"), Part::Win],
-            ONE_WHITE,
-            "0 Preamble\n",
-        ),
-        (&[Part::Between("\u{feff}"), Part::Win], ONE_WHITE, ""),
-        (
-            &[Part::Between("\u{feff}"), Part::Unknown],
-            NO_GAME,
-            "3 UnknownResult\n",
-        ),
-        (&[Part::Win, Part::Win], ONE_WHITE, "194 Twice 0\n"),
+        (&[Part::Unknown, line, WIN], ONE_WHITE, "0 UnknownResult\n"),
         (
             &[
-                Part::Between("\u{feff} hello\n"),
-                Part::Win,
-                Part::Between("\n"),
-                Part::Win,
+                Part::Between("hello\n"),
+                Part::Unknown,
+                line,
+                Part::Won("0-1"),
+                Part::Draw,
             ],
+            ONE_DRAW,
+            "0 Preamble\n6 UnknownResult\n197 ResultDiffers\n",
+        ),
+        (&[Part::Between("hello\n"), WIN], ONE_WHITE, "0 Preamble\n"),
+        (&[mark, WIN], ONE_WHITE, ""),
+        (&[mark, Part::Unknown], NO_GAME, "3 UnknownResult\n"),
+        (&[WIN, WIN], ONE_WHITE, "194 Twice 0\n"),
+        (
+            &[Part::Between("\u{feff} hello\n"), WIN, line, WIN],
             ONE_WHITE,
             "4 Preamble\n205 Twice 10\n",
         ),
-    ];
-    for (parts, answer, report) in table {
-        let text = stream_of(rt.alloc(), parts)?;
-        assert!(rt;
-            counts_at_each_size(&rt, text.as_str(), answer, report)?,
-            "{text}"
-        );
-    }
-    Ok(())
-}
-
-#[test]
-fn reports_movetext_off_the_rules(rt: HostRuntime) -> Result<(), Fail> {
-    let alloc = rt.alloc();
-    let with_e4 = one_move(alloc, "", "1500", "e4", "e2e4")?;
-    let table = [
-        ("1-0", ONE_WHITE, ""),
         (
-            "1. e2e4 e5 2. Ng1f3 Nc6+ 3. Bc4 Bc5# 4. 0-0 1-0",
-            with_e4.as_str(),
-            "",
+            &[Part::Won("1. e4 e5 2. Ke3 1-0"), WIN],
+            ONE_WHITE,
+            "0 Illegal 3 202\n",
         ),
-        ("1. e4 Zz 1-0", NO_GAME, "0 NotSan 2 196\n"),
-        ("1. e4 {x 1-0", NO_GAME, "0 Lex 196\n"),
+        (&[Part::Won("1. e4 Zz 1-0")], NO_GAME, "0 NotSan 2 196\n"),
+        (&[Part::Won("1. e4 {x 1-0")], NO_GAME, "0 Lex 196\n"),
         (
-            "1. d4 d5 2. Nf3 Nf6 3. Nd2 1-0",
+            &[Part::Won("1. d4 d5 2. Nf3 Nf6 3. Nd2 1-0")],
             NO_GAME,
             "0 Ambiguous 5 213\n",
         ),
-        ("1. e4", NO_GAME, "0 NoTermination\n"),
-        ("1. e4 0-1", NO_GAME, "0 ResultDiffers\n"),
+        (&[Part::Won("1. e4")], NO_GAME, "0 NoTermination\n"),
+        (&[Part::Won("1. e4 0-1")], NO_GAME, "0 ResultDiffers\n"),
+        (
+            &[Part::Tagged("aaaaaaa1", "1500", "1/40")],
+            NO_GAME,
+            "0 Bad TimeControl\n",
+        ),
+        (
+            &[Part::Tagged("aaaaaaa1", "4001", "300+0")],
+            NO_GAME,
+            "0 Bad WhiteElo\n",
+        ),
+        (
+            &[Part::Tagged("aaaaaaa", "4001", "1/40")],
+            NO_GAME,
+            "0 Bad Site\n",
+        ),
     ];
-    for (movetext, answer, report) in table {
-        let text = game(alloc, "1-0", movetext)?;
-        assert!(rt;
-            counts_at_each_size(&rt, text.as_str(), answer, report)?,
-            "{movetext}"
-        );
-    }
-    Ok(())
-}
-
-#[test]
-fn reports_tags_off_the_rules(rt: HostRuntime) -> Result<(), Fail> {
-    let alloc = rt.alloc();
-    for (id, white_rating, time, report) in [
-        ("aaaaaaa1", "1500", "1/40", "0 Bad TimeControl\n"),
-        ("aaaaaaa1", "4001", "300+0", "0 Bad WhiteElo\n"),
-        ("aaaaaaa", "4001", "1/40", "0 Bad Site\n"),
-    ] {
-        let tags = Tags {
-            id,
-            outcome: "1-0",
-            white_rating,
-            black_rating: "1400",
-            time,
-        };
-        let text = tagged(alloc, &tags, "1-0")?;
-        assert!(rt;
-            counts_at_each_size(&rt, text.as_str(), NO_GAME, report)?,
-            "{report}"
-        );
+    for (parts, answer, report) in table {
+        let told = parts_are_counted(&rt, parts, answer, report)?;
+        assert!(rt; told, "{parts:?}");
     }
     Ok(())
 }
@@ -194,32 +169,6 @@ fn reads_texts_of_65536_bytes(rt: HostRuntime) -> Result<(), Fail> {
     assert!(rt; counts(&rt, text.as_str(), 7, with_e4.as_str(), "")?);
     text.push('\n')?;
     assert!(rt; counts(&rt, text.as_str(), 4096, NO_GAME, "0 TooLong 65537\n")?);
-    Ok(())
-}
-
-/// The answer over so many moveless games that White won.
-fn won(alloc: Global, games: u32) -> Result<String, AllocError> {
-    format!(in alloc;
-        "{{\"black\":0,\"draws\":0,\"moves\":[],\"opening\":null,\"recentGames\":[],\
-         \"topGames\":[],\"white\":{games}}}\n"
-    )
-}
-
-/// A group has 512 texts, and ids are compared over the whole input: within a group with the
-/// candidates before, and with the games of the groups before.
-#[test]
-fn counts_the_games_of_two_groups(rt: HostRuntime) -> Result<(), Fail> {
-    let alloc = rt.alloc();
-    let mut text = games(alloc, 512)?;
-    let answer = won(alloc, 512)?;
-    assert!(rt; counts(&rt, text.as_str(), 4096, answer.as_str(), "")?);
-    for id in ["00000512", "00000007", "00000512"] {
-        let game = named(alloc, id, "1-0", "1-0")?;
-        text.push_str(game.as_str())?;
-    }
-    let answer = won(alloc, 513)?;
-    let report = "99522 Repeated 7\n99716 Twice 99328\n";
-    assert!(rt; counts(&rt, text.as_str(), 4096, answer.as_str(), report)?);
     Ok(())
 }
 

@@ -1,6 +1,6 @@
 //! Trials. The games, their totals and the last position were worked out from the format by another
 //! program, with its own generator and moves.
-use super::{FAULTLESS, NEVER, run_on};
+use super::{FAULTLESS, run_on};
 use std::alloc::AllocError;
 use std::sync::Wait;
 use std::test::Fail;
@@ -36,22 +36,9 @@ fn prints_alike<R: AllocGlobal + Wait + Threads + Sync>(
 }
 
 #[test]
-fn four_batches_make_two_segments(rt: HostRuntime) -> Result<(), Fail> {
-    let alike = prints_alike(&rt, "2000", OF_2000)?;
-    assert!(rt; alike);
-    Ok(())
-}
-
-#[test]
-fn ten_batches_make_two_segments(rt: HostRuntime) -> Result<(), Fail> {
-    let alike = prints_alike(&rt, "5000", OF_5000)?;
-    assert!(rt; alike);
-    Ok(())
-}
-
-#[test]
-fn a_write_that_fails_is_told(rt: HostRuntime) -> Result<(), Fail> {
-    let seen = run_on(&rt, &["trial", "1", "7"], "", 1, [NEVER, 0, NEVER])?;
-    assert!(rt; seen.is(5, "", "write fault\n"));
+fn four_batches_and_ten_make_two_segments(rt: HostRuntime) -> Result<(), Fail> {
+    for (games, printed) in [("2000", OF_2000), ("5000", OF_5000)] {
+        assert!(rt; prints_alike(&rt, games, printed)?, "{games}");
+    }
     Ok(())
 }

@@ -169,6 +169,18 @@ fn replies_of_one<R: Threads + Wait + Abort + Sync>(
     Ok(written.pop().ok_or("what is written")?)
 }
 
+/// Whether this is written there.
+fn is_replied<R: Threads + Wait + Abort + Sync>(
+    rt: &R,
+    alloc: Global,
+    failing: &[u64],
+    requests: Vec<u8>,
+    expected: &[u8],
+) -> Result<bool, Fail> {
+    let written = replies_of_one(rt, alloc, failing.to_vec(alloc)?, requests)?;
+    Ok(written.as_slice() == expected)
+}
+
 /// The import of a game with these moves, and then a question.
 fn post_and_get(alloc: Global, moves: &str) -> Result<Vec<u8>, AllocError> {
     let mut requests = post(alloc, text(alloc, "aaaaaaa1", moves)?.as_slice())?;
@@ -181,24 +193,23 @@ const GAME: &str =
 \"month\":\"2020-01\",\"speed\":\"blitz\",\"uci\":\"e2e4\",\"white\":{\"name\":\"Ann\",\
 \"rating\":1500},\"winner\":\"white\",\"year\":2020}";
 
-/// The answer once a game is stored in which e4 was played.
-fn answer_with_game(alloc: Global) -> Result<String, AllocError> {
-    format!(in alloc;
+/// That a game was stored in which e4 was played, and the answer then.
+fn replies_with_game(alloc: Global) -> Result<Vec<u8>, AllocError> {
+    let answer = format!(in alloc;
         "{{\"black\":0,\"draws\":0,\"moves\":[{{\"averageRating\":1500,\"black\":0,\"draws\":0,\
          \"game\":{GAME},\"opening\":null,\"san\":\"e4\",\"uci\":\"e2e4\",\"white\":1}}],\
          \"opening\":null,\"recentGames\":[{GAME}],\"topGames\":[{GAME}],\"white\":1}}"
-    )
+    )?;
+    found_each(alloc, &[(1, STORED), (1, answer.as_str())])
 }
 
 #[test]
 fn game_that_is_posted_is_found(rt: HostRuntime) -> Result<(), Fail> {
     let alloc: Global = rt.alloc();
     let moves = "1. e4 { [%eval 0.17] [%clk 0:00:30] } 1... c5?! { [%clk 0:00:29] } 1-0";
+    let expected = replies_with_game(alloc)?;
     let requests = post_and_get(alloc, moves)?;
-    let written = replies_of_one(&rt, alloc, Vec::new(alloc), requests)?;
-    let answer = answer_with_game(alloc)?;
-    let expected = found_each(alloc, &[(1, STORED), (1, answer.as_str())])?;
-    assert_eq!(rt; written.as_slice(), expected.as_slice());
+    assert!(rt; is_replied(&rt, alloc, &[], requests, expected.as_slice())?);
     Ok(())
 }
 
@@ -231,14 +242,17 @@ fn talks_of_two(alloc: Global) -> Result<Vec<Talk>, AllocError> {
 #[test]
 fn second_reader_finds_what_the_first_posted(rt: HostRuntime) -> Result<(), Fail> {
     let alloc: Global = rt.alloc();
-    let talks = talks_of_two(alloc)?;
-    let written = replies(&rt, alloc, Vec::new(alloc), talks)?;
-    assert_eq!(rt; written.len(), 3);
-    let first = [(0, NOTHING), (1, STORED), (1, ONE_GAME)];
-    assert!(rt; are_found(alloc, written[0].as_slice(), &first)?);
-    assert!(rt; are_found(alloc, written[1].as_slice(), &[(1, ONE_GAME)])?);
+    let written = replies(&rt, alloc, Vec::new(alloc), talks_of_two(alloc)?)?;
     let again = "{\"batches\":1,\"refused\":[{\"place\":0,\"why\":\"Repeated 0\"}],\"stored\":0}";
-    assert!(rt; are_found(alloc, written[2].as_slice(), &[(1, again)])?);
+    let wanted: [&[(u32, &str)]; 3] = [
+        &[(0, NOTHING), (1, STORED), (1, ONE_GAME)],
+        &[(1, ONE_GAME)],
+        &[(1, again)],
+    ];
+    assert_eq!(rt; written.len(), 3);
+    for (written, replies) in written.iter().zip(wanted) {
+        assert!(rt; are_found(alloc, written.as_slice(), replies)?);
+    }
     Ok(())
 }
 
@@ -269,10 +283,8 @@ fn replies_around_a_fault(alloc: Global) -> Result<Vec<u8>, AllocError> {
 fn disk_fault_closes_the_store_and_readers_go_on(rt: HostRuntime) -> Result<(), Fail> {
     let alloc: Global = rt.alloc();
     // The disk's calls: three of the creation, four of the first commit, and a write before the sync.
-    let failing = vec![in alloc; 8]?;
-    let written = replies_of_one(&rt, alloc, failing, posts_and_get(alloc)?)?;
     let expected = replies_around_a_fault(alloc)?;
-    assert_eq!(rt; written.as_slice(), expected.as_slice());
+    assert!(rt; is_replied(&rt, alloc, &[8], posts_and_get(alloc)?, expected.as_slice())?);
     Ok(())
 }
 
@@ -302,9 +314,8 @@ fn thousand_not_found(alloc: Global) -> Result<Vec<u8>, AllocError> {
 #[test]
 fn connection_has_at_most_a_thousand_requests(rt: HostRuntime) -> Result<(), Fail> {
     let alloc: Global = rt.alloc();
-    let requests = requests_for_nothing(alloc, 1001)?;
-    let written = replies_of_one(&rt, alloc, Vec::new(alloc), requests)?;
     let expected = thousand_not_found(alloc)?;
-    assert!(rt; written.as_slice() == expected.as_slice());
+    let requests = requests_for_nothing(alloc, 1001)?;
+    assert!(rt; is_replied(&rt, alloc, &[], requests, expected.as_slice())?);
     Ok(())
 }

@@ -19,24 +19,31 @@ use std::thread::{Threads, join};
 #[test]
 fn two_threads_store_common_games_once(rt: HostRuntime) -> Result<(), Fail> {
     let alloc: Global = rt.alloc();
-    let first = games(alloc, 0, 900)?;
-    let second = games(alloc, 300, 900)?;
     let unnamed = new_store(&rt, alloc, Vec::new(alloc))?;
-    let (one, two) = import_two::<Brand, _>(&rt, alloc, unnamed, first, second)?;
-    assert_eq!(rt;
-        (one.ending, two.ending),
-        (ImportEnding::Whole, ImportEnding::Whole)
-    );
+    let (one, two) = import_two::<Brand, _>(&rt, alloc, unnamed, (0, 900), (300, 900))?;
     // Of 1,800 games 600 are in both streams: each is stored once, and refused once.
-    assert_eq!(rt; stored(&one).saturating_add(stored(&two)), 1200);
-    assert_eq!(rt; one.refused.len().saturating_add(two.refused.len()), 600);
-    for refusal in one.refused.as_slice() {
-        assert!(rt; matches!(refusal.why, Why::Repeated { .. }));
-    }
-    for refusal in two.refused.as_slice() {
-        assert!(rt; matches!(refusal.why, Why::Repeated { .. }));
-    }
+    assert_eq!(rt; stored_and_repeated(&[one, two]), Some((1200, 600)));
     Ok(())
+}
+
+/// How many games the reports tell as stored, and how many as stored before, where nothing else is
+/// told.
+fn stored_and_repeated(told: &[Told]) -> Option<(u32, usize)> {
+    let (mut games, mut repeated) = (0u32, 0usize);
+    for told in told {
+        if told.ending != ImportEnding::Whole || !are_repeated(told.refused.as_slice()) {
+            return None;
+        }
+        games = games.saturating_add(stored(told));
+        repeated = repeated.saturating_add(told.refused.len());
+    }
+    Some((games, repeated))
+}
+
+fn are_repeated(refused: &[Refusal]) -> bool {
+    refused
+        .iter()
+        .all(|refusal| matches!(refusal.why, Why::Repeated { .. }))
 }
 
 /// How many games a report's batches have.
@@ -48,13 +55,14 @@ fn stored(told: &Told) -> u32 {
     games
 }
 
-/// Imports two streams from two threads.
+/// Imports two streams from two threads, of games that are told by the number of the first one and by
+/// how many there are.
 fn import_two<J: Index + Send + Sync, R: Threads + Wait + Abort + Sync>(
     rt: &R,
     alloc: Global,
     unnamed: Unnamed<MemDisk>,
-    first: Vec<u8>,
-    second: Vec<u8>,
+    first: (usize, usize),
+    second: (usize, usize),
 ) -> Result<(Told, Told), Fail>
     requires { unnamed.index.name ≡ J.name }
 {
@@ -79,9 +87,9 @@ fn import_one<J: Index, R: Threads + Wait + Sync>(
     rt: &R,
     alloc: Global,
     desk: &Desk<MemDisk, J>,
-    bytes: Vec<u8>,
+    (first, count): (usize, usize),
 ) -> Result<Told, AllocError> {
-    let mut source = MemSource::new(bytes, 4096, Vec::new(alloc));
+    let mut source = MemSource::new(games(alloc, first, count)?, 4096, Vec::new(alloc));
     let report = import(rt, alloc, &mut source, desk, 2, &FreeGate);
     summary_of(alloc, report)
 }

@@ -3,7 +3,7 @@ ghost use Rattle.std.specs.Prelude.{◌≡◌};
 
 use super::{Told, games, named, new_store, summary_of};
 use disk_model::MemDisk;
-use explorer_model::fault::{Refusal, Why};
+use explorer_model::fault::{GameFault, Refusal, TagFault, TagName, Why};
 use import_run::{Drained, drain_alone, import_alone};
 use ingest_desk::{ImportEnding, Ingest, Unnamed};
 use outside::{FreeGate, MemSource};
@@ -15,31 +15,75 @@ use std::sync::Wait;
 use std::test::Fail;
 use std::thread::Threads;
 
-/// One import into a store: its stream, how many bytes a read gives at most, and which reads fail.
-#[derive(Drop)]
-struct Stream {
-    bytes: Vec<u8>,
-    most: usize,
-    failing: Vec<u64>,
+/// A part of a stream.
+#[derive(Clone, Copy, Debug)]
+enum Part {
+    /// Games without a move: the number of the first one, and how many there are.
+    Games(usize, usize),
+    Bytes(&'static str),
+    /// A text of 65,537 bytes, which is one too many.
+    LongText,
 }
 
+/// One import into a store: its stream, how many bytes a read gives at most, and which read fails.
+#[derive(Clone, Copy, Debug)]
+struct Stream<'a> {
+    parts: &'a [Part],
+    most: usize,
+    failing: u64,
+}
+
+/// A read that no stream comes to.
+const NEVER: u64 = u64::MAX;
+
 /// A stream that each read gives as much of as is asked for.
-fn whole(alloc: Global, bytes: Vec<u8>) -> Stream {
+fn whole(parts: &[Part]) -> Stream<'_> {
     Stream {
-        bytes,
+        parts,
         most: 4096,
-        failing: Vec::new(alloc),
+        failing: NEVER,
     }
+}
+
+fn push_part(alloc: Global, bytes: &mut Vec<u8>, part: Part) -> Result<(), AllocError> {
+    match part {
+        Part::Games(first, count) => bytes.extend_from_slice(games(
+            alloc, first, count,
+        )?.as_slice()),
+        Part::Bytes(text) => bytes.extend_from_slice(text.as_bytes()),
+        Part::LongText => push_long_text(bytes),
+    }
+}
+
+fn push_long_text(bytes: &mut Vec<u8>) -> Result<(), AllocError> {
+    let head = b"[Event \"?\"]\n";
+    bytes.extend_from_slice(head)?;
+    for _ in head.len()..65_537 {
+        bytes.push(b'\n')?;
+    }
+    Ok(())
+}
+
+fn source_of(alloc: Global, stream: &Stream) -> Result<MemSource, Fail> {
+    if stream.most == 0 {
+        return Err(Fail::from("nothing is read"));
+    }
+    let mut bytes = Vec::new(alloc);
+    for part in stream.parts {
+        push_part(alloc, &mut bytes, *part)?;
+    }
+    let failing = Vec::from_slice(alloc, &[stream.failing])?;
+    Ok(MemSource::new(bytes, stream.most, failing))
 }
 
 /// Imports the streams one after another into a new store on a disk, of whose calls these fail.
 fn reports<R: Threads + Wait + Abort + Sync>(
     rt: &R,
     alloc: Global,
-    failing: Vec<u64>,
-    streams: Vec<Stream>,
+    failing: &[u64],
+    streams: &[Stream],
 ) -> Result<Vec<Told>, Fail> {
-    let unnamed = new_store(rt, alloc, failing)?;
+    let unnamed = new_store(rt, alloc, failing.to_vec(alloc)?)?;
     import_all::<Brand, _>(rt, alloc, unnamed, streams)
 }
 
@@ -47,7 +91,7 @@ fn import_all<J: Index, R: Threads + Wait + Abort + Sync>(
     rt: &R,
     alloc: Global,
     unnamed: Unnamed<MemDisk>,
-    streams: Vec<Stream>,
+    streams: &[Stream],
 ) -> Result<Vec<Told>, Fail>
     requires { unnamed.index.name ≡ J.name }
 {
@@ -63,139 +107,165 @@ fn import_each<J: Index, R: Threads + Wait + Abort + Sync>(
     rt: &R,
     alloc: Global,
     ingest: &mut Ingest<MemDisk, J>,
-    streams: Vec<Stream>,
+    streams: &[Stream],
 ) -> Result<Vec<Told>, Fail> {
     let mut all = Vec::new(alloc);
     for stream in streams {
-        if stream.most == 0 {
-            return Err(Fail::from("nothing is read"));
-        }
-        let mut source = MemSource::new(stream.bytes, stream.most, stream.failing);
-        let report = import_alone(rt, alloc, &mut source, ingest, 2, &FreeGate);
-        all.push(summary_of(alloc, report)?)?;
+        all.push(import_one(rt, alloc, ingest, stream)?)?;
     }
     Ok(all)
 }
 
+fn import_one<J: Index, R: Threads + Wait + Abort + Sync>(
+    rt: &R,
+    alloc: Global,
+    ingest: &mut Ingest<MemDisk, J>,
+    stream: &Stream,
+) -> Result<Told, Fail> {
+    let mut source = source_of(alloc, stream)?;
+    let report = import_alone(rt, alloc, &mut source, ingest, 2, &FreeGate);
+    Ok(summary_of(alloc, report)?)
+}
+
+/// What a report is to say: how the import ended, its batches, and what was refused.
+type Wanted<'a> = (ImportEnding, &'a [(u32, u32, u32)], &'a [Refusal]);
+
+/// Whether the imports of the streams into a new store, of whose disk's calls these fail, report so.
+fn reports_say<R: Threads + Wait + Abort + Sync>(
+    rt: &R,
+    alloc: Global,
+    failing: &[u64],
+    streams: &[Stream],
+    wanted: &[Wanted],
+) -> Result<bool, Fail> {
+    let told = reports(rt, alloc, failing, streams)?;
+    Ok(are_told(told.as_slice(), wanted))
+}
+
+fn are_told(told: &[Told], wanted: &[Wanted]) -> bool {
+    told.len() == wanted.len()
+        && told
+            .iter()
+            .zip(wanted)
+            .all(|(told, wanted)| is_told(told, *wanted))
+}
+
+fn is_told(told: &Told, (ending, batches, refused): Wanted) -> bool {
+    told.ending == ending
+        && told.batches.as_slice() == batches
+        && told.refused.as_slice() == refused
+}
+
+const fn refusal(place: u64, why: Why) -> Refusal {
+    Refusal { place, why }
+}
+
 // ---- what is stored and refused
+
+/// The refusals of so many stored games, each of which has 194 bytes.
+fn repeated(alloc: Global, count: u32) -> Result<Vec<Refusal>, AllocError> {
+    let mut all = Vec::new(alloc);
+    for number in 0..count {
+        all.push(refusal(194 * u64::from(number), Why::Repeated { number }))?;
+    }
+    Ok(all)
+}
 
 #[test]
 fn a_stream_of_1500_games_is_stored_once(rt: HostRuntime) -> Result<(), Fail> {
-    let alloc: Global = rt.alloc();
-    let mut streams = Vec::new(alloc);
-    streams.push(whole(alloc, games(alloc, 0, 1500)?))?;
-    streams.push(whole(alloc, games(alloc, 0, 1500)?))?;
-    let told = reports(&rt, alloc, Vec::new(alloc), streams)?;
-    let [first, second] = told.as_slice() else {
-        return Err(Fail::from("two imports have two reports"));
-    };
-    assert_eq!(rt; first.ending, ImportEnding::Whole);
+    let streams = [whole(&[Part::Games(0, 1500)]); 2];
     let batches = [(1, 0, 512), (2, 512, 512), (3, 1024, 476)];
-    assert!(rt; first.batches.as_slice() == batches.as_slice());
-    assert_eq!(rt; first.refused.len(), 0);
-    assert_eq!(rt; second.ending, ImportEnding::Whole);
-    assert_eq!(rt; second.batches.len(), 0);
-    assert_eq!(rt; second.refused.len(), 1500);
-    let mut number = 0;
-    for refusal in second.refused.as_slice() {
-        assert_eq!(rt; refusal.why, Why::Repeated { number });
-        number = number.saturating_add(1);
-    }
+    let repeated = repeated(rt.alloc(), 1500)?;
+    let wanted = [
+        (ImportEnding::Whole, batches.as_slice(), [].as_slice()),
+        (ImportEnding::Whole, [].as_slice(), repeated.as_slice()),
+    ];
+    assert!(rt; reports_say(&rt, rt.alloc(), &[], &streams, &wanted)?);
     Ok(())
 }
 
 #[test]
 fn stored_text_is_refused_with_its_number_and_the_other_stays(rt: HostRuntime) -> Result<(), Fail> {
-    let alloc: Global = rt.alloc();
-    let mut streams = Vec::new(alloc);
-    streams.push(whole(alloc, games(alloc, 0, 701)?))?;
-    let mut bytes = games(alloc, 900, 1)?;
-    bytes.extend_from_slice(games(alloc, 700, 1)?.as_slice())?;
-    streams.push(whole(alloc, bytes))?;
-    let told = reports(&rt, alloc, Vec::new(alloc), streams)?;
-    let [_first, second] = told.as_slice() else {
-        return Err(Fail::from("two imports have two reports"));
-    };
-    assert_eq!(rt; second.ending, ImportEnding::Whole);
-    assert!(rt; second.batches.as_slice() == [(3, 701, 1)].as_slice());
-    let refused = [Refusal {
-        place: 194,
-        why: Why::Repeated { number: 700 },
-    }];
-    assert!(rt; second.refused.as_slice() == refused.as_slice());
+    let streams = [
+        whole(&[Part::Games(0, 701)]),
+        whole(&[Part::Games(900, 1), Part::Games(700, 1)]),
+    ];
+    let stored = [(1, 0, 512), (2, 512, 189)];
+    let refused = [refusal(194, Why::Repeated { number: 700 })];
+    let wanted = [
+        (ImportEnding::Whole, stored.as_slice(), [].as_slice()),
+        (
+            ImportEnding::Whole,
+            [(3, 701, 1)].as_slice(),
+            refused.as_slice(),
+        ),
+    ];
+    assert!(rt; reports_say(&rt, rt.alloc(), &[], &streams, &wanted)?);
     Ok(())
-}
-
-/// A text of 65,537 bytes, which is one too many.
-fn long_text(alloc: Global) -> Result<Vec<u8>, AllocError> {
-    let mut bytes = b"[Event \"?\"]\n".to_vec(alloc)?;
-    for _ in bytes.len()..65_537 {
-        bytes.push(b'\n')?;
-    }
-    Ok(bytes)
 }
 
 #[test]
 fn refusals_stand_in_the_order_of_their_places(rt: HostRuntime) -> Result<(), Fail> {
-    let alloc: Global = rt.alloc();
-    let game = games(alloc, 0, 1)?;
-    let mut bytes = b"x\n".to_vec(alloc)?;
-    bytes.extend_from_slice(game.as_slice())?;
-    bytes.extend_from_slice(game.as_slice())?;
-    bytes.extend_from_slice(long_text(alloc)?.as_slice())?;
-    bytes.extend_from_slice(game.as_slice())?;
-    let mut streams = Vec::new(alloc);
-    streams.push(whole(alloc, bytes.clone()?))?;
-    streams.push(whole(alloc, bytes))?;
-    let told = reports(&rt, alloc, Vec::new(alloc), streams)?;
-    let [first, second] = told.as_slice() else {
-        return Err(Fail::from("two imports have two reports"));
-    };
-    let refusal = |place, why| Refusal { place, why };
-    let refused = [
-        refusal(0, Why::Preamble),
-        refusal(196, Why::Twice { first: 2 }),
-        refusal(390, Why::TooLong { length: 65_537 }),
-        refusal(65_927, Why::Twice { first: 2 }),
-    ];
-    assert!(rt; first.batches.as_slice() == [(1, 0, 1)].as_slice());
-    assert!(rt; first.refused.as_slice() == refused.as_slice());
+    let game = Part::Games(0, 1);
+    let parts = [Part::Bytes("x\n"), game, game, Part::LongText, game];
+    let preamble = refusal(0, Why::Preamble);
     // Once more, the first text is a repeat, and stands between the others.
-    let refused = [
-        refusal(0, Why::Preamble),
-        refusal(2, Why::Repeated { number: 0 }),
-        refusal(196, Why::Twice { first: 2 }),
-        refusal(390, Why::TooLong { length: 65_537 }),
-        refusal(65_927, Why::Twice { first: 2 }),
+    let again = refusal(2, Why::Repeated { number: 0 });
+    let twice = refusal(196, Why::Twice { first: 2 });
+    let long = refusal(390, Why::TooLong { length: 65_537 });
+    let thrice = refusal(65_927, Why::Twice { first: 2 });
+    let first = [preamble, twice, long, thrice];
+    let second = [preamble, again, twice, long, thrice];
+    let wanted = [
+        (
+            ImportEnding::Whole,
+            [(1, 0, 1)].as_slice(),
+            first.as_slice(),
+        ),
+        (ImportEnding::Whole, [].as_slice(), second.as_slice()),
     ];
-    assert_eq!(rt; second.batches.len(), 0);
-    assert!(rt; second.refused.as_slice() == refused.as_slice());
+    assert!(rt; reports_say(&rt, rt.alloc(), &[], &[whole(&parts); 2], &wanted)?);
     Ok(())
 }
 
 #[test]
 fn equal_streams_in_other_pieces_have_equal_reports(rt: HostRuntime) -> Result<(), Fail> {
-    let alloc: Global = rt.alloc();
-    let mut streams = Vec::new(alloc);
-    for most in [1, 7, 4096] {
-        let mut bytes = games(alloc, 0, 2)?;
-        bytes.extend_from_slice(games(alloc, 1, 2)?.as_slice())?;
-        bytes.extend_from_slice(b"[Event \"?\"]\n1. e4")?;
-        let mut stream = whole(alloc, bytes);
-        stream.most = most;
-        streams.push(stream)?;
-    }
-    let told = reports(&rt, alloc, Vec::new(alloc), streams)?;
-    let [first, second, third] = told.as_slice() else {
-        return Err(Fail::from("three imports have three reports"));
+    let parts = [
+        Part::Games(0, 2),
+        Part::Games(1, 2),
+        Part::Bytes("[Event \"?\"]\n1. e4"),
+    ];
+    let by_bytes = Stream {
+        most: 1,
+        ..whole(&parts)
     };
-    assert_eq!(rt; first.ending, ImportEnding::Whole);
-    assert!(rt; first.batches.as_slice() == [(1, 0, 3)].as_slice());
-    assert_eq!(rt; first.refused.len(), 2);
-    assert_eq!(rt; first.refused[0].why, Why::Twice { first: 194 });
-    assert_eq!(rt; second.batches.len(), 0);
-    assert_eq!(rt; second.refused.len(), 5);
-    assert!(rt; second.refused.as_slice() == third.refused.as_slice());
+    let by_sevens = Stream {
+        most: 7,
+        ..whole(&parts)
+    };
+    let streams = [by_bytes, by_sevens, whole(&parts)];
+    let no_site = TagFault::Missing {
+        name: TagName::Site,
+    };
+    let last = refusal(776, Why::Game(GameFault::Tag(no_site)));
+    let first = [refusal(388, Why::Twice { first: 194 }), last];
+    let others = [
+        refusal(0, Why::Repeated { number: 0 }),
+        refusal(194, Why::Repeated { number: 1 }),
+        refusal(388, Why::Twice { first: 194 }),
+        refusal(582, Why::Repeated { number: 2 }),
+        last,
+    ];
+    let wanted = [
+        (
+            ImportEnding::Whole,
+            [(1, 0, 3)].as_slice(),
+            first.as_slice(),
+        ),
+        (ImportEnding::Whole, [].as_slice(), others.as_slice()),
+        (ImportEnding::Whole, [].as_slice(), others.as_slice()),
+    ];
+    assert!(rt; reports_say(&rt, rt.alloc(), &[], &streams, &wanted)?);
     Ok(())
 }
 
@@ -203,57 +273,42 @@ fn equal_streams_in_other_pieces_have_equal_reports(rt: HostRuntime) -> Result<(
 
 #[test]
 fn a_failed_read_leaves_the_whole_groups(rt: HostRuntime) -> Result<(), Fail> {
-    let alloc: Global = rt.alloc();
-    let mut stream = whole(alloc, games(alloc, 0, 600)?);
-    stream.failing.push(26)?;
-    let mut streams = Vec::new(alloc);
-    streams.push(stream)?;
-    let told = reports(&rt, alloc, Vec::new(alloc), streams)?;
-    let [only] = told.as_slice() else {
-        return Err(Fail::from("one import has one report"));
+    // 26 reads give 548 texts.
+    let stream = Stream {
+        failing: 26,
+        ..whole(&[Part::Games(0, 600)])
     };
     let ending = ImportEnding::ReadFault {
         before: 0,
         after: 1,
     };
-    assert_eq!(rt; only.ending, ending);
-    assert!(rt; only.batches.as_slice() == [(1, 0, 512)].as_slice());
-    assert_eq!(rt; only.refused.len(), 0);
+    let wanted = [(ending, [(1, 0, 512)].as_slice(), [].as_slice())];
+    assert!(rt; reports_say(&rt, rt.alloc(), &[], &[stream], &wanted)?);
     Ok(())
 }
 
 #[test]
 fn a_disk_fault_closes_the_store(rt: HostRuntime) -> Result<(), Fail> {
-    let alloc: Global = rt.alloc();
-    let mut streams = Vec::new(alloc);
-    for (first, count) in [(0, 1), (0, 2), (2, 1)] {
-        streams.push(whole(alloc, games(alloc, first, count)?))?;
-    }
-    // Making the store calls the disk three times, and storing a batch four times.
-    let mut failing = Vec::new(alloc);
-    failing.push(8)?;
-    let told = reports(&rt, alloc, failing, streams)?;
-    let [first, second, third] = told.as_slice() else {
-        return Err(Fail::from("three imports have three reports"));
+    let streams = [
+        whole(&[Part::Games(0, 1)]),
+        whole(&[Part::Games(0, 2)]),
+        whole(&[Part::Games(2, 1)]),
+    ];
+    let fault = ImportEnding::DiskFault {
+        before: 0,
+        after: 1,
     };
-    assert_eq!(rt; first.ending, ImportEnding::Whole);
-    assert_eq!(rt;
-        second.ending,
-        ImportEnding::DiskFault {
-            before: 0,
-            after: 1
-        }
-    );
-    assert_eq!(rt; second.batches.len(), 0);
-    assert_eq!(rt; second.refused.len(), 1);
-    assert_eq!(rt; second.refused[0].why, Why::Repeated { number: 0 });
-    assert_eq!(rt;
-        third.ending,
-        ImportEnding::Closed {
-            before: 0,
-            after: 1
-        }
-    );
-    assert_eq!(rt; third.batches.len(), 0);
+    let closed = ImportEnding::Closed {
+        before: 0,
+        after: 1,
+    };
+    let repeated = [refusal(0, Why::Repeated { number: 0 })];
+    let wanted = [
+        (ImportEnding::Whole, [(1, 0, 1)].as_slice(), [].as_slice()),
+        (fault, [].as_slice(), repeated.as_slice()),
+        (closed, [].as_slice(), [].as_slice()),
+    ];
+    // Making the store calls the disk three times, and storing a batch four times.
+    assert!(rt; reports_say(&rt, rt.alloc(), &[8], &streams, &wanted)?);
     Ok(())
 }

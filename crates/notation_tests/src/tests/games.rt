@@ -16,7 +16,7 @@ fn game(alloc: Global, tag: &str, movetext: &str) -> Result<String, AllocError> 
 }
 
 /// The game of a text, where the text is short enough to be read.
-fn replayed(alloc: Global, text: &str) -> Option<Result<Game, Stop<GameFault>>> {
+pub fn replayed(alloc: Global, text: &str) -> Option<Result<Game, Stop<GameFault>>> {
     if 65_536 < text.len() {
         return None;
     }

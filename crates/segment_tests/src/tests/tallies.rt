@@ -18,7 +18,7 @@ fn text(alloc: Global, place: u64, id: &str, movetext: &str) -> Result<Placed, A
 }
 
 /// The same with these ratings of White and Black.
-fn rated_text(
+pub(super) fn rated_text(
     alloc: Global,
     place: u64,
     id: &str,
@@ -37,7 +37,7 @@ fn rated_text(
 }
 
 /// The tally of the texts, where they are few and short enough to be tallied.
-fn tallied<R: Threads + Sync, G: Gate>(
+pub(super) fn tallied<R: Threads + Sync, G: Gate>(
     rt: &R,
     alloc: Global,
     texts: Vec<Placed>,

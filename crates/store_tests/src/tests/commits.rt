@@ -1,16 +1,15 @@
 //! Batches that are stored, published and read again, and stores that are damaged.
 ghost use Rattle.std.specs.Prelude.{◌≡◌, ◌∷◌, [], IfOk};
 
-use super::stores::{commit_games, games, join_twice, named, new_store};
+use super::stores::{commit_games, damage_of, games, join_twice, named, new_store, opened};
 use super::{tally_of, text};
 use disk_model::{Disk, MemDisk};
 use explorer_model::archive::{Batch, Bytes, Texts};
 use explorer_model::label::Label;
-use explorer_model::store::LogFault;
-use ingest_desk::{Clashing, CommitFault, Ingest, Marks, Receipt, Standing, Unnamed, open};
+use ingest_desk::{Clashing, CommitFault, Ingest, Marks, Receipt, Standing, Unnamed};
 use manifest::{Manifest, create};
 use published_index::{Index, Pass};
-use record_log::{AppendFault, OpenFault};
+use record_log::AppendFault;
 use std::alloc::{AllocError, Global};
 use std::marker::Brand;
 use std::process::Abort;
@@ -25,9 +24,7 @@ fn batches_are_stored_published_and_joined(rt: HostRuntime) -> Result<(), Fail> 
     let alloc: Global = rt.alloc();
     let unnamed = new_store(&rt, alloc, Vec::new(alloc))?;
     let disk = stores_three::<Brand, _>(&rt, alloc, unnamed)?;
-    let Ok(unnamed) = open(&rt, alloc, disk, 2, 1) else {
-        return Err(Fail::from("not opened"));
-    };
+    let unnamed = opened(&rt, alloc, disk, 2)?;
     let (batches, _disk) = batches_of::<Brand, _>(&rt, alloc, unnamed)?;
     assert_eq!(rt; batches, 2);
     Ok(())
@@ -123,9 +120,7 @@ fn batches_behind_a_fault<R: Threads + Wait + Abort + Sync>(
 ) -> Result<u32, Fail> {
     let unnamed = new_store(rt, alloc, vec![in alloc; failing]?)?;
     let disk = breaks::<Brand, _>(rt, alloc, unnamed)?;
-    let Ok(unnamed) = open(rt, alloc, disk, 1, 1) else {
-        return Err(Fail::from("not opened"));
-    };
+    let unnamed = opened(rt, alloc, disk, 1)?;
     let (batches, _disk) = batches_of::<Brand, _>(rt, alloc, unnamed)?;
     Ok(batches)
 }
@@ -234,13 +229,8 @@ fn fault_of<J: Index>(
 
 // ---- damaged stores
 
-/// The gate at which a store of two batches, of one text each, is damaged.
-fn damaged_at<R: Threads + Wait + Sync>(
-    rt: &R,
-    alloc: Global,
-    first: Bytes,
-    second: Bytes,
-) -> Result<u64, Fail> {
+/// A disk with a store of two batches, of one text each.
+fn disk_of_two(alloc: Global, first: Bytes, second: Bytes) -> Result<MemDisk, Fail> {
     let Ok(mut manifest) = create(MemDisk::new(alloc, 10_000, Vec::new(alloc))?) else {
         return Err(Fail::from("not created"));
     };
@@ -249,16 +239,7 @@ fn damaged_at<R: Threads + Wait + Sync>(
     if stored.is_err() || stored_too.is_err() {
         return Err(Fail::from("not stored"));
     }
-    match open(rt, alloc, manifest.into_disk(), 1, 1) {
-        Ok(unnamed) => {
-            let _disk = unnamed.into_disk(rt);
-            Err(Fail::from("opened"))
-        }
-        Err(back) => match back.fault {
-            OpenFault::Log(LogFault::Damaged { at }) => Ok(at),
-            _ => Err(Fail::from("another fault")),
-        },
-    }
+    Ok(manifest.into_disk())
 }
 
 /// Stores a batch of one short text, whether it has a game or not.
@@ -285,17 +266,33 @@ fn batch_of(alloc: Global, text: Bytes) -> Result<Batch, AllocError>
     })
 }
 
+/// A game, or a text without one.
+fn text_of(alloc: Global, has_game: bool) -> Result<Bytes, AllocError> {
+    if has_game {
+        Ok(text(alloc, 1, 0, "")?.bytes)
+    } else {
+        Ok(Bytes::from_vec(vec![in alloc; b'x']?))
+    }
+}
+
+/// The gate at which a store is damaged whose second batch has a game, and whose first one has the
+/// same game or none.
+fn damaged_at<R: Threads + Wait + Sync>(
+    rt: &R,
+    alloc: Global,
+    has_game: bool,
+) -> Result<u64, Fail> {
+    let disk = disk_of_two(alloc, text_of(alloc, has_game)?, text_of(alloc, true)?)?;
+    damage_of(rt, alloc, disk, 1)
+}
+
 #[test]
 fn damaged_store_is_not_opened(rt: HostRuntime) -> Result<(), Fail> {
-    let alloc: Global = rt.alloc();
-    let game = text(alloc, 1, 0, "")?.bytes;
-    let again = text(alloc, 1, 0, "")?.bytes;
-    assert_eq!(rt; game.len(), 195);
-    // The same id again, behind a record of one text: its gate, its length, no label, and that of its text.
-    assert_eq!(rt; damaged_at(&rt, alloc, game, again)?, 12 + 5 + 3 + 4 + 195);
-    // A text without a game.
-    let other = Bytes::from_vec(vec![in alloc; b'x']?);
-    let game = text(alloc, 1, 0, "")?.bytes;
-    assert_eq!(rt; damaged_at(&rt, alloc, other, game)?, 12);
+    assert_eq!(rt; text(rt.alloc(), 1, 0, "")?.bytes.len(), 195);
+    // The same id again stands behind a record of one text: its gate, its length, no label, and that
+    // of its text.
+    for (has_game, at) in [(true, 12 + 5 + 3 + 4 + 195), (false, 12)] {
+        assert_eq!(rt; damaged_at(&rt, rt.alloc(), has_game)?, at);
+    }
     Ok(())
 }

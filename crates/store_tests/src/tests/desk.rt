@@ -1,13 +1,11 @@
 //! A desk at its limit, and beside another worker.
 ghost use Rattle.std.specs.Prelude.{◌≡◌};
 
-use super::stores::{commit_games, games, join_twice, named, new_store};
+use super::stores::{commit_games, damage_of, games, join_twice, named, new_store, opened};
 use super::text;
 use disk_model::{Disk, MemDisk};
-use explorer_model::store::LogFault;
-use ingest_desk::{CommitFault, Ingest, Receipt, Standing, Unnamed, open};
+use ingest_desk::{CommitFault, Ingest, Receipt, Standing, Unnamed};
 use published_index::Index;
-use record_log::OpenFault;
 use std::alloc::{AllocError, Global};
 use std::marker::Brand;
 use std::process::Abort;
@@ -70,9 +68,7 @@ pub(super) fn disk_with(alloc: Global, file: &[u8]) -> Result<MemDisk, Fail> {
 fn store_below_its_limit_takes_one_game(rt: HostRuntime) -> Result<(), Fail> {
     let alloc: Global = rt.alloc();
     let file = store_file(alloc, LIMIT - 1, 512)?;
-    let Ok(unnamed) = open(&rt, alloc, disk_with(alloc, file.as_slice())?, 4, 1) else {
-        return Err(Fail::from("not opened"));
-    };
+    let unnamed = opened(&rt, alloc, disk_with(alloc, file.as_slice())?, 4)?;
     fills::<Brand, _>(&rt, alloc, unnamed)
 }
 
@@ -129,20 +125,10 @@ fn room_of<J: Index>(answer: Result<Receipt<J>, CommitFault<J>>) -> Option<(u64,
 fn store_beyond_its_limit_is_damaged_at_the_last_record(rt: HostRuntime) -> Result<(), Fail> {
     let alloc: Global = rt.alloc();
     let file = store_file(alloc, LIMIT + 1, 512)?;
-    match open(&rt, alloc, disk_with(alloc, file.as_slice())?, 4, 1) {
-        Ok(unnamed) => {
-            let _disk = unnamed.into_disk(&rt);
-            Err(Fail::from("opened"))
-        }
-        Err(back) => {
-            let OpenFault::Log(LogFault::Damaged { at }) = back.fault else {
-                return Err(Fail::from("another fault"));
-            };
-            // A record has a gate, a length, an empty label, a count, and each text behind its length.
-            assert_eq!(rt; at, 12 + 512 * (1 + 4 + 3 + 512 * (4 + 195)));
-            Ok(())
-        }
-    }
+    let at = damage_of(&rt, alloc, disk_with(alloc, file.as_slice())?, 4)?;
+    // A record has a gate, a length, an empty label, a count, and each text behind its length.
+    assert_eq!(rt; at, 12 + 512 * (1 + 4 + 3 + 512 * (4 + 195)));
+    Ok(())
 }
 
 // ---- another worker

@@ -3,9 +3,9 @@
 ghost use Rattle.std.specs.Prelude.{◌≡◌, None};
 
 use super::desk::{disk_with, store_file};
-use super::stores::{commit_games, games, named, store_on};
+use super::stores::{commit_games, games, named, opened, store_on};
 use disk_model::{Disk, MemDisk};
-use ingest_desk::{CommitFault, Ingest, InstallFault, Unnamed, open};
+use ingest_desk::{CommitFault, Ingest, InstallFault, Unnamed};
 use outside::{Failed, FreeGate};
 use published_index::Index;
 use segment_blocks::Segment;
@@ -199,9 +199,7 @@ fn held_join_is_published_by_the_next_commit(rt: HostRuntime) -> Result<(), Fail
     let alloc: Global = rt.alloc();
     // Of five batches of one game each, three and two stand together when they are counted anew.
     let file = store_file(alloc, 5, 1)?;
-    let Ok(unnamed) = open(&rt, alloc, disk_with(alloc, file.as_slice())?, 1, 1) else {
-        return Err(Fail::from("not opened"));
-    };
+    let unnamed = opened(&rt, alloc, disk_with(alloc, file.as_slice())?, 1)?;
     holds_join::<Brand, _>(&rt, alloc, unnamed)
 }
 

@@ -1,12 +1,14 @@
 //! Stores in memory, and batches of games without a move.
-ghost use Rattle.std.specs.Prelude.{◌≡◌};
+ghost use Rattle.std.specs.Prelude.{◌≡◌, ◌≤◌};
 
 use super::{tally_of, text};
 use disk_model::{Disk, MemDisk};
-use ingest_desk::{CommitFault, Ingest, InstallFault, Receipt, Standing, Unnamed, fresh};
+use explorer_model::store::LogFault;
+use ingest_desk::{CommitFault, Ingest, InstallFault, Receipt, Standing, Unnamed, fresh, open};
 use manifest::create;
 use outside::FreeGate;
 use published_index::{Index, Pass};
+use record_log::OpenFault;
 use segment_merge::merge;
 use std::alloc::Global;
 use std::process::Abort;
@@ -36,6 +38,44 @@ pub(super) fn store_on<D: Disk + Drop, R: Wait>(
     match fresh(rt, alloc, manifest, 1) {
         Ok(unnamed) => Ok(unnamed),
         Err(_) => Err(Fail::from("no room")),
+    }
+}
+
+/// An ingest of the store on a disk, which so many workers count anew.
+pub(super) fn opened<R: Threads + Wait + Sync>(
+    rt: &R,
+    alloc: Global,
+    disk: MemDisk,
+    workers: usize,
+) -> Result<Unnamed<MemDisk>, Fail>
+    requires some_workers { 1 ≤ workers }
+    requires few_workers { workers ≤ 16 }
+{
+    match open(rt, alloc, disk, workers, 1) {
+        Ok(unnamed) => Ok(unnamed),
+        Err(_) => Err(Fail::from("not opened")),
+    }
+}
+
+/// The gate at which the store on a disk is damaged.
+pub(super) fn damage_of<R: Threads + Wait + Sync>(
+    rt: &R,
+    alloc: Global,
+    disk: MemDisk,
+    workers: usize,
+) -> Result<u64, Fail>
+    requires some_workers { 1 ≤ workers }
+    requires few_workers { workers ≤ 16 }
+{
+    match open(rt, alloc, disk, workers, 1) {
+        Ok(unnamed) => {
+            let _disk = unnamed.into_disk(rt);
+            Err(Fail::from("opened"))
+        }
+        Err(back) => match back.fault {
+            OpenFault::Log(LogFault::Damaged { at }) => Ok(at),
+            _ => Err(Fail::from("another fault")),
+        },
     }
 }
 

@@ -1,8 +1,9 @@
 //! What stands under the names of a host.
 use disk_model::{Disk, MemDisk};
-use host::{Host, MemFile, MemHost, laws};
+use host::{Host, MemFile, MemHost, RealHost, laws};
 use outside::{Failed, Source};
 use std::alloc::Global;
+use std::fs;
 use std::test::Fail;
 
 /// Writes a byte behind what stands on a disk of the host, and gives its size then.
@@ -61,5 +62,40 @@ fn host_in_memory_keeps_what_stands_under_names(rt: HostRuntime) -> Result<(), F
     assert_eq!(rt; reads, [Ok(3), Err(Failed)]);
     assert_eq!(rt; &into[..3], b"abc".as_slice());
     assert_eq!(rt; host.calls().len(), 8);
+    Ok(())
+}
+
+/// What appending a byte to a disk by one host answers while another host has it out, and then.
+fn append_beside<H: Host>(
+    out: &mut H,
+    host: &mut H,
+    name: &str,
+) -> Result<[Result<u64, Failed>; 2], Failed> {
+    // law: a disk that was handed out is to be given back
+    laws::what_is_handed_out_is_out();
+    let disk = out.disk(name)?;
+    let beside = append_byte(host, name);
+    out.close(name, disk);
+    Ok([beside, append_byte(host, name)])
+}
+
+#[test]
+fn host_of_the_system_hands_a_file_to_one_at_a_time(rt: HostRuntime) -> Result<(), Fail> {
+    let path = "host_of_the_system";
+    let _ = fs::remove_file(&rt, path);
+    let (mut out, mut host) = (RealHost::new(&rt), RealHost::new(&rt));
+    let appended = append_beside(&mut out, &mut host, path);
+    assert_eq!(rt; appended, Ok([Err(Failed), Ok(1)]));
+    fs::remove_file(&rt, path)?;
+    Ok(())
+}
+
+#[test]
+fn host_of_the_system_has_no_disk_over_a_folder(rt: HostRuntime) -> Result<(), Fail> {
+    let path = "folder_of_the_system";
+    fs::create_dir(&rt, path)?;
+    let appended = append_byte(&mut RealHost::new(&rt), path);
+    fs::remove_dir(&rt, path)?;
+    assert_eq!(rt; appended, Err(Failed));
     Ok(())
 }

@@ -7,7 +7,7 @@ mod pins;
 mod plainly;
 mod tables;
 
-use crate::legal::{is_legal, is_same};
+use chess_reference::legal::{is_legal, is_same};
 use explorer_model::chess::{Color, Move, Piece, Position, Rights, Role};
 use explorer_model::square::Square;
 use legal_moves::valid::is_valid;

@@ -1,5 +1,5 @@
 use Rattle.legal_moves.proofs.Lists.{listed_legal}
-use Rattle.chess_reference.proofs.tests.perft.+count_lines.Goals as goal
+use Rattle.notation_tests.proofs.tests.chess.perft.+count_lines.Goals as goal
 
 pub play-requires : goal.play-requires
 play-requires t c =

@@ -1,5 +1,5 @@
 use Rattle.legal_moves.proofs.Lists.{listed_legal}
-use Rattle.chess_reference.proofs.tests.plainly.are_all_told.Goals as goal
+use Rattle.notation_tests.proofs.tests.chess.plainly.are_all_told.Goals as goal
 
 pub play-requires : goal.play-requires
 play-requires c =

@@ -1,4 +1,4 @@
-use Rattle.chess_reference.proofs.tests.perft.+count_lines.Given as goal
+use Rattle.notation_tests.proofs.tests.chess.perft.+count_lines.Given as goal
 
 abbrev pub decreases-count_lines : goal.decreases-count_lines
 decreases-count_lines l = l.depth

@@ -1,6 +1,6 @@
 //! The listed moves against the plain test of legality, which looks at squares alone.
 use super::{ALL_RIGHTS, NO_RIGHTS, WHITE_RIGHTS, position};
-use crate::legal::is_legal;
+use chess_reference::legal::is_legal;
 use explorer_model::chess::{Color, Move, Position, Role};
 use explorer_model::square::{Square, rank_of};
 use legal_moves::board::Board;
