@@ -32,6 +32,8 @@ exit
 """
 # How many games callgrind reads, and how many positions are asked for.
 INSTRUCTED, POSITIONS = 500, 1000
+# How often an answer that is kept is asked for under callgrind.
+KEPT_ROUNDS = 100
 START = "rnbqkbnr/pppppppp/8/8/8/8/PPPPPPPP/RNBQKBNR w KQkq -"
 
 
@@ -191,13 +193,16 @@ def target(fen="", **others):
 
 
 def times_of(port, targets, rounds):
-    """Seconds from each request to the end of its reply, by target, over one open connection; and the bodies."""
+    """Seconds from each request to the end of its reply, by target, over one open connection; and the bodies.
+
+    Each round asks by query strings of its own, whose answers are not kept: a name that is no parameter is passed over.
+    """
     times, bodies = {}, {}
     connection = http.client.HTTPConnection("127.0.0.1", port)
-    for _ in range(rounds):
+    for number in range(rounds):
         for at in targets:
             begin = time.perf_counter()
-            connection.request("GET", at)
+            connection.request("GET", f"{at}&round={number}")
             reply = connection.getresponse()
             bodies[at] = reply.read()
             times.setdefault(at, []).append(time.perf_counter() - begin)
@@ -399,6 +404,59 @@ def replies(options):
     return [table(title, head, rows, note)]
 
 
+KEPT_TARGETS = {"start": {}, "start, with history": {"history": "true"}, "after 1. e4 c5": {"play": "e2e4,c7c5"}}
+
+
+def instructions_of(store, targets):
+    """Instructions of a server that opens a store and answers these on one connection, by valgrind."""
+    noted = measuring.work_folder() / "callgrind.log"
+    port = measuring.free_port()
+    words = ["valgrind", "--tool=callgrind", "--callgrind-out-file=/dev/null", f"--log-file={noted}", measuring.explorer(),
+             "serve", store, f"127.0.0.1:{port}", "--readers", "1", "--connections", "1", "--workers", "1"]
+    with measuring.running(words) as process:
+        times_of(port, targets, 1)
+        process.wait()
+    return int(re.search(r"Collected : (\d+)", noted.read_text(encoding="utf-8"))[1])
+
+
+def held_after(port, process, targets):
+    """How many KB a process holds once these are answered, over connections of at most 1,000 requests."""
+    connection = http.client.HTTPConnection("127.0.0.1", port)
+    for at in targets:
+        connection.request("GET", at)
+        reply = connection.getresponse()
+        reply.read()
+        if reply.getheader("Connection") == "close":
+            connection.close()
+    connection.close()
+    status = pathlib.Path(f"/proc/{process.pid}/status").read_text(encoding="utf-8")
+    return int(re.search(r"VmRSS:\s+(\d+)", status)[1])
+
+
+def kept(options):
+    """Replies whose answers are kept, beside ones that are looked up: instructions, by valgrind, and what a reader holds."""
+    measuring.need("valgrind", "valgrind")
+    store = measuring.store_of(measuring.games(options.archive, options.many))
+    # What is malformed is told without a look-up.
+    base = instructions_of(store, [target(moves="x")])
+    rows = []
+    for name, others in KEPT_TARGETS.items():
+        first = instructions_of(store, [target(**others)])
+        again = instructions_of(store, [target(**others)] * (KEPT_ROUNDS + 1))
+        looked_up, given_again = first - base, (again - first) / KEPT_ROUNDS
+        rows.append([name, f"{looked_up:,}", f"{given_again:,.0f}", f"{given_again / looked_up:.4f}"])
+    title = f"Instructions of a reply over {options.many:,} games, without those of a malformed request for the one looked up"
+    tables = [table(title, ["", "looked up", "kept", "ratio"], rows)]
+    with serving(options, 1) as (port, process):
+        before = held_after(port, process, [target(history="true")])
+        held = []
+        for first, last in ((0, 1_000), (1_000, options.queries)):
+            targets = (target(history="true", round=number) for number in range(first, last))
+            held.append([f"{last:,}", f"{held_after(port, process, targets) - before:,}"])
+    title = "KB that a server with one reader holds more than after one query, once it was asked different query strings"
+    return [*tables, table(title, ["query strings", "KB"], held)]
+
+
 def perft(options):
     """Leaves of the tree of legal moves a second, beside stockfish."""
     lines = measuring.measured("perft", f"{START} 0 1", str(options.depth))
@@ -482,12 +540,13 @@ def lookup(options):
 MEASURES = {
     "count": count, "instructions": instructions, "shares": shares, "import": imports, "query": query, "tally": tally,
     "segments": segments, "steps": steps, "store": store, "lookup": lookup, "lookups": lookups, "replies": replies,
+    "kept": kept,
     "perft": perft, "wire": wire, "gate": gate,
 }
 # Those that are taken by a script with a program of its own, that ask for positions, and that read a store.
 SCRIPTS = ("tally", "segments", "steps", "store", "lookup", "perft", "wire")
 ASKING = ("lookup", "lookups", "replies")
-READING = ("query", *ASKING)
+READING = ("query", "kept", *ASKING)
 
 
 def file_sizes(name, options):

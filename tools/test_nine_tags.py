@@ -34,14 +34,18 @@ MONACO = """[Event "Monaco"]
 LICHESS = support.GAMES.read_text(encoding="utf-8").partition("\n[Event ")[0] + "\n"
 
 START = "rnbqkbnr/pppppppp/8/8/8/8/PPPPPPPP/RNBQKBNR w KQkq - 0 1"
+# Where Hastings stands before its third move of Black.
+ITALIAN = '[Variant "From Position"]\n[SetUp "1"]\n[FEN "r1bqkbnr/pppp1ppp/2n5/4p3/2B1P3/5N2/PPPP1PPP/RNBQK2R b KQkq - 3 3"]\n'
+SET_UP = HASTINGS.replace("[ECO", ITALIAN + "[ECO").replace("1.e4 e5 2.Nf3 Nc6 3.Bc4 Nf6", "3... Nf6")
 
 # The causes that stay, by an archive of one game.
 STAYS = [
     ("Bad Date", MONACO),
     ("UnknownResult", HASTINGS.replace("1-0", "*")),
     ("ResultDiffers", HASTINGS.replace("} 1-0", "} 0-1")),
-    ("SetUp", HASTINGS.replace("[ECO", '[SetUp "1"]\n[FEN "4k3/8/8/8/8/8/8/4K3 w - - 0 1"]\n[ECO')),
-    ("NotStandard", HASTINGS.replace("[ECO", '[Variant "Atomic"]\n[ECO')),
+    ("SetUp", HASTINGS.replace("[ECO", f'[SetUp "0"]\n[FEN "{START}"]\n[ECO')),
+    ("SetUp", HASTINGS.replace("[ECO", '[SetUp "1"]\n[ECO')),
+    ("NotStandard", HASTINGS.replace("[ECO", '[Variant "Chess960"]\n[SetUp "1"]\n[FEN "x"]\n[ECO')),
     ("Missing UTCDate", HASTINGS.replace('[Date "1951.12.30"]\n', "")),
     ("Missing Result", HASTINGS.replace('[Result "1-0"]\n', "").replace("} 1-0", "}")),
     ("TooLong", HASTINGS.replace("{a ", "{" + "a" * 66_000)),
@@ -63,7 +67,9 @@ HELPED = [
     ("quotes in a name", HASTINGS.replace("Barden, Leonard W", 'Leonard "Len" Barden'), [],
      r'[White "Leonard \"Len\" Barden"]'),
     ("tags on one line", HASTINGS.replace('"]\n[Black', '"] [Black'), [], '[Black "Adams, Michael"]'),
-    ("a set-up of the start", HASTINGS.replace("[ECO", f'[SetUp "1"]\n[FEN "{START}"]\n[ECO'), [], '[ECO "C57"]'),
+    ("a set-up of the start", HASTINGS.replace("[ECO", f'[SetUp "1"]\n[FEN "{START}"]\n[ECO'), [],
+     f'[SetUp "1"]\n[FEN "{START}"]\n[ECO'),
+    ("a set-up position", SET_UP, [], ITALIAN),
     ("no Event, and Event behind Site", HASTINGS.partition("\n")[2], [], '[Event "?"]\n[Site "Hastings ENG/'),
     ("a result in a variation", HASTINGS.replace("} 1-0", "} (4... a6 (4... b6 0-1) 0-1)"), [], "0-1)\n1-0\n"),
     ("the event's speed", HASTINGS, ["--speed", "blitz"], '[TimeControl "180+2"]'),
@@ -142,6 +148,10 @@ class Tags(unittest.TestCase):
         both, lines = helped(LICHESS + "\n" + HASTINGS + "\n" + HASTINGS)
         self.assertEqual(both.count(one.splitlines()[1]), 2)
         self.assertIn("stored once: 1", lines[-1])
+
+    def test_games_from_two_positions_have_two_ids(self):
+        later = SET_UP.replace(" b KQkq - 3 3", " b KQkq - 3 4")
+        self.assertNotIn("stored once", helped(SET_UP + "\n" + later)[1][-1])
 
     def test_other_alphabets(self):
         output, _ = helped(HASTINGS.replace("Barden", "Bárdén").encode("latin-1"))

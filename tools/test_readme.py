@@ -1,7 +1,9 @@
 #!/usr/bin/env python3
-"""Runs the commands of README.md in their order, and compares their answers with the one that stands there and with one another."""
+"""Runs the commands of README.md in their order, and compares their answers with the one that stands there and with one another; and
+looks whether the tests are there that docs/PROOFS.md names."""
 import json
 import pathlib
+import re
 import shutil
 import subprocess
 import tempfile
@@ -50,6 +52,24 @@ class Commands(unittest.TestCase):
             server.terminate()
             server.wait()
             server.stdout.close()
+
+
+class Cases(unittest.TestCase):
+    def test_each_test_that_is_named_is_there(self):
+        text = (support.TOP / "docs/PROOFS.md").read_text(encoding="utf-8")
+        chapter = text.partition("\n## Which test shows which case\n")[2].partition("\n## ")[0]
+        lines = [line for line in chapter.splitlines() if line.startswith("| ")][1:]
+        self.assertEqual([line for line in lines if "`" not in line.rpartition(" | ")[2]], [])
+        for line in lines:
+            crate = None
+            for word in re.findall(r"`([a-z_:0-9]+)`", line.rpartition(" | ")[2]):
+                module, _, test = word.partition("::")
+                tests = support.TOP / f"crates/{crate}/src/tests"
+                if crate is None or not test and not (tests / f"{module}.rt").exists():
+                    crate = word
+                    self.assertTrue((support.TOP / "crates" / crate).is_dir(), line)
+                elif test:
+                    self.assertIn(f"#[test]\nfn {test}(", (tests / f"{module}.rt").read_text(encoding="utf-8"), line)
 
 
 if __name__ == "__main__":

@@ -63,5 +63,15 @@ test("a refusal is told in words, with the text around it", () => {
   assert.match(textAround(bytes, start, "NoTermination").before, /Ke3 1-0$/);
   assert.equal(countLines(bytes, start), 5);
   assert.equal(movedCause("Twice 7", 100), "Twice 107");
+  assert.equal(movedCause("BadSetUp 3", 100), "BadSetUp 3");
   assert.equal(movedCause("Lex 7", 100), "Lex 7");
+});
+
+test("what is amiss with a position that is set up is told, with its tag", () => {
+  const text = '[Event "x"]\n[SetUp "1"]\n[FEN "8/8/8/8/8/8/8/8 w - -"]\n\n1. e4 1-0\n';
+  const bytes = new TextEncoder().encode(text);
+  assert.equal(causeInWords("BadSetUp 1"), "the tag FEN sets up no position: its field 1 is faulty");
+  assert.equal(textAround(bytes, 0, "BadSetUp 1").at, '[FEN "8/8/8/8/8/8/8/8 w - -"]');
+  assert.equal(causeInWords("SetUp"), "the tag SetUp does not say whether there is a tag FEN");
+  assert.equal(textAround(bytes, 0, "SetUp").at, '[SetUp "1"]');
 });

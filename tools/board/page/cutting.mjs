@@ -83,7 +83,8 @@ const CAUSES = {
   Missing: ([name]) => `the tag ${name} is missing`,
   Bad: ([name]) => `the tag ${name} has a value that is not taken`,
   NotStandard: () => "the game is no standard chess",
-  SetUp: () => "the game begins from a set-up position",
+  SetUp: () => "the tag SetUp does not say whether there is a tag FEN",
+  BadSetUp: ([field]) => `the tag FEN sets up no position: its field ${field} is faulty`,
   UnknownResult: () => "the result is not known",
   NoTermination: () => "the moves end without a result",
   ResultDiffers: () => "the moves end with another result than the tags tell",
@@ -102,7 +103,7 @@ export function causeInWords(why) {
 
 const TAG_OF = {
   ResultDiffers: "Result", UnknownResult: "Result", Twice: "Site", Repeated: "Site",
-  NotStandard: "Variant", SetUp: "FEN",
+  NotStandard: "Variant", SetUp: "SetUp", BadSetUp: "FEN",
 };
 const AT_PLACE = { Lex: 0, NotSan: 1, Illegal: 1, Ambiguous: 1 };
 
