@@ -45,19 +45,19 @@ starves_reading input input' output errors host within = record { ending_is = re
 pub within_nothing : (input : Stream) → ReadsWithin input input
 within_nothing input = record { stream = []; reads = reads-none input; within = omega arith }
 
-within_by : (ending : ImportEnding) (start : Known) (stream : List ℕ) (left : Option (List ℕ)) (batches : List Batch) (refused : List Refusal) → StandsBy ending start stream left batches refused → length stream ≤ input_limit
-within_by endings.Whole start stream left batches refused stands = omega (arith, stands.below)
-within_by (endings.ReadFault first last) start stream left batches refused stands = omega (arith, stands.below)
-within_by (endings.TooMuch bytes) start stream left batches refused stands = omega (arith, stands.at)
-within_by (endings.DiskFault first last) start stream left batches refused stands = omega (arith, stands.0.below)
-within_by (endings.Closed first last) start stream left batches refused stands = absurd stands
-within_by (endings.Full games bytes) start stream left batches refused stands = omega (arith, stands.0.below)
-within_by endings.OutOfMemory start stream left batches refused stands = omega (arith, stands.below)
+within_by : (ending : ImportEnding) (start : Known) (stream : List ℕ) (left : Option (List ℕ)) (batches : List Batch) (refused : List Refusal) (stored : List Batch) → StandsBy ending start stream left batches refused stored → length stream ≤ input_limit
+within_by endings.Whole start stream left batches refused stored stands = omega (arith, stands.below)
+within_by (endings.ReadFault first last) start stream left batches refused stored stands = omega (arith, stands.below)
+within_by (endings.TooMuch bytes) start stream left batches refused stored stands = omega (arith, stands.at)
+within_by (endings.DiskFault first last) start stream left batches refused stored stands = omega (arith, stands.0.below)
+within_by (endings.Closed first last) start stream left batches refused stored stands = absurd stands
+within_by (endings.Full games bytes) start stream left batches refused stored stands = omega (arith, stands.0.below)
+within_by endings.OutOfMemory start stream left batches refused stored stands = omega (arith, stands.below)
 
 -- an import reads no more than it may
 pub within : (journal stored : List Batch) (disk disk_after : DiskState) (source source_after : Stream) (came : Came) → ImportedIn journal stored disk disk_after source source_after came → ReadsWithin source source_after
 within journal stored disk disk_after source source_after came is =
-    record { stream = is.stream; reads = is.reads; within = within_by came.ending is.start is.stream source_after.left is.batches came.refused.items is.stands }
+    record { stream = is.stream; reads = is.reads; within = within_by came.ending is.start is.stream source_after.left is.batches came.refused.items stored is.stands }
 
 -- ---- an import into a new store
 
@@ -65,9 +65,9 @@ module _ (query : Query) (journal stored : List Batch) (empty : journal ≡ []) 
   started : is.start ≡ new_store
   started = known_is_new is.start (is.journal_is ∙ empty) is.sound
 
-  stands_new : StandsBy came.ending new_store is.stream source_after.left is.batches came.refused.items
+  stands_new : StandsBy came.ending new_store is.stream source_after.left is.batches came.refused.items stored
   stands_new =
-      let P : Known → Type 0 = λ k. StandsBy came.ending k is.stream source_after.left is.batches came.refused.items in
+      let P : Known → Type 0 = λ k. StandsBy came.ending k is.stream source_after.left is.batches came.refused.items stored in
       subst P started is.stands
 
   stored_by_ending : (ending : ImportEnding) → came.ending ≡ ending → StoredBy ending is.batches stored
@@ -76,9 +76,9 @@ module _ (query : Query) (journal stored : List Batch) (empty : journal ≡ []) 
       let Q : Known → Type 0 = λ k. StoredBy ending (k.journal ++ is.batches) stored in
       subst Q started (subst P e is.stored_are)
 
-  stands_at : (ending : ImportEnding) → came.ending ≡ ending → StandsBy ending new_store is.stream source_after.left is.batches came.refused.items
+  stands_at : (ending : ImportEnding) → came.ending ≡ ending → StandsBy ending new_store is.stream source_after.left is.batches came.refused.items stored
   stands_at ending e =
-      let P : ImportEnding → Type 0 = λ f. StandsBy f new_store is.stream source_after.left is.batches came.refused.items in
+      let P : ImportEnding → Type 0 = λ f. StandsBy f new_store is.stream source_after.left is.batches came.refused.items stored in
       subst P e stands_new
 
   faults_at : (ending : ImportEnding) → came.ending ≡ ending → FaultsBy ending disk disk_after source source_after

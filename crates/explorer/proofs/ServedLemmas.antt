@@ -46,26 +46,27 @@ use Rattle.explorer.specs.Workers.{AreNamed, CanReturn, GivenBack, HasReader, Ha
 
 -- ---- one file
 
-accounts-so : {J : Type 0} (end : End J) (all : List (List Cut)) (batches : List Batch) (refused : List Refusal)
-    → AccountsTo end all batches refused → AccountsSo (ending_of end) all batches refused
-accounts-so ends.Whole all batches refused a = a
-accounts-so (ends.ReadFault before after) all batches refused a = a
-accounts-so (ends.DiskFault before after mark) all batches refused a = (a.1, a.2)
-accounts-so (ends.Closed before after mark) all batches refused a = (a.1, a.2)
-accounts-so (ends.Full games bytes note) all batches refused a = (a.0, a.1, note, a.2)
-accounts-so (ends.TooMuch bytes) all batches refused a = a
-accounts-so ends.OutOfMemory all batches refused a = a
+accounts-so : {J : Type 0} (end : End J) (stream : List ℕ) (left : Option (List ℕ)) (batches : List Batch) (refused : List Refusal)
+    → AccountsTo end (groups (cuts stream)) batches refused → StandsBeside end stream left batches refused
+    → AccountsSo (ending_of end) stream left batches refused
+accounts-so ends.Whole stream left batches refused a stands = a
+accounts-so (ends.ReadFault before after) stream left batches refused a stands = stands.1
+accounts-so (ends.DiskFault before after mark) stream left batches refused a stands = stands
+accounts-so (ends.Closed before after mark) stream left batches refused a stands = stands
+accounts-so (ends.Full games bytes note) stream left batches refused a stands = (stands.0, stands.1, note, stands.2)
+accounts-so (ends.TooMuch bytes) stream left batches refused a stands = stands.1
+accounts-so ends.OutOfMemory stream left batches refused a stands = stands
 
 reads-so : {J : Type 0} (end : End J) (stream : List ℕ) (before after : Stream) (batches : List Batch) (refused : List Refusal)
     → ReadFaultsAre end before after → StandsBeside end stream after.left batches refused
     → ReadsSo (ending_of end) stream before after
 reads-so ends.Whole stream before after batches refused f s = (s.0, s.1, f)
 reads-so (ends.ReadFault from to) stream before after batches refused f s = (s.0, rw (sym f.0, sym f.1) f.2)
-reads-so (ends.DiskFault from to mark) stream before after batches refused f s = (s, f)
-reads-so (ends.Closed from to mark) stream before after batches refused f s = (s, f)
-reads-so (ends.Full games bytes note) stream before after batches refused f s = (s, f)
+reads-so (ends.DiskFault from to mark) stream before after batches refused f s = (s.1.below, f)
+reads-so (ends.Closed from to mark) stream before after batches refused f s = (s.1.below, f)
+reads-so (ends.Full games bytes note) stream before after batches refused f s = (s.1.below, f)
 reads-so (ends.TooMuch bytes) stream before after batches refused f s = (s.0, s.1.at, f)
-reads-so ends.OutOfMemory stream before after batches refused f s = (s, f)
+reads-so ends.OutOfMemory stream before after batches refused f s = (s.below, f)
 
 -- what a file came to by its report
 abbrev run_of : {J : Type 0} → Stream → Report J → FileRun
@@ -78,7 +79,7 @@ imported before after report i = record {
   reads = i.reads;
   read_so = reads-so report.end i.stream before after i.comes.reports.batches report.refused.items i.faults i.comes.stands;
   batches = i.comes.reports.batches;
-  accounts = accounts-so report.end (groups (cuts i.stream)) i.comes.reports.batches report.refused.items i.comes.reports.accounts;
+  accounts = accounts-so report.end i.stream after.left i.comes.reports.batches report.refused.items i.comes.reports.accounts i.comes.stands;
 }
 
 whole-ending : (ending : ImportEnding) → fault_of_import ending ≡ None → ending ≡ endings.Whole

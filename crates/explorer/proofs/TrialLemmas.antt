@@ -122,7 +122,7 @@ module _ {D J : Type 0} (disk : D → DiskState) (left_since : D → ℕ → Lis
   -- the texts are stored
   pub stores_texts : StoresTexts texts (journal after)
   stores_texts =
-      let stands = subst (λ (e : End J). StandsAt e is.start is.stream source_after.left is.batches report.refused.items) end_is is.stands in
+      let stands = subst (λ (e : End J). StandsAt e is.start is.stream source_after.left is.batches report.refused.items (stored_in after)) end_is is.stands in
       let stores = subst (λ (e : End J). StoresBy e (is.start.journal ++ is.batches) is.start.fault (stored_in after)) end_is is.stores in
       let whole_all = subst (λ (e : End J). StoresAll e (journal before) (placed_at 0 texts) report.refused.items (journal after)) end_is all in
       let games_are : is.start.games ≡ [] = ap (λ (k : Known). k.games) start_is in

@@ -82,8 +82,8 @@ pub record ImportsInto (ending : ImportEnding) (store file : List ℕ) (before a
   pub reads : Reads stream source source_after
   pub batches : List Batch
   pub refused : List Refusal
-  pub stands : StandsBy ending start stream source_after.left batches refused
   pub stored : List Batch
+  pub stands : StandsBy ending start stream source_after.left batches refused stored
   pub stored_are : StoredBy ending (start.journal ++ batches) stored
   pub is_sound : IsSound stored
   pub holds : IfSome disk_after.content (HoldsBy ending stored)

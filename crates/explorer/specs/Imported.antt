@@ -34,26 +34,27 @@ pub record IsAllSettled (start : Known) (stream : List ℕ) (left_over : Option 
   pub below : length stream < input_limit
   pub settled : AreSettled start (groups (cuts stream)) batches refused
 
--- how an import stands with the bytes that it took, by its ending; the store was open before
+-- how an import stands with the bytes that it took and with the stored journal, by its ending; the
+-- store was open before
 abbrev pub StandsBy : ImportEnding → Known → List ℕ → Option (List ℕ) → List Batch
-    → List Refusal → Type 0
-StandsBy endings.Whole start stream left_over batches refused =
+    → List Refusal → List Batch → Type 0
+StandsBy endings.Whole start stream left_over batches refused stored =
     IsAllSettled start stream left_over batches refused
-StandsBy (endings.ReadFault before after) start stream left_over batches refused =
+StandsBy (endings.ReadFault before after) start stream left_over batches refused stored =
     IsCutOff start stream batches refused
-StandsBy (endings.TooMuch bytes) start stream left_over batches refused =
+StandsBy (endings.TooMuch bytes) start stream left_over batches refused stored =
     IsTooMuch start stream batches refused
-StandsBy (endings.DiskFault before after) start stream left_over batches refused =
+StandsBy (endings.DiskFault before after) start stream left_over batches refused stored =
     (ends : EndsAt start stream left_over batches refused)
     × HasRoomFor (start.journal ++ batches) ends.left
-StandsBy (endings.Closed before after) start stream left_over batches refused = ⊥
-StandsBy (endings.Full games bytes) start stream left_over batches refused =
+StandsBy (endings.Closed before after) start stream left_over batches refused stored = ⊥
+StandsBy (endings.Full games bytes) start stream left_over batches refused stored =
     IsFullAt games bytes start stream left_over batches refused
-StandsBy endings.OutOfMemory start stream left_over batches refused =
-    Lacks start stream left_over batches refused
+StandsBy endings.OutOfMemory start stream left_over batches refused stored =
+    Lacks start stream left_over batches refused stored
 
 -- the stored journal: the batches stand behind the one before; where memory was wanting, there may
--- be one more
+-- be one more, and `Lacks` says which
 abbrev pub StoredBy : ImportEnding → List Batch → List Batch → Type 0
 StoredBy endings.OutOfMemory journal stored = HasMaybeOneMore journal stored
 StoredBy _ journal stored = stored ≡ journal
@@ -88,7 +89,7 @@ pub record ImportedIn (journal stored : List Batch) (disk disk_after : DiskState
   pub stream : List ℕ
   pub reads : Reads stream source source_after
   pub batches : List Batch
-  pub stands : StandsBy came.ending start stream source_after.left batches came.refused.items
+  pub stands : StandsBy came.ending start stream source_after.left batches came.refused.items stored
   pub stored_are : StoredBy came.ending (start.journal ++ batches) stored
   pub is_sound : IsSound stored
   pub holds : IfSome disk_after.content (HoldsBy came.ending stored)

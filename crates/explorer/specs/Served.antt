@@ -1,5 +1,5 @@
 -- Statement: what files and doors come to while a store is served, and what is asked of the host.
-use Rattle.std.specs.Prelude.{◌≡◌, ◌≢◌, ⊤, ◌<◌, ℕ, List, [], ◌∷◌, ◌++◌, length, map, reverse, take, Option, None, Some, IfSome, codes}
+use Rattle.std.specs.Prelude.{◌≡◌, ◌≢◌, ⊤, ◌<◌, ℕ, List, [], ◌∷◌, ◌++◌, length, map, reverse, Option, None, Some, IfSome, codes}
 use Rattle.std.specs.List.{All, AllZip, flat_map}
 use Rattle.std.specs.Option.{option_or}
 use Rattle.std.specs.Io.KnownBytes.{IsAtEnd}
@@ -8,7 +8,7 @@ use Rattle.outside.specs.Stream.{Reads, Rises, Stream, source_alone}
 use Rattle.host.specs.Hosts.{AreFresh, DiskBack, DiskOut, DoorBack, DoorsOut, FileBack, FileOut, HostCall, HostState, added}
 use Rattle.explorer_model.specs.declared.archive.Batch.{Batch}
 use Rattle.explorer_model.specs.declared.fault.Refusal.{Refusal}
-use Rattle.explorer_model.specs.Cuts.{Cut, cuts}
+use Rattle.explorer_model.specs.Cuts.{cuts}
 use Rattle.explorer_model.specs.Labels.{no_label}
 use Rattle.explorer_model.specs.Imports.{AccountedBeside, Candidate, groups}
 use Rattle.explorer_model.specs.Journal.{IsSound, input_limit}
@@ -16,9 +16,10 @@ use Rattle.explorer_model.specs.Timeline.{IsPrefix}
 use Rattle.manifest.specs.Manifest.{HasJournal}
 use Rattle.published_index.specs.States.{watching}
 use Rattle.ingest_desk.specs.Importers.{ImporterState}
-use Rattle.ingest_desk.specs.Reporting.{AccountsUpTo, BreaksAt, FindsNoRoom, LeftUnreadIn}
+use Rattle.ingest_desk.specs.Reporting.{BreaksAt, FindsNoRoom}
 use Rattle.ingest_desk.specs.declared.report.ImportEnding.{ImportEnding}
 use Rattle.ingest_desk.specs.declared.report.ImportEnding.TheVariants as endings
+use Rattle.import_run.specs.EndingBeside.{BreaksBeside, IsCutBeside, IsTooMuchBeside, LacksBeside}
 use Rattle.session.specs.declared.doors.DoorEnd.{DoorEnd}
 use Rattle.session.specs.declared.doors.DoorEnd.TheVariants as ends
 use Rattle.session.specs.Doors.{DoorServed, EndsDoor}
@@ -47,19 +48,26 @@ pub record FileRun : Type 0 where
   pub ending : ImportEnding
   pub refused : List Refusal
 
--- the groups of the cuts are accounted so far by batches and by what is refused
-abbrev pub AccountsSo : ImportEnding → List (List Cut) → List Batch → List Refusal → Type 0
-AccountsSo endings.Whole groups batches refused = AccountedBeside no_label groups batches refused
-AccountsSo (endings.DiskFault before after) groups batches refused =
-    (left : List Candidate) × BreaksAt groups batches refused left
-AccountsSo (endings.Closed before after) groups batches refused =
-    (left : List Candidate) × BreaksAt groups batches refused left
-AccountsSo (endings.Full games bytes) groups batches refused =
-    (left : List Candidate) × BreaksAt groups batches refused left
+-- The groups of what was read are accounted so far by batches and by what is refused: all where a
+-- read failed or the bound was met, but for the one that was in hand; else those before the whole
+-- group at which the import ended.
+abbrev pub AccountsSo : ImportEnding → List ℕ → Option (List ℕ) → List Batch → List Refusal
+    → Type 0
+AccountsSo endings.Whole stream left_over batches refused =
+    AccountedBeside no_label (groups (cuts stream)) batches refused
+AccountsSo (endings.ReadFault before after) stream left_over batches refused =
+    IsCutBeside stream batches refused
+AccountsSo (endings.TooMuch bytes) stream left_over batches refused =
+    IsTooMuchBeside stream batches refused
+AccountsSo (endings.DiskFault before after) stream left_over batches refused =
+    (left : List Candidate) × BreaksBeside stream left_over batches refused left
+AccountsSo (endings.Closed before after) stream left_over batches refused =
+    (left : List Candidate) × BreaksBeside stream left_over batches refused left
+AccountsSo (endings.Full games bytes) stream left_over batches refused =
+    (left : List Candidate) × BreaksBeside stream left_over batches refused left
     × (journal : List Batch) × FindsNoRoom journal games bytes left
-AccountsSo _ groups batches refused =
-    (finished : ℕ) × ((unread : List Refusal) × LeftUnreadIn (take finished groups) unread
-    × AccountsUpTo finished groups batches (refused ++ unread))
+AccountsSo endings.OutOfMemory stream left_over batches refused =
+    LacksBeside stream left_over batches refused
 
 -- how far the file was read, and whether a read failed
 abbrev pub ReadsSo : ImportEnding → List ℕ → Stream → Stream → Type 0
@@ -80,7 +88,7 @@ pub record IsImported (file : Stream) (run : FileRun) : Type 0 where
   pub reads : Reads stream file run.file
   pub read_so : ReadsSo run.ending stream file run.file
   pub batches : List Batch
-  pub accounts : AccountsSo run.ending (groups (cuts stream)) batches run.refused
+  pub accounts : AccountsSo run.ending stream run.file.left batches run.refused
 
 -- The batches that the import of the file stored stand in the journal in their order, and what is
 -- refused of it as a repeat repeats a game of the journal.

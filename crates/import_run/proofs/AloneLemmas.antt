@@ -166,7 +166,7 @@ module _ {D : Type 0} (disk : D → DiskState) (left_since : D → ℕ → List 
 
   module _ {J : Type 0} where
     disk_faults : (start : Known) (stream : List ℕ) (left_over : Option (List ℕ)) (batches stored : List Batch) (refused : List Refusal) → start.fault ≡ before.manifest.fault → (end : End J)
-        → StandsAt end start stream left_over batches refused → StoresBy end stored start.fault (stored_in after) → DiskFaultsAre end (disk before.manifest.disk) (disk after.manifest.disk)
+        → StandsAt end start stream left_over batches refused (stored_in after) → StoresBy end stored start.fault (stored_in after) → DiskFaultsAre end (disk before.manifest.disk) (disk after.manifest.disk)
     disk_faults start stream left_over batches stored refused was (ends.DiskFault first last mark) stands stores = met_fault first last (sym was ∙ stands.1) stores.1
     disk_faults start stream left_over batches stored refused was ends.Whole stands stores = no_fault (stores.1 ∙ was)
     disk_faults start stream left_over batches stored refused was (ends.ReadFault first last) stands stores = no_fault (stores.1 ∙ was)
@@ -184,6 +184,8 @@ module _ {D : Type 0} (disk : D → DiskState) (left_since : D → ℕ → List 
         let c = i.comes in
         let S : Store → Type 0 = λ s. StoresBy report.end (journal before ++ c.batches) before.manifest.fault s in
         let stores = subst S (sym (some_same (stored_in after) c.new c.still)) c.stores in
+        let T : Store → Type 0 = λ s. StandsAt report.end start i.stream source_after.left c.batches report.refused.items s in
+        let stands = subst T (sym (some_same (stored_in after) c.new c.still)) c.stands in
         record {
           stream = i.stream;
           reads = i.reads;
@@ -192,11 +194,11 @@ module _ {D : Type 0} (disk : D → DiskState) (left_since : D → ℕ → List 
           start_is = refl;
           batches = c.batches;
           receipts = c.receipts;
-          stands = c.stands;
+          stands = stands;
           repeats = i.repeats;
           stores = stores;
           sound = sound_after;
-          disk_faults = disk_faults start i.stream source_after.left c.batches (journal before ++ c.batches) report.refused.items refl report.end c.stands stores;
+          disk_faults = disk_faults start i.stream source_after.left c.batches (journal before ++ c.batches) report.refused.items refl report.end stands stores;
           keeps = keeps;
           since = since;
         }

@@ -68,8 +68,9 @@ module _ {J : Type 0} (start : Option Store) (groups : List (List Cut)) (old new
         subst P (sym refused) (subst Q (sym receipts) (s.alone known is));
   }
 
-  pub lacks_behind : (told told' : Option Store) → IsSettledSo start groups old told → ((known : Known) → told ≡ Some (store_of known) → MayHaveMore known told') → LacksBehind start groups new told'
-  lacks_behind told told' s lacks =
+  pub lacks_behind : (told told' : Option Store) (next : List Cut) → IsSettledSo start groups old told → ((known : Known) → told ≡ Some (store_of known) → MayHaveMore known (next ∷ []) told')
+      → LacksBehind start groups (next ∷ []) new told'
+  lacks_behind told told' next s lacks =
       let now = settled_grown told s in
       record {
         before = told;

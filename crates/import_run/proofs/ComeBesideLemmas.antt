@@ -25,15 +25,15 @@ use Rattle.import_run.specs.Counting.{IsMarkedSo}
 use Rattle.import_run.specs.Beside.{AreRepeats, EndsBeside, ProgressBeside, StopsBeside}
 use Rattle.import_run.specs.Committing.{Store}
 use Rattle.import_run.specs.Ending.{ReadFaultsAre}
-use Rattle.import_run.specs.EndingBeside.{ComesBeside, ImportsBeside, IsCutBeside, StandsBeside}
-use Rattle.import_run.specs.SoFar.{IsWhole}
+use Rattle.import_run.specs.EndingBeside.{BreaksBeside, ComesBeside, ImportsBeside, IsCutBeside, LacksBeside, StandsBeside}
+use Rattle.import_run.specs.SoFar.{AreGroupsSoFar, IsWhole}
 use Rattle.import_run.specs.Taking.{ComesQuietlyBeside, CutSoFar, IsReady, IsWholeBeside, LacksAtEnd, LacksWithin, StopsAtEnd, StopsWithin, TakenAll}
 use Rattle.import_run.proofs.GroupLemmas.{all_cuts, texts_in}
 use Rattle.import_run.proofs.HoldLemmas.{holds_texts}
 use Rattle.import_run.proofs.ReadLemmas.{longer, no_fault, one_byte, read_failed, read_more}
 use Rattle.import_run.proofs.RepeatLemmas.{all-repeats-grow}
 use Rattle.import_run.proofs.ReportLemmas.{AccountedFront, NotPreamble, accounted_front, accounted_whole, all_cuts-last, breaks_last, breaks_within, front_of_all, games_within, some_whole}
-use Rattle.import_run.proofs.SoFarLemmas.{ended_taken}
+use Rattle.import_run.proofs.SoFarLemmas.{BeginSoFar, ended_taken, lacking_so_far, stopped_so_far}
 use Rattle.import_run.proofs.StreamCutLemmas.{cuts_few, no_preamble}
 
 -- ---- lists of groups
@@ -120,14 +120,15 @@ module _ {J : Type 0} (stream : List ℕ) (left_over : Option (List ℕ)) where
       }
 
   -- a commit ended the import
-  ends_stopped : (end : End J) (batches : List Batch) (refused : List Refusal) (left : List Candidate) → length stream < input_limit → EndsBeside end left → BreaksAt (groups (cuts stream)) batches refused left → EndsSo end batches refused
-  ends_stopped ends.Whole batches refused left below so breaks = absurd so
-  ends_stopped (ends.ReadFault before after) batches refused left below so breaks = absurd so
-  ends_stopped (ends.DiskFault before after mark) batches refused left below so breaks = record { accounts = (so, left, breaks); stands = below; quiet = λ old new same. same }
-  ends_stopped (ends.Closed before after mark) batches refused left below so breaks = record { accounts = (so, left, breaks); stands = below; quiet = λ old new same. same }
-  ends_stopped (ends.Full games bytes note) batches refused left below so breaks = record { accounts = (left, breaks, so); stands = below; quiet = λ old new same. same }
-  ends_stopped (ends.TooMuch bytes) batches refused left below so breaks = absurd so
-  ends_stopped ends.OutOfMemory batches refused left below so breaks = absurd so
+  ends_stopped : (end : End J) (batches : List Batch) (refused : List Refusal) (left : List Candidate) → EndsBeside end left → BreaksAt (groups (cuts stream)) batches refused left → BreaksBeside stream left_over batches refused left
+      → EndsSo end batches refused
+  ends_stopped ends.Whole batches refused left so breaks beside = absurd so
+  ends_stopped (ends.ReadFault before after) batches refused left so breaks beside = absurd so
+  ends_stopped (ends.DiskFault before after mark) batches refused left so breaks beside = record { accounts = (so, left, breaks); stands = (left, beside); quiet = λ old new same. same }
+  ends_stopped (ends.Closed before after mark) batches refused left so breaks beside = record { accounts = (so, left, breaks); stands = (left, beside); quiet = λ old new same. same }
+  ends_stopped (ends.Full games bytes note) batches refused left so breaks beside = record { accounts = (left, breaks, so); stands = (left, beside, so); quiet = λ old new same. same }
+  ends_stopped (ends.TooMuch bytes) batches refused left so breaks beside = absurd so
+  ends_stopped ends.OutOfMemory batches refused left so breaks beside = absurd so
 
   module _ (report : Report J) (import : OpenImport J) (receipts : report.receipts.items ≡ import.receipts.items) (clashes : report.clashes.items ≡ import.clashes.items) (below : length stream < input_limit) where
     front_receipts : (gs : List (List Cut)) (p : ProgressBeside gs import) → AreReceipts 0 report.receipts.items p.batches
@@ -148,16 +149,32 @@ module _ {J : Type 0} (stream : List ℕ) (left_over : Option (List ℕ)) where
         (prefix-self import.clashes.items) p.repeats)
 
     -- a commit of a group ended the import
-    comes_stopped : (stopped : Stopped J) (closed : List (List Cut)) (next more : List Cut) (p : ProgressBeside closed import) (b : StopsBeside next import.clashes.items stopped) → report.end ≡ stopped.end
-        → report.refused.items ≡ import.refused.items ++ stopped.refused.items → cuts stream ≡ all_cuts closed ++ (next ++ more) → BreaksAt (groups (cuts stream)) p.batches report.refused.items b.left → ComesQuietlyBeside stream left_over report
-    comes_stopped stopped closed next more p b end refused is breaks =
+    comes_stopped : (stopped : Stopped J) (closed : List (List Cut)) (next more : List Cut) (rest : List (List Cut)) (p : ProgressBeside closed import) (b : StopsBeside next import.clashes.items stopped) → report.end ≡ stopped.end
+        → report.refused.items ≡ import.refused.items ++ stopped.refused.items → AreGroupsSoFar stream left_over (closed ++ next ∷ rest) → cuts stream ≡ all_cuts closed ++ (next ++ more)
+        → BreaksAt (groups (cuts stream)) p.batches report.refused.items b.left → ComesQuietlyBeside stream left_over report
+    comes_stopped stopped closed next more rest p b end refused are is breaks =
         let C : Cut → List Cut → Type 0 = λ cut l. Contains l cut in
         let P : List (List Batch) → Type 0 = λ l. AreRepeats (cuts stream) l stopped.refused.items in
         let here = subst P (sym clashes) (all-repeats-grow next (cuts stream) import.clashes.items import.clashes.items stopped.refused.items
         (λ cut c. subst (C cut) (sym is) (Contains-append_right (all_cuts closed) (next ++ more) cut (Contains-append_left next more cut c))) (prefix-self import.clashes.items) b.repeats) in
         let Q : List Refusal → Type 0 = λ l. AreRepeats (cuts stream) report.clashes.items l in
         let both = All-append (λ (r : Refusal). RepeatsBy (cuts stream) report.clashes.items r.place r.why) import.refused.items stopped.refused.items (front_repeats closed (next ++ more) p is) here in
-        comes report stopped.end p.batches end (ends_stopped stopped.end p.batches report.refused.items b.left below b.ends breaks) (front_receipts closed p) (subst Q (sym refused) both) (front_few closed (next ++ more) p is)
+        let beside : BreaksBeside stream left_over p.batches report.refused.items b.left = record {
+          below = below;
+          so_far = closed ++ next ∷ rest;
+          are_so_far = are;
+          done = closed;
+          next = next;
+          rest = rest;
+          so_far_is = refl;
+          earlier = import.refused.items;
+          accounted = p.accounted;
+          of_next = stopped.refused.items;
+          judged = b.judged;
+          some_left = b.some_left;
+          refused_are = refused;
+        } in
+        comes report stopped.end p.batches end (ends_stopped stopped.end p.batches report.refused.items b.left b.ends breaks beside) (front_receipts closed p) (subst Q (sym refused) both) (front_few closed (next ++ more) p is)
 
     pub stopped_within_beside : (start : Option Store) (stopped : Stopped J) (told : Option Store) → report.end ≡ stopped.end → report.refused.items ≡ import.refused.items ++ stopped.refused.items
         → StopsWithin start stream import stopped told → ComesQuietlyBeside stream left_over report
@@ -169,12 +186,13 @@ module _ {J : Type 0} (stream : List ℕ) (left_over : Option (List ℕ)) where
         let some = some_whole s.next s.whole in
         let first = no_preamble stream (all_cuts s.closed ++ s.next) w.more (sym w.cut ∙ ap (λ (l : List Cut). l ++ w.more) s.all) (omega (arith, some, length-append (all_cuts s.closed) s.next)) in
         let P : List Cut → Type 0 = λ l. BreaksAt (groups l) p.batches report.refused.items b.left in
-        comes_stopped stopped s.closed s.next w.more p b end refused is
+        let front = stopped_so_far start stream left_over import told stopped w in
+        comes_stopped stopped s.closed s.next w.more front.0 p b end refused front.1 is
         (subst P (sym is) (breaks_within s.closed s.next w.more p.batches import.refused.items stopped.refused.items report.refused.items b.left p.accounted b.judged b.some_left refused s.each s.whole first))
 
     pub stopped_at_end_beside : (start : Option Store) (stopped : Stopped J) (told : Option Store) → report.end ≡ stopped.end → report.refused.items ≡ import.refused.items ++ stopped.refused.items
-        → StopsAtEnd start (cuts stream) import stopped told → ComesQuietlyBeside stream left_over report
-    stopped_at_end_beside start stopped told end refused s = by (split_next s.done s.next s.rest s.all.whole s.all.hand s.all.all_are)
+        → IsAtEnd left_over → StopsAtEnd start (cuts stream) import stopped told → ComesQuietlyBeside stream left_over report
+    stopped_at_end_beside start stopped told end refused at_end s = by (split_next s.done s.next s.rest s.all.whole s.all.hand s.all.all_are)
       where
         G : List Cut → Type 0
         G l = BreaksAt (groups l) s.behind.settled.beside.batches report.refused.items s.behind.beside.left
@@ -188,7 +206,7 @@ module _ {J : Type 0} (stream : List ℕ) (left_over : Option (List ℕ)) where
             let T : List Cut → Type 0 = λ l. texts_in l ≤ 512 in
             let few = subst T (sym same.1) (let f = s.all.in_groups.few in omega (arith, f)) in
             let is' : cuts stream ≡ all_cuts s.done ++ (s.next ++ []) = is ∙ ap (λ (l : List Cut). all_cuts s.done ++ l) (sym (append-nil s.next)) in
-            comes_stopped stopped s.done s.next [] p b end refused is'
+            comes_stopped stopped s.done s.next [] s.rest p b end refused (inr (at_end, s.all)) is'
             (subst G (sym is) (breaks_last s.done s.next p.batches import.refused.items stopped.refused.items report.refused.items b.left p.accounted b.judged b.some_left refused (subst W (sym same.0) s.all.in_groups.each) few))
         by (inr (more, whole)) =
             let p = s.behind.settled.beside in
@@ -204,7 +222,7 @@ module _ {J : Type 0} (stream : List ℕ) (left_over : Option (List ℕ)) where
             let full = each_at s.done s.next more each in
             let some = some_whole s.next full in
             let first = no_preamble stream (all_cuts s.done ++ s.next) (all_cuts more ++ s.all.hand) (is ∙ sym (append_assoc (all_cuts s.done) s.next (all_cuts more ++ s.all.hand))) (omega (arith, some, length-append (all_cuts s.done) s.next)) in
-            comes_stopped stopped s.done s.next (all_cuts more ++ s.all.hand) p b end refused is
+            comes_stopped stopped s.done s.next (all_cuts more ++ s.all.hand) s.rest p b end refused (inr (at_end, s.all)) is
             (subst G (sym is) (breaks_within s.done s.next (all_cuts more ++ s.all.hand) p.batches import.refused.items stopped.refused.items report.refused.items b.left p.accounted b.judged b.some_left refused
             (each_before s.done (s.next ∷ more) each) full first))
 
@@ -217,27 +235,31 @@ module _ {J : Type 0} (stream : List ℕ) (left_over : Option (List ℕ)) where
           subst Q (sym refused) (front_repeats gs rest p is)
 
       -- memory was wanting
-      comes_lacking : (gs : List (List Cut)) (rest : List Cut) (p : ProgressBeside gs import) → report.end ≡ ends.OutOfMemory → cuts stream ≡ all_cuts gs ++ rest → AccountedFront (groups (cuts stream)) p.batches import.refused.items
-          → ComesQuietlyBeside stream left_over report
-      comes_lacking gs rest p end is front =
+      comes_lacking : (gs : List (List Cut)) (rest : List Cut) (p : ProgressBeside gs import) → report.end ≡ ends.OutOfMemory → BeginSoFar stream left_over gs [] → cuts stream ≡ all_cuts gs ++ rest
+          → AccountedFront (groups (cuts stream)) p.batches import.refused.items → ComesQuietlyBeside stream left_over report
+      comes_lacking gs rest p end so_far is front =
           let P : List Refusal → Type 0 = λ l. EndsSo ends.OutOfMemory p.batches l in
+          let lacks : LacksBeside stream left_over p.batches import.refused.items =
+          record { below = below; so_far = gs ++ so_far.0; are_so_far = so_far.1; done = gs; rest = so_far.0; so_far_is = refl; accounted = p.accounted } in
           comes report ends.OutOfMemory p.batches end
-          (subst P (sym refused) (record { accounts = (front.finished, (front.unread, front.left_unread, front.accounts)); stands = below; quiet = λ old new same. same }))
+          (subst P (sym refused) (record { accounts = (front.finished, (front.unread, front.left_unread, front.accounts)); stands = lacks; quiet = λ old new same. same }))
           (front_receipts gs p) (settled_repeats gs rest p is) (front_few gs rest p is)
 
-      lacks_front : (gs : List (List Cut)) (rest : List Cut) (p : ProgressBeside gs import) → report.end ≡ ends.OutOfMemory → AllByRecursion IsWhole gs → cuts stream ≡ all_cuts gs ++ rest → ComesQuietlyBeside stream left_over report
-      lacks_front gs rest p end each is =
+      lacks_front : (gs : List (List Cut)) (rest : List Cut) (p : ProgressBeside gs import) → report.end ≡ ends.OutOfMemory → BeginSoFar stream left_over gs [] → AllByRecursion IsWhole gs → cuts stream ≡ all_cuts gs ++ rest
+          → ComesQuietlyBeside stream left_over report
+      lacks_front gs rest p end so_far each is =
           let P : List Cut → Type 0 = λ l. AccountedFront (groups l) p.batches import.refused.items in
-          comes_lacking gs rest p end is (subst P (sym is) (accounted_front gs rest p.batches import.refused.items each (behind_closed stream gs rest is) p.accounted))
+          comes_lacking gs rest p end so_far is (subst P (sym is) (accounted_front gs rest p.batches import.refused.items each (behind_closed stream gs rest is) p.accounted))
 
       pub lacking_within_beside : (start : Option Store) (told : Option Store) → report.end ≡ ends.OutOfMemory → LacksWithin start stream import told → ComesQuietlyBeside stream left_over report
       lacking_within_beside start told end w =
           let l = w.lacks in
-          lacks_front l.closed (l.hand ++ w.more) l.behind.settled.beside end l.each
-          (sym w.cut ∙ ap (λ (k : List Cut). k ++ w.more) l.all ∙ append_assoc (all_cuts l.closed) l.hand w.more)
+          let front = lacking_so_far start stream left_over import told w in
+          lacks_front l.closed ((all_cuts l.others ++ l.hand) ++ w.more) l.behind.settled.beside end (l.others ++ front.0, front.1) l.each
+          (sym w.cut ∙ ap (λ (k : List Cut). k ++ w.more) l.all ∙ append_assoc (all_cuts l.closed) (all_cuts l.others ++ l.hand) w.more)
 
-      pub lacking_at_end_beside : (start : Option Store) (told : Option Store) → report.end ≡ ends.OutOfMemory → LacksAtEnd start (cuts stream) import told → ComesQuietlyBeside stream left_over report
-      lacking_at_end_beside start told end l = by (split_front l.done l.rest l.all.whole l.all.hand l.all.all_are)
+      pub lacking_at_end_beside : (start : Option Store) (told : Option Store) → report.end ≡ ends.OutOfMemory → IsAtEnd left_over → LacksAtEnd start (cuts stream) import told → ComesQuietlyBeside stream left_over report
+      lacking_at_end_beside start told end at_end l = by (split_front l.done l.rest l.all.whole l.all.hand l.all.all_are)
         where
           by : (l.done ≡ l.all.whole ++ l.all.hand ∷ []) ⊎ ((more : List (List Cut)) × (l.all.whole ≡ l.done ++ more)) → ComesQuietlyBeside stream left_over report
           by (inl all) =
@@ -247,11 +269,11 @@ module _ {J : Type 0} (stream : List ℕ) (left_over : Option (List ℕ)) where
               let whole = accounted_whole l.all.whole l.all.hand p.batches import.refused.items l.all.in_groups.each few (subst A all p.accounted) in
               let B : List Cut → Type 0 = λ k. AccountedBeside no_label (groups k) p.batches import.refused.items in
               let is : cuts stream ≡ all_cuts l.done ++ [] = l.all.in_groups.all ∙ sym (ap all_cuts all ∙ all_cuts-last l.all.whole l.all.hand) ∙ sym (append-nil (all_cuts l.done)) in
-              comes_lacking l.done [] p end is (front_of_all (groups (cuts stream)) p.batches import.refused.items (subst B (sym l.all.in_groups.all) whole))
+              comes_lacking l.done [] p end (l.rest, inr (at_end, l.all)) is (front_of_all (groups (cuts stream)) p.batches import.refused.items (subst B (sym l.all.in_groups.all) whole))
           by (inr (more, whole)) =
               let p = l.behind.settled.beside in
               let each : AllByRecursion IsWhole (l.done ++ more) = subst (λ (g : List (List Cut)). AllByRecursion IsWhole g) whole l.all.in_groups.each in
-              lacks_front l.done (all_cuts more ++ l.all.hand) p end (each_before l.done more each)
+              lacks_front l.done (all_cuts more ++ l.all.hand) p end (l.rest, inr (at_end, l.all)) (each_before l.done more each)
               (l.all.in_groups.all ∙ ap (λ (g : List (List Cut)). all_cuts g ++ l.all.hand) whole ∙ ap (λ (k : List Cut). k ++ l.all.hand) (all_cuts-append l.done more)
               ∙ append_assoc (all_cuts l.done) (all_cuts more) l.all.hand)
 

@@ -1,5 +1,5 @@
 -- What an import comes to, by its end, where the store is known.
-use Rattle.std.proofs.Common.{◌≡◌, ◌⊎◌, inl, inr, ℕ, ◌-◌, ◌<◌, ◌≤◌, List, [], ◌∷◌, ◌++◌, Option, Some, length, take, refl, sym, ap, subst, ◌∙◌, append_assoc, arith}
+use Rattle.std.proofs.Common.{◌≡◌, inl, inr, ℕ, ◌<◌, ◌≤◌, List, [], ◌∷◌, ◌++◌, Option, Some, length, refl, sym, ap, subst, ◌∙◌, arith}
 use Rattle.std.specs.Io.KnownBytes.{IsAtEnd}
 use Rattle.std.proofs.lemmas.List.{append-nil}
 use Rattle.outside.specs.Stream.{Stream}
@@ -15,24 +15,31 @@ use Rattle.ingest_desk.specs.declared.report.Report.{Report}
 use Rattle.import_run.specs.declared.groups.OpenImport.{OpenImport}
 use Rattle.import_run.specs.declared.groups.Stopped.{Stopped}
 use Rattle.import_run.specs.Committing.{Known, Store, store_of}
-use Rattle.import_run.specs.Ending.{AreSettled, ReadFaultsAre, StandsAt, StoresBy}
+use Rattle.import_run.specs.Ending.{AreSettled, HasMaybeOneMore, ReadFaultsAre, StandsAt, StoresBy}
 use Rattle.import_run.specs.Progress.{AreReceiptsOf, Progress}
-use Rattle.import_run.specs.SoFar.{AreAllGroups, AreGroupsSoFar, AreInGroups, ended_cuts}
+use Rattle.import_run.specs.Rounds.{MayStore}
+use Rattle.import_run.specs.SoFar.{AreAllGroups, AreGroupsSoFar, AreInGroups}
 use Rattle.import_run.specs.Taking.{ComesQuietly, ComesTo, CutSoFar, IsReady, IsWholeSettled, LacksAtEnd, LacksBehind, LacksWithin, StopsAtEnd, StopsBehind, StopsWithin, TakenAll}
 use Rattle.import_run.proofs.AccountLemmas.{alike}
-use Rattle.import_run.proofs.GroupLemmas.{all_cuts}
 use Rattle.import_run.proofs.HoldLemmas.{holds_texts}
-use Rattle.import_run.proofs.SoFarLemmas.{each-append, ended_front, ended_taken, in_groups, regroup, regroup_all}
+use Rattle.import_run.proofs.SoFarLemmas.{ended_taken, lacking_so_far, stopped_so_far}
 use Rattle.import_run.proofs.StopLemmas.{EndsSo, ends_so}
+use Rattle.import_run.proofs.TakingLemmas.{lacks_more}
+
+-- the batch of a group is one batch more
+maybe_more : (known : Known) (groups : List (List Cut)) (journal : List Batch) → MayStore known groups journal → HasMaybeOneMore known.journal journal
+maybe_more known [] journal is = inl is
+maybe_more known (next ∷ groups) journal (inl is) = inl is
+maybe_more known (next ∷ groups) journal (inr more) = inr (more.0, more.2)
 
 module _ {J : Type 0} (start : Known) (report : Report J) (stream : List ℕ) (left_over : Option (List ℕ)) (told : Option Store) where
   comes_by : (end : End J) → report.end ≡ end → (batches : List Batch) → AreReceiptsOf start.journal report.receipts.items batches
-      → StandsAt end start stream left_over batches report.refused.items → (new : Store) → told ≡ Some new → StoresBy end (start.journal ++ batches) start.fault new
+      → (new : Store) → told ≡ Some new → StandsAt end start stream left_over batches report.refused.items new → StoresBy end (start.journal ++ batches) start.fault new
       → ComesTo start stream left_over report told
-  comes_by end is batches receipts stands new still stores =
-      let P : End J → Type 0 = λ e. StandsAt e start stream left_over batches report.refused.items in
+  comes_by end is batches receipts new still stands stores =
+      let P : End J → Type 0 = λ e. StandsAt e start stream left_over batches report.refused.items new in
       let Q : End J → Type 0 = λ e. StoresBy e (start.journal ++ batches) start.fault new in
-      record { batches = batches; receipts = receipts; stands = subst P (sym is) stands; new = new; still = still; stores = subst Q (sym is) stores }
+      record { batches = batches; receipts = receipts; new = new; still = still; stands = subst P (sym is) stands; stores = subst Q (sym is) stores }
 
   quietly : (end : End J) → report.end ≡ end → ((old new : Stream) → new.read_faults ≡ old.read_faults → ReadFaultsAre end old new) → ComesTo start stream left_over report told
       → ComesQuietly start stream left_over report told
@@ -50,18 +57,18 @@ module _ {J : Type 0} (start : Known) (report : Report J) (stream : List ℕ) (l
       → ComesTo start stream left_over report told
   comes_cut_off before after is below w =
       let p = w.progress in
-      comes_by (ends.ReadFault before after) is p.batches p.receipts_are
+      comes_by (ends.ReadFault before after) is p.batches p.receipts_are (store_of p.known) p.still
       (record { below = below; whole = w.whole; hand = w.hand; in_groups = w.in_groups; settled = settled_by w.whole report.receipts.items report.refused.items told p })
-      (store_of p.known) p.still (p.journal, p.fault)
+      (p.journal, p.fault)
 
   -- the bound was reached
   pub comes_too_much : (bytes : ℕ) → report.end ≡ ends.TooMuch bytes → bytes ≡ length stream → length stream ≡ input_limit → (front : List ℕ) (last : ℕ) → stream ≡ front ++ last ∷ []
       → IsWholeSettled start front report.receipts.items report.refused.items told → ComesTo start stream left_over report told
   comes_too_much bytes is long at front last front_is w =
       let p = w.progress in
-      comes_by (ends.TooMuch bytes) is p.batches p.receipts_are
+      comes_by (ends.TooMuch bytes) is p.batches p.receipts_are (store_of p.known) p.still
       (long, record { at = at; front = front; last = last; front_is = front_is; whole = w.whole; hand = w.hand; in_groups = w.in_groups; settled = settled_by w.whole report.receipts.items report.refused.items told p })
-      (store_of p.known) p.still (p.journal, p.fault)
+      (p.journal, p.fault)
 
   -- ---- the end of a stream
 
@@ -88,75 +95,44 @@ module _ {J : Type 0} (start : Known) (report : Report J) (stream : List ℕ) (l
       let S : List Refusal → Type 0 = λ l. AreSettled start (groups (cuts stream)) p.batches l in
       let G : List Cut → Type 0 = λ l. AreInGroups l done.closed done.hand in
       quietly ends.Whole is (λ old new same. same)
-      (comes_by ends.Whole is p.batches (subst R (sym receipts) p.receipts_are)
+      (comes_by ends.Whole is p.batches (subst R (sym receipts) p.receipts_are) (store_of p.known) p.still
       (at_end, below, subst S (sym refused) (all_settled done.closed done.hand p.batches import.refused.items (subst G all done.in_groups) (record { accounted = p.accounted; closed = p.closed })))
-      (store_of p.known) p.still (p.journal, p.fault))
+      (p.journal, p.fault))
 
   -- ---- want of memory
 
   module _ (import : OpenImport J) (is : report.end ≡ ends.OutOfMemory) (receipts : report.receipts.items ≡ import.receipts.items) (refused : report.refused.items ≡ import.refused.items)
       (below : length stream < input_limit) where
-    comes_lacking : (so_far done rest : List (List Cut)) → AreGroupsSoFar stream left_over so_far → so_far ≡ done ++ rest → LacksBehind (Some (store_of start)) done import told → ComesQuietly start stream left_over report told
+    comes_lacking : (so_far done rest : List (List Cut)) → AreGroupsSoFar stream left_over so_far → so_far ≡ done ++ rest → LacksBehind (Some (store_of start)) done rest import told → ComesQuietly start stream left_over report told
     comes_lacking so_far done rest are so_far_is b =
         let p = b.settled.alone start refl in
         let m = b.alone start refl in
         let R : List (Receipt J) → Type 0 = λ l. AreReceiptsOf start.journal l p.batches in
         let S : List Refusal → Type 0 = λ l. AreSettled start done p.batches l in
+        let M : List Batch → Type 0 = λ j. HasMaybeOneMore j m.new.journal in
         quietly ends.OutOfMemory is (λ old new same. same)
-        (comes_by ends.OutOfMemory is p.batches (subst R (sym receipts) p.receipts_are)
-        (record { below = below; so_far = so_far; are_so_far = are; done = done; rest = rest; so_far_is = so_far_is; settled = subst S (sym refused) (record { accounted = p.accounted; closed = p.closed }) })
-        m.new m.still (by_journal m.new.journal p.known.journal p.batches p.journal m.journal, m.fault ∙ p.fault))
-      where
-        by_journal : (new known batches : List Batch) → known ≡ start.journal ++ batches → (new ≡ known) ⊎ ((batch : Batch) × (new ≡ known ++ batch ∷ []))
-            → (new ≡ start.journal ++ batches) ⊎ ((batch : Batch) × (new ≡ (start.journal ++ batches) ++ batch ∷ []))
-        by_journal new known batches journal (inl same) = inl (same ∙ journal)
-        by_journal new known batches journal (inr (batch, more)) = inr (batch, more ∙ ap (λ (l : List Batch). l ++ batch ∷ []) journal)
+        (comes_by ends.OutOfMemory is p.batches (subst R (sym receipts) p.receipts_are) m.new m.still
+        (record {
+          below = below;
+          so_far = so_far;
+          are_so_far = are;
+          done = done;
+          rest = rest;
+          so_far_is = so_far_is;
+          settled = subst S (sym refused) (record { accounted = p.accounted; closed = p.closed });
+          known = p.known;
+          journal_is = p.journal;
+          fault_is = p.fault;
+          stored_is = m.journal;
+        })
+        (subst M p.journal (maybe_more p.known rest m.new.journal m.journal), m.fault ∙ p.fault))
 
     -- within a stream that may go on
     pub lacking_within : LacksWithin (Some (store_of start)) stream import told → ComesQuietly start stream left_over report told
-    lacking_within w = by_more w.more w.cut w.begun
-      where
-        some_ended : (more : List Cut) → w.taken ++ more ≡ cuts stream → 0 < length more → ComesQuietly start stream left_over report told
-        some_ended more cut some =
-            let l = w.lacks in
-            let later = in_groups (l.hand ++ take (length more - 1) more) in
-            comes_lacking (l.closed ++ later.whole) l.closed later.whole
-            (inl (
-              later.hand,
-              record {
-                all =
-                    ended_front stream w.taken more cut some
-                    ∙ ap (λ (k : List Cut). k ++ take (length more - 1) more) l.all
-                    ∙ append_assoc (all_cuts l.closed) l.hand (take (length more - 1) more)
-                    ∙ ap (λ (k : List Cut). all_cuts l.closed ++ k) later.are.all
-                    ∙ regroup_all l.closed later.whole later.hand;
-                each = each-append l.closed later.whole l.each later.are.each;
-                few = later.are.few;
-              },
-            ))
-            refl l.behind
-
-        none_ended : (taken : List Cut) (closed : List (List Cut)) → taken ≡ w.taken → closed ≡ w.lacks.closed → w.taken ++ [] ≡ cuts stream → (0 < length w.taken → ⊥) → ComesQuietly start stream left_over report told
-        none_ended (cut ∷ taken) closed is_taken is_closed cut_is none = absurd (none (omega (arith, ap length is_taken)))
-        none_ended [] closed is_taken is_closed cut_is none =
-            let l = w.lacks in
-            let empty : ended_cuts stream ≡ [] = ap (λ (k : List Cut). take (length k - 1) k) (sym cut_is ∙ ap (λ (k : List Cut). k ++ []) (sym is_taken)) in
-            let all : [] ≡ all_cuts l.closed ++ l.hand = is_taken ∙ l.all in
-            let later = in_groups l.hand in
-            comes_lacking (l.closed ++ later.whole) l.closed later.whole
-            (inl (
-              later.hand,
-              record {
-                all = empty ∙ all ∙ ap (λ (k : List Cut). all_cuts l.closed ++ k) later.are.all ∙ regroup_all l.closed later.whole later.hand;
-                each = each-append l.closed later.whole l.each later.are.each;
-                few = later.are.few;
-              },
-            ))
-            refl l.behind
-
-        by_more : (more : List Cut) → w.taken ++ more ≡ cuts stream → (0 < length w.taken → 0 < length more) → ComesQuietly start stream left_over report told
-        by_more [] cut begun = none_ended w.taken w.lacks.closed refl refl cut (λ some. absurd (omega (arith, begun some)))
-        by_more (one ∷ more) cut begun = some_ended (one ∷ more) cut (omega arith)
+    lacking_within w =
+        let l = w.lacks in
+        let front = lacking_so_far (Some (store_of start)) stream left_over import told w in
+        comes_lacking (l.closed ++ (l.others ++ front.0)) l.closed (l.others ++ front.0) front.1 refl (lacks_more (Some (store_of start)) l.closed l.others front.0 import told l.behind)
 
     -- at the end of a stream
     pub lacking_at_end : IsAtEnd left_over → (taken : List Cut) → taken ≡ cuts stream → LacksAtEnd (Some (store_of start)) taken import told → ComesQuietly start stream left_over report told
@@ -176,27 +152,14 @@ module _ {J : Type 0} (start : Known) (report : Report J) (stream : List ℕ) (l
         let S : List Refusal → Type 0 = λ l. EndsSo start stream left_over p.batches l told stopped.end in
         let so = subst S (sym refused) (ends_so start stream left_over done rest next import.receipts.items import.refused.items b.before p stopped told so_far below are so_far_is (b.alone start refl)) in
         quietly stopped.end is so.quiet
-        (comes_by stopped.end is p.batches (subst R (sym receipts) p.receipts_are) so.stands so.new so.still so.stores)
+        (comes_by stopped.end is p.batches (subst R (sym receipts) p.receipts_are) so.new so.still so.stands so.stores)
 
     -- within a stream that may go on
     pub stopped_within : StopsWithin (Some (store_of start)) stream import stopped told → ComesQuietly start stream left_over report told
     stopped_within w =
         let s = w.stops in
-        let later = in_groups (take (length w.more - 1) w.more) in
-        comes_stopped (s.closed ++ s.next ∷ later.whole) s.closed later.whole s.next
-        (inl (
-          later.hand,
-          record {
-            all =
-                ended_front stream w.taken w.more w.cut w.some
-                ∙ ap (λ (l : List Cut). l ++ take (length w.more - 1) w.more) s.all
-                ∙ ap (λ (l : List Cut). (all_cuts s.closed ++ s.next) ++ l) later.are.all
-                ∙ regroup s.closed s.next later.whole later.hand;
-            each = each-append s.closed (s.next ∷ later.whole) s.each (s.whole, later.are.each);
-            few = later.are.few;
-          },
-        ))
-        refl s.behind
+        let front = stopped_so_far (Some (store_of start)) stream left_over import told stopped w in
+        comes_stopped (s.closed ++ s.next ∷ front.0) s.closed front.0 s.next front.1 refl s.behind
 
     -- at the end of a stream
     pub stopped_at_end : IsAtEnd left_over → (taken : List Cut) → taken ≡ cuts stream → StopsAtEnd (Some (store_of start)) taken import stopped told → ComesQuietly start stream left_over report told

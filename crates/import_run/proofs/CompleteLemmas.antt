@@ -127,7 +127,7 @@ module _ {D J : Type 0} (disk : D → DiskState) (left_since : D → ℕ → Lis
 
   whole_by : report.end ≡ ends.Whole → StoresAll {J = J} ends.Whole (journal before) new.texts report.refused.items (journal after)
   whole_by ended =
-      let stands = subst (λ (e : End J). StandsAt e is.start is.stream source_after.left is.batches report.refused.items) ended is.stands in
+      let stands = subst (λ (e : End J). StandsAt e is.start is.stream source_after.left is.batches report.refused.items (stored_in after)) ended is.stands in
       let stores = subst (λ (e : End J). StoresBy e (is.start.journal ++ is.batches) is.start.fault (stored_in after)) ended is.stores in
       let accounted = stands.2.accounted in
       let bytes = taken_all can.bytes is.stream source_after.left taken stands.0 in
@@ -141,7 +141,7 @@ module _ {D J : Type 0} (disk : D → DiskState) (left_since : D → ℕ → Lis
   never_full : (a b : ℕ) (note : List Batch) → report.end ≡ ends.Full a b note → ⊥
   unfolding verdicts_in_turn
   never_full a b note ended =
-      let stands = subst (λ (e : End J). StandsAt e is.start is.stream source_after.left is.batches report.refused.items) ended is.stands in
+      let stands = subst (λ (e : End J). StandsAt e is.start is.stream source_after.left is.batches report.refused.items (stored_in after)) ended is.stands in
       let x = stands.2.0 in
       let none = stands.2.1 in
       let e = x.ends in

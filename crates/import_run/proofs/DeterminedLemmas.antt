@@ -163,11 +163,11 @@ module _ {D J : Type 0} (disk : D → DiskState) (left_since : D → ℕ → Lis
 
   -- ---- by the ends
 
-  stands_by : (end : End J) → report.end ≡ end → StandsAt end first.start first.stream source_after.left first.batches report.refused.items
-  stands_by end is = subst (λ (e : End J). StandsAt e first.start first.stream source_after.left first.batches report.refused.items) is first.stands
+  stands_by : (end : End J) → report.end ≡ end → StandsAt end first.start first.stream source_after.left first.batches report.refused.items (stored_in after)
+  stands_by end is = subst (λ (e : End J). StandsAt e first.start first.stream source_after.left first.batches report.refused.items (stored_in after)) is first.stands
 
-  stands_by_other : (end : End J) → other.end ≡ end → StandsAt end second.start second.stream source_other.left second.batches other.refused.items
-  stands_by_other end is = subst (λ (e : End J). StandsAt e second.start second.stream source_other.left second.batches other.refused.items) is second.stands
+  stands_by_other : (end : End J) → other.end ≡ end → StandsAt end second.start second.stream source_other.left second.batches other.refused.items (stored_in other_after)
+  stands_by_other end is = subst (λ (e : End J). StandsAt e second.start second.stream source_other.left second.batches other.refused.items (stored_in other_after)) is second.stands
 
   sound_full : (a b : ℕ) (note : List Batch) → report.end ≡ ends.Full a b note → IsSound (first.start.journal ++ first.batches)
   sound_full a b note is =

@@ -1,5 +1,5 @@
 -- From one commit of a group to the next.
-use Rattle.std.proofs.Common.{◌≡◌, ◌<◌, ◌≤◌, ◌+◌, inl, inr, ℕ, Bool, true, false, cond, List, [], ◌∷◌, length, map, filter, get_or, Option, None, Some, Result, Ok, Err, refl, sym, ap, ◌∙◌, subst, arith, zero, suc, add-one}
+use Rattle.std.proofs.Common.{◌≡◌, ◌<◌, ◌≤◌, ◌+◌, inl, inr, ℕ, Bool, true, false, cond, List, [], ◌∷◌, ◌++◌, length, map, filter, get_or, Option, None, Some, Result, Ok, Err, refl, sym, ap, ◌∙◌, subst, arith, zero, suc, add-one}
 use Rattle.std.proofs.lemmas.List.{length-map}
 use Rattle.std.specs.List.{All, AllByRecursion, AllZip}
 use Rattle.std.specs.Prelude.{OnErr, is_none}
@@ -27,7 +27,7 @@ use Rattle.import_run.specs.declared.text_group.TalliedGroup.{TalliedGroup}
 use Rattle.import_run.specs.Committing.{Commits, Known, Store, store_of}
 use Rattle.import_run.specs.Grouping.{Ascend, IsTallied, merged}
 use Rattle.import_run.specs.Hand.{InHand}
-use Rattle.import_run.specs.Rounds.{IsAnswer, IsDecided, IsStill, MayHaveMore, Rounds, Settles, size_of, stored_by}
+use Rattle.import_run.specs.Rounds.{IsAnswer, IsBatchOf, IsDecided, IsStill, MayHaveMore, MayStore, Rounds, Settles, size_of, stored_by}
 use Rattle.import_run.specs.Settling.{AreRead, Fresh, id_of, kept, left_by, lost, named_by, placed}
 use Rattle.import_run.proofs.VerdictLemmas.{OneGame, again, ascends, exact, fewer_fresh, fewer_read, found, found_right, fresh, kept-left, kept_found, merged_lost, same_settled, settled_none}
 
@@ -184,6 +184,20 @@ all_none (c ∷ cs) = (refl, all_none cs)
 closed_clash : (f : ℕ × ℕ) (pairs : List Clashing) → Some (IsClosed f.0 f.1) ≡ Some (HasIds pairs) → ⊥
 closed_clash f pairs e = cc
 
+-- where nothing is against a tally, none of its ids is stored
+no_clashes : (games : List Game) (journal : List Batch) (counted : Counted) → cause None games journal counted ≡ None → clashes_of (numbers_of games) counted.classes ≡ []
+no_clashes games journal counted nothing = by (clashes_of (numbers_of games) counted.classes) nothing
+  where
+    by : (pairs : List Clashing) → cause_by pairs journal counted.batch ≡ None → pairs ≡ []
+    by [] e = refl
+    by (pair ∷ pairs) e = absurd (some_none _ e)
+
+unnamed : (fault : Option (ℕ × ℕ)) (games : List Game) (journal : List Batch) (counted : Counted) (cs : List Candidate) → Counts cs counted → cause fault games journal counted ≡ None
+    → AllByRecursion (λ c. stored_by fault games (id_of c) ≡ None) cs
+unnamed (Some f) games journal counted cs counts nothing = all_none cs
+unnamed None games journal counted cs counts nothing =
+    kept_none (numbers_of games) 0 cs (ap (clashes_from 0 (numbers_of games)) (sym (counted_ids cs counted counts)) ∙ no_clashes games journal counted nothing)
+
 module _ {J : Type 0} where
   kept_unnamed : (fault : Option (ℕ × ℕ)) (games : List Game) (journal : List Batch) (answer : Result (Receipt J) (CommitFault J)) (counted : Counted) (held : Option Change) (cs : List Candidate) → Counts cs counted → IsDecided answer
       → Refuses answer (cause fault games journal counted) counted held → AllByRecursion (λ c. stored_by fault games (id_of c) ≡ None) cs
@@ -247,16 +261,36 @@ module _ {J : Type 0} where
 
   -- ---- want of memory
 
-  pub lacks_commit : (known : Known) (stored : Bool) (counted : Counted) (now' : Option Store) → Commits {J = J} (Err (faults.OutOfMemory stored)) known counted now' → MayHaveMore known now'
-  lacks_commit known true counted now' commits = record { new = commits.new; still = commits.still; fault = commits.fault; journal = inr (counted.batch, commits.stores) }
-  lacks_commit known false counted now' commits = record { new = commits.new; still = commits.still; fault = commits.fault; journal = inl commits.stores }
+  pub lacks_commit : (known : Known) (cuts : List Cut) (places : List ℕ) (refused : List Refusal) (now : Option Store) (counted : Counted) (r : Rounds (Some (store_of known)) cuts (Some counted) places refused now) (stored : Bool)
+      (now' : Option Store) → Commits {J = J} (Err (faults.OutOfMemory stored)) known counted now' → MayHaveMore known (cuts ∷ []) now'
+  lacks_commit known cuts places refused now counted r true now' commits =
+      let N = stored_by known.fault known.games in
+      let none = unnamed known.fault known.games known.journal counted (kept r.stored (verdicts r.examinations)) r.made commits.refused in
+      let same = same_settled r.stored N (verdicts r.examinations) (exact r.stored N (verdicts r.examinations) (r.right known refl) none) in
+      let batch : IsBatchOf known cuts counted.batch = record {
+        examinations = r.examinations;
+        are_examinations = r.are_examinations;
+        batch_is = ap (batch_of no_label) (sym (ap candidates same)) ∙ r.made.batch;
+      } in
+      record { new = commits.new; still = commits.still; fault = commits.fault; journal = inr (counted.batch, batch, commits.stores) }
+  lacks_commit known cuts places refused now counted r false now' commits = record { new = commits.new; still = commits.still; fault = commits.fault; journal = inl commits.stores }
 
 pub on_err : {T E : Type 0} (result : Result T E) {P : Type 0} → P → OnErr result P
 on_err (Ok t) p = tt
 on_err (Err e) p = p
 
-pub lacks_still : (known : Known) (now : Option Store) → IsStill known now → MayHaveMore known now
-lacks_still known now still = record { new = store_of known; still = still; fault = refl; journal = inl refl }
+stores_nothing : (known : Known) (groups : List (List Cut)) → MayStore known groups known.journal
+stores_nothing known [] = refl
+stores_nothing known (next ∷ groups) = inl refl
+
+-- of more groups the batch of the first may be stored too
+pub stores_more : (known : Known) (groups more : List (List Cut)) (journal : List Batch) → MayStore known groups journal → MayStore known (groups ++ more) journal
+stores_more known [] [] journal is = is
+stores_more known [] (next ∷ more) journal is = inl is
+stores_more known (next ∷ groups) more journal is = is
+
+pub lacks_still : (known : Known) (groups : List (List Cut)) (now : Option Store) → IsStill known now → MayHaveMore known groups now
+lacks_still known groups now still = record { new = store_of known; still = still; fault = refl; journal = stores_nothing known groups }
 
 -- the group as it was tallied first
 unfoldable pub first : (told : Option Store) (cuts : List Cut) (made : TalliedGroup) → Ascend cuts → IsTallied cuts made → Rounds told cuts made.tally made.places.items made.refused.items told

@@ -15,7 +15,7 @@ use Rattle.ingest_desk.specs.Stored.{Stored}
 use Rattle.ingest_desk.specs.declared.report.End.{End}
 use Rattle.ingest_desk.specs.declared.report.End.TheVariants as ends
 use Rattle.ingest_desk.specs.declared.report.Report.{Report}
-use Rattle.import_run.specs.Alone.{DiskFaultsAre, ImportsAlone}
+use Rattle.import_run.specs.Alone.{DiskFaultsAre, ImportsAlone, stored_in}
 use Rattle.import_run.specs.Committing.{Known, Store}
 use Rattle.import_run.specs.Ending.{AreSettled, ReadFaultsAre, StandsAt}
 use Rattle.import_run.specs.Faultless.{CanEnd, EndsWithoutFault, IsFaultless}
@@ -42,7 +42,7 @@ no_longer (Some xs) (Some ys) bytes stream is next =
 
 module _ {D J : Type 0} (disk : D → DiskState) (source source_after : Stream) (before after : Stored D) (can : CanEnd disk source before) (quiet : IsFaultless disk source source_after before after)
     (start : Known) (stream : List ℕ) (reads : Reads stream source source_after) (open_is : start.fault ≡ before.manifest.fault) (batches : List Batch) (refused : List Refusal) where
-  ends_by : (end : End J) → StandsAt end start stream source_after.left batches refused → ReadFaultsAre end source source_after
+  ends_by : (end : End J) → StandsAt end start stream source_after.left batches refused (stored_in after) → ReadFaultsAre end source source_after
       → DiskFaultsAre end (disk before.manifest.disk) (disk after.manifest.disk) → EndsWithoutFault end
   ends_by ends.Whole stands faults calls = tt
   ends_by (ends.Full games bytes note) stands faults calls = tt
@@ -103,7 +103,7 @@ module _ {D J : Type 0} (disk : D → DiskState) (left_since : D → ℕ → Lis
   pub whole_of : (bytes : List ℕ) (source source_after : Stream) (before after : Stored D) (report : Report J) → source.left ≡ Some bytes → (is : ImportsAlone disk left_since source before source_after after report)
       → report.end ≡ ends.Whole → AreSettled is.start (groups (cuts bytes)) is.batches report.refused.items
   whole_of bytes source source_after before after report told is whole =
-      let P : End J → Type 0 = λ e. StandsAt e is.start is.stream source_after.left is.batches report.refused.items in
+      let P : End J → Type 0 = λ e. StandsAt e is.start is.stream source_after.left is.batches report.refused.items (stored_in after) in
       let stands = subst P whole is.stands in
       let A : List ℕ → Type 0 = λ s. AreSettled is.start (groups (cuts s)) is.batches report.refused.items in
       subst A (all_taken source.left source_after.left bytes is.stream told is.reads.next stands.0) stands.2
@@ -133,8 +133,8 @@ module _ {D J : Type 0} (disk : D → DiskState) (left_since : D → ℕ → Lis
       → (first : ImportsAlone disk left_since source before source_after after report) → (second : ImportsAlone disk left_since source before source_other other_after other)
       → first.stream ≡ second.stream → report.end ≡ ends.ReadFault a b → other.end ≡ ends.ReadFault a' b' → (first.batches ≡ second.batches) × (report.refused.items ≡ other.refused.items)
   same_cut_off source source_after source_other before after other_after report other a b a' b' first second streams is also =
-      let P : End J → Type 0 = λ e. StandsAt e first.start first.stream source_after.left first.batches report.refused.items in
-      let Q : End J → Type 0 = λ e. StandsAt e second.start second.stream source_other.left second.batches other.refused.items in
+      let P : End J → Type 0 = λ e. StandsAt e first.start first.stream source_after.left first.batches report.refused.items (stored_in after) in
+      let Q : End J → Type 0 = λ e. StandsAt e second.start second.stream source_other.left second.batches other.refused.items (stored_in other_after) in
       let x = subst P is first.stands in
       let y = subst Q also second.stands in
       let S : List ℕ → Type 0 = λ s. AreInGroups (ended_cuts s) y.whole y.hand in
@@ -145,8 +145,8 @@ module _ {D J : Type 0} (disk : D → DiskState) (left_since : D → ℕ → Lis
       → (first : ImportsAlone disk left_since source before source_after after report) → (second : ImportsAlone disk left_since source before source_other other_after other)
       → first.stream ≡ second.stream → report.end ≡ ends.TooMuch n → other.end ≡ ends.TooMuch n' → (first.batches ≡ second.batches) × (report.refused.items ≡ other.refused.items)
   same_too_much source source_after source_other before after other_after report other n n' first second streams is also =
-      let P : End J → Type 0 = λ e. StandsAt e first.start first.stream source_after.left first.batches report.refused.items in
-      let Q : End J → Type 0 = λ e. StandsAt e second.start second.stream source_other.left second.batches other.refused.items in
+      let P : End J → Type 0 = λ e. StandsAt e first.start first.stream source_after.left first.batches report.refused.items (stored_in after) in
+      let Q : End J → Type 0 = λ e. StandsAt e second.start second.stream source_other.left second.batches other.refused.items (stored_in other_after) in
       let x = (subst P is first.stands).1 in
       let y = (subst Q also second.stands).1 in
       let fronts = same_front x.front y.front x.last y.last (sym x.front_is ∙ streams ∙ y.front_is) in

@@ -36,5 +36,6 @@ mod StopLemmas
 mod StreamCutLemmas
 mod TakingLemmas
 pub mod TurnLemmas
+mod UnendedLemmas
 mod UpkeepLemmas
 pub mod VerdictLemmas

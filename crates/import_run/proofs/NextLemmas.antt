@@ -19,7 +19,7 @@ use Rattle.published_index.specs.Changes.{Change}
 use Rattle.import_run.specs.declared.settle.Done.{Done}
 use Rattle.import_run.specs.Committing.{Known, Store}
 use Rattle.import_run.specs.Progress.{AreReceiptsOf, HasNoCandidate, Progress, and_games}
-use Rattle.import_run.specs.Rounds.{IsAnswer, MayHaveMore, Settles, stored_by}
+use Rattle.import_run.specs.Rounds.{IsAnswer, IsBatchOf, MayHaveMore, Settles, stored_by}
 use Rattle.import_run.proofs.HandLemmas.{lacks_still}
 use Rattle.import_run.specs.Importing.{WhereLacking}
 use Rattle.import_run.specs.declared.groups.Stopped.{Stopped}
@@ -167,17 +167,18 @@ module _ {J : Type 0} (start : Known) (groups : List (List Cut)) (receipts recei
 -- ---- want of memory
 
 module _ {J : Type 0} where
-  pub lacks_none : (known : Known) (cuts : List Cut) (done : Done J) (told' : Option Store) → Settles known cuts done told' → done.answer ≡ None → MayHaveMore known told'
+  pub lacks_none : (known : Known) (cuts : List Cut) (done : Done J) (told' : Option Store) → Settles known cuts done told' → done.answer ≡ None → MayHaveMore known (cuts ∷ []) told'
   lacks_none known cuts done told' s is =
       let P : Option (Result (Receipt J) (CommitFault J)) → Type 0 = λ a. IsAnswer known (kept (stored_by known.fault known.games) (verdicts s.examinations)) a told' in
       let a = subst P is s.answer in
-      lacks_still known told' a.1
+      lacks_still known (cuts ∷ []) told' a.1
 
-  pub lacks_one : (known : Known) (cuts : List Cut) (done : Done J) (receipt : Receipt J) (told' : Option Store) → Settles known cuts done told' → done.answer ≡ Some (Ok receipt) → MayHaveMore known told'
+  pub lacks_one : (known : Known) (cuts : List Cut) (done : Done J) (receipt : Receipt J) (told' : Option Store) → Settles known cuts done told' → done.answer ≡ Some (Ok receipt) → MayHaveMore known (cuts ∷ []) told'
   lacks_one known cuts done receipt told' s is =
       let P : Option (Result (Receipt J) (CommitFault J)) → Type 0 = λ a. IsAnswer known (kept (stored_by known.fault known.games) (verdicts s.examinations)) a told' in
       let a = subst P is s.answer in
-      record { new = a.2.new; still = a.2.still; fault = a.2.fault; journal = inr (a.0.batch, a.2.stores) }
+      let batch : IsBatchOf known cuts a.0.batch = record { examinations = s.examinations; are_examinations = s.are_examinations; batch_is = a.1.batch } in
+      record { new = a.2.new; still = a.2.still; fault = a.2.fault; journal = inr (a.0.batch, batch, a.2.stores) }
 
   pub lacking : {T : Type 0} (result : Result T (Stop (Stopped J))) {P : Type 0} → P → IfErr result (λ stop. WhereLacking stop P)
   lacking (Ok t) p = tt

@@ -1,11 +1,15 @@
 -- The groups of a stream that may go on.
-use Rattle.std.proofs.Common.{◌≡◌, ℕ, ◌-◌, ◌<◌, ◌≤◌, ◌⊎◌, inl, inr, Bool, true, false, nat_lt, List, [], ◌∷◌, ◌++◌, length, take, refl, sym, ap, subst, ◌∙◌, append_assoc, length-append, arith, suc}
+use Rattle.std.proofs.Common.{◌≡◌, ℕ, ◌-◌, ◌<◌, ◌≤◌, ◌⊎◌, inl, inr, Bool, true, false, nat_lt, List, [], ◌∷◌, ◌++◌, Option, length, take, refl, sym, ap, subst, ◌∙◌, append_assoc, length-append, arith, suc}
 use Rattle.std.specs.List.{AllByRecursion}
 use Rattle.std.proofs.lemmas.Bool.{ltb-true, ltb-false}
 use Rattle.std.proofs.lemmas.List.{append-nil}
 use Rattle.std.proofs.lemmas.Grind.{flat_map-append}
 use Rattle.explorer_model.specs.Cuts.{Cut, cuts}
-use Rattle.import_run.specs.SoFar.{AreInGroups, IsWhole, ended_cuts}
+use Rattle.import_run.specs.declared.groups.OpenImport.{OpenImport}
+use Rattle.import_run.specs.declared.groups.Stopped.{Stopped}
+use Rattle.import_run.specs.Committing.{Store}
+use Rattle.import_run.specs.SoFar.{AreGroupsSoFar, AreInGroups, IsWhole, ended_cuts}
+use Rattle.import_run.specs.Taking.{LacksWithin, StopsWithin}
 use Rattle.import_run.proofs.GroupLemmas.{texts_in, all_cuts}
 use Rattle.import_run.proofs.HoldLemmas.{is_whole}
 
@@ -87,3 +91,75 @@ pub regroup_all : (closed rest : List (List Cut)) (hand : List Cut) → all_cuts
 regroup_all closed rest hand =
     sym (append_assoc (all_cuts closed) (all_cuts rest) hand)
     ∙ ap (λ (l : List Cut). l ++ hand) (sym (flat_map-append (λ (group : List Cut). group) closed rest))
+
+-- ---- a stream within which an import ended
+
+-- groups, and others behind them, are the first of those so far
+abbrev pub BeginSoFar : List ℕ → Option (List ℕ) → List (List Cut) → List (List Cut) → Type 0
+BeginSoFar stream left_over done others = (more : List (List Cut)) × AreGroupsSoFar stream left_over (done ++ (others ++ more))
+
+module _ {J : Type 0} (start : Option Store) (stream : List ℕ) (left_over : Option (List ℕ)) (import : OpenImport J) (told : Option Store) where
+  -- by a commit of a group
+  pub stopped_so_far : (stopped : Stopped J) (w : StopsWithin start stream import stopped told) → (rest : List (List Cut)) × AreGroupsSoFar stream left_over (w.stops.closed ++ w.stops.next ∷ rest)
+  stopped_so_far stopped w =
+      let s = w.stops in
+      let later = in_groups (take (length w.more - 1) w.more) in (
+        later.whole,
+        inl (
+          later.hand,
+          record {
+            all =
+                ended_front stream w.taken w.more w.cut w.some
+                ∙ ap (λ (l : List Cut). l ++ take (length w.more - 1) w.more) s.all
+                ∙ ap (λ (l : List Cut). (all_cuts s.closed ++ s.next) ++ l) later.are.all
+                ∙ regroup s.closed s.next later.whole later.hand;
+            each = each-append s.closed (s.next ∷ later.whole) s.each (s.whole, later.are.each);
+            few = later.are.few;
+          },
+        ),
+      )
+
+  -- for want of memory
+  pub lacking_so_far : (w : LacksWithin start stream import told) → BeginSoFar stream left_over w.lacks.closed w.lacks.others
+  lacking_so_far w = by_more w.more w.cut w.begun
+    where
+      behind : (rest : List Cut) → ended_cuts stream ≡ all_cuts w.lacks.closed ++ (all_cuts w.lacks.others ++ rest) → BeginSoFar stream left_over w.lacks.closed w.lacks.others
+      behind rest is =
+          let l = w.lacks in
+          let later = in_groups rest in
+          let more = l.others ++ later.whole in (
+            later.whole,
+            inl (
+              later.hand,
+              record {
+                all =
+                    is
+                    ∙ ap (λ (k : List Cut). all_cuts l.closed ++ (all_cuts l.others ++ k)) later.are.all
+                    ∙ ap (λ (k : List Cut). all_cuts l.closed ++ k) (regroup_all l.others later.whole later.hand)
+                    ∙ regroup_all l.closed more later.hand;
+                each = each-append l.closed more l.each (each-append l.others later.whole l.each_other later.are.each);
+                few = later.are.few;
+              },
+            ),
+          )
+
+      some_ended : (more : List Cut) → w.taken ++ more ≡ cuts stream → 0 < length more → BeginSoFar stream left_over w.lacks.closed w.lacks.others
+      some_ended more cut some =
+          let l = w.lacks in
+          let ended = take (length more - 1) more in
+          behind (l.hand ++ take (length more - 1) more)
+          (ended_front stream w.taken more cut some
+          ∙ ap (λ (k : List Cut). k ++ ended) l.all
+          ∙ append_assoc (all_cuts l.closed) (all_cuts l.others ++ l.hand) ended
+          ∙ ap (λ (k : List Cut). all_cuts l.closed ++ k) (append_assoc (all_cuts l.others) l.hand ended))
+
+      none_ended : (taken : List Cut) → taken ≡ w.taken → w.taken ++ [] ≡ cuts stream → (0 < length w.taken → ⊥) → BeginSoFar stream left_over w.lacks.closed w.lacks.others
+      none_ended (cut ∷ taken) is_taken cut_is none = absurd (none (omega (arith, ap length is_taken)))
+      none_ended [] is_taken cut_is none =
+          let l = w.lacks in
+          let empty : ended_cuts stream ≡ [] = ap (λ (k : List Cut). take (length k - 1) k) (sym cut_is ∙ ap (λ (k : List Cut). k ++ []) (sym is_taken)) in
+          behind l.hand (empty ∙ is_taken ∙ l.all)
+
+      by_more : (more : List Cut) → w.taken ++ more ≡ cuts stream → (0 < length w.taken → 0 < length more) → BeginSoFar stream left_over w.lacks.closed w.lacks.others
+      by_more [] cut begun = none_ended w.taken refl cut (λ some. absurd (omega (arith, begun some)))
+      by_more (one ∷ more) cut begun = some_ended (one ∷ more) cut (omega arith)

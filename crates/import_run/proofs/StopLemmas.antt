@@ -144,10 +144,10 @@ new_ids games cs each = All-from_recursion (λ (c : Candidate). numbers_of games
 -- ---- the end
 
 pub record EndsSo {J : Type 0} (start : Known) (stream : List ℕ) (left_over : Option (List ℕ)) (batches : List Batch) (refused : List Refusal) (told : Option Store) (end : End J) : Type 0 where
-  pub stands : StandsAt end start stream left_over batches refused
-  pub quiet : (old new : Stream) → new.read_faults ≡ old.read_faults → ReadFaultsAre end old new
   pub new : Store
   pub still : told ≡ Some new
+  pub stands : StandsAt end start stream left_over batches refused new
+  pub quiet : (old new : Stream) → new.read_faults ≡ old.read_faults → ReadFaultsAre end old new
   pub stores : StoresBy end (start.journal ++ batches) start.fault new
 
 module _ {J : Type 0} (start : Known) (stream : List ℕ) (left_over : Option (List ℕ)) (done rest : List (List Cut)) (next : List Cut) (receipts : List (Receipt J)) (refused : List Refusal) (before : Option Store)

@@ -26,7 +26,7 @@ use Rattle.import_run.specs.Progress.{Progress}
 use Rattle.import_run.specs.SoFar.{IsWhole}
 use Rattle.import_run.specs.Taking.{IsReady, IsSettledSo, LacksAtEnd, LacksBehind, LacksSoFar, StopsAtEnd, StopsBehind, StopsSoFar, TakenAll, TakenSoFar}
 use Rattle.import_run.proofs.GroupLemmas.{all_cuts}
-use Rattle.import_run.proofs.HandLemmas.{lacks_still}
+use Rattle.import_run.proofs.HandLemmas.{lacks_still, stores_more}
 use Rattle.import_run.proofs.HoldLemmas.{holds_texts, is_whole}
 use Rattle.import_run.proofs.PlaceLemmas.{ascend_back}
 use Rattle.import_run.proofs.SoFarLemmas.{each-append, in_groups, regroup_all}
@@ -148,11 +148,21 @@ module _ {J : Type 0} (start : Option Store) where
   }
 
   -- memory was wanting, and nothing was done
-  lacks_nothing : (groups : List (List Cut)) (import : OpenImport J) (told : Option Store) → IsSettledSo start groups import told → LacksBehind start groups import told
+  lacks_nothing : (groups : List (List Cut)) (import : OpenImport J) (told : Option Store) → IsSettledSo start groups import told → LacksBehind start groups [] import told
   lacks_nothing groups import told s = record {
     before = told;
     settled = s;
-    alone = λ known is. lacks_still (s.alone known is).known told (s.alone known is).still;
+    alone = λ known is. lacks_still (s.alone known is).known [] told (s.alone known is).still;
+  }
+
+  -- the same of more groups
+  pub lacks_more : (groups others more : List (List Cut)) (import : OpenImport J) (told : Option Store) → LacksBehind start groups others import told → LacksBehind start groups (others ++ more) import told
+  lacks_more groups others more import told b = record {
+    before = b.before;
+    settled = b.settled;
+    alone = λ known is.
+        let m = b.alone known is in
+        record { new = m.new; still = m.still; fault = m.fault; journal = stores_more (b.settled.alone known is).known others more m.new.journal m.journal };
   }
 
   -- ---- steps
@@ -188,18 +198,22 @@ module _ {J : Type 0} (start : Option Store) where
       → TakenSoFar start taken old told → LacksSoFar start (taken ++ more) new told
   lacks_open taken more old new told receipts refused clashes so_far = record {
     closed = so_far.closed;
+    others = [];
     hand = so_far.hand ++ more;
     all = ap (λ (l : List Cut). l ++ more) so_far.all ∙ append_assoc (all_cuts so_far.closed) so_far.hand more;
     each = so_far.each;
+    each_other = tt;
     behind = lacks_nothing so_far.closed new told (same_settled so_far.closed old new told receipts refused clashes so_far.settled);
   }
 
   pub lacks_now : (taken : List Cut) (import : OpenImport J) (told : Option Store) → TakenSoFar start taken import told → LacksSoFar start taken import told
   lacks_now taken import told so_far = record {
     closed = so_far.closed;
+    others = [];
     hand = so_far.hand;
     all = so_far.all;
     each = so_far.each;
+    each_other = tt;
     behind = lacks_nothing so_far.closed import told so_far.settled;
   }
 
@@ -242,17 +256,22 @@ module _ {J : Type 0} (start : Option Store) where
         }
 
     -- the same where memory was wanting
-    pub lacks_closed : ((start : Option Store) (closed : List (List Cut)) (hand : List Cut) → Ascend hand → IsGroupOf hand mid.group → IsSettledSo start closed mid told → LacksBehind start closed new told')
+    pub lacks_closed : length old.group.texts.items < 512 → 512 ≤ length mid.group.texts.items
+        → ((start : Option Store) (closed : List (List Cut)) (hand : List Cut) → Ascend hand → IsGroupOf hand mid.group → IsSettledSo start closed mid told → LacksBehind start closed (hand ∷ []) new told')
         → Ascend (taken ++ cut ∷ []) → TakenSoFar start taken old told → LacksSoFar start (taken ++ cut ∷ []) new told'
-    lacks_closed lacks ascend so_far =
+    lacks_closed few whole lacks ascend so_far =
         let hand = so_far.hand ++ cut ∷ [] in
+        let holds : IsGroupOf (so_far.hand ++ cut ∷ []) mid.group = group so_far.hand so_far.group in
         let is = more_cuts taken cut so_far.closed so_far.hand so_far.all in
+        let last : IsWhole (so_far.hand ++ cut ∷ []) = is_whole so_far.hand cut (omega (arith, few, holds_texts so_far.hand old.group so_far.group)) (omega (arith, whole, holds_texts (so_far.hand ++ cut ∷ []) mid.group holds)) in
         record {
           closed = so_far.closed;
-          hand = hand;
-          all = is;
+          others = hand ∷ [];
+          hand = [];
+          all = is ∙ ap (λ (l : List Cut). all_cuts so_far.closed ++ l) (sym (append-nil ((so_far.hand ++ cut ∷ []) ++ []) ∙ append-nil (so_far.hand ++ cut ∷ [])));
           each = so_far.each;
-          behind = lacks start so_far.closed hand (hand_ascends _ so_far.closed hand is ascend) (group so_far.hand so_far.group) (same_settled so_far.closed old mid told receipts refused clashes so_far.settled);
+          each_other = (last, tt);
+          behind = lacks start so_far.closed hand (hand_ascends _ so_far.closed hand is ascend) holds (same_settled so_far.closed old mid told receipts refused clashes so_far.settled);
         }
 
   -- ---- the end of a stream
@@ -309,31 +328,41 @@ module _ {J : Type 0} (start : Option Store) where
   pub lacks_at_last : (taken : List Cut) (import : OpenImport J) (told : Option Store) → LacksSoFar start taken import told → LacksAtEnd start taken import told
   lacks_at_last taken import told so_far =
       let later = in_groups so_far.hand in
+      let more = so_far.others ++ later.whole in
       record {
         done = so_far.closed;
-        rest = later.whole ++ later.hand ∷ [];
+        rest = so_far.others ++ (later.whole ++ later.hand ∷ []);
         all = record {
-          whole = so_far.closed ++ later.whole;
+          whole = so_far.closed ++ (so_far.others ++ later.whole);
           hand = later.hand;
           in_groups = record {
-            all = so_far.all ∙ ap (λ (l : List Cut). all_cuts so_far.closed ++ l) later.are.all ∙ regroup_all so_far.closed later.whole later.hand;
-            each = each-append so_far.closed later.whole so_far.each later.are.each;
+            all =
+                so_far.all
+                ∙ ap (λ (l : List Cut). all_cuts so_far.closed ++ (all_cuts so_far.others ++ l)) later.are.all
+                ∙ ap (λ (l : List Cut). all_cuts so_far.closed ++ l) (regroup_all so_far.others later.whole later.hand)
+                ∙ regroup_all so_far.closed more later.hand;
+            each = each-append so_far.closed more so_far.each (each-append so_far.others later.whole so_far.each_other later.are.each);
             few = later.are.few;
           };
-          all_are = sym (append_assoc so_far.closed later.whole (later.hand ∷ []));
+          all_are =
+              ap (λ (l : List (List Cut)). so_far.closed ++ l) (sym (append_assoc so_far.others later.whole (later.hand ∷ [])))
+              ∙ sym (append_assoc so_far.closed more (later.hand ∷ []));
         };
-        behind = so_far.behind;
+        behind = lacks_more so_far.closed so_far.others (later.whole ++ later.hand ∷ []) import told so_far.behind;
       }
 
   -- memory was wanting for the group that is in hand at the end of the stream
-  pub lacks_here : (taken : List Cut) (old new : OpenImport J) (told told' : Option Store)
-      → ((start : Option Store) (closed : List (List Cut)) (hand : List Cut) → Ascend hand → IsGroupOf hand old.group → IsSettledSo start closed old told → LacksBehind start closed new told')
+  pub lacks_here : (taken : List Cut) (old new : OpenImport J) (told told' : Option Store) → length old.group.texts.items < 512
+      → ((start : Option Store) (closed : List (List Cut)) (hand : List Cut) → Ascend hand → IsGroupOf hand old.group → IsSettledSo start closed old told → LacksBehind start closed (hand ∷ []) new told')
       → Ascend taken → TakenSoFar start taken old told → LacksAtEnd start taken new told'
-  lacks_here taken old new told told' lacks ascend so_far =
-      lacks_at_last taken new told' (record {
-        closed = so_far.closed;
-        hand = so_far.hand;
-        all = so_far.all;
-        each = so_far.each;
-        behind = lacks start so_far.closed so_far.hand (hand_ascends taken so_far.closed so_far.hand so_far.all ascend) so_far.group so_far.settled;
-      })
+  lacks_here taken old new told told' few lacks ascend so_far = record {
+    done = so_far.closed;
+    rest = so_far.hand ∷ [];
+    all = record {
+      whole = so_far.closed;
+      hand = so_far.hand;
+      in_groups = record { all = so_far.all; each = so_far.each; few = omega (arith, few, holds_texts so_far.hand old.group so_far.group) };
+      all_are = refl;
+    };
+    behind = lacks start so_far.closed so_far.hand (hand_ascends taken so_far.closed so_far.hand so_far.all ascend) so_far.group so_far.settled;
+  }

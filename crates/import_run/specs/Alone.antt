@@ -44,6 +44,7 @@ pub record ImportsAlone {D J : Type 0} (disk : D → DiskState)
   pub batches : List Batch
   pub receipts : AreReceiptsOf start.journal report.receipts.items batches
   pub stands : StandsAt report.end start stream source_after.left batches report.refused.items
+      (stored_in after)
   -- each number that a text is refused with is that of a game in the journal of one of the notes
   pub repeats : AreRepeats (cuts stream) report.clashes.items report.refused.items
   -- the store afterwards

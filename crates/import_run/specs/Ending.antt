@@ -16,7 +16,7 @@ use Rattle.ingest_desk.specs.declared.report.End.{End}
 use Rattle.ingest_desk.specs.declared.report.End.TheVariants as ends
 use Rattle.import_run.specs.Committing.{Known, Store}
 use Rattle.import_run.specs.Progress.{HasNoCandidate}
-use Rattle.import_run.specs.Rounds.{stored_by}
+use Rattle.import_run.specs.Rounds.{MayStore, stored_by}
 use Rattle.import_run.specs.Settling.{kept, lost}
 use Rattle.import_run.specs.SoFar.{AreGroupsSoFar, AreInGroups, ended_cuts}
 
@@ -89,9 +89,10 @@ abbrev pub HasRoomFor : List Batch → List Candidate → Type 0
 HasRoomFor journal left = AreWithin (game_count journal + length left)
     (byte_count journal + sum_by (λ candidate. length candidate.text) left)
 
--- memory was wanting: some of the groups so far are settled
+-- Memory was wanting: some of the groups so far are settled. What is stored is their batches, and
+-- maybe that of the next group, without a receipt.
 pub record Lacks (start : Known) (stream : List ℕ) (left_over : Option (List ℕ))
-    (batches : List Batch) (refused : List Refusal) : Type 0 where
+    (batches : List Batch) (refused : List Refusal) (stored : List Batch) : Type 0 where
   pub below : length stream < input_limit
   pub so_far : List (List Cut)
   pub are_so_far : AreGroupsSoFar stream left_over so_far
@@ -99,32 +100,36 @@ pub record Lacks (start : Known) (stream : List ℕ) (left_over : Option (List �
   pub rest : List (List Cut)
   pub so_far_is : so_far ≡ done ++ rest
   pub settled : AreSettled start done batches refused
+  pub known : Known
+  pub journal_is : known.journal ≡ start.journal ++ batches
+  pub fault_is : known.fault ≡ start.fault
+  pub stored_is : MayStore known rest stored
 
 -- ---- the ends of an import
 
--- how an import stands with the bytes that it took, by its end
+-- how an import stands with the bytes that it took and with the store afterwards, by its end
 abbrev pub StandsAt : {J : Type 0} → End J → Known → List ℕ → Option (List ℕ) → List Batch
-    → List Refusal → Type 0
-StandsAt ends.Whole start stream left_over batches refused =
+    → List Refusal → Store → Type 0
+StandsAt ends.Whole start stream left_over batches refused new =
     IsAtEnd left_over × (length stream < input_limit)
     × AreSettled start (groups (cuts stream)) batches refused
-StandsAt (ends.ReadFault before after) start stream left_over batches refused =
+StandsAt (ends.ReadFault before after) start stream left_over batches refused new =
     IsCutOff start stream batches refused
-StandsAt (ends.TooMuch bytes) start stream left_over batches refused =
+StandsAt (ends.TooMuch bytes) start stream left_over batches refused new =
     (bytes ≡ length stream) × IsTooMuch start stream batches refused
-StandsAt (ends.DiskFault before after mark) start stream left_over batches refused =
+StandsAt (ends.DiskFault before after mark) start stream left_over batches refused new =
     (mark.kind ≡ kinds.DiskFault) × (start.fault ≡ None)
     × ((ends : EndsAt start stream left_over batches refused)
     × HasRoomFor (start.journal ++ batches) ends.left)
-StandsAt (ends.Closed before after mark) start stream left_over batches refused =
+StandsAt (ends.Closed before after mark) start stream left_over batches refused new =
     (mark.kind ≡ kinds.Closed) × (start.fault ≡ Some (before, after))
     × EndsAt start stream left_over batches refused
-StandsAt (ends.Full games bytes note) start stream left_over batches refused =
+StandsAt (ends.Full games bytes note) start stream left_over batches refused new =
     (start.fault ≡ None) × (note ≡ start.journal ++ batches)
     × ((ends : EndsAt start stream left_over batches refused)
     × FindsNoRoom note games bytes ends.left)
-StandsAt ends.OutOfMemory start stream left_over batches refused =
-    Lacks start stream left_over batches refused
+StandsAt ends.OutOfMemory start stream left_over batches refused new =
+    Lacks start stream left_over batches refused new.journal
 
 -- a read failed exactly where the end says so
 abbrev pub ReadFaultsAre : {J : Type 0} → End J → Stream → Stream → Type 0
@@ -137,7 +142,7 @@ abbrev pub HasMaybeOneMore : List Batch → List Batch → Type 0
 HasMaybeOneMore journal new = (new ≡ journal) ⊎ ((batch : Batch) × (new ≡ journal ++ batch ∷ []))
 
 -- What is stored afterwards, and the counts of the fault that closed the store: the batches stand
--- behind the journal. Where memory was wanting, there may be one more.
+-- behind the journal. Where memory was wanting, there may be one more; `Lacks` says which.
 abbrev pub StoresBy : {J : Type 0} → End J → List Batch → Option (ℕ × ℕ) → Store → Type 0
 StoresBy (ends.DiskFault before after mark) journal fault new =
     (new.journal ≡ journal) × (new.fault ≡ Some (before, after))

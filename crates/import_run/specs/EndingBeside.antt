@@ -1,19 +1,21 @@
 -- Statement: what an import of a source comes to, whoever else stores beside it.
-use Rattle.std.specs.Prelude.{◌≡◌, ◌<◌, ◌≤◌, ℕ, List, [], ◌∷◌, ◌++◌, length, Option}
+use Rattle.std.specs.Prelude.{◌≡◌, ◌≢◌, ◌<◌, ◌≤◌, ℕ, List, [], ◌∷◌, ◌++◌, length, Option}
 use Rattle.std.specs.Io.KnownBytes.{IsAtEnd}
 use Rattle.outside.specs.Stream.{Stream, Reads}
 use Rattle.explorer_model.specs.declared.archive.Batch.{Batch}
 use Rattle.explorer_model.specs.declared.fault.Refusal.{Refusal}
 use Rattle.explorer_model.specs.Cuts.{Cut, cuts}
 use Rattle.explorer_model.specs.Labels.{no_label}
-use Rattle.explorer_model.specs.Imports.{AccountedBeside}
+use Rattle.explorer_model.specs.Imports.{AccountedBeside, Candidate}
 use Rattle.explorer_model.specs.Journal.{input_limit}
-use Rattle.ingest_desk.specs.Reporting.{Reports, games_of}
+use Rattle.ingest_desk.specs.Reporting.{FindsNoRoom, IsJudged, Reports, games_of}
 use Rattle.ingest_desk.specs.declared.report.End.{End}
 use Rattle.ingest_desk.specs.declared.report.End.TheVariants as ends
 use Rattle.ingest_desk.specs.declared.report.Report.{Report}
 use Rattle.import_run.specs.Ending.{ReadFaultsAre}
-use Rattle.import_run.specs.SoFar.{AreInGroups, ended_cuts}
+use Rattle.import_run.specs.SoFar.{AreGroupsSoFar, AreInGroups, ended_cuts}
+
+-- ---- streams that break off
 
 -- all groups that are whole in the cuts that have ended are accounted
 pub record IsCutBeside (stream : List ℕ) (batches : List Batch) (refused : List Refusal)
@@ -32,6 +34,39 @@ pub record IsTooMuchBeside (stream : List ℕ) (batches : List Batch) (refused :
   pub front_is : stream ≡ front ++ last ∷ []
   pub cut : IsCutBeside front batches refused
 
+-- ---- groups at which an import ends
+
+-- A commit of what was left of a group ended the import. It is one of the groups so far: those
+-- before it are accounted, and what is refused of it stands last.
+pub record BreaksBeside (stream : List ℕ) (left_over : Option (List ℕ)) (batches : List Batch)
+    (refused : List Refusal) (left : List Candidate) : Type 0 where
+  pub below : length stream < input_limit
+  pub so_far : List (List Cut)
+  pub are_so_far : AreGroupsSoFar stream left_over so_far
+  pub done : List (List Cut)
+  pub next : List Cut
+  pub rest : List (List Cut)
+  pub so_far_is : so_far ≡ done ++ next ∷ rest
+  pub earlier : List Refusal
+  pub accounted : AccountedBeside no_label done batches earlier
+  pub of_next : List Refusal
+  pub judged : IsJudged next left of_next
+  pub some_left : left ≢ []
+  pub refused_are : refused ≡ earlier ++ of_next
+
+-- memory was wanting: some of the groups so far are accounted
+pub record LacksBeside (stream : List ℕ) (left_over : Option (List ℕ)) (batches : List Batch)
+    (refused : List Refusal) : Type 0 where
+  pub below : length stream < input_limit
+  pub so_far : List (List Cut)
+  pub are_so_far : AreGroupsSoFar stream left_over so_far
+  pub done : List (List Cut)
+  pub rest : List (List Cut)
+  pub so_far_is : so_far ≡ done ++ rest
+  pub accounted : AccountedBeside no_label done batches refused
+
+-- ---- the ends of an import
+
 -- how an import stands with the bytes that it took, by its end
 abbrev pub StandsBeside : {J : Type 0} → End J → List ℕ → Option (List ℕ) → List Batch
     → List Refusal → Type 0
@@ -41,7 +76,15 @@ StandsBeside (ends.ReadFault before after) stream left_over batches refused =
     (length stream < input_limit) × IsCutBeside stream batches refused
 StandsBeside (ends.TooMuch bytes) stream left_over batches refused =
     (bytes ≡ length stream) × IsTooMuchBeside stream batches refused
-StandsBeside _ stream left_over batches refused = length stream < input_limit
+StandsBeside (ends.DiskFault before after mark) stream left_over batches refused =
+    (left : List Candidate) × BreaksBeside stream left_over batches refused left
+StandsBeside (ends.Closed before after mark) stream left_over batches refused =
+    (left : List Candidate) × BreaksBeside stream left_over batches refused left
+StandsBeside (ends.Full games bytes note) stream left_over batches refused =
+    (left : List Candidate) × BreaksBeside stream left_over batches refused left
+    × FindsNoRoom note games bytes left
+StandsBeside ends.OutOfMemory stream left_over batches refused =
+    LacksBeside stream left_over batches refused
 
 -- the report of an import that took these bytes
 pub record ComesBeside {J : Type 0} (stream : List ℕ) (left_over : Option (List ℕ))

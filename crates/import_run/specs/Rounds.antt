@@ -6,7 +6,8 @@ use Rattle.explorer_model.specs.declared.archive.Batch.{Batch}
 use Rattle.explorer_model.specs.declared.archive.Game.{Game}
 use Rattle.explorer_model.specs.declared.fault.Refusal.{Refusal}
 use Rattle.explorer_model.specs.Cuts.{Cut}
-use Rattle.explorer_model.specs.Imports.{Examination, IsExaminationOf, Candidate, Numbering, numbers_of, verdicts}
+use Rattle.explorer_model.specs.Labels.{no_label}
+use Rattle.explorer_model.specs.Imports.{Examination, IsExaminationOf, Candidate, Numbering, batch_of, numbers_of, verdicts}
 use Rattle.tally_rows.specs.Tally.{Counted}
 use Rattle.batch_tally.specs.Tallying.{IsTallyMade, Counts}
 use Rattle.ingest_desk.specs.declared.fault.CommitFault.{CommitFault}
@@ -88,10 +89,23 @@ AnswerDecided (Some answer) = IsDecided answer
 
 -- ---- want of memory
 
--- the store is as it was, or has one batch more
-pub record MayHaveMore (known : Known) (told : Option Store) : Type 0 where
+-- the batch is that of a group's candidates whose ids are not stored
+pub record IsBatchOf (known : Known) (group : List Cut) (batch : Batch) : Type 0 where
+  pub examinations : List Examination
+  pub are_examinations : AllZip IsExaminationOf group examinations
+  pub batch_is : batch_of no_label
+      (kept (stored_by known.fault known.games) (verdicts examinations)) ≡ Some batch
+
+-- the journal is that of the store, or has the batch of the first of these groups more
+abbrev pub MayStore : Known → List (List Cut) → List Batch → Type 0
+MayStore known [] journal = journal ≡ known.journal
+MayStore known (next ∷ groups) journal = (journal ≡ known.journal)
+    ⊎ ((batch : Batch) × IsBatchOf known next batch × (journal ≡ known.journal ++ batch ∷ []))
+
+-- the store is as it was, or has the batch of the first of these groups more
+pub record MayHaveMore (known : Known) (groups : List (List Cut)) (told : Option Store)
+    : Type 0 where
   pub new : Store
   pub still : told ≡ Some new
   pub fault : new.fault ≡ known.fault
-  pub journal : (new.journal ≡ known.journal)
-      ⊎ ((batch : Batch) × (new.journal ≡ known.journal ++ batch ∷ []))
+  pub journal : MayStore known groups new.journal

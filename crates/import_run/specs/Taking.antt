@@ -49,13 +49,14 @@ pub record StopsBehind {J : Type 0} (start : Option Store) (done : List (List Cu
   -- the refusals of the group find room behind the others
   pub room : vec_len import.refused + length stopped.refused.items ≤ vec_capacity import.refused
 
--- the groups are settled, and memory was wanting for what came next
-pub record LacksBehind {J : Type 0} (start : Option Store) (done : List (List Cut))
+-- The groups are settled, and memory was wanting for what came next. The batch of the first of the
+-- other groups may be stored.
+pub record LacksBehind {J : Type 0} (start : Option Store) (done others : List (List Cut))
     (import : OpenImport J) (told : Option Store) : Type 0 where
   pub before : Option Store
   pub settled : IsSettledSo start done import before
   pub alone : (known : Known) → (is : start ≡ Some (store_of known))
-      → MayHaveMore (settled.alone known is).known told
+      → MayHaveMore (settled.alone known is).known others told
 
 -- ---- cuts that were taken
 
@@ -79,14 +80,17 @@ pub record StopsSoFar {J : Type 0} (start : Option Store) (taken : List Cut) (im
   pub whole : IsWhole next
   pub behind : StopsBehind start closed next import stopped told
 
--- Cuts were taken up to one for which memory was wanting.
+-- Cuts were taken up to one for which memory was wanting, maybe behind groups that are whole too.
 pub record LacksSoFar {J : Type 0} (start : Option Store) (taken : List Cut) (import : OpenImport J)
     (told : Option Store) : Type 0 where
   pub closed : List (List Cut)
+  pub others : List (List Cut)
   pub hand : List Cut
-  pub all : taken ≡ flat_map (λ group. group) closed ++ hand
+  pub all :
+      taken ≡ flat_map (λ group. group) closed ++ (flat_map (λ group. group) others ++ hand)
   pub each : AllByRecursion IsWhole closed
-  pub behind : LacksBehind start closed import told
+  pub each_other : AllByRecursion IsWhole others
+  pub behind : LacksBehind start closed others import told
 
 -- ---- bytes that were cut
 
@@ -142,7 +146,7 @@ pub record LacksAtEnd {J : Type 0} (start : Option Store) (taken : List Cut) (im
   pub done : List (List Cut)
   pub rest : List (List Cut)
   pub all : AreAllGroups taken (done ++ rest)
-  pub behind : LacksBehind start done import told
+  pub behind : LacksBehind start done rest import told
 
 -- ---- what an import comes to
 
@@ -159,9 +163,9 @@ pub record ComesTo {J : Type 0} (start : Known) (stream : List ℕ) (left_over :
     (report : Report J) (told : Option Store) : Type 0 where
   pub batches : List Batch
   pub receipts : AreReceiptsOf start.journal report.receipts.items batches
-  pub stands : StandsAt report.end start stream left_over batches report.refused.items
   pub new : Store
   pub still : told ≡ Some new
+  pub stands : StandsAt report.end start stream left_over batches report.refused.items new
   pub stores : StoresBy report.end (start.journal ++ batches) start.fault new
 
 -- the same, where no read failed

@@ -83,7 +83,7 @@ impl<J: Index> OpenImport<J> {
             (closed : List (List ACut)) (hand : List ACut) → Ascend hand
             → IsGroupOf hand self.old.group
             → IsSettledSo start closed self.old (C.told committer.old)
-            → LacksBehind start closed self.new (C.told committer.new))) }
+            → LacksBehind start closed (hand ∷ []) self.new (C.told committer.new))) }
         ensures since { C.since committer.old committer.new }
     {
         let group = mem::replace(&mut self.group, TextGroup::new(alloc));

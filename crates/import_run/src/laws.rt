@@ -1,10 +1,11 @@
 //! Laws of imports. Each is the contract of a function that has nothing to do.
-ghost use Rattle.std.specs.Prelude.{◌≡◌, ℕ, List, [], ◌∷◌, ◌++◌, None, Some, length};
+ghost use Rattle.std.specs.Prelude.{◌≡◌, ◌<◌, ℕ, List, [], ◌∷◌, ◌++◌, None, Some, count_by, length};
 ghost use Rattle.std.specs.List.{All};
 ghost use Rattle.disk_model.specs.Disk.{LeavesOnly};
 ghost use Rattle.explorer_model.specs.declared.archive.Batch.{Batch};
 ghost use Rattle.explorer_model.specs.declared.archive.Game.{Game};
-ghost use Rattle.explorer_model.specs.Journal.{IsSound};
+ghost use Rattle.explorer_model.specs.Imports.{group_limit, is_text};
+ghost use Rattle.explorer_model.specs.Journal.{IsSound, input_limit};
 ghost use Rattle.explorer_model.specs.Visits.{AreGamesOf};
 ghost use Rattle.record_log.specs.Log.{EachImage};
 ghost use Rattle.manifest.specs.Manifest.{HasJournal, IsWithOrWithoutBatch};
@@ -21,8 +22,10 @@ ghost use Rattle.ingest_desk.specs.declared.report.Report.{Report};
 ghost use Rattle.ingest_desk.specs.declared.report.End.TheVariants as ends;
 ghost use Rattle.import_run.specs.Alone.{ImportsAlone};
 ghost use Rattle.import_run.specs.Determined.{AreAlike, ImportsBody, IsPlainEnd};
+ghost use Rattle.import_run.specs.EndingBeside.{ComesBeside};
 ghost use Rattle.import_run.specs.Faultless.{CanEnd, EndsWithoutFault, FindRoom, HasNewGames, IsFaultless, StoresAll};
 ghost use Rattle.import_run.specs.Since.{HasSoundBehind};
+ghost use Rattle.import_run.specs.SoFar.{ended_cuts};
 ghost use Rattle.import_run.specs.Upkeep.{Follows, FollowsAll};
 
 use batch_tally::laws::accounting_is_determined;
@@ -109,6 +112,15 @@ pub fn ends_are_determined<D: Disk, J: Index>()
     game_is_determined();
     accounting_is_determined();
 }
+
+/// Beside others too, nothing is stored of a text that has not ended, nor of a group that is not whole:
+/// an import that took bytes in which fewer texts have ended than a group has, of a stream that goes on,
+/// has no receipt, whatever its end.
+pub fn what_has_not_ended_is_not_stored<J: Index>()
+    ensures { (stream rest : List ℕ) (byte : ℕ) (report : Report J)
+        → length stream < input_limit → count_by is_text (ended_cuts stream) < group_limit
+        → ComesBeside stream (Some (byte ∷ rest)) report → report.receipts.items ≡ [] }
+{}
 
 /// Two importers over ingests of their own tell one call of one body into one store, but for these
 /// ends.

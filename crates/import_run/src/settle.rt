@@ -1,5 +1,5 @@
 //! A group is settled: its new texts are stored as one batch.
-ghost use Rattle.std.specs.Prelude.{◌≡◌, ◌<◌, ◌≤◌, List, Option, Some, length, IfOk, IfSome, OnErr};
+ghost use Rattle.std.specs.Prelude.{◌≡◌, ◌<◌, ◌≤◌, List, [], ◌∷◌, Option, Some, length, IfOk, IfSome, OnErr};
 ghost use Rattle.std.specs.List.{All};
 ghost use Rattle.explorer_model.specs.Cuts.{Cut as ACut, text_limit};
 ghost use Rattle.explorer_model.specs.Imports.{group_limit};
@@ -58,7 +58,7 @@ pub fn settle<C: Committer<J>, J: Index, R: Wait + Threads + Sync, G: Gate>(
     ensures decided { IfOk result (λ done. AnswerDecided done.answer) }
     ensures memory { OnErr result ((known : Known) (cuts : List ACut) → Ascend cuts
         → IsGroupOf cuts group → C.told committer.old ≡ Some (store_of known)
-        → MayHaveMore known (C.told committer.new)) }
+        → MayHaveMore known (cuts ∷ []) (C.told committer.new)) }
     ensures beside { IfOk result (λ done. (cuts : List ACut) → Ascend cuts → IsGroupOf cuts group
         → SettlesBeside cuts done clashes.new.items) }
     ensures notes { IsPrefix clashes.old.items clashes.new.items }
@@ -119,7 +119,7 @@ fn commit_once<C: Committer<J>, J: Index, R: Wait + Threads + Sync, G: Gate>(
     ensures memory { OnErr result ((known : Known) (cuts : List ACut)
         → Rounds (Some (store_of known)) cuts (Some counted) places.items refused.items
         (C.told committer.old)
-        → MayHaveMore known (C.told committer.new)) }
+        → MayHaveMore known (cuts ∷ []) (C.told committer.new)) }
     ensures again_beside { IfOk result (λ round. IsAgain round (λ state. (cuts : List ACut)
         → RoundsBeside cuts (Some counted) places.items refused.items clashes.old.items
         → RoundsBeside cuts state.tally state.places.items state.refused.items

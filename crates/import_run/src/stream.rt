@@ -328,8 +328,8 @@ impl<J: Index> OpenImport<J> {
             (left : Option (List ℕ)) (told : Option Store) → length stream < input_limit
             → StopsWithin start stream self stopped told → ComesQuietlyBeside stream left result }
         ensures beside_at_end { (start : Option Store) (stream : List ℕ)
-            (left : Option (List ℕ)) (told : Option Store) → length stream < input_limit
-            → StopsAtEnd start (cuts stream) self stopped told
+            (left : Option (List ℕ)) (told : Option Store) → IsAtEnd left
+            → length stream < input_limit → StopsAtEnd start (cuts stream) self stopped told
             → ComesQuietlyBeside stream left result }
     {
         let mut import = self;

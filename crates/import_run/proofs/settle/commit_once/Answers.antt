@@ -140,31 +140,31 @@ pub returns-in-Ok-clause-notes : goal.returns-in-Ok-clause-notes
 returns-in-Ok-clause-notes g c = notes_same c.args.clashes.now.items c.reserve.new.self.items c.reserve.ensures.items
 
 pub returns-in_err-reserve-clause-memory : goal.returns-in_err-reserve-clause-memory
-returns-in_err-reserve-clause-memory g c = on_err c.from_residual.result (λ (known : Known) (cuts : List Cut) (r : Rounds (Some (store_of known)) cuts (Some c.args.counted) c.args.places.items c.args.refused.items (g.C.Committer.told c.args.committer.now)). lacks_still known (g.C.Committer.told c.args.committer.now) (r.still known refl))
+returns-in_err-reserve-clause-memory g c = on_err c.from_residual.result (λ (known : Known) (cuts : List Cut) (r : Rounds (Some (store_of known)) cuts (Some c.args.counted) c.args.places.items c.args.refused.items (g.C.Committer.told c.args.committer.now)). lacks_still known (cuts ∷ []) (g.C.Committer.told c.args.committer.now) (r.still known refl))
 
 pub returns-in_err-named-in-Clash-clause-memory : goal.returns-in_err-named-in-Clash-clause-memory
 returns-in_err-named-in-Clash-clause-memory g c = on_err c.from_residual-in_err-named-in-Clash.result (λ (known : Known) (cuts : List Cut) (r : Rounds (Some (store_of known)) cuts (Some c.args.counted) c.args.places.items c.args.refused.items (g.C.Committer.told c.args.committer.now)).
     let x = c.in-Clash in
     let after = g.C.Committer.told c.commit.new.self in
-    lacks_still known after (still_clash known x.tally c.args.counted x.pairs x.note (g.C.Committer.told c.args.committer.now) after (r.still known refl) (rw x.is at c.in-Err.ensures.told)))
+    lacks_still known (cuts ∷ []) after (still_clash known x.tally c.args.counted x.pairs x.note (g.C.Committer.told c.args.committer.now) after (r.still known refl) (rw x.is at c.in-Err.ensures.told)))
 
 pub returns-in_err-refused-in-Clash-clause-memory : goal.returns-in_err-refused-in-Clash-clause-memory
 returns-in_err-refused-in-Clash-clause-memory g c = on_err c.from_residual-in_err-refused-in-Clash.result (λ (known : Known) (cuts : List Cut) (r : Rounds (Some (store_of known)) cuts (Some c.args.counted) c.args.places.items c.args.refused.items (g.C.Committer.told c.args.committer.now)).
     let x = c.in-Clash in
     let after = g.C.Committer.told c.commit.new.self in
-    lacks_still known after (still_clash known x.tally c.args.counted x.pairs x.note (g.C.Committer.told c.args.committer.now) after (r.still known refl) (rw x.is at c.in-Err.ensures.told)))
+    lacks_still known (cuts ∷ []) after (still_clash known x.tally c.args.counted x.pairs x.note (g.C.Committer.told c.args.committer.now) after (r.still known refl) (rw x.is at c.in-Err.ensures.told)))
 
 pub returns-in_err-again-in-Clash-clause-memory : goal.returns-in_err-again-in-Clash-clause-memory
 returns-in_err-again-in-Clash-clause-memory g c = on_err c.from_residual-in_err-again-in-Clash.result (λ (known : Known) (cuts : List Cut) (r : Rounds (Some (store_of known)) cuts (Some c.args.counted) c.args.places.items c.args.refused.items (g.C.Committer.told c.args.committer.now)).
     let x = c.in-Clash in
     let after = g.C.Committer.told c.commit.new.self in
-    lacks_still known after (still_clash known x.tally c.args.counted x.pairs x.note (g.C.Committer.told c.args.committer.now) after (r.still known refl) (rw x.is at c.in-Err.ensures.told)))
+    lacks_still known (cuts ∷ []) after (still_clash known x.tally c.args.counted x.pairs x.note (g.C.Committer.told c.args.committer.now) after (r.still known refl) (rw x.is at c.in-Err.ensures.told)))
 
 pub returns-in-OutOfMemory-clause-memory : goal.returns-in-OutOfMemory-clause-memory
 returns-in-OutOfMemory-clause-memory g c = λ known cuts r.
     let x = c.in-OutOfMemory in
     let told = rw x.is at c.in-Err.ensures.told in
-    lacks_commit known x.stored c.args.counted (g.C.Committer.told c.commit.new.self) (told known (r.still known refl))
+    lacks_commit known cuts c.args.places.items c.args.refused.items (g.C.Committer.told c.args.committer.now) c.args.counted r x.stored (g.C.Committer.told c.commit.new.self) (told known (r.still known refl))
 
 pub returns : goal.returns
 returns g c =

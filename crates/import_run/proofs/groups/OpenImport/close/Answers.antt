@@ -17,14 +17,14 @@ returns-in_err-reserve-clause-lacks g c =
     let told = g.C.Committer.told c.args.committer.now in
     lacking c.from_residual.result
     (λ (start : Option Store) (closed : List (List Cut)) (hand : List Cut) (ascend : Ascend hand) (holds : IsGroupOf hand c.args.self.now.group) (s : IsSettledSo start closed c.args.self.now told).
-    lacks_behind start closed c.args.self.now _ c.reserve.ensures.items refl (notes_same _ _ refl) told told s (λ known is. lacks_still known told is))
+    lacks_behind start closed c.args.self.now _ c.reserve.ensures.items refl (notes_same _ _ refl) told told hand s (λ known is. lacks_still known (hand ∷ []) told is))
 
 pub returns-in_err-reserve-2-clause-lacks : goal.returns-in_err-reserve-2-clause-lacks
 returns-in_err-reserve-2-clause-lacks g c =
     let told = g.C.Committer.told c.args.committer.now in
     lacking c.from_residual-in_err-reserve-2.result
     (λ (start : Option Store) (closed : List (List Cut)) (hand : List Cut) (ascend : Ascend hand) (holds : IsGroupOf hand c.args.self.now.group) (s : IsSettledSo start closed c.args.self.now told).
-    lacks_behind start closed c.args.self.now _ c.reserve.ensures.items c.reserve-2.ensures.items (notes_same _ _ refl) told told s (λ known is. lacks_still known told is))
+    lacks_behind start closed c.args.self.now _ c.reserve.ensures.items c.reserve-2.ensures.items (notes_same _ _ refl) told told hand s (λ known is. lacks_still known (hand ∷ []) told is))
 
 pub returns-in_err-answer-clause-lacks : goal.returns-in_err-answer-clause-lacks
 returns-in_err-answer-clause-lacks g c =
@@ -32,7 +32,7 @@ returns-in_err-answer-clause-lacks g c =
     lacking c.from_residual-in_err-answer.result
     (λ (start : Option Store) (closed : List (List Cut)) (hand : List Cut) (ascend : Ascend hand) (holds : IsGroupOf hand c.args.self.now.group) (s : IsSettledSo start closed c.args.self.now told).
     let mine = subst (λ group. IsGroupOf hand group) (sym c.replace-group.ensures.value) holds in
-    lacks_behind start closed c.args.self.now _ c.reserve.ensures.items c.reserve-2.ensures.items c.settle.ensures.notes told (g.C.Committer.told c.settle.new.committer) s
+    lacks_behind start closed c.args.self.now _ c.reserve.ensures.items c.reserve-2.ensures.items c.settle.ensures.notes told (g.C.Committer.told c.settle.new.committer) hand s
     (λ known is. c.in_err-answer.ensures.memory known hand ascend mine is))
 
 pub returns-in_err-extend_from_slice-clause-lacks : goal.returns-in_err-extend_from_slice-clause-lacks
@@ -43,7 +43,7 @@ returns-in_err-extend_from_slice-clause-lacks g c =
     lacking c.from_residual-in_err-extend_from_slice.result
     (λ (start : Option Store) (closed : List (List Cut)) (hand : List Cut) (ascend : Ascend hand) (holds : IsGroupOf hand c.args.self.now.group) (s : IsSettledSo start closed c.args.self.now told).
     let mine = subst (λ group. IsGroupOf hand group) (sym c.replace-group.ensures.value) holds in
-    lacks_behind start closed c.args.self.now _ c.reserve.ensures.items (c.in_err-extend_from_slice.ensures.items ∙ c.reserve-2.ensures.items) c.settle.ensures.notes told told' s
+    lacks_behind start closed c.args.self.now _ c.reserve.ensures.items (c.in_err-extend_from_slice.ensures.items ∙ c.reserve-2.ensures.items) c.settle.ensures.notes told told' hand s
     (λ known is. lacks_none known hand d.field-0 told' (d.ensures.settles known hand ascend mine is) c.in_default.is))
 
 pub returns-in_default-clause-closes : goal.returns-in_default-clause-closes
@@ -69,7 +69,7 @@ returns-then-batches-last_batches-clause-lacks g c =
     let told' = g.C.Committer.told c.settle.new.committer in
     λ start closed hand ascend holds s.
     let mine = subst (λ group. IsGroupOf hand group) (sym c.replace-group.ensures.value) holds in
-    lacks_behind start closed c.args.self.now _ c.reserve.ensures.items c.reserve-2.ensures.items c.settle.ensures.notes told told' s
+    lacks_behind start closed c.args.self.now _ c.reserve.ensures.items c.reserve-2.ensures.items c.settle.ensures.notes told told' hand s
     (λ known is. lacks_one known hand d.field-0 c.in-Ok.receipt told' (d.ensures.settles known hand ascend mine is) (c.in-Some.is ∙ ap Some c.in-Ok.is))
 
 pub returns-in_err-extend_from_slice-in-Ok-clause-lacks : goal.returns-in_err-extend_from_slice-in-Ok-clause-lacks
@@ -80,7 +80,7 @@ returns-in_err-extend_from_slice-in-Ok-clause-lacks g c =
     lacking c.from_residual-in_err-extend_from_slice-in-Ok.result
     (λ (start : Option Store) (closed : List (List Cut)) (hand : List Cut) (ascend : Ascend hand) (holds : IsGroupOf hand c.args.self.now.group) (s : IsSettledSo start closed c.args.self.now told).
     let mine = subst (λ group. IsGroupOf hand group) (sym c.replace-group.ensures.value) holds in
-    lacks_behind start closed c.args.self.now _ c.reserve.ensures.items (c.in_err-extend_from_slice-in-Ok.ensures.items ∙ c.reserve-2.ensures.items) c.settle.ensures.notes told told' s
+    lacks_behind start closed c.args.self.now _ c.reserve.ensures.items (c.in_err-extend_from_slice-in-Ok.ensures.items ∙ c.reserve-2.ensures.items) c.settle.ensures.notes told told' hand s
     (λ known is. lacks_one known hand d.field-0 c.in-Ok.receipt told' (d.ensures.settles known hand ascend mine is) (c.in-Some.is ∙ ap Some c.in-Ok.is)))
 
 pub returns-in-Ok-clause-closes : goal.returns-in-Ok-clause-closes

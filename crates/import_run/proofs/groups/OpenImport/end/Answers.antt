@@ -52,7 +52,7 @@ returns-in-Err-Fault-clause-beside g c = λ start stream left at_end below so_fa
     let all = whole_cuts stream (cuts_of_rest c.args.cutter) so_far.taken (cuts_in c.end.result) so_far.cut c.end.ensures in
     let stops : StopsAtEnd start (so_far.taken ++ cuts_in c.end.result) c.finish.new.self c.in-Err-Fault.stopped told =
     (rw c.in-Err-Fault.field-0-is at c.in-Err-Fault.ensures.stops) start so_far.taken (ascend_of_stream so_far.taken (cuts_in c.end.result) stream all) so_far.so_far in
-    c.stopped.ensures.beside_at_end start stream left told below (subst (λ (l : List Cut). StopsAtEnd start l c.finish.new.self c.in-Err-Fault.stopped told) all stops)
+    c.stopped.ensures.beside_at_end start stream left told at_end below (subst (λ (l : List Cut). StopsAtEnd start l c.finish.new.self c.in-Err-Fault.stopped told) all stops)
 
 pub returns-in-Err-OutOfMemory-clause-beside : goal.returns-in-Err-OutOfMemory-clause-beside
 returns-in-Err-OutOfMemory-clause-beside g c = λ start stream left at_end below so_far.
@@ -60,5 +60,5 @@ returns-in-Err-OutOfMemory-clause-beside g c = λ start stream left at_end below
     let all = whole_cuts stream (cuts_of_rest c.args.cutter) so_far.taken (cuts_in c.end.result) so_far.cut c.end.ensures in
     let lacks : LacksAtEnd start (so_far.taken ++ cuts_in c.end.result) c.finish.new.self told =
     (rw c.in-Err-OutOfMemory.field-0-is at c.in-Err-OutOfMemory.ensures.lacks) start so_far.taken (ascend_of_stream so_far.taken (cuts_in c.end.result) stream all) so_far.so_far in
-    lacking_at_end_beside stream left c.report-in-Err-OutOfMemory.result c.finish.new.self c.report-in-Err-OutOfMemory.ensures.receipts c.report-in-Err-OutOfMemory.ensures.clashes below c.report-in-Err-OutOfMemory.ensures.refused start told c.report-in-Err-OutOfMemory.ensures.end
+    lacking_at_end_beside stream left c.report-in-Err-OutOfMemory.result c.finish.new.self c.report-in-Err-OutOfMemory.ensures.receipts c.report-in-Err-OutOfMemory.ensures.clashes below c.report-in-Err-OutOfMemory.ensures.refused start told c.report-in-Err-OutOfMemory.ensures.end at_end
     (subst (λ (l : List Cut). LacksAtEnd start l c.finish.new.self told) all lacks)

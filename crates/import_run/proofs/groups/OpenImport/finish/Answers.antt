@@ -16,7 +16,7 @@ returns-in-Ok-clause-stops g c = stopped_on c.close.result _ _ (λ stopped ends 
 pub returns-in-Ok-clause-lacks : goal.returns-in-Ok-clause-lacks
 returns-in-Ok-clause-lacks g c = lacking_on c.close.result _ _ (λ lacks start taken ascend so_far.
     lacks_here start (taken ++ cuts_in c.args.cut) c.take.new.self c.close.new.self (g.C.Committer.told c.take.new.committer) (g.C.Committer.told c.close.new.committer)
-    lacks ascend (c.in-Ok.ensures.taken start taken ascend so_far)) c.close.ensures.lacks
+    c.in-Ok.ensures.ready.few lacks ascend (c.in-Ok.ensures.taken start taken ascend so_far)) c.close.ensures.lacks
 
 pub returns-in-Ok-clause-since : goal.returns-in-Ok-clause-since
 returns-in-Ok-clause-since g c = g.met.C.Committer.since_before c.args.committer.now c.take.new.committer c.close.new.committer c.take.ensures.since c.close.ensures.since

@@ -27,4 +27,5 @@ returns-clause-stops g c = stopped_on c.close.result _ _ (λ stopped ends start 
 
 pub returns-clause-lacks : goal.returns-clause-lacks
 returns-clause-lacks g c = lacking_on c.close.result _ _ (λ lacks start taken.
-    lacks_closed start taken _ c.args.self.now _ (g.C.Committer.told c.args.committer.now) c.in_ok-push.ensures.group refl refl refl c.close.new.self (g.C.Committer.told c.close.new.committer) lacks) c.close.ensures.lacks
+    lacks_closed start taken _ c.args.self.now _ (g.C.Committer.told c.args.committer.now) c.in_ok-push.ensures.group refl refl refl c.close.new.self (g.C.Committer.told c.close.new.committer)
+    c.requires.ready.few (omega arith) lacks) c.close.ensures.lacks

@@ -30,14 +30,14 @@ returns-in-Ok-clause-beside_within g c = λ start stream left told below stops.
     (c.report.ensures.refused ∙ c.in-Ok.ensures.items ∙ ap (λ (l : List Refusal). c.args.self.refused.items ++ l) c.as_slice.ensures.value) stops
 
 pub returns-in-Ok-clause-beside_at_end : goal.returns-in-Ok-clause-beside_at_end
-returns-in-Ok-clause-beside_at_end g c = λ start stream left told below stops.
+returns-in-Ok-clause-beside_at_end g c = λ start stream left told at_end below stops.
     stopped_at_end_beside stream left c.report.result c.args.self c.report.ensures.receipts c.report.ensures.clashes below start c.args.stopped told c.report.ensures.end
-    (c.report.ensures.refused ∙ c.in-Ok.ensures.items ∙ ap (λ (l : List Refusal). c.args.self.refused.items ++ l) c.as_slice.ensures.value) stops
+    (c.report.ensures.refused ∙ c.in-Ok.ensures.items ∙ ap (λ (l : List Refusal). c.args.self.refused.items ++ l) c.as_slice.ensures.value) at_end stops
 
 pub returns-in-Err-clause-beside_within : goal.returns-in-Err-clause-beside_within
 returns-in-Err-clause-beside_within g c = λ start stream left told below stops.
     absurd (omega (arith, stops.stops.behind.room, c.in-Err.ensures.full, ap length c.as_slice.ensures.value))
 
 pub returns-in-Err-clause-beside_at_end : goal.returns-in-Err-clause-beside_at_end
-returns-in-Err-clause-beside_at_end g c = λ start stream left told below stops.
+returns-in-Err-clause-beside_at_end g c = λ start stream left told at_end below stops.
     absurd (omega (arith, stops.behind.room, c.in-Err.ensures.full, ap length c.as_slice.ensures.value))
