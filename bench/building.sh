@@ -12,7 +12,8 @@ fi
 top=$(cd "$(dirname "${BASH_SOURCE[0]}")/.." && pwd)
 rt=${RT:-rt}
 # malloc is set as the launcher sets it.
-eval "$(grep '^export GLIBC_TUNABLES=' "$top/explorer")"
+. "$top/tools/starting.sh"
+set_malloc
 copy=$(mktemp -d)
 litter=("$copy")
 trap 'rm -rf "${litter[@]}"' EXIT

@@ -44,8 +44,8 @@ def explorer():
 
 def environment(words):
     """What a program runs in. For the explorer malloc is set as its launcher sets it, where nobody has set it otherwise."""
-    launcher = (TOP / "explorer").read_text(encoding="utf-8")
-    settings = {"GLIBC_TUNABLES": re.search(r"GLIBC_TUNABLES-([^}]*)}", launcher)[1]}
+    starting = (TOP / "tools/starting.sh").read_text(encoding="utf-8")
+    settings = {"GLIBC_TUNABLES": re.search(r"GLIBC_TUNABLES-([^}]*)}", starting)[1]}
     return {**settings, **os.environ} if str(words[0]) == str(program()) else None
 
 

@@ -78,6 +78,9 @@ class Launcher(unittest.TestCase):
             self.write(f"top/crates/{crate}/must-fail/wrong.edit", "")
         self.write("top/crates/explorer/src/tests/words.rt", "")
         shutil.copy(support.TOP / "explorer", self.top)
+        (self.top / "tools").mkdir()
+        for name in ("sources.sh", "starting.sh"):
+            shutil.copy(support.TOP / "tools" / name, self.top / "tools")
 
     def write(self, name, text):
         place = self.folder / name
@@ -85,15 +88,15 @@ class Launcher(unittest.TestCase):
         place.write_text(text, encoding="utf-8")
         return place
 
-    def command(self, environment):
+    def command(self, environment, words=("count", "a b")):
         env = {**os.environ, "PATH": f"{self.folder}/bin:/usr/bin:/bin", "RT_CALLS": str(self.calls), "KEPT": "",
                "KIT_OF_RT": str(self.folder / "kit"), "TMPDIR": str(self.folder / "tmp"), **environment}
-        return [str(self.top / "explorer"), "count", "a b"], env
+        return [str(self.top / "explorer"), *words], env
 
-    def run_it(self, **environment):
+    def run_it(self, *words, **environment):
         """A run as (status, output, lines of errors, calls of rt)."""
         self.calls.unlink(missing_ok=True)
-        words, env = self.command(environment)
+        words, env = self.command(environment, words or ("count", "a b"))
         run = subprocess.run(words, env=env, capture_output=True, text=True, check=False)
         self.assertEqual(list((self.folder / "tmp").glob("explorer-build.*")), [], "the copy is left")
         errors = re.sub(r"\d+ min \d\d s", "0 min 00 s", run.stderr)
@@ -148,7 +151,7 @@ class Launcher(unittest.TestCase):
         status, output, errors, _ = self.run_it(FAILS_AT="high")
         self.assertEqual((status, output), (1, ""))
         self.assertEqual(errors[-2], "rt: high NOT PROVED")
-        self.assertIn("the program was not built; ", errors[-1])
+        self.assertRegex(errors[-1], "the program was not built; .* Run it again .* NOT PROVED has to be put right first$")
 
     def test_where_nothing_can_be_kept_or_work_is_kept_here(self):
         for name, environment in (("kits/rattle-kept", {}), ("top/crates/low/out/incremental/a", {}), ("top/none", {"FREE": "8999"})):
@@ -177,6 +180,23 @@ class Launcher(unittest.TestCase):
         (self.folder / "bin/rt").unlink()
         status, _, errors, _ = self.run_it()
         self.assertEqual((status, errors[1]), (1, "explorer: install rattle-kit-13f, and put the folder of its 'rt' on PATH"))
+
+    def test_without_words_it_says_what_can_be_done_and_builds_nothing(self):
+        words, env = self.command({}, ())
+        run = subprocess.run(words, env=env, capture_output=True, text=True, check=False)
+        self.assertEqual((run.returncode, run.stdout, self.noted()), (2, "", []))
+        names = re.findall(r'Command::new\(alloc, "(\w+)"\)', (support.TOP / "crates/command_line/src/app.rt").read_text(encoding="utf-8"))
+        for name in names:
+            if name != "explorer":
+                self.assertRegex(run.stderr, rf"(?m)^  \./explorer {name} ")
+        examples = run.stderr.partition("Three examples:\n\n")[2].partition("\n\n'")[0].split("\n\n")
+        self.assertEqual(len(examples), 3)
+        for flag in ("-h", "--help"):
+            status, output, errors, calls = self.run_it(flag)
+            self.assertEqual((status, output, errors[:-1], calls), (2, "", run.stderr.splitlines(), []))
+            self.assertIn("not built yet", errors[-1])
+        self.run_it()
+        self.assertEqual(self.run_it("--help"), (0, "ran --help\n", [], []))
 
     def test_the_readme_names_the_kit(self):
         kit = (support.TOP / "KIT").read_text(encoding="utf-8")
