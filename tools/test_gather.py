@@ -36,7 +36,7 @@ PARTS = [b"".join(map(game, range(start, start + 15))) for start in range(0, 60,
 
 
 def without_averages(answer):
-    moves = [{name: value for name, value in move.items() if name != "averageRating"} for move in answer["moves"]]
+    moves = [{name: value for name, value in move.items() if name not in ("about", "averageRating")} for move in answer["moves"]]
     return {**answer, "moves": moves}
 
 
@@ -57,7 +57,7 @@ class Joining(unittest.TestCase):
                 answer, whole = json.loads(output), json.loads(support.count(query, b"".join(PARTS))[1])
                 self.assertEqual(without_averages(answer), without_averages(whole))
                 for move, wanted in zip(answer["moves"], whole["moves"]):
-                    self.assertIn(wanted["averageRating"] - move["averageRating"], (0, 1))
+                    self.assertIn(wanted["averageRating"] - move["averageRating"], (0, 1) if "about" in move else (0,))
 
     def test_one_store_is_printed_as_it_answers(self):
         addresses = self.stores(PARTS[:1])
@@ -73,26 +73,44 @@ class Joining(unittest.TestCase):
         for query, name in malformed:
             status, output, errors = support.run_tool(TOOL, *addresses, "--query", query)
             self.assertEqual((status, output), (1, ""))
-            self.assertIn(f"answers 400: malformed parameter {name}\n", errors)
+            self.assertIn(f"answers 400: malformed parameter {name}; docs/QUERIES.md has what each parameter takes\n", errors)
+
+
+class Averages(unittest.TestCase):
+    def test_an_average_over_several_stores_is_told_as_about(self):
+        def answer(*moves):
+            listed = [{"averageRating": rating, "black": 0, "draws": 0, "game": None, "opening": None, "san": uci, "uci": uci,
+                       "white": games} for uci, rating, games in moves]
+            return json.dumps({**EMPTY, "moves": listed}).encode()
+
+        one = support.CannedExplorer(200, answer(("e2e4", 2000, 2), ("d2d4", 1900, 2)))
+        other = support.CannedExplorer(200, answer(("e2e4", 1999, 2)))
+        with one.running() as first, other.running() as second:
+            for addresses, about in [((first,), {}), ((first, second), {"e2e4": (["averageRating"], 1999)})]:
+                moves = json.loads(support.run_tool(TOOL, *addresses)[1])["moves"]
+                self.assertEqual({move["uci"]: (move["about"], move["averageRating"]) for move in moves if "about" in move}, about)
 
 
 class Faults(unittest.TestCase):
     def test_an_explorer_that_is_down(self):
         address = f"127.0.0.1:{support.free_port()}"
         with support.CannedExplorer(200, json.dumps(EMPTY).encode()).running() as other:
-            told = f"gather: {address} does not answer: Connection refused\n"
+            told = (f"gather: {address} does not answer: Connection refused; is an explorer running there?"
+                    f" explorer serve STORE {address}\n")
             self.assertEqual(support.run_tool(TOOL, other, address), (1, "", told))
 
     def test_replies_of_other_status(self):
-        for status, error in [(503, "out of memory"), (503, "no reading"), (404, "not found")]:
+        path = "the path of a proxy goes behind the address, as HOST:PORT/2024"
+        for status, error, more in [(503, "out of memory", "; ask again"), (503, "no reading", "; ask again"),
+                                    (404, "not found", f"; {path}"), (502, "no explorer", "")]:
             with support.CannedExplorer(status, json.dumps({"error": error}).encode()).running() as address:
-                told = f"gather: {address} answers {status}: {error}\n"
+                told = f"gather: {address} answers {status}: {error}{more}\n"
                 self.assertEqual(support.run_tool(TOOL, address), (1, "", told))
 
     def test_what_is_no_explorer(self):
         for body in (b"<html>", b"{}", b"[]"):
             with support.CannedExplorer(200, body).running() as address:
-                told = f"gather: {address} does not answer as an explorer does\n"
+                told = f"gather: {address} does not answer as an explorer does; is that its address?\n"
                 self.assertEqual(support.run_tool(TOOL, address), (1, "", told))
 
     def test_a_pipe_that_closes(self):

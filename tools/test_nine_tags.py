@@ -113,6 +113,7 @@ class Tags(unittest.TestCase):
         output, lines = helped("".join(texts))
         told = [line for line in lines if "refused: - " in line]
         self.assertEqual(len(told), len(STAYS))
+        self.assertEqual(lines[-1], "nine-tags: games without a month: 2; --unknown-date YYYY.MM gives them one")
         places = []
         for line, (place, why) in zip(told, wanted):
             self.assertIn(f"refused: - {place}, in the output ", line)
@@ -181,13 +182,14 @@ class Command(unittest.TestCase):
         for data in (b"", b"hello\n", b"\0" * 3_000_000):
             status, output, errors = support.run_tool(TOOL, data=data)
             self.assertEqual((status, output), (0, ""))
-            self.assertIn("nine-tags: - has no game: no line of it is a tag\n", errors)
+            self.assertIn("nine-tags: - has no game: no line of it is a tag; where it is packed, unpack it first\n", errors)
 
     def test_files_that_cannot_be_read_or_written(self):
         told = "nine-tags: cannot read /nowhere: No such file or directory\n"
         self.assertEqual(support.run_tool(TOOL, "/nowhere")[::2], (1, told))
         status, _, errors = support.run_tool(TOOL, "--output", "/nowhere/x", data=HASTINGS.encode())
-        self.assertEqual((status, errors), (1, "nine-tags: cannot write /nowhere/x: No such file or directory\n"))
+        told = "nine-tags: cannot write /nowhere/x: No such file or directory; --output names another place\n"
+        self.assertEqual((status, errors), (1, told))
 
     def test_an_output_that_is_an_archive(self):
         with tempfile.NamedTemporaryFile() as archive:

@@ -30,18 +30,20 @@ class Walking(unittest.TestCase):
 class Faults(unittest.TestCase):
     def test_an_explorer_that_is_down(self):
         address = f"127.0.0.1:{support.free_port()}"
-        told = f"repertoire: {address}: Connection refused\n"
+        told = (f"repertoire: {address}: Connection refused; is an explorer running there?"
+                f" explorer serve STORE {address}\n")
         self.assertEqual(support.run_tool(TOOL, "--explorer", address), (1, "", told))
 
     def test_refusals_of_the_explorer(self):
         full = {"bytes": 12416, "error": "full", "games": 64, "stored": 0}
         with support.CannedExplorer(507, json.dumps(full).encode()).running() as address:
             status, _, errors = support.run_tool(TOOL, str(support.GAMES), "--explorer", address)
-            told = "repertoire: the explorer answers 507: full (bytes 12416, games 64, stored 0)\n"
+            told = ("repertoire: the explorer answers 507: full (bytes 12416, games 64, stored 0);"
+                    " what was not stored needs another store (docs/MANY-STORES.md)\n")
             self.assertEqual((status, errors), (1, told))
         with support.CannedExplorer(200, b"<html>").running() as address:
             self.assertEqual(support.run_tool(TOOL, "--explorer", address)[2],
-                             f"repertoire: {address} does not answer as an explorer does\n")
+                             f"repertoire: {address} does not answer as an explorer does; is that its address?\n")
 
     def test_a_pipe_that_closes(self):
         move = {"black": 0, "draws": 0, "san": "e4", "uci": "e2e4", "white": 1}

@@ -116,7 +116,7 @@ class Command(unittest.TestCase):
         with socket.create_server(("127.0.0.1", 0)) as taken:
             port = str(taken.getsockname()[1])
             status, _, errors = support.run_tool(BOARD, "--port", port)
-            told = f"board: cannot listen on 127.0.0.1:{port}: Address already in use\n"
+            told = f"board: cannot listen on 127.0.0.1:{port}: Address already in use; --port and --bind name another place\n"
             self.assertEqual((status, errors), (1, told))
 
 
