@@ -3,6 +3,7 @@
 The program is that of the variable EXPLORER, or the one that ./explorer has built.
 """
 import contextlib
+import getpass
 import http.server
 import json
 import os
@@ -11,8 +12,10 @@ import re
 import shutil
 import socket
 import subprocess
+import sys
 import tempfile
 import threading
+import time
 import unittest
 
 TOP = pathlib.Path(__file__).resolve().parent.parent
@@ -26,6 +29,15 @@ def program():
     if not os.access(found, os.X_OK):
         raise unittest.SkipTest(f"there is no program {found}: build it by ./explorer, or name it in EXPLORER")
     return str(found)
+
+
+def needs(*names):
+    """Passes the test over, with a line that says so, where one of these programs is not installed."""
+    missing = [name for name in names if not shutil.which(name, path=f"{os.environ['PATH']}:/usr/sbin:/sbin")]
+    if missing:
+        line = f"skipped, since {' and '.join(missing)} {'is' if len(missing) == 1 else 'are'} not installed"
+        print(line, file=sys.stderr)
+        raise unittest.SkipTest(line)
 
 
 def count(query, games):
@@ -109,19 +121,55 @@ def explorer(games=b""):
     folder = tempfile.mkdtemp()
     store, archive = os.path.join(folder, "store"), os.path.join(folder, "games.pgn")
     address = f"127.0.0.1:{free_port()}"
-    subprocess.run([program(), "create", store], check=True, stdout=subprocess.DEVNULL)
-    if games:
-        pathlib.Path(archive).write_bytes(games)
-        subprocess.run([program(), "import", store, archive], check=True, stdout=subprocess.DEVNULL)
-    server = subprocess.Popen([program(), "serve", store, address], stdout=subprocess.PIPE)
     try:
-        if server.stdout.readline() != f"listening {address}\n".encode():
-            raise RuntimeError("the explorer does not listen")
-        yield address
+        subprocess.run([program(), "create", store], check=True, stdout=subprocess.DEVNULL)
+        if games:
+            pathlib.Path(archive).write_bytes(games)
+            subprocess.run([program(), "import", store, archive], check=True, stdout=subprocess.DEVNULL)
+        with serving([program(), "serve", store, address]):
+            yield address
+    finally:
+        shutil.rmtree(folder)
+
+
+@contextlib.contextmanager
+def serving(words):
+    """A server that is started by these words, as its process; it is ended by SIGTERM where it still runs."""
+    server = subprocess.Popen(words, stdout=subprocess.PIPE)
+    try:
+        line = server.stdout.readline()
+        if not line.startswith(b"listening "):
+            raise RuntimeError(f"the explorer does not listen: {line!r}, status {server.wait()}")
+        yield server
     finally:
         server.terminate()
         server.wait()
         server.stdout.close()
+
+
+@contextlib.contextmanager
+def nginx(site, port):
+    """Runs nginx with the configuration of a site, until it answers at a port of this machine."""
+    folder = tempfile.mkdtemp()
+    kinds = ("client_body", "proxy", "fastcgi", "uwsgi", "scgi")
+    places = "".join(f"{kind}_temp_path {folder}/{kind};" for kind in kinds)
+    whole = (f"daemon off; master_process off; pid {folder}/pid; user {getpass.getuser()}; events {{}}"
+             f" http {{ access_log off; {places}\n{site}\n}}")
+    pathlib.Path(folder, "conf").write_text(whole, encoding="utf-8")
+    found = shutil.which("nginx", path=f"{os.environ['PATH']}:/usr/sbin:/sbin")
+    server = subprocess.Popen([found, "-p", folder, "-c", f"{folder}/conf", "-e", f"{folder}/errors"], stderr=subprocess.DEVNULL)
+    try:
+        for _ in range(500):
+            with socket.socket() as connection:
+                if server.poll() is not None or connection.connect_ex(("127.0.0.1", port)) == 0:
+                    break
+            time.sleep(0.02)
+        if server.poll() is not None:
+            raise RuntimeError(pathlib.Path(folder, "errors").read_text(encoding="utf-8"))
+        yield
+    finally:
+        server.terminate()
+        server.wait()
         shutil.rmtree(folder)
 
 
