@@ -20,7 +20,8 @@ find_newer() { # TOP PROGRAM CRATE...
   local top=$1 program=$2 crate sources=("$1/crates.txt")
   shift 2
   for crate in "$@"; do sources+=("$top/crates/$crate"/{src,specs,proofs}); done
-  find "${sources[@]}" -newer "$program" -print -quit 2>/dev/null
+  # Not each crate has all three.
+  find "${sources[@]}" -newer "$program" -print -quit 2>/dev/null || true
 }
 
 is_current() { # TOP PROGRAM CRATE...

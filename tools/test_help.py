@@ -5,7 +5,8 @@ import unittest
 
 import support
 
-TOOLS = {"gather": [], "nine-tags": ["--rating", "x"], "repertoire": ["--side", "x"], "board/board": ["--port", "x"]}
+TOOLS = {"gather": [], "nine-tags": ["--rating", "x"], "repertoire": ["--side", "x"], "board/board": ["--port", "x"],
+         "package": ["--colour"]}
 
 
 class Style(unittest.TestCase):
@@ -18,7 +19,7 @@ class Style(unittest.TestCase):
             places = [text.index(part) for part in parts]
             self.assertEqual(places, sorted(places), name)
             self.assertRegex(text, r"\n  0  .*\n  1  .*\n  2  for a faulty command line\n$")
-            self.assertLessEqual(max(map(len, text.splitlines())), 100, name)
+            self.assertLessEqual(max(map(len, text.splitlines())), 120, name)
             self.assertRegex(text, r"\n\n[A-Z][^\n]*[a-z.]\n", name)
 
     def test_faulty_words_lead_to_the_help(self):
