@@ -102,10 +102,15 @@ class Faults(unittest.TestCase):
     def test_replies_of_other_status(self):
         path = "the path of a proxy goes behind the address, as HOST:PORT/2024"
         for status, error, more in [(503, "out of memory", "; ask again"), (503, "no reading", "; ask again"),
-                                    (404, "not found", f"; {path}"), (502, "no explorer", "")]:
+                                    (404, "not found", f"; {path}"), (500, "disk fault", "")]:
             with support.CannedExplorer(status, json.dumps({"error": error}).encode()).running() as address:
                 told = f"gather: {address} answers {status}: {error}{more}\n"
                 self.assertEqual(support.run_tool(TOOL, address), (1, "", told))
+
+    def test_a_proxy_whose_explorer_is_down(self):
+        with support.CannedExplorer(502, b"<html>").running() as address:
+            told = f"gather: {address} answers 502; does the explorer run that the proxy asks?\n"
+            self.assertEqual(support.run_tool(TOOL, address), (1, "", told))
 
     def test_what_is_no_explorer(self):
         for body in (b"<html>", b"{}", b"[]"):

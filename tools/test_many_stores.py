@@ -77,7 +77,7 @@ class Trial(unittest.TestCase):
                 store = str(self.folder / words[2])
                 for command in (["create", store], ["import", store, str(self.folder / f"{name}.pgn")]):
                     subprocess.run([support.program(), *command], check=True, stdout=subprocess.DEVNULL, timeout=60)
-                running.enter_context(support.serving([support.program(), "serve", store, here(words[3]), *words[4:]]))
+                server = running.enter_context(support.serving([support.program(), "serve", store, here(words[3]), *words[4:]]))
             self.assertEqual(len(serving), len(parts))
             proxy = ports["127.0.0.1:8000"]
             running.enter_context(support.nginx(here(site), int(proxy.rpartition(":")[2])))
@@ -88,6 +88,10 @@ class Trial(unittest.TestCase):
             url = f"http://{proxy}/1600/lichess?ratings=1600"
             with urllib.request.urlopen(url, timeout=60) as reply:
                 self.assertEqual(reply.read(), support.count("ratings=1600", ARCHIVE)[1])
+            server.terminate()
+            server.wait()
+            told = f"gather: {addresses[-1]} answers 502; does the explorer run that the proxy asks?\n"
+            self.assertEqual(support.run_tool(GATHER, *addresses), (1, "", told))
 
     def compare(self, addresses, query):
         """The joined answer beside that of the whole archive; games within a month stand in another order."""

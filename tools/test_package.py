@@ -15,6 +15,7 @@ import ssl
 import subprocess
 import tempfile
 import unittest
+import urllib.request
 
 import support
 
@@ -244,6 +245,10 @@ class Package(unittest.TestCase):
                 self.assertEqual((status, b"<title>Opening explorer</title>" in page), (200, True))
                 for name in re.findall(rb'(?:src|href)="([^"]+)"', page):
                     self.assertEqual(ask(here, target=f"/{name.decode()}", context=trusted)[0], 200, name)
+                # A browser takes a script of a page alone where it is told that it is one.
+                with urllib.request.urlopen(f"https://{here}/main.mjs", context=trusted, timeout=60) as reply:
+                    self.assertEqual(reply.headers["Content-Type"], "text/javascript; charset=utf-8")
+                    self.assertIn("default-src 'self'", reply.headers["Content-Security-Policy"])
 
 
 if __name__ == "__main__":
