@@ -59,6 +59,15 @@ class Trial(unittest.TestCase):
             for name in made:
                 (self.folder / f"{name}.pgn").unlink()
 
+    def test_each_has_a_service_of_its_own(self):
+        command = text_behind("with a store and a port of its own:")
+        unit = support.TOP / "package/explorer.service"
+        words = shlex.split(command.partition(" > ")[0].replace("/usr/lib/systemd/system/explorer.service", str(unit)))
+        made = subprocess.run(words, capture_output=True, text=True, check=True).stdout
+        for old, new in (("/var/lib/explorer/games.store", "/var/lib/explorer/1600.store"), (":9000", ":9002")):
+            self.assertNotIn(old, made)
+            self.assertEqual(made.count(new), unit.read_text(encoding="utf-8").count(old))
+
     def test_four_explorers_behind_nginx_answer_as_one(self):
         support.needs("nginx")
         serving = text_behind("## One explorer a part, behind nginx").splitlines()
