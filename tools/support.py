@@ -31,6 +31,12 @@ def program():
     return str(found)
 
 
+def commands():
+    """The names of the program's commands."""
+    text = (TOP / "crates/command_line/src/app.rt").read_text(encoding="utf-8")
+    return sorted(set(re.findall(r'Command::new\(alloc, "(\w+)"\)', text)) - {"explorer"})
+
+
 def needs(*names):
     """Passes the test over, with a line that says so, where one of these programs is not installed."""
     missing = [name for name in names if not shutil.which(name, path=f"{os.environ['PATH']}:/usr/sbin:/sbin")]

@@ -185,10 +185,8 @@ class Launcher(unittest.TestCase):
         words, env = self.command({}, ())
         run = subprocess.run(words, env=env, capture_output=True, text=True, check=False)
         self.assertEqual((run.returncode, run.stdout, self.noted()), (2, "", []))
-        names = re.findall(r'Command::new\(alloc, "(\w+)"\)', (support.TOP / "crates/command_line/src/app.rt").read_text(encoding="utf-8"))
-        for name in names:
-            if name != "explorer":
-                self.assertRegex(run.stderr, rf"(?m)^  \./explorer {name} ")
+        for name in support.commands():
+            self.assertRegex(run.stderr, rf"(?m)^  \./explorer {name} ")
         examples = run.stderr.partition("Three examples:\n\n")[2].partition("\n\n'")[0].split("\n\n")
         self.assertEqual(len(examples), 3)
         for flag in ("-h", "--help"):
