@@ -16,11 +16,12 @@ CHAPTERS = {
 
 
 def help_of(program, *command):
-    """What the program says of itself, or of a command. It comes on the error stream, with status 2."""
-    run = subprocess.run([program, *command, "--help"], capture_output=True, text=True, timeout=60, check=False)
+    """What the program says of itself, or of a command, by the name that it is installed by. It comes on the error stream, with
+    status 2."""
+    words = ["explorer", *command, "--help"]
+    run = subprocess.run(words, executable=program, capture_output=True, text=True, timeout=60, check=False)
     if run.returncode != 2 or "Usage: explorer" not in run.stderr:
-        words = " ".join(["explorer", *command, "--help"])
-        raise SystemExit(f"manual.py: {program} is no explorer: '{words}' has no usage, and status {run.returncode}")
+        raise SystemExit(f"manual.py: {program} is no explorer: '{' '.join(words)}' has no usage, and status {run.returncode}")
     return run.stderr
 
 
