@@ -32,8 +32,8 @@ exit
 """
 # How many games callgrind reads, and how many positions are asked for.
 INSTRUCTED, POSITIONS = 500, 1000
-# How often an answer that is kept is asked for under callgrind.
-KEPT_ROUNDS = 100
+# How often an answer that is kept is asked for under callgrind, and how many answers a reader keeps.
+KEPT_ROUNDS, KEPT_ANSWERS = 100, 128
 START = "rnbqkbnr/pppppppp/8/8/8/8/PPPPPPPP/RNBQKBNR w KQkq -"
 
 
@@ -284,12 +284,13 @@ def load(port, paths, connections, seconds):
                "-s", script("paths.lua", WRK % listed), f"http://127.0.0.1:{port}"])
     rate = re.search(r"Requests/sec:\s+([\d.]+)", ran.output)
     middle, last = (re.search(rf"{part}%\s+([\d.]+)(us|ms|s)\b", ran.output) for part in (50, 99))
+    count = re.search(r"(\d+) requests in", ran.output)
     bad = re.search(r"Non-2xx or 3xx responses: (\d+)|Socket errors: (.*)", ran.output)
-    if not (rate and middle and last):
+    if not (rate and middle and last and count):
         raise Trouble(f"wrk says {ran.output[-300:]}")
     scale = {"us": 0.001, "ms": 1, "s": 1000}
-    return {"rate": float(rate[1]), "p50": float(middle[1]) * scale[middle[2]], "p99": float(last[1]) * scale[last[2]],
-            "bad": bad[0] if bad else ""}
+    return {"rate": float(rate[1]), "count": int(count[1]), "bad": bad[0] if bad else "",
+            "p50": float(middle[1]) * scale[middle[2]], "p99": float(last[1]) * scale[last[2]]}
 
 
 NGINX = """
@@ -337,7 +338,7 @@ class Poster(threading.Thread):
     def __init__(self, port, bodies, seconds):
         super().__init__()
         self.port, self.bodies, self.pause = port, bodies, seconds / max(1, len(bodies))
-        self.is_stopped, self.stored = False, 0
+        self.is_stopped, self.batches, self.stored = False, 0, 0
 
     def run(self):
         begin = time.monotonic()
@@ -348,8 +349,16 @@ class Poster(threading.Thread):
             with contextlib.suppress(OSError, http.client.HTTPException):
                 connection = http.client.HTTPConnection("127.0.0.1", self.port, timeout=60)
                 connection.request("POST", "/import", body, {"Connection": "close"})
-                self.stored += json.loads(connection.getresponse().read()).get("stored", 0)
+                stored = json.loads(connection.getresponse().read()).get("stored", 0)
+                self.stored += stored
+                self.batches += stored > 0
                 connection.close()
+
+
+def looked_up(got, paths, readers, batches):
+    """How many of the replies were looked up at most: a reader keeps its last answers, and each of them until a batch comes."""
+    most = readers * len(paths) * (batches + 1) if len(paths) <= KEPT_ANSWERS else got["count"]
+    return f"at most {min(most, got['count']):,} of {got['count']:,}"
 
 
 def loaded(options, connections, paths):
@@ -358,13 +367,16 @@ def loaded(options, connections, paths):
     kinds = (("start", paths[:1]), (f"{len(paths) - 1} positions", paths[1:]))
     with serving(options, connections + 1) as (port, _):
         for what, listed in kinds:
-            found.append((f"explorer, idle, {what}", what, load(port, listed, connections, options.seconds)))
+            got = load(port, listed, connections, options.seconds)
+            got["looked up"] = looked_up(got, listed, connections + 1, 0)
+            found.append((f"explorer, idle, {what}", what, got))
         for at, (what, listed) in enumerate(kinds):
             poster = Poster(port, bodies[at::len(kinds)], options.seconds)
             poster.start()
             got = load(port, listed, connections, options.seconds)
             poster.is_stopped = True
             poster.join()
+            got["looked up"] = looked_up(got, listed, connections + 1, poster.batches)
             found.append((f"explorer, while {poster.stored:,} games are posted, {what}", what, got))
     return found
 
@@ -397,11 +409,13 @@ def replies(options):
         for name, what, got in found:
             beside = ratio(got["rate"], static[what]["rate"]) if static else "-"
             latencies = [f"{got[part]:.2f}" for part in ("p50", "p99")]
-            rows.append([name, connections, f"{got['rate']:,.0f}", *latencies, beside, got["bad"]])
-    head = ["server", "connections", "a second", "median ms", "99th percentile ms", "ratio to nginx", "faults"]
+            rows.append([name, connections, f"{got['rate']:,.0f}", *latencies, beside, got["bad"], got.get("looked up", "")])
+    head = ["server", "connections", "a second", "median ms", "99th percentile ms", "ratio to nginx", "faults", "looked up"]
     title = f"Replies a second over {options.many:,} games, by wrk over open connections, a reader each"
-    note = f"Games are posted 512 at a time, over the {options.seconds} seconds of the measure."
-    return [table(title, head, rows, note)]
+    notes = [f"Games are posted 512 at a time, over the {options.seconds} seconds of the measure.",
+             f"Whether an answer was a kept one is not seen from outside. A reader keeps the {KEPT_ANSWERS} asked for last,"
+             " each until a batch comes: so many are looked up at most, and the rest are kept ones."]
+    return [table(title, head, rows, *notes)]
 
 
 KEPT_TARGETS = {"start": {}, "start, with history": {"history": "true"}, "after 1. e4 c5": {"play": "e2e4,c7c5"}}
