@@ -418,19 +418,23 @@ def replies(options):
     return [table(title, head, rows, *notes)]
 
 
-KEPT_TARGETS = {"start": {}, "start, with history": {"history": "true"}, "after 1. e4 c5": {"play": "e2e4,c7c5"}}
+# The last two are one position, 5... a6 of the Najdorf: told by its moves, and by itself.
+KEPT_TARGETS = {
+    "start": {}, "start, with history": {"history": "true"}, "after 1. e4": {"play": "e2e4"}, "after 1. e4 c5": {"play": "e2e4,c7c5"},
+    "after 5... a6, by `play`": {"play": "e2e4,c7c5,g1f3,d7d6,d2d4,c5d4,f3d4,g8f6,b1c3,a7a6"},
+    "after 5... a6, by `fen`": {"fen": "rnbqkb1r/1p2pppp/p2p1n2/8/3NP3/2N5/PPP2PPP/R1BQKB1R w KQkq -"},
+}
 
 
-def instructions_of(store, targets):
-    """Instructions of a server that opens a store and answers these on one connection, by valgrind."""
-    noted = measuring.work_folder() / "callgrind.log"
-    port = measuring.free_port()
-    words = ["valgrind", "--tool=callgrind", "--callgrind-out-file=/dev/null", f"--log-file={noted}", measuring.explorer(),
-             "serve", store, f"127.0.0.1:{port}", "--readers", "1", "--connections", "1", "--workers", "1"]
-    with measuring.running(words) as process:
-        times_of(port, targets, 1)
-        process.wait()
-    return int(re.search(r"Collected : (\d+)", noted.read_text(encoding="utf-8"))[1])
+def instructions_of(process, port, targets):
+    """Instructions of a server under callgrind while it answers these on one connection."""
+    def so_far():
+        told = Ran(["callgrind_control", "-e", process.pid]).output
+        return sum(int(count.replace(",", "")) for count in re.findall(r"Th \d+ +([\d,]+)", told))
+
+    before = so_far()
+    times_of(port, targets, 1)
+    return so_far() - before
 
 
 def held_after(port, process, targets):
@@ -447,20 +451,28 @@ def held_after(port, process, targets):
     return int(re.search(r"VmRSS:\s+(\d+)", status)[1])
 
 
+def kept_instructions(store):
+    """Instructions of replies that are looked up and that are kept. The server counts once its store is open."""
+    port = measuring.free_port()
+    words = ["valgrind", "--tool=callgrind", "--instr-atstart=no", "--callgrind-out-file=/dev/null", measuring.explorer()]
+    words += ["serve", store, f"127.0.0.1:{port}", "--readers", "1", "--connections", "1000000", "--workers", "1"]
+    with measuring.running(words) as process:
+        Ran(["callgrind_control", "--instr=on", process.pid])
+        # What is malformed is told without a look-up. The first one also pays for what is done once.
+        base = [instructions_of(process, port, [target(moves="x")]) for _ in range(2)][1]
+        for name, asked in KEPT_TARGETS.items():
+            looked_up = instructions_of(process, port, [target(**asked)]) - base
+            once, often = (instructions_of(process, port, [target(**asked)] * times) for times in (1, KEPT_ROUNDS + 1))
+            kept_one = (often - once) / KEPT_ROUNDS
+            yield [name, f"{looked_up:,}", f"{kept_one:,.0f}", f"{kept_one / looked_up:.4f}"]
+
+
 def kept(options):
     """Replies whose answers are kept, beside ones that are looked up: instructions, by valgrind, and what a reader holds."""
     measuring.need("valgrind", "valgrind")
     store = measuring.store_of(measuring.games(options.archive, options.many))
-    # What is malformed is told without a look-up.
-    base = instructions_of(store, [target(moves="x")])
-    rows = []
-    for name, others in KEPT_TARGETS.items():
-        first = instructions_of(store, [target(**others)])
-        again = instructions_of(store, [target(**others)] * (KEPT_ROUNDS + 1))
-        looked_up, given_again = first - base, (again - first) / KEPT_ROUNDS
-        rows.append([name, f"{looked_up:,}", f"{given_again:,.0f}", f"{given_again / looked_up:.4f}"])
     title = f"Instructions of a reply over {options.many:,} games, without those of a malformed request for the one looked up"
-    tables = [table(title, ["", "looked up", "kept", "ratio"], rows)]
+    tables = [table(title, ["", "looked up", "kept", "ratio"], kept_instructions(store))]
     with serving(options, 1) as (port, process):
         before = held_after(port, process, [target(history="true")])
         held = []
