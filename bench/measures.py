@@ -426,6 +426,17 @@ KEPT_TARGETS = {
 }
 
 
+def settle(process):
+    """Waits until a server computes nothing for two seconds: behind an opening it goes on merging."""
+    def spent():
+        return pathlib.Path(f"/proc/{process.pid}/stat").read_text(encoding="utf-8").rpartition(")")[2].split()[11:13]
+
+    before = None
+    while before != spent():
+        before = spent()
+        time.sleep(2)
+
+
 def instructions_of(process, port, targets):
     """Instructions of a server under callgrind while it answers these on one connection."""
     def so_far():
@@ -457,6 +468,7 @@ def kept_instructions(store):
     words = ["valgrind", "--tool=callgrind", "--instr-atstart=no", "--callgrind-out-file=/dev/null", measuring.explorer()]
     words += ["serve", store, f"127.0.0.1:{port}", "--readers", "1", "--connections", "1000000", "--workers", "1"]
     with measuring.running(words) as process:
+        settle(process)
         Ran(["callgrind_control", "--instr=on", process.pid])
         # What is malformed is told without a look-up. The first one also pays for what is done once.
         base = [instructions_of(process, port, [target(moves="x")]) for _ in range(2)][1]
@@ -474,6 +486,7 @@ def kept(options):
     title = f"Instructions of a reply over {options.many:,} games, without those of a malformed request for the one looked up"
     tables = [table(title, ["", "looked up", "kept", "ratio"], kept_instructions(store))]
     with serving(options, 1) as (port, process):
+        settle(process)
         before = held_after(port, process, [target(history="true")])
         held = []
         for first, last in ((0, 1_000), (1_000, options.queries)):
