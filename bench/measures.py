@@ -420,7 +420,8 @@ def replies(options):
 
 # The last two are one position, 5... a6 of the Najdorf: told by its moves, and by itself.
 KEPT_TARGETS = {
-    "start": {}, "start, with history": {"history": "true"}, "after 1. e4": {"play": "e2e4"}, "after 1. e4 c5": {"play": "e2e4,c7c5"},
+    "start": {}, "start, with history": {"history": "true"},
+    "after 1. e4": {"play": "e2e4"}, "after 1. e4 c5": {"play": "e2e4,c7c5"},
     "after 5... a6, by `play`": {"play": "e2e4,c7c5,g1f3,d7d6,d2d4,c5d4,f3d4,g8f6,b1c3,a7a6"},
     "after 5... a6, by `fen`": {"fen": "rnbqkb1r/1p2pppp/p2p1n2/8/3NP3/2N5/PPP2PPP/R1BQKB1R w KQkq -"},
 }
