@@ -29,7 +29,9 @@ case $1 in
         echo "rt: $crate is kept: an earlier run on this machine proved the same files over the same libraries"
       elif [ "$crate" = "${STOPS_AT:-}" ]; then
         echo stopped >>"$RT_CALLS"
-        sleep 60
+        trap 'echo ended >>"$RT_CALLS"; kill $!; exit 1' TERM
+        sleep 60 &
+        wait $!
       elif [ "$crate" = "${FAILS_AT:-}" ]; then
         echo "rt: $crate NOT PROVED"
         exit 1
@@ -106,6 +108,13 @@ class Launcher(unittest.TestCase):
         found = self.calls.read_text(encoding="utf-8").splitlines() if self.calls.exists() else []
         return [line for line in found if not line.startswith("room ")]
 
+    def wait_for(self, call):
+        for _ in range(500):
+            if call in self.noted():
+                return
+            time.sleep(0.02)
+        self.fail(f"no {call}: {self.noted()}")
+
     def told(self, *names):
         return [TOLD, *(f"explorer: {name} ({at} of 3 crates, 0 min 00 s)" for at, name in enumerate(names, 1))]
 
@@ -133,12 +142,10 @@ class Launcher(unittest.TestCase):
     def test_an_interrupted_build_goes_on(self):
         words, env = self.command({"STOPS_AT": "low"})
         running = subprocess.Popen(words, env=env, stdout=subprocess.DEVNULL, stderr=subprocess.DEVNULL, start_new_session=True)
-        for _ in range(500):
-            if "stopped" in self.noted():
-                break
-            time.sleep(0.02)
+        self.wait_for("stopped")
         os.killpg(running.pid, signal.SIGINT)
         self.assertNotEqual(running.wait(timeout=10), 0)
+        self.wait_for("ended")
         for _ in range(100):
             if not list((self.folder / "tmp").glob("explorer-build.*")):
                 break
