@@ -1,3 +1,4 @@
 mod MemoryCalls
+mod CrashLemmas
 pub mod Moments
 pub mod DeterminedLemmas

@@ -1,5 +1,5 @@
 -- What the calls of the disk in memory come to.
-use Rattle.std.proofs.Common.{◌≡◌, inl, inr, ⊎_elim, ℕ, ◌+◌, ◌<◌, ◌≤◌, nat_le, Bool, true, false, if◌then◌else◌, List, [], ◌∷◌, ◌++◌, length, drop, reverse, Some, Vec, refl, sym, ap, ◌∙◌, subst, arith}
+use Rattle.std.proofs.Common.{◌≡◌, inl, inr, ⊎_elim, ℕ, ◌+◌, ◌<◌, ◌≤◌, nat_le, Bool, true, false, List, [], ◌∷◌, ◌++◌, length, reverse, Some, Vec, refl, sym, ap, ◌∙◌, subst, arith}
 use Rattle.std.proofs.lemmas.Bool.Decides.{nat_tests}
 use Rattle.std.proofs.lemmas.List.{reverse-append}
 use Rattle.std.specs.declared.alloc.Global.{Global}
@@ -7,7 +7,7 @@ use Rattle.outside.specs.Stream.{Rises}
 use Rattle.outside.specs.Memory.{FailurePlan}
 use Rattle.disk_model.specs.Disk.{DiskState, Stays, written, Torn, Writes, FailsToWrite, Same, Elapses}
 use Rattle.disk_model.specs.Memory.{MemoryDisk, after_write, content_of, IsImage, WasImage, is_synced, state_of, left_since, IsLeft}
-use Rattle.disk_model.specs.Images.{torn-same, length-written, torn-written, content-left, since, only_now}
+use Rattle.disk_model.specs.Images.{torn-same, length-written, content-left, since, only_now}
 use Rattle.disk_model.specs.declared.call.DiskCall.{DiskCall}
 use Rattle.disk_model.specs.declared.call.DiskCall.TheVariants.{Wrote, Synced}
 
@@ -98,53 +98,6 @@ durable-already (Wrote at piece done ∷ calls) never image left = absurd (cc (n
 durable-already (Synced ∷ calls) is image left = durable-synced calls (Synced ∷ calls) refl image left
 
 -- ---- a crash
-
--- a piece written again, torn
-written-again : (at : ℕ) (piece torn file : List ℕ) (done : Bool) → length torn ≡ length piece
-    → at ≤ length (after_write at piece done file)
-    → (at ≤ length file) × (written at torn (after_write at piece done file) ≡ written at torn file)
-written-again at piece torn file false same inside = (inside, refl)
-written-again at piece torn file true same inside = fits-by (nat_le at (length file)) refl inside
-  where
-    fits-by : (fits : Bool) → nat_le at (length file) ≡ fits → at ≤ length (if fits then written at piece file else file)
-        → (at ≤ length file) × (written at torn (if fits then written at piece file else file) ≡ written at torn file)
-    fits-by false is inside = (inside, refl)
-    fits-by true is inside =
-        let low : at ≤ length file = grind (arith, nat_tests) in
-        let was = torn-written at piece file low in
-        let back : drop (at + length torn) (written at piece file) ≡ drop (at + length torn) file =
-        subst (λ (n : ℕ). drop (at + n) (written at piece file) ≡ drop (at + n) file) (sym same) was.after in
-        (low, λ i. was.before i ++ torn ++ back i)
-
-module _ (rest calls after : List DiskCall) (at : ℕ) (copy : Vec ℕ Global) (torn : Vec ℕ Global) (done : Bool) (bytes : List ℕ)
-    (was : calls ≡ Wrote at copy done ∷ rest) (is : after ≡ Wrote at torn true ∷ rest)
-    (long : length torn.items ≡ length copy.items) (content : content_of calls ≡ bytes) (inside : at ≤ length bytes) where
-  again : (at ≤ length (content_of rest)) × (written at torn.items (after_write at copy.items done (content_of rest)) ≡ written at torn.items (content_of rest))
-  again =
-      written-again at copy.items torn.items (content_of rest) done long
-      (subst (λ (l : List ℕ). at ≤ length l) (sym content ∙ content-wrote rest calls at copy done was) inside)
-
-  same-bytes : written at torn.items bytes ≡ written at torn.items (content_of rest)
-  same-bytes =
-      ap (written at torn.items) (sym content ∙ content-wrote rest calls at copy done was) ∙ again.1
-
-  pub content-torn : content_of after ≡ written at torn.items bytes
-  content-torn =
-      content-done rest after at torn true is torn.items (content_of rest) refl refl refl again.0 ∙ sym same-bytes
-
-  pub image-torn : IsImage calls (written at torn.items bytes)
-  unfolding IsImage
-  image-torn =
-      let cut = subst (λ (n : ℕ). Torn at n (content_of rest) (written at torn.items (content_of rest))) long
-      (torn-written at torn.items (content_of rest) again.0) in
-      image-of calls (Wrote at copy done ∷ rest) (written at torn.items bytes) (sym was) (
-        content_of rest,
-        content-left rest,
-        subst (λ (l : List ℕ). Torn at (length copy.items) (content_of rest) l) (sym same-bytes) cut,
-      )
-
-pub image-content : (calls : List DiskCall) (bytes : List ℕ) → content_of calls ≡ bytes → IsImage calls bytes
-image-content calls bytes is = subst (IsImage calls) is (content-left calls)
 
 -- none of the calls is to fail
 abbrev none_fail : FailurePlan

@@ -1,5 +1,5 @@
 -- What a disk has come to, what its calls do to it, and what a crash may leave of it.
-use Rattle.std.specs.Prelude.{◌≡◌, ◌⊎◌, ◌≤◌, ◌+◌, ℕ, max, List, ◌++◌, length, take, drop, Option, Some, None, IfSome}
+use Rattle.std.specs.Prelude.{◌≡◌, ◌⊎◌, ◌≤◌, ◌+◌, ℕ, max, List, ◌++◌, length, take, drop, Option, Some, None, IfSome, IsSome}
 use Rattle.std.specs.Option.{option_map}
 use Rattle.outside.specs.Stream.{Rises, NeverFalls}
 
@@ -15,6 +15,10 @@ pub record DiskState : Type 0 where
 -- a call was done, and only time went on
 abbrev pub Stays : DiskState → DiskState → Type 0
 Stays old new = new ≡ record old { moment = new.moment }
+
+-- a disk that told its content tells it still
+abbrev pub StaysTold : DiskState → DiskState → Type 0
+StaysTold old new = IsSome old.content → IsSome new.content
 
 -- a call failed, and changes nothing else
 pub record Fails (old new : DiskState) : Type 0 where

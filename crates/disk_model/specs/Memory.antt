@@ -1,5 +1,7 @@
 -- The disk in memory: the record of its calls, and what follows from it.
-use Rattle.std.specs.Prelude.{◌≡◌, ◌⊎◌, ◌≤◌, ◌<◌, ◌+◌, ℕ, nat_le, Bool, true, false, ◌&&◌, if◌then◌else◌, List, [], ◌∷◌, length, Some, IsTrue}
+use Rattle.std.specs.Prelude.{◌≡◌, ◌⊎◌, ◌≤◌, ◌<◌, ◌+◌, ◌-◌, ◌/◌, ◌%◌, ℕ, nat_eq, nat_le, Bool, true, false, ◌&&◌, if◌then◌else◌, List, [], ◌∷◌, length, map, take, Some, IsTrue}
+use Rattle.std.specs.Int.{bit_at}
+use Rattle.std.specs.List.{enumerate_from}
 use Rattle.outside.specs.Memory.{FailurePlan, fails_next}
 use Rattle.disk_model.specs.Disk.{DiskState, written, Torn, MayLeave}
 use Rattle.disk_model.specs.declared.call.DiskCall.{DiskCall}
@@ -36,6 +38,43 @@ unfoldable pub WasImage : List DiskCall → ℕ → List ℕ → Type 0
 WasImage [] t image = image ≡ []
 WasImage (call ∷ calls) t image =
     IsImage (call ∷ calls) image ⊎ ((t ≤ length calls) × WasImage calls t image)
+
+-- ---- what a crash leaves by its number
+
+-- The bytes of a piece that a crash tears: bit `index % 3` of the number says which of them are
+-- others, and the bits above the lowest what they are.
+abbrev pub torn_bytes : ℕ → List ℕ → List ℕ
+torn_bytes number piece =
+    map (λ x. if nat_eq (bit_at number (x.0 % 3)) 1 then number / 2 % 256 else x.1)
+    (enumerate_from 0 piece)
+
+-- how many of so many bytes past the old end a crash keeps: all, half or none
+abbrev pub kept_by : ℕ → ℕ → ℕ
+kept_by cut grown = if nat_eq cut 0 then grown else if nat_eq cut 1 then grown / 2 else 0
+
+-- what is left of a piece of which so many bytes stand before the old end
+abbrev pub torn_piece : ℕ → ℕ → List ℕ → List ℕ
+torn_piece number inside piece =
+    take (inside + kept_by (number / 512 % 4) (length piece - inside)) (torn_bytes number piece)
+
+-- a file with a write that a crash tears
+abbrev pub torn_write : ℕ → ℕ → List ℕ → List ℕ → List ℕ
+torn_write number at piece file =
+    after_write at (torn_piece number (length file - at) piece) true file
+
+-- The file that a crash leaves by its number: the number tears the newest write that is not synced,
+-- and what stands above its lowest eleven bits the writes before it. The number 0 tears none.
+unfoldable pub left_by : ℕ → List DiskCall → List ℕ
+left_by number [] = []
+left_by number (Synced ∷ calls) = content_of calls
+left_by number (Wrote at piece done ∷ calls) =
+    torn_write number at piece.items
+    (if nat_eq (number / 2048) 0 then content_of calls else left_by (number / 2048) calls)
+
+-- a call that writes no byte past the room
+abbrev pub FitsIn : ℕ → DiskCall → Type 0
+FitsIn room (Wrote at piece done) = at + length piece.items ≤ room
+FitsIn room Synced = Unit {0}
 
 -- whether the newest call is a sync
 abbrev pub is_synced : List DiskCall → Bool

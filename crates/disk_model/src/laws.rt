@@ -1,6 +1,8 @@
 //! Laws of disks. Each is the contract of a function that has nothing to do.
 ghost use Rattle.std.specs.Prelude.{◌≡◌, ℕ, List, length, Some};
 ghost use Rattle.disk_model.specs.Disk.{DiskState, Stays, Reads, Writes, MayLeave, IsDurable};
+ghost use Rattle.disk_model.specs.Memory.{IsImage, left_by};
+ghost use Rattle.disk_model.specs.declared.call.DiskCall.{DiskCall};
 
 use crate::disk::Disk;
 
@@ -21,4 +23,9 @@ pub fn synced_files_are_determined<D: Disk>()
     ensures { (disk : D) (image other : List ℕ) → IsDurable D.disk D.left_since disk
         → MayLeave D.disk D.left_since disk image → MayLeave D.disk D.left_since disk other
         → image ≡ other }
+{}
+
+/// What a crash of a disk in memory leaves by its number is one of the images.
+pub fn each_number_leaves_an_image()
+    ensures { (number : ℕ) (calls : List DiskCall) → IsImage calls (left_by number calls) }
 {}

@@ -1,7 +1,9 @@
-ghost use Rattle.std.specs.Prelude.{◌≡◌, ◌≤◌, ◌+◌, ◌<◌, ◌^◌, ◌↔◌, true, false, [], ◌∷◌, max, length, reverse, vec_len, vec_capacity, IsTrue, IsErr, IfOk, OnOk, OnErr};
+ghost use Rattle.std.specs.Prelude.{◌≡◌, ◌≤◌, ◌+◌, ◌<◌, ◌^◌, ◌↔◌, true, false, if◌then◌else◌, ℕ, nat_eq, List, [], ◌∷◌, max, length, reverse, vec_len, vec_capacity, IsTrue, IsErr, IfOk, OnOk, OnErr};
+ghost use Rattle.std.specs.List.{All};
 ghost use Rattle.outside.specs.Memory.{fails_next, after_call};
 ghost use Rattle.disk_model.specs.Disk.{Stays, Fails, Reads, Writes, FailsToWrite, Torn, Same, Elapses, IsDurable, written};
-ghost use Rattle.disk_model.specs.Memory.{content_of, IsImage, is_synced, with_sync, state_of, left_since, HasWriteFault, IsLeft};
+ghost use Rattle.disk_model.specs.Memory.{after_write, content_of, left_by, torn_bytes, torn_piece, kept_by, is_synced, with_sync, state_of, left_since, FitsIn, HasWriteFault, IsLeft};
+ghost use Rattle.disk_model.specs.declared.call.DiskCall.{DiskCall as Call};
 ghost use Rattle.disk_model.specs.declared.call.DiskCall.TheVariants.{Wrote, Synced};
 
 use crate::call::DiskCall;
@@ -26,7 +28,8 @@ pub struct MemDisk {
 
 impl Model for MemDisk {
     ghost use Rattle.std.specs.Prelude.{◌≡◌, ◌≤◌, ◌<◌, false, reverse, vec_len, vec_capacity};
-    ghost use Rattle.disk_model.specs.Memory.{MemoryDisk, content_of, is_synced};
+    ghost use Rattle.std.specs.List.{All};
+    ghost use Rattle.disk_model.specs.Memory.{MemoryDisk, content_of, is_synced, FitsIn};
 
     ghost Value = { MemoryDisk };
 
@@ -40,6 +43,7 @@ impl Model for MemDisk {
 
     ghost invariant = { λ d. (content_of (reverse d.calls.items) ≡ d.bytes.items)
         × (vec_len d.bytes ≤ d.room) × (d.room ≤ vec_capacity d.bytes)
+        × All (FitsIn d.room) d.calls.items
         × (is_synced (reverse d.calls.items) ≡ false → vec_len d.calls < vec_capacity d.calls) };
 }
 
@@ -67,11 +71,14 @@ impl MemDisk {
         })
     }
 
-    /// The disk as a crash at this moment may leave it, with no calls that are to fail. Where the
-    /// newest call is a write the choice tears it: bit `index % 3` says which of its bytes are
-    /// others, and the bits above the lowest what they are. Choice 0 tears nothing.
-    pub fn crashed(self, choice: u64) -> MemDisk
-        ensures { IsLeft self result }
+    /// The disk as a crash at this moment may leave it, with no calls that are to fail. The number
+    /// tears the newest write where no sync followed it: bit `index % 3` says which of its bytes are
+    /// others, and bits 1 to 8 what they are; bits 9 and 10 whether what it added past the end is
+    /// kept whole (0), by half (1) or not at all. The bits above tear the write before it in the
+    /// same way, and so on. The number 0 tears nothing.
+    pub fn crashed(self, number: u64) -> MemDisk
+        ensures left { IsLeft self result }
+        ensures chosen { content_of result.calls ≡ left_by number self.calls }
     {
         let MemDisk {
             alloc,
@@ -82,7 +89,7 @@ impl MemDisk {
             ..
         } = self;
         plan.clear();
-        tear_last(&mut calls, &mut bytes, room, choice);
+        leave(&mut calls, &mut bytes, room, number);
         calls.push_reserved(DiskCall::Synced);
         MemDisk {
             alloc,
@@ -246,6 +253,8 @@ fn note_write(
     ensures noted { OnOk result ((copy : _) × (copy.items ≡ piece.now)
         × (reverse calls.new.items ≡ Wrote at copy done ∷ reverse calls.old.items)) }
     ensures unchanged { OnErr result (calls.new.items ≡ calls.old.items) }
+    ensures fit { OnOk result ((room : ℕ) → at + length piece.now ≤ room
+        → All (FitsIn room) calls.old.items → All (FitsIn room) calls.new.items) }
     ensures spare { OnOk result (vec_len calls.new < vec_capacity calls.new) }
     ensures capacity { vec_capacity calls.old ≤ vec_capacity calls.new }
 {
@@ -273,44 +282,128 @@ fn overwrite(bytes: &mut Vec<u8>, at: usize, piece: &[u8])
     let _ = bytes.extend_from_slice(&piece[inside..]);
 }
 
-/// Takes the newest call where it is a sync, and tears it where it is a write.
-fn tear_last(calls: &mut Vec<DiskCall>, bytes: &mut Vec<u8>, room: usize, choice: u64)
-    requires content { content_of (reverse calls.old.items) ≡ bytes.old.items }
-    requires fits { (vec_len bytes.old ≤ room) × (room ≤ vec_capacity bytes.old) }
-    requires spare { is_synced (reverse calls.old.items) ≡ false
-        → vec_len calls.old < vec_capacity calls.old }
+/// Writes a piece over bytes where it leaves no gap.
+fn overwrite_if_no_gap(bytes: &mut Vec<u8>, at: u64, piece: &[u8], room: usize)
+    requires inside { at + length piece.now ≤ room }
+    requires room { (vec_len bytes.old ≤ room) × (room ≤ vec_capacity bytes.old) }
+    ensures written { bytes.new.items ≡ after_write at piece.now true bytes.old.items }
+    ensures room { (vec_len bytes.new ≤ room) × (room ≤ vec_capacity bytes.new) }
+{
+    if at <= bytes.len() as u64 {
+        overwrite(bytes, at as usize, piece);
+    }
+}
+
+/// Makes of bytes what reads give after these calls.
+fn replay(calls: &[DiskCall], bytes: &mut Vec<u8>, room: usize)
+    requires fit { All (FitsIn room) calls.now }
+    requires room { room ≤ vec_capacity bytes.old }
+    ensures content { bytes.new.items ≡ content_of (reverse calls.now) }
+    ensures room { (vec_len bytes.new ≤ room) × (room ≤ vec_capacity bytes.new) }
+{
+    bytes.clear();
+    for call in calls {
+        redo(call, bytes, room);
+    }
+}
+
+/// Does a call again.
+#[tactic(auto, unfolding(crate::specs::Memory::content_of))]
+fn redo(call: &DiskCall, bytes: &mut Vec<u8>, room: usize)
+    requires fits { FitsIn room call.now }
+    requires room { (vec_len bytes.old ≤ room) × (room ≤ vec_capacity bytes.old) }
+    ensures content { (calls : List Call) → bytes.old.items ≡ content_of calls
+        → bytes.new.items ≡ content_of (call.now ∷ calls) }
+    ensures room { (vec_len bytes.new ≤ room) × (room ≤ vec_capacity bytes.new) }
+{
+    let DiskCall::Wrote {
+        at,
+        piece,
+        done: true,
+    } = call
+    else {
+        return;
+    };
+    overwrite_if_no_gap(bytes, *at, piece, room);
+}
+
+/// Makes of calls and of bytes what a crash with this number leaves. A sync that is the newest call
+/// is taken from them.
+#[cycle(leaving)]
+fn leave(calls: &mut Vec<DiskCall>, bytes: &mut Vec<u8>, room: usize, number: u64)
+    requires fit { All (FitsIn room) calls.old.items }
+    requires room { room ≤ vec_capacity bytes.old }
     ensures content { content_of (reverse calls.new.items) ≡ bytes.new.items }
-    ensures left { IsImage (reverse calls.old.items) bytes.new.items }
-    ensures fits { (vec_len bytes.new ≤ room) × (room ≤ vec_capacity bytes.new) }
-    ensures spare { vec_len calls.new < vec_capacity calls.new }
+    ensures left { bytes.new.items ≡ left_by number (reverse calls.old.items) }
+    ensures fit { All (FitsIn room) calls.new.items }
+    ensures room { (vec_len bytes.new ≤ room) × (room ≤ vec_capacity bytes.new) }
+    ensures no_more { (vec_capacity calls.new ≡ vec_capacity calls.old)
+        × (vec_len calls.new ≤ vec_len calls.old) }
+    ensures fewer { is_synced (reverse calls.old.items) ≡ true
+        → vec_len calls.new < vec_len calls.old }
 {
     match calls.pop() {
-        Some(DiskCall::Wrote { at, piece, done }) => {
-            if at > bytes.len() as u64 || piece.len() > room - at as usize {
-                calls.push_reserved(DiskCall::Wrote { at, piece, done });
-                return;
-            }
-            let torn = tear(piece, choice);
-            overwrite(bytes, at as usize, &torn);
+        Some(DiskCall::Wrote { at, piece, .. }) => {
+            leave_earlier(calls, bytes, room, number / 2048);
+            let torn = tear(piece, bytes.len().saturating_sub(at as usize), number);
+            overwrite_if_no_gap(bytes, at, &torn, room);
             calls.push_reserved(DiskCall::Wrote {
                 at,
                 piece: torn,
                 done: true,
             });
         }
-        // The caller notes a sync again.
-        Some(DiskCall::Synced) => {}
-        None => {}
+        Some(DiskCall::Synced) => replay(calls, bytes, room),
+        None => replay(calls, bytes, room),
     }
 }
 
-fn tear(mut piece: Vec<u8>, choice: u64) -> Vec<u8>
-    ensures { length result.items ≡ length piece.items }
+/// The same of the calls before a write that is torn, which the number 0 leaves as they are.
+#[cycle(leaving)]
+fn leave_earlier(calls: &mut Vec<DiskCall>, bytes: &mut Vec<u8>, room: usize, number: u64)
+    requires fit { All (FitsIn room) calls.old.items }
+    requires room { room ≤ vec_capacity bytes.old }
+    ensures content { content_of (reverse calls.new.items) ≡ bytes.new.items }
+    ensures left { bytes.new.items ≡ (if nat_eq number 0
+        then content_of (reverse calls.old.items) else left_by number (reverse calls.old.items)) }
+    ensures fit { All (FitsIn room) calls.new.items }
+    ensures room { (vec_len bytes.new ≤ room) × (room ≤ vec_capacity bytes.new) }
+    ensures no_more { (vec_capacity calls.new ≡ vec_capacity calls.old)
+        × (vec_len calls.new ≤ vec_len calls.old) }
+{
+    if number == 0 {
+        replay(calls, bytes, room);
+    } else {
+        leave(calls, bytes, room, number);
+    }
+}
+
+/// Tears a piece of which so many bytes stand before the old end.
+fn tear(mut piece: Vec<u8>, inside: usize, number: u64) -> Vec<u8>
+    ensures { result.items ≡ torn_piece number inside piece.items }
+{
+    tear_bytes(&mut piece, number);
+    let grown = piece.len().saturating_sub(inside);
+    piece.truncate(inside.saturating_add(kept(number / 512 % 4, grown)));
+    piece
+}
+
+fn tear_bytes(piece: &mut [u8], number: u64)
+    ensures { piece.new ≡ torn_bytes number piece.old }
 {
     for (index, byte) in piece.iter_mut().enumerate() {
-        if (choice >> (index % 3)) % 2 == 1 {
-            *byte = (choice / 2 % 256) as u8;
+        if (number >> (index % 3)) % 2 == 1 {
+            *byte = (number / 2 % 256) as u8;
         }
     }
-    piece
+}
+
+fn kept(cut: u64, grown: usize) -> usize
+    ensures { result ≡ kept_by cut grown }
+{
+    match cut {
+        0 => grown,
+        1 => grown / 2,
+        _ => 0,
+    }
 }

@@ -7,7 +7,7 @@ pub invariant_of-self-then-fails : goal.invariant_of-self-then-fails
 invariant_of-self-then-fails c =
     let noted = c.in-Ok.ensures.noted in
     let was = c.self.invariant in
-    (content-failed _ _ _ _ _ noted.2 (ap not c.if-fails.true) ∙ was.0, was.1, was.2, λ off. c.in-Ok.ensures.spare)
+    (content-failed _ _ _ _ _ noted.2 (ap not c.if-fails.true) ∙ was.0, was.1, was.2, search rules, λ off. c.in-Ok.ensures.spare)
 
 pub returns-then-fails-clause-fails : goal.returns-then-fails-clause-fails
 returns-then-fails-clause-fails c =
@@ -34,6 +34,7 @@ invariant_of-self-2 c =
     let inside = rw (← c.self.view_is) at c.requires.no_gap in (
       content-done _ _ _ _ _ noted.2 c.args.piece.now c.self.inside.bytes.items noted.1 was.0 (ap not c.if-fails.false) inside
           ∙ sym c.overwrite.ensures.written,
+      search rules,
       search rules,
       search rules,
       λ off. c.in-Ok.ensures.spare,
