@@ -2,7 +2,7 @@
 use Rattle.std.specs.Prelude.{◌≡◌, ◌≢◌, ◌⊎◌, ◌+◌, ℕ, List, [], ◌∷◌, ◌++◌, length, Option, Some, None, IfSome, Ok, Err}
 use Rattle.std.specs.Int.{w32, to_le_bytes}
 use Rattle.outside.specs.Stream.{Rises}
-use Rattle.disk_model.specs.Disk.{DiskState, Stays, Torn, written, MayLeave}
+use Rattle.disk_model.specs.Disk.{DiskState, Stays, StaysTold, Torn, written, MayLeave}
 use Rattle.explorer_model.specs.StoreFile.{Reading, Record, header, record_bytes, front_of, records_of, records_at, CanStand}
 use Rattle.record_log.specs.declared.format.Format.{Format}
 use Rattle.record_log.specs.declared.fault.AppendFault.{AppendFault}
@@ -74,6 +74,7 @@ pub record IsFault (before after : ℕ) (old new : DiskState) : Type 0 where
 pub record Adds {D : Type 0} (disk : D → DiskState) (count : ℕ) (old new : Log D) : Type 0 where
   pub sound : old.fault ≡ None
   pub no_fault : (disk new.disk).faults ≡ (disk old.disk).faults
+  pub told : StaysTold (disk old.disk) (disk new.disk)
   pub rest : new ≡ record old { disk = new.disk; gate = old.gate + 5 + count }
 
 -- nothing was written
@@ -86,6 +87,7 @@ pub record Breaks {D : Type 0} (disk : D → DiskState) (before after : ℕ)
     (old new : Log D) : Type 0 where
   pub sound : old.fault ≡ None
   pub counts : IsFault before after (disk old.disk) (disk new.disk)
+  pub told : StaysTold (disk old.disk) (disk new.disk)
   pub rest : new ≡ record old { disk = new.disk; fault = Some (before, after) }
 
 -- each fault of an append, and what it says of the log
@@ -105,18 +107,31 @@ pub record IsCreated {D : Type 0} (disk : D → DiskState) (left_since : D → �
     (format : Format) (before : D) (log : Log D) : Type 0 where
   pub was_empty : (disk before).size ≡ 0
   pub is_format : log.format ≡ format
+  pub told : StaysTold (disk before) (disk log.disk)
   pub file : EachImage disk left_since log.disk (λ image. image ≡ empty_file format.number)
   pub holds_none : IsLogOf disk left_since [] log
+
+-- the file of a log without a payload was written to an empty disk and synced
+pub record IsWrittenEmpty {D : Type 0} (disk : D → DiskState)
+    (left_since : D → ℕ → List ℕ → Type 0) (number : ℕ) (old new : D) : Type 0 where
+  pub was_empty : (disk old).size ≡ 0
+  pub size : (disk new).size ≡ 13
+  pub no_fault : (disk new).faults ≡ (disk old).faults
+  pub file : EachImage disk left_since new (λ image. image ≡ empty_file number)
+
+-- a disk is not empty, and stays as it is
+abbrev pub IsFilled : ℕ → DiskState → DiskState → Type 0
+IsFilled size old new = (size ≢ 0) × (size ≡ old.size) × Stays old new
 
 -- a call of the disk failed, and what stood there stands there still
 pub record FailsToCreate (before after : ℕ) (old new : DiskState) : Type 0 where
   pub counts : IsFault before after old new
+  pub told : StaysTold old new
   pub kept : old.size ≢ 0 → new.content ≡ old.content
 
 -- each fault of a creation, and what it says of the disk
 abbrev pub IsNotCreated : {D : Type 0} → (D → DiskState) → CreateFault → D → D → Type 0
-IsNotCreated disk (create.NotEmpty size) old new =
-    (size ≢ 0) × (size ≡ (disk old).size) × Stays (disk old) (disk new)
+IsNotCreated disk (create.NotEmpty size) old new = IsFilled size (disk old) (disk new)
 IsNotCreated disk (create.DiskFault before after) old new =
     FailsToCreate before after (disk old) (disk new)
 

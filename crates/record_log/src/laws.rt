@@ -1,7 +1,8 @@
 //! Laws of logs. Each is the contract of a function that has nothing to do.
-ghost use Rattle.std.specs.Prelude.{◌≡◌, ℕ, List, Some};
+ghost use Rattle.std.specs.Prelude.{◌≡◌, [], ℕ, List, Some};
 ghost use Rattle.explorer_model.specs.declared.store.LogFault.{LogFault};
-ghost use Rattle.record_log.specs.Log.{Log, IsLogOf, IsCreated, IsNotCreated, IsOpened, IsNotOpened};
+ghost use Rattle.disk_model.specs.Disk.{LeavesOnly, Torn};
+ghost use Rattle.record_log.specs.Log.{Log, EachImage, IsLogOf, IsTornOf, IsCreated, IsNotCreated, IsOpened, IsNotOpened};
 ghost use Rattle.record_log.specs.declared.format.Format.{Format as AFormat};
 ghost use Rattle.record_log.specs.declared.fault.CreateFault.TheVariants as create;
 ghost use Rattle.record_log.specs.declared.fault.OpenFault.TheVariants as opening;
@@ -29,6 +30,15 @@ pub fn creating_is_determined<D: Disk>()
     ensures either { (format : AFormat) (size : ℕ) (disk back : D) (log : Log D)
         → IsCreated D.disk D.left_since format disk log
         → IsNotCreated D.disk (create.NotEmpty size) disk back → ⊥ }
+{}
+
+/// Where a crash leaves an empty file alone, one during a creation leaves at most thirteen bytes,
+/// torn.
+pub fn creating_leaves_few_bytes<D: Disk>()
+    ensures { (disk after : D) (image : List ℕ)
+        → EachImage D.disk D.left_since disk (λ empty. empty ≡ [])
+        → LeavesOnly D.disk D.left_since disk after (IsTornOf D.disk D.left_since disk 0 13)
+        → D.left_since after (D.disk disk).moment image → Torn 0 13 [] image }
 {}
 
 /// Where a disk tells its content, an opening of it has one answer, unless a call of the disk fails

@@ -1,7 +1,7 @@
 //! Writes that a crash may cut short.
 ghost use Rattle.std.specs.Prelude.{◌≡◌, ◌≤◌, ◌<◌, ◌+◌, ◌^◌, max, length, vec_len, IfOk, OnOk, OnErr};
 ghost use Rattle.outside.specs.Stream.{Rises};
-ghost use Rattle.disk_model.specs.Disk.{LeavesOnly};
+ghost use Rattle.disk_model.specs.Disk.{LeavesOnly, StaysTold};
 ghost use Rattle.record_log.specs.Log.{EachImage, IsTornOf, IsWrittenOf, behind_gate};
 
 use disk_model::Disk;
@@ -18,6 +18,7 @@ pub(crate) fn write_synced<D: Disk>(disk: &mut D, at: u64, piece: &[u8]) -> Resu
     ensures any_moment { LeavesOnly D.disk D.left_since disk.old disk.new
         (IsTornOf D.disk D.left_since disk.old at (length piece.now)) }
 
+    ensures told { StaysTold (D.disk disk.old) (D.disk disk.new) }
     ensures size { OnOk result
         ((D.disk disk.new).size ≡ max (D.disk disk.old).size (at + length piece.now)) }
     ensures no_smaller { (D.disk disk.old).size ≤ (D.disk disk.new).size }
