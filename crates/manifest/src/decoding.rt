@@ -47,7 +47,7 @@ fn label_of(bytes: &[u8]) -> Option<(Label, &[u8])>
 }
 
 /// Reads texts behind their number, behind which nothing stands.
-fn all_texts_of(alloc: Global, bytes: &[u8]) -> Result<Option<Texts>, AllocError>
+pub(crate) fn all_texts_of(alloc: Global, bytes: &[u8]) -> Result<Option<Texts>, AllocError>
     ensures { IfOk result (λ found. found ≡ all_texts_in bytes.now) }
 {
     let Some((count, rest)) = count_at(bytes) else {

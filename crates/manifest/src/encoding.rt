@@ -46,7 +46,7 @@ fn size_of_texts(texts: &[Bytes]) -> usize
     2 + 4 * texts.len() + size_of_all(texts)
 }
 
-fn size_of_all(texts: &[Bytes]) -> usize
+pub(crate) fn size_of_all(texts: &[Bytes]) -> usize
     requires { sum_by (λ text. length text) texts.now < 2 ^ 32 }
     ensures { result ≡ sum_by (λ text. length text) texts.now }
 {

@@ -12,3 +12,9 @@ pub(crate) const BATCH_FORMAT: Format = Format {
     number: 2,
     most: 33_556_547,
 };
+
+/// The first format of a log of batches, which have no label.
+pub(crate) const FIRST_FORMAT: Format = Format {
+    number: 1,
+    most: 33_556_482,
+};

@@ -5,6 +5,7 @@ ghost use Rattle.explorer_model.specs.declared.store.LogFault.{LogFault};
 ghost use Rattle.record_log.specs.Log.{Log, Adds, IsNotAdded};
 ghost use Rattle.record_log.specs.declared.fault.AppendFault.TheVariants as append;
 ghost use Rattle.record_log.specs.declared.fault.OpenFault.TheVariants as opening;
+ghost use Rattle.manifest.specs.First.{HasFirstJournal, IsWithinFirst, IsNotOpenedFirst};
 ghost use Rattle.manifest.specs.Manifest.{IsManifestOf, IsOpened, IsNotOpened};
 
 use disk_model::Disk;
@@ -33,6 +34,21 @@ pub fn opening_is_determined<D: Disk>()
         (fault : LogFault) → (D.disk disk).content ≡ Some file
         → IsOpened D.disk D.left_since journal disk manifest
         → IsNotOpened D.disk (opening.Log fault) disk back → ⊥ }
+{}
+
+/// Where a disk tells its content, an opening of it in the first format has one answer, unless a
+/// call of the disk fails or memory is wanting: this journal, or this fault.
+pub fn first_opening_is_determined<D: Disk>()
+    ensures opened { (file : List ℕ) (journal other : List Batch)
+        → HasFirstJournal journal file → HasFirstJournal other file → journal ≡ other }
+    ensures refused { (disk back after : D) (file : List ℕ) (fault other : LogFault)
+        → (D.disk disk).content ≡ Some file
+        → IsNotOpenedFirst D.disk (opening.Log fault) disk back
+        → IsNotOpenedFirst D.disk (opening.Log other) disk after → fault ≡ other }
+    ensures either { (disk back : D) (file : List ℕ) (journal : List Batch)
+        (fault : LogFault) → (D.disk disk).content ≡ Some file
+        → HasFirstJournal journal file → IsWithinFirst journal
+        → IsNotOpenedFirst D.disk (opening.Log fault) disk back → ⊥ }
 {}
 
 /// A store has one answer, unless a call of the disk fails or memory is wanting: the next gate, or

@@ -12,6 +12,8 @@
 mod creating;
 mod decoding;
 mod encoding;
+mod first;
+mod first_limits;
 mod format;
 pub mod laws;
 mod manifest;
@@ -19,5 +21,6 @@ mod opening;
 mod store;
 
 pub use creating::create;
+pub use first::{OpenedFirst, open_first};
 pub use manifest::Manifest;
 pub use opening::{Opened, open};

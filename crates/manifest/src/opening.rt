@@ -68,7 +68,7 @@ fn batches_of(alloc: Global, payloads: Vec<Bytes>) -> Result<Vec<Batch>, Stop<Lo
     Ok(batches)
 }
 
-fn fault_of(stop: Stop<LogFault>) -> OpenFault
+pub(crate) fn fault_of(stop: Stop<LogFault>) -> OpenFault
     ensures { result ≡ open_fault stop }
 {
     match stop {

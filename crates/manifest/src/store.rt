@@ -1,9 +1,9 @@
-ghost use Rattle.std.specs.Prelude.{◌≡◌, ◌≤◌, ◌+◌, ◌∷◌, [], ◌++◌, ◌↔◌, List, ℕ, length, Some, Err, MatchResult, OnOk};
+ghost use Rattle.std.specs.Prelude.{◌≡◌, ◌≤◌, ◌+◌, ◌∷◌, [], ◌++◌, ◌↔◌, List, ℕ, length, All, Some, Err, MatchResult, OnOk};
 ghost use Rattle.disk_model.specs.Disk.{LeavesOnly};
 ghost use Rattle.explorer_model.specs.declared.archive.Batch.{Batch as StoredBatch};
 ghost use Rattle.explorer_model.specs.StoreFile.{payload_of, gate_limit, IsStorable};
 ghost use Rattle.record_log.specs.Log.{Adds, IsNotAdded};
-ghost use Rattle.manifest.specs.Manifest.{IsManifestOf, IsWithOrWithoutBatch};
+ghost use Rattle.manifest.specs.Manifest.{size_of_records, HasFrontOf, IsManifestOf, IsWithOrWithoutBatch, StopsAt, StoresAll};
 
 use crate::encoding::encode;
 use crate::manifest::Manifest;
@@ -40,5 +40,25 @@ impl<D: Disk> Manifest<D> {
             return Err(AppendFault::OutOfMemory);
         };
         self.log.append(alloc, &payload)
+    }
+
+    /// Stores batches one after another, up to the first that is not stored. A crash meanwhile
+    /// leaves some of them from the first on.
+    pub fn store_all(&mut self, alloc: Global, batches: &[Batch]) -> Result<(), AppendFault>
+        requires storable { All IsStorable batches.now }
+        requires low { self.old.gate + size_of_records batches.now ≤ gate_limit }
+
+        ensures cases { MatchResult result
+            (λ _. StoresAll D.disk D.left_since batches.now self.old self.new)
+            (λ fault. StopsAt D.disk D.left_since batches.now fault self.old self.new) }
+        ensures any_moment { (journal : List StoredBatch)
+            → IsManifestOf D.disk D.left_since journal self.old
+            → LeavesOnly D.disk D.left_since self.old.disk self.new.disk
+            (HasFrontOf journal batches.now) }
+    {
+        for batch in batches {
+            self.store(alloc, batch)?;
+        }
+        Ok(())
     }
 }
