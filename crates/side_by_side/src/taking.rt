@@ -11,8 +11,8 @@ use std::sync::atomic::{AtomicUsize, Ordering};
 use std::thread::Threads;
 
 /// What `f` gives for each index below `count`, in order. Leaves, as many as `workers`, run side by
-/// side: each enters, and then takes the next index as long as one is left, so that none waits for
-/// a slow one. The calling thread is one of them.
+/// side: each takes the next index as long as one is left, so that none waits for a slow one, and
+/// enters once its first one is taken, or none is left. The calling thread is one of them.
 pub fn map_taken<R: Threads + Sync, X: Send + Drop, E: Fn(usize) + Sync, F: Fn(usize) -> X + Sync>(
     rt: &R,
     alloc: Global,
@@ -31,18 +31,20 @@ pub fn map_taken<R: Threads + Sync, X: Send + Drop, E: Fn(usize) + Sync, F: Fn(u
         requires { E.pre enter.now number × ((i : ℕ) → i < count → F.pre f.now i) }
         ensures { TakesGiven F.Fn f.entry.now result }
     {
+        let first = next.fetch_add(1, Ordering::SeqCst);
         enter(number);
-        take_all(alloc, &next, count, f)
+        take_all(alloc, &next, first, count, f)
     };
     let leaves = map_leaves(rt, alloc, workers, &leaf)?;
     let slots = slots_of(alloc, count, leaves)?;
     filled(alloc, slots, f)
 }
 
-/// Takes the next index as long as one is left below `count`, and calls `f` with it.
+/// Calls `f` with the first index, and then takes the next one as long as one is left below `count`.
 fn take_all<X: Drop, F: Fn(usize) -> X>(
     alloc: Global,
     next: &AtomicUsize,
+    first: usize,
     count: usize,
     f: &F,
 ) -> Result<Vec<(usize, X)>, AllocError>
@@ -50,12 +52,13 @@ fn take_all<X: Drop, F: Fn(usize) -> X>(
     ensures { TakesGiven F.Fn f.now result }
 {
     let mut taken = Vec::new(alloc);
+    let mut index = first;
     for _ in 0..count {
-        let index = next.fetch_add(1, Ordering::SeqCst);
         if count <= index {
             break;
         }
         taken.push((index, f(index)))?;
+        index = next.fetch_add(1, Ordering::SeqCst);
     }
     Ok(taken)
 }
