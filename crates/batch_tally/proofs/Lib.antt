@@ -11,4 +11,5 @@ pub mod Made
 pub mod Whole
 pub mod Determined
 mod Accounting
+pub mod Deciding
 pub mod MarkLemmas

@@ -1,5 +1,5 @@
 //! A board whose key is kept while moves are played.
-ghost use Rattle.std.specs.Prelude.{◌≡◌, List, Option, length};
+ghost use Rattle.std.specs.Prelude.{◌≡◌, ◌↔◌, IsTrue, List, Option, length};
 ghost use Rattle.explorer_model.specs.declared.chess.Piece.{Piece};
 ghost use Rattle.explorer_model.specs.Board.{piece_at};
 ghost use Rattle.explorer_model.specs.Chess.{IsValid, Legal, after, arriving, squares_after};
@@ -7,8 +7,8 @@ ghost use Rattle.explorer_model.specs.Keys.{packed};
 ghost use Rattle.explorer_model.specs.Tidy.{IsTidyKey};
 ghost use Rattle.batch_tally.specs.KeyedBoard.{moved};
 
-use explorer_model::chess::{Move, Position, Role, arriving, piece_of};
-use explorer_model::square::halfway;
+use explorer_model::chess::{Move, Piece, Position, Role, arriving, piece_of};
+use explorer_model::square::{Square, halfway};
 use legal_moves::board::Board;
 use packed_keys::{key_of, pack_squares, write_square};
 use std::marker::Model;
@@ -44,7 +44,12 @@ impl KeyedBoard {
         requires { IsValid position.now }
         ensures { result ≡ position.now }
     {
-        let board = Board::of_valid(*position);
+        let start = Board::start();
+        let board = if are_same(position, start.as_position()) {
+            start
+        } else {
+            Board::of_valid(*position)
+        };
         let bytes = pack_squares(&position.squares);
         KeyedBoard { board, bytes }
     }
@@ -65,6 +70,42 @@ impl KeyedBoard {
     {
         follow(&mut self.bytes, self.board.as_position(), step);
         self.board.play_on(step);
+    }
+}
+
+/// Nearly every game begins at the start, whose sets of pieces need not be gathered.
+fn are_same(one: &Position, other: &Position) -> bool
+    ensures { IsTrue result ↔ (one.now ≡ other.now) }
+{
+    if !have_same_squares(&one.squares, &other.squares) {
+        return false;
+    }
+    if !has_same_turn_and_rights(one, other) {
+        return false;
+    }
+    is_same_square(one.en_passant, other.en_passant)
+}
+
+fn have_same_squares(one: &[Option<Piece>; 64], other: &[Option<Piece>; 64]) -> bool
+    ensures { IsTrue result ↔ (one.now ≡ other.now) }
+{
+    *one == *other
+}
+
+fn has_same_turn_and_rights(one: &Position, other: &Position) -> bool
+    ensures { IsTrue result
+        ↔ ((one.now.turn ≡ other.now.turn) × (one.now.rights ≡ other.now.rights)) }
+{
+    one.turn == other.turn && one.rights == other.rights
+}
+
+fn is_same_square(one: Option<Square>, other: Option<Square>) -> bool
+    ensures { IsTrue result ↔ (one ≡ other) }
+{
+    match (one, other) {
+        (None, None) => true,
+        (Some(one), Some(other)) => one.index == other.index,
+        _ => false,
     }
 }
 
