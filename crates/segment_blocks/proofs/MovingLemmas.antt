@@ -1,7 +1,7 @@
 -- Rows moved behind others, one after another.
-use Rattle.std.proofs.Common.{◌≡◌, ℕ, zero, suc, ◌+◌, ◌<◌, Bool, true, false, cond, is_some, IsErr, Result, Ok, Err, List, [], ◌∷◌, ◌++◌, map, length, get_or, set, refl, sym, ap, subst, ◌∙◌, append_assoc, append-nil, arith, true≢false}
+use Rattle.std.proofs.Common.{◌≡◌, ℕ, zero, suc, ◌+◌, ◌<◌, ◌≤◌, Bool, true, false, cond, is_some, IsErr, Result, Ok, Err, List, [], ◌∷◌, ◌++◌, map, length, get_or, set, refl, sym, ap, subst, ◌∙◌, append_assoc, append-nil, arith, true≢false}
 use Rattle.std.specs.declared.alloc.AllocError.{AllocError}
-use Rattle.std.proofs.lemmas.List.{map-append, length-append, get_or_default}
+use Rattle.std.proofs.lemmas.List.{map-append, length-append, length-map, get_or_default}
 use Rattle.best_lists.specs.declared.entry.Entry.{Entry}
 use Rattle.best_lists.specs.Entry.{moved_by}
 use Rattle.tally_rows.specs.declared.row.Row.{Row}
@@ -17,6 +17,7 @@ use Rattle.segment_blocks.specs.PackedRows.{AreInOrder, AreSome, ArePacked}
 use Rattle.segment_blocks.specs.Walk.{rows_in}
 use Rattle.segment_blocks.proofs.AppendLemmas.{IsBlock-push}
 use Rattle.segment_blocks.proofs.OrderLemmas.{in_order-front}
+use Rattle.segment_blocks.proofs.PackedLemmas.{few-set}
 
 -- ---- a game that stands later
 
@@ -121,14 +122,32 @@ module _ (by : ℕ) (bound : Bound) (blocks : List (List Row)) (n : ℕ) (e : su
   pub HaveMoved-blocks : HaveMoved by bound walk rest (rows_in blocks) (rows_in (set blocks n new))
   HaveMoved-blocks = record { moved = h.moved; parts = h.parts; behind = rows_in-grown; before = h.before }
 
-  pub ArePacked-moved : ArePacked blocks → AreInOrder (rows_in blocks ++ map (shifted_row by) walk) → ArePacked (set blocks n new)
-  ArePacked-moved packed ordered = record {
+  pub ArePacked-moved : ArePacked blocks → AreInOrder (rows_in blocks ++ map (shifted_row by) walk) → length new ≤ 128 → ArePacked (set blocks n new)
+  ArePacked-moved packed ordered few = record {
+    few = few-set blocks n new packed.few few;
     some = subst AreSome (sym grown) (some-more blocks n (map (shifted_row by) h.moved) packed.some);
     ordered = subst AreInOrder (sym rows_in-grown)
         (in_order-front (rows_in blocks ++ map (shifted_row by) h.moved) (map (shifted_row by) rest)
         (subst AreInOrder (ap (λ w. rows_in blocks ++ map (shifted_row by) w) h.parts ∙ ap (λ l. rows_in blocks ++ l) (map-append (shifted_row by) h.moved rest)
         ∙ sym (append_assoc (rows_in blocks) (map (shifted_row by) h.moved) (map (shifted_row by) rest))) ordered));
   }
+
+-- as many rows are left fewer as others are more
+pub moved-count : (by : ℕ) (bound : Bound) (walk rest rows new : List Row) → HaveMoved by bound walk rest rows new
+    → length new + length rest ≡ length rows + length walk
+moved-count by bound walk rest rows new h =
+    omega (
+      arith,
+      ap length h.parts,
+      length-append h.moved rest,
+      ap length h.behind,
+      length-append rows (map (shifted_row by) h.moved),
+      length-map h.moved (shifted_row by),
+    )
+
+-- a block has one more row
+pub one-more : (by : ℕ) (bound : Bound) (walk rest rows new : List Row) → HasMoved by bound walk rest rows new → length new ≡ length rows + 1
+one-more by bound walk rest rows new h = omega (arith, ap length h.behind, length-append rows (shifted_row by h.row ∷ []))
 
 -- ---- what a call tells
 

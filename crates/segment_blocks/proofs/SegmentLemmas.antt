@@ -9,7 +9,7 @@ use Rattle.explorer_model.specs.Visits.{IsTextOf, texts_of}
 use Rattle.tally_rows.specs.Tally.{Counted, IsCounted}
 use Rattle.segment_blocks.specs.declared.held_batch.HeldBatch.{HeldBatch}
 use Rattle.segment_blocks.specs.HeldBatches.{batch_of, classes_of, all_batches, all_classes, counted_span, StandFrom, IsHeld}
-use Rattle.segment_blocks.specs.PackedRows.{Packed}
+use Rattle.segment_blocks.specs.PackedRows.{Packed, AreBlocksOf}
 use Rattle.segment_blocks.specs.Segment.{CanJoin, IsTallyOfBoth}
 
 zip-length : {X Y : Type 0} (P : X → Y → Type 0) (xs : List X) (ys : List Y) → AllZip P xs ys → length xs ≡ length ys
@@ -32,14 +32,15 @@ module _ (first : ℕ) (held : HeldBatch) (packed : Packed) (counted : Counted) 
   texts_are : texts_of (all_batches (held ∷ [])) ≡ counted.batch.texts
   texts_are = append-nil (batch_of held).texts ∙ ap (λ (b : Batch). b.texts) batch
 
-  pub IsHeld-one : first + 1 < 2 ^ 32 → (count : ℕ) → count ≡ length counted.classes → IsHeld first count (held ∷ []) packed
-  IsHeld-one place count is = record {
+  pub IsHeld-one : first + 1 < 2 ^ 32 → (count : ℕ) → count ≡ length counted.classes → AreBlocksOf packed.rows packed.blocks → IsHeld first count (held ∷ []) packed
+  IsHeld-one place count is blocks = record {
     segment = record {
       some = omega arith;
       place = place;
       few = omega (arith, ap length all_classes_are, texts-length counted h, h.batch.few);
       batches = All-cons IsBatch (batch_of held) [] (subst IsBatch (sym batch) h.batch) (All-nil IsBatch);
       tally = rw (texts_are, all_classes_are, rows) h.tally;
+      blocks = blocks;
     };
     games = is ∙ sym (ap length all_classes_are);
     stand = (
@@ -57,14 +58,15 @@ module _ (first second : ℕ) (left right new : List HeldBatch) (left_rows right
   pub IsHeld-both : (left_games right_games : ℕ) → IsHeld first left_games left left_rows → IsHeld second right_games right right_rows
       → CanJoin (counted_span first left left_rows) (counted_span second right right_rows)
       → IsTallyOfBoth (counted_span first left left_rows) (counted_span second right right_rows) packed.rows
-      → StandFrom 0 new → IsHeld first (left_games + right_games) new packed
-  IsHeld-both left_games right_games a b spans tally stand = record {
+      → StandFrom 0 new → AreBlocksOf packed.rows packed.blocks → IsHeld first (left_games + right_games) new packed
+  IsHeld-both left_games right_games a b spans tally stand blocks = record {
     segment = record {
       some = omega (arith, ap length batches, length-append (all_batches left) (all_batches right), a.segment.some);
       place = omega (arith, ap length batches, length-append (all_batches left) (all_batches right), spans.adjoin, b.segment.place);
       few = omega (arith, ap length classes, length-append (all_classes left) (all_classes right), spans.few);
       batches = subst (All IsBatch) (sym batches) (All-append IsBatch (all_batches left) (all_batches right) a.segment.batches b.segment.batches);
       tally = rw (batches, classes) tally;
+      blocks = blocks;
     };
     games = omega (arith, ap length classes, length-append (all_classes left) (all_classes right), a.games, b.games);
     stand = stand;

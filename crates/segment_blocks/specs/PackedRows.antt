@@ -1,12 +1,13 @@
 -- Rows in blocks.
-use Rattle.std.specs.Prelude.{◌≡◌, ◌<◌, ◌≤◌, ℕ, Bool, Some, List, [], ◌∷◌, map, slice_get}
-use Rattle.std.specs.List.{flat_map}
+use Rattle.std.specs.Prelude.{◌≡◌, ◌<◌, ◌≤◌, ◌*◌, ℕ, Bool, Some, List, [], ◌∷◌, map, length, slice_get}
+use Rattle.std.specs.List.{AllByRecursion, flat_map}
 use Rattle.std.specs.List.Sorted.{IsStrictlySortedBy}
 use Rattle.std.specs.Ordering.{nat_cmp, is_lt}
 use Rattle.std.specs.Cmp.Lexicographic.{slice_cmp}
 use Rattle.tally_rows.specs.declared.row.Row.{Row}
 use Rattle.tally_rows.specs.RowKey.{row_order}
 use Rattle.tally_rows.specs.Row.{row_key_of}
+use Rattle.segment_blocks.specs.Block.{block_limit}
 use Rattle.segment_blocks.specs.Encoded.{key_first}
 use Rattle.segment_blocks.specs.Walk.{rows_in}
 
@@ -31,6 +32,11 @@ pub record IsFirstKey (rows : List Row) (blocks n : ℕ) (key : List ℕ) : Type
   pub behind : n ≤ place
   pub is : slice_get (map (λ row. row.key) rows) place ≡ Some key
 
+-- so many blocks hold these rows, each of them 1 to 128
+pub record AreBlocksOf (rows : List Row) (blocks : ℕ) : Type 0 where
+  pub room : length rows ≤ block_limit * blocks
+  pub some : blocks ≤ length rows
+
 -- ---- how the rows are held
 
 -- blocks of some rows each
@@ -39,9 +45,14 @@ AreSome [] = Unit {0}
 AreSome ([] ∷ blocks) = ⊥
 AreSome ((row ∷ rows) ∷ blocks) = AreSome blocks
 
--- blocks of some rows each, and all their rows in order
+-- blocks of at most 128 rows each
+abbrev pub AreFew : List (List Row) → Type 0
+AreFew blocks = AllByRecursion (λ block. length block ≤ block_limit) blocks
+
+-- blocks of 1 to 128 rows each, and all their rows in order
 pub record ArePacked (blocks : List (List Row)) : Type 0 where
   pub some : AreSome blocks
+  pub few : AreFew blocks
   pub ordered : AreInOrder (rows_in blocks)
 
 -- whether the block begins with a key below this one

@@ -7,6 +7,7 @@ use Rattle.explorer_model.specs.Spans.{Span}
 use Rattle.explorer_model.specs.Visits.{texts_of}
 use Rattle.tally_rows.specs.declared.row.Row.{Row}
 use Rattle.tally_rows.specs.Tally.{IsTallyOf}
+use Rattle.segment_blocks.specs.PackedRows.{AreBlocksOf}
 
 -- the batches of a span, the classes of their games in order, and rows, with how many blocks they
 -- take
@@ -20,13 +21,15 @@ pub record CountedSpan : Type 0 where
 abbrev pub segment_limit : ℕ
 segment_limit = 262144
 
--- the rows are the tally of the span's texts; the span's first game has number 0
+-- the rows are the tally of the span's texts, and the blocks hold them; the span's first game has
+-- number 0
 pub record IsSegment (segment : CountedSpan) : Type 0 where
   pub some : 0 < length segment.span.batches
   pub place : segment.span.first + length segment.span.batches < 2 ^ 32
   pub few : length segment.classes ≤ segment_limit
   pub batches : All IsBatch segment.span.batches
   pub tally : IsTallyOf (texts_of segment.span.batches) segment.classes segment.rows
+  pub blocks : AreBlocksOf segment.rows segment.blocks
 
 -- both spans in one
 abbrev pub span_of_both : Span → Span → Span

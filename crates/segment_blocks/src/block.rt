@@ -1,5 +1,5 @@
 //! A block of rows.
-ghost use Rattle.std.specs.Prelude.{◌≡◌, ℕ, List, ◌<◌, ◌≤◌, ◌++◌, ◌∷◌, [], IfOk, OnOk, OnErr, length, map, slice_get};
+ghost use Rattle.std.specs.Prelude.{◌≡◌, ℕ, List, ◌+◌, ◌<◌, ◌≤◌, ◌++◌, ◌∷◌, [], IfOk, OnOk, OnErr, length};
 ghost use Rattle.segment_blocks.specs.Block.{block_limit};
 ghost use Rattle.segment_blocks.specs.Encoded.{key_first};
 ghost use Rattle.segment_blocks.specs.HeldRow.{row_in};
@@ -9,8 +9,10 @@ use crate::block_cursor::BlockCursor;
 use crate::bound::Bound;
 use crate::encoded_rows::EncodedRows;
 use crate::held_row::HeldRow;
+use crate::steps::Steps;
 use std::alloc::{AllocError, Global};
 use std::marker::Model;
+use std::sync::ledger::Ledger;
 
 /// The most rows of a block.
 pub const BLOCK_LIMIT: usize = 128;
@@ -70,21 +72,6 @@ impl Block {
         &self.first
     }
 
-    /// The key of row `n`, from 0, or None where there are not so many rows.
-    pub fn key_at(&self, n: usize) -> Option<[u8; 34]>
-        ensures { result ≡ slice_get (map (λ row. row.key) self.now) n }
-    {
-        let mut rows = self.cursor();
-        let mut before = n;
-        while let Some(held) = rows.next() {
-            if before == 0 {
-                return Some(*held.key());
-            }
-            before -= 1;
-        }
-        None
-    }
-
     /// Puts a row behind the others. After a refusal the block is as before.
     pub fn push(&mut self, held: &HeldRow<'_>) -> Result<(), AllocError>
         requires { length self.old < block_limit }
@@ -97,16 +84,20 @@ impl Block {
     }
 
     /// Moves rows of one game from a place behind the others, with numbers that are greater by `by`,
-    /// as long as they stand before the bound. It may stop early. Says whether it has moved any.
-    pub fn take_games(
+    /// as long as they stand before the bound. It may stop early. Says whether it has moved any. Each
+    /// row moved is a step.
+    pub fn take_games<L: Ledger>(
         &mut self,
         from: &mut BlockCursor<'_>,
         by: u32,
         bound: &Bound<'_>,
+        steps: &mut Steps<L>,
     ) -> Result<bool, AllocError>
         ensures moved { HaveMoved by bound.now from.old from.new self.old self.new }
+        ensures few { length self.new ≤ block_limit }
         ensures told { Tells result (length from.new < length from.old)
             ((from.new ≡ from.old) × (self.new ≡ self.old)) }
+        ensures cost { steps.new + length self.old ≡ steps.old + length self.new }
     {
         let mut some = false;
         while self.rows.len() < BLOCK_LIMIT
@@ -115,6 +106,7 @@ impl Block {
                 .move_game(&mut self.rows, &mut self.last, by, bound, some)?
         {
             some = true;
+            steps.add(1);
         }
         Ok(some)
     }

@@ -1,10 +1,10 @@
 //! Rows in little room.
-ghost use Rattle.std.specs.Prelude.{◌≡◌, ℕ, List, ◌+◌, ◌≤◌, ◌<◌, ◌^◌, ◌++◌, ◌∷◌, [], filter, map, not, true, false, length, slice_get, slice_index_or, IfOk, MatchOption, OnOk, OnErr};
+ghost use Rattle.std.specs.Prelude.{◌≡◌, ℕ, List, ◌+◌, ◌≤◌, ◌<◌, ◌^◌, ◌++◌, ◌∷◌, [], filter, map, not, true, false, length, slice_index_or, IfOk, MatchOption, OnOk, OnErr};
 ghost use Rattle.std.specs.List.{flat_map};
 ghost use Rattle.segment_blocks.specs.Block.{block_limit};
 ghost use Rattle.segment_blocks.specs.HeldRow.{row_in};
 ghost use Rattle.segment_blocks.specs.Moving.{HaveMoved, Tells};
-ghost use Rattle.segment_blocks.specs.PackedRows.{AreInOrder, ArePacked, IsFirstKey, is_first_below, rows_of_parts};
+ghost use Rattle.segment_blocks.specs.PackedRows.{AreBlocksOf, AreInOrder, ArePacked, IsFirstKey, is_first_below, rows_of_parts};
 ghost use Rattle.segment_blocks.specs.Walk.{is_below, is_within, has_key, from_key, from_bound, until_bound, rows_in, rows_until, front_rows};
 ghost use Rattle.tally_rows.specs.declared.row.Row.{Row};
 ghost use Rattle.tally_rows.specs.Row.{shifted_row};
@@ -18,8 +18,8 @@ use crate::rows_cursor::RowsCursor;
 use crate::steps::Steps;
 use crate::until::Until;
 use std::alloc::{AllocError, Global};
-use std::marker::{Brand, Model};
-use std::sync::ledger::{Blank, Ledger};
+use std::marker::Model;
+use std::sync::ledger::Ledger;
 use tally_rows::Row;
 
 /// For how many blocks room is prepared at once.
@@ -128,23 +128,25 @@ impl PackedRows {
 
     /// Moves rows of one game from a walk behind the others, as they are packed and with numbers that
     /// are greater by `by`, as long as they stand before the bound. It may stop early. Says whether
-    /// it has moved any.
-    pub fn take_games(
+    /// it has moved any. Each row moved is a step, also where memory is then refused.
+    pub fn take_games<L: Ledger>(
         &mut self,
         walk: &mut RowWalk<'_>,
         by: u32,
         bound: &Bound<'_>,
+        steps: &mut Steps<L>,
     ) -> Result<bool, AllocError>
         requires in_order { AreInOrder (self.old.rows ++ map (shifted_row by) walk.old) }
         ensures moved { HaveMoved by bound.now walk.old walk.new self.old.rows self.new.rows }
         ensures told { Tells result (length walk.new < length walk.old)
             ((walk.new ≡ walk.old) × (self.new.rows ≡ self.old.rows)) }
+        ensures cost { steps.new + length walk.new ≡ steps.old + length walk.old }
     {
         let count = self.blocks.as_slice().len();
         if count == 0 {
             return Ok(false);
         }
-        walk.move_games(&mut self.blocks[count - 1], by, bound)
+        walk.move_games(&mut self.blocks[count - 1], by, bound, steps)
     }
 
     /// A walk over the rows of the key, in their order. A step is a first key compared or a row
@@ -174,41 +176,45 @@ impl PackedRows {
     }
 
     /// A walk over the rows whose key is not below `from` and is below `below`, in their order. An
-    /// absent bound is none. Its steps are not counted.
-    pub fn rows_within(&self, from: Option<[u8; 34]>, below: Option<[u8; 34]>) -> RowWalk<'_>
-        ensures { result ≡ filter (is_within from below) self.now.rows }
+    /// absent bound is none. It takes the steps of `rows_at`.
+    pub fn rows_within<L: Ledger>(
+        &self,
+        from: Option<[u8; 34]>,
+        below: Option<[u8; 34]>,
+        steps: &mut Steps<L>,
+    ) -> RowWalk<'_>
+        ensures rows { result ≡ filter (is_within from below) self.now.rows }
+        ensures cost { (digits : ℕ) → self.now.blocks < 2 ^ digits
+            → steps.new ≤ steps.old + block_limit + digits }
     {
         RowWalk {
-            rest: rows_behind(self.blocks.as_slice(), from),
+            rest: rows_behind(self.blocks.as_slice(), from, steps),
             until: until_bound(below),
         }
     }
 
-    /// How many blocks there are.
+    /// How many blocks there are, each of 1 to 128 rows.
     pub fn block_count(&self) -> usize
-        ensures { result ≡ self.now.blocks }
+        ensures count { result ≡ self.now.blocks }
+        ensures blocks { AreBlocksOf self.now.rows self.now.blocks }
     {
         self.blocks.len()
     }
 
     /// The key of the first row of block `n`, from 0, or None where there are not so many blocks.
-    pub fn first_key(&self, n: usize) -> Option<[u8; 34]>
-        ensures { MatchOption result (self.now.blocks ≤ n)
+    /// Either is one step.
+    pub fn first_key<L: Ledger>(&self, n: usize, steps: &mut Steps<L>) -> Option<[u8; 34]>
+        ensures key { MatchOption result (self.now.blocks ≤ n)
             (IsFirstKey self.now.rows self.now.blocks n) }
+        ensures cost { steps.new ≡ steps.old + 1 }
     {
+        steps.tick();
         let blocks = self.blocks.as_slice();
         if n < blocks.len() {
             Some(*blocks[n].first())
         } else {
             None
         }
-    }
-
-    /// The key of row `n`, from 0, or None where there are not so many rows.
-    pub fn key_at(&self, n: usize) -> Option<[u8; 34]>
-        ensures { result ≡ slice_get (map (λ row. row.key) self.now.rows) n }
-    {
-        key_of(self.blocks.as_slice(), n)
     }
 
     /// Gives back the room that the rows of the last block do not take, where no more rows come. The
@@ -254,12 +260,18 @@ fn seek<'a, L: Ledger>(blocks: &'a [Block], key: &[u8; 34], steps: &mut Steps<L>
 }
 
 /// The rows from a bound on, or all.
-fn rows_behind(blocks: &[Block], from: Option<[u8; 34]>) -> RowsCursor<'_>
+fn rows_behind<'a, L: Ledger>(
+    blocks: &'a [Block],
+    from: Option<[u8; 34]>,
+    steps: &mut Steps<L>,
+) -> RowsCursor<'a>
     requires { ArePacked blocks.now }
-    ensures { result ≡ from_bound from (rows_in blocks.now) }
+    ensures rows { result ≡ from_bound from (rows_in blocks.now) }
+    ensures cost { (digits : ℕ) → length blocks.now < 2 ^ digits
+        → steps.new ≤ steps.old + block_limit + digits }
 {
     match from {
-        Some(key) => seek_uncounted::<Brand>(blocks, &key, Blank::new(1)),
+        Some(key) => seek(blocks, &key, steps),
         None => all_of(blocks),
     }
 }
@@ -274,20 +286,6 @@ fn until_bound(below: Option<[u8; 34]>) -> Until
     }
 }
 
-/// The key of row `n` of the blocks.
-fn key_of(blocks: &[Block], n: usize) -> Option<[u8; 34]>
-    ensures { result ≡ slice_get (map (λ row. row.key) (rows_in blocks.now)) n }
-{
-    let mut before = n;
-    for block in blocks {
-        if before < block.len() {
-            return block.key_at(before);
-        }
-        before -= block.len();
-    }
-    None
-}
-
 /// How many blocks all parts have.
 fn count_blocks(parts: &[PackedRows]) -> usize {
     let mut count = 0usize;
@@ -295,22 +293,6 @@ fn count_blocks(parts: &[PackedRows]) -> usize {
         count = count.saturating_add(part.block_count());
     }
     count
-}
-
-/// The rows from the first one on whose key is not below the key, where no steps are counted.
-fn seek_uncounted<'a, L: Ledger>(
-    blocks: &'a [Block],
-    key: &[u8; 34],
-    blank: Blank,
-) -> RowsCursor<'a>
-    requires packed { ArePacked blocks.now }
-    requires name { blank.name ≡ L.name }
-    requires parts { blank.parts ≡ L.parts }
-    requires some { 0 < L.parts }
-    ensures { result ≡ from_key key.now (rows_in blocks.now) }
-{
-    let mut steps = Steps::<L>::new(blank);
-    seek(blocks, key, &mut steps)
 }
 
 /// Asks for the room of some blocks at once and gives it back, behind each 16th block. The heap of a

@@ -1,5 +1,6 @@
 //! Walks over rows.
-ghost use Rattle.std.specs.Prelude.{◌≡◌, ◌+◌, ◌<◌, [], ◌∷◌, MatchOption, length};
+ghost use Rattle.std.specs.Prelude.{◌≡◌, ◌+◌, ◌<◌, ◌≤◌, [], ◌∷◌, MatchOption, length};
+ghost use Rattle.segment_blocks.specs.Block.{block_limit};
 ghost use Rattle.segment_blocks.specs.HeldRow.{row_in};
 ghost use Rattle.segment_blocks.specs.Moving.{next_row_key, HaveMoved, Tells};
 
@@ -39,16 +40,17 @@ impl<'a> RowWalk<'a> {
             (λ row. self.old ≡ row ∷ self.new) }
         ensures cost { steps.new ≡ steps.old + 1 }
     {
-        steps.tick();
-        Some(self.advance()?.to_row())
+        Some(self.advance(steps)?.to_row())
     }
 
-    /// The next row as its block holds it, or None exactly at the end, where no steps are counted.
+    /// The next row as its block holds it, or None exactly at the end. Either is one step.
     #[tactic(auto, unfolding(crate::specs::Walk::until_key))]
-    pub fn advance(&mut self) -> Option<HeldRow<'a>>
-        ensures { MatchOption result ((self.old ≡ []) × (self.new ≡ []))
+    pub fn advance<L: Ledger>(&mut self, steps: &mut Steps<L>) -> Option<HeldRow<'a>>
+        ensures rows { MatchOption result ((self.old ≡ []) × (self.new ≡ []))
             (λ held. self.old ≡ row_in held ∷ self.new) }
+        ensures cost { steps.new ≡ steps.old + 1 }
     {
+        steps.tick();
         match self.until {
             Until::End => self.rest.next(),
             Until::Key(key) => {
@@ -86,18 +88,21 @@ impl<'a> RowWalk<'a> {
     }
 
     /// Moves rows of one game to the end of a block, as `Block::take_games` does.
-    pub(crate) fn move_games(
+    pub(crate) fn move_games<L: Ledger>(
         &mut self,
         block: &mut Block,
         by: u32,
         bound: &Bound<'_>,
+        steps: &mut Steps<L>,
     ) -> Result<bool, AllocError>
         ensures moved { HaveMoved by bound.now self.old self.new block.old block.new }
+        ensures few { length block.old ≤ block_limit → length block.new ≤ block_limit }
         ensures told { Tells result (length self.new < length self.old)
             ((self.new ≡ self.old) × (block.new ≡ block.old)) }
+        ensures cost { steps.new + length block.old ≡ steps.old + length block.new }
     {
         match self.until.bound_with(bound) {
-            Some(nearer) => self.rest.move_games(block, by, &nearer),
+            Some(nearer) => self.rest.move_games(block, by, &nearer, steps),
             None => Ok(false),
         }
     }

@@ -1,5 +1,6 @@
 //! Rows over several blocks.
-ghost use Rattle.std.specs.Prelude.{◌≡◌, ◌<◌, [], ◌∷◌, MatchOption, length};
+ghost use Rattle.std.specs.Prelude.{◌≡◌, ◌+◌, ◌<◌, ◌≤◌, [], ◌∷◌, MatchOption, length};
+ghost use Rattle.segment_blocks.specs.Block.{block_limit};
 ghost use Rattle.segment_blocks.specs.HeldRow.{row_in};
 ghost use Rattle.segment_blocks.specs.Moving.{next_row_key, HaveMoved, Tells};
 
@@ -7,8 +8,10 @@ use crate::block::Block;
 use crate::block_cursor::BlockCursor;
 use crate::bound::Bound;
 use crate::held_row::HeldRow;
+use crate::steps::Steps;
 use std::alloc::AllocError;
 use std::marker::Model;
+use std::sync::ledger::Ledger;
 use tally_rows::RowKey;
 
 /// What is left of blocks: perhaps a row that was looked at, the place in a block, and the blocks
@@ -68,19 +71,22 @@ impl<'a> RowsCursor<'a> {
     }
 
     /// Moves rows of one game to the end of a block, as `Block::take_games` does.
-    pub fn move_games(
+    pub fn move_games<L: Ledger>(
         &mut self,
         block: &mut Block,
         by: u32,
         bound: &Bound<'_>,
+        steps: &mut Steps<L>,
     ) -> Result<bool, AllocError>
         ensures moved { HaveMoved by bound.now self.old self.new block.old block.new }
+        ensures few { length block.old ≤ block_limit → length block.new ≤ block_limit }
         ensures told { Tells result (length self.new < length self.old)
             ((self.new ≡ self.old) × (block.new ≡ block.old)) }
+        ensures cost { steps.new + length block.old ≡ steps.old + length block.new }
     {
         if self.front.is_some() {
             return Ok(false);
         }
-        block.take_games(&mut self.place, by, bound)
+        block.take_games(&mut self.place, by, bound, steps)
     }
 }

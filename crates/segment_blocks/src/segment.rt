@@ -1,5 +1,5 @@
 //! Segments.
-ghost use Rattle.std.specs.Prelude.{◌≡◌, ℕ, ◌+◌, ◌<◌, ◌≤◌, ◌^◌, [], ◌∷◌, ◌++◌, Some, IfOk, MatchOption, length, filter, map, not, slice_get};
+ghost use Rattle.std.specs.Prelude.{◌≡◌, ℕ, ◌+◌, ◌<◌, ◌≤◌, ◌^◌, [], ◌∷◌, ◌++◌, Some, IfOk, MatchOption, length, filter, not, slice_get};
 ghost use Rattle.explorer_model.specs.Visits.{texts_of};
 ghost use Rattle.segment_blocks.specs.Segment.{IsSegment, CanJoin, IsTallyOfBoth, span_of_both};
 ghost use Rattle.segment_blocks.specs.Block.{block_limit};
@@ -58,6 +58,8 @@ impl Segment {
     {
         let (batch, classes, parts) = tally.into_parts();
         let rows = PackedRows::of(alloc, parts.as_slice())?;
+        // That the blocks are those of the rows, their count tells.
+        let _blocks = rows.block_count();
         let games = classes.len() as u32;
         let mut batches = Vec::new(alloc);
         batches.push(HeldBatch::of(alloc, batch, classes)?)?;
@@ -85,6 +87,8 @@ impl Segment {
         ensures rows { IfOk result (λ segment. segment.rows ≡ rows_of_parts parts.items) }
     {
         let rows = PackedRows::of_parts(alloc, parts)?;
+        // That the blocks are those of the rows, their count tells.
+        let _blocks = rows.block_count();
         let mut batches = Vec::new(alloc);
         share_all(&mut batches, left.batches.as_slice(), 0)?;
         share_all(&mut batches, right.batches.as_slice(), left.games)?;
@@ -167,14 +171,21 @@ impl Segment {
     }
 
     /// A walk over the rows whose key is not below `from` and is below `below`, in their order. An
-    /// absent bound is none. Its steps are not counted.
-    pub fn rows_within(&self, from: Option<[u8; 34]>, below: Option<[u8; 34]>) -> RowWalk<'_>
-        ensures { result ≡ filter (is_within from below) self.now.rows }
+    /// absent bound is none. It takes the steps of `rows_at`.
+    pub fn rows_within<L: Ledger>(
+        &self,
+        from: Option<[u8; 34]>,
+        below: Option<[u8; 34]>,
+        steps: &mut Steps<L>,
+    ) -> RowWalk<'_>
+        ensures rows { result ≡ filter (is_within from below) self.now.rows }
+        ensures cost { (digits : ℕ) → self.now.blocks < 2 ^ digits
+            → steps.new ≤ steps.old + block_limit + digits }
     {
-        self.rows.rows_within(from, below)
+        self.rows.rows_within(from, below, steps)
     }
 
-    /// How many blocks the rows take.
+    /// How many blocks the rows take, each of 1 to 128 rows, as `span` tells.
     pub fn block_count(&self) -> usize
         ensures { result ≡ self.now.blocks }
     {
@@ -182,18 +193,12 @@ impl Segment {
     }
 
     /// The key of the first row of block `n`, from 0, or None where there are not so many blocks.
-    pub fn first_key(&self, n: usize) -> Option<[u8; 34]>
-        ensures { MatchOption result (self.now.blocks ≤ n)
+    /// Either is one step.
+    pub fn first_key<L: Ledger>(&self, n: usize, steps: &mut Steps<L>) -> Option<[u8; 34]>
+        ensures key { MatchOption result (self.now.blocks ≤ n)
             (IsFirstKey self.now.rows self.now.blocks n) }
+        ensures cost { steps.new ≡ steps.old + 1 }
     {
-        self.rows.first_key(n)
-    }
-
-    /// The key of row `n`, from 0, or None where there are not so many rows. It passes the blocks
-    /// before the row.
-    pub fn key_at(&self, n: usize) -> Option<[u8; 34]>
-        ensures { result ≡ slice_get (map (λ row. row.key) self.now.rows) n }
-    {
-        self.rows.key_at(n)
+        self.rows.first_key(n, steps)
     }
 }

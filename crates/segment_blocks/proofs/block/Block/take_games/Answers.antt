@@ -1,11 +1,11 @@
 use Rattle.std.proofs.Common.{◌<◌, length, arith}
 use Rattle.segment_blocks.specs.Encoded.{rows_of}
 use Rattle.segment_blocks.specs.Place.{rows_left}
-use Rattle.segment_blocks.proofs.MovingLemmas.{HasMoved-block, IsBlock-moved, HaveMoved-step, fewer-after, said-so}
+use Rattle.segment_blocks.proofs.MovingLemmas.{HasMoved-block, IsBlock-moved, HaveMoved-step, fewer-after, one-more, said-so}
 use Rattle.segment_blocks.proofs.block.Block.take_games.Goals as goal
 
 pub loop-from-preserved : goal.loop-from-preserved
-loop-from-preserved c =
+loop-from-preserved g c =
     let by = c.args.by in
     let bound = c.args.bound.now in
     let b = c.loop-from.self-inside in
@@ -25,4 +25,5 @@ loop-from-preserved c =
       known = λ h. said-so _ _ c.if-branch.true c.in_ok-move_game.ensures.behind;
       moved = HaveMoved-step by bound walk mid rest old rows (rows_of new b.first) before.moved one;
       told = fewer-after by bound walk mid rest old rows (rows_of new b.first) before.moved one;
+      cost = omega (arith, before.cost, c.add.ensures, one-more by bound mid rest rows (rows_of new b.first) one);
     }

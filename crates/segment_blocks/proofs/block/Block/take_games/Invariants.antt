@@ -1,4 +1,4 @@
-use Rattle.std.proofs.Common.{◌≡◌, ◌<◌, length, IsTrue}
+use Rattle.std.proofs.Common.{◌≡◌, ◌+◌, ◌<◌, length, IsTrue}
 use Rattle.segment_blocks.specs.Block.{IsBlock}
 use Rattle.segment_blocks.specs.Encoded.{rows_of}
 use Rattle.segment_blocks.specs.Moving.{HaveMoved, Says}
@@ -6,7 +6,7 @@ use Rattle.segment_blocks.specs.Place.{rows_left, IsPlace}
 use Rattle.segment_blocks.proofs.block.Block.take_games.Given as goal
 
 abbrev pub invariant-loop-from : goal.invariant-loop-from
-invariant-loop-from l =
+invariant-loop-from g l =
     let place = l.from-inside.place in
     let walk = rows_left l.initial.from-inside.place in
     let b = l.self-inside in
@@ -17,7 +17,8 @@ invariant-loop-from l =
       known : IsTrue l.some → b.last ≡ place.before;
       moved : HaveMoved l.by l.bound walk (rows_left place) old (rows_of b.rows b.first);
       told : Says l.some (length (rows_left place) < length walk) ((rows_left place ≡ walk) × (rows_of b.rows b.first ≡ old));
+      cost : l.steps + length old ≡ l.initial.steps + length (rows_of b.rows b.first);
     }
 
 abbrev pub decreases-loop-from : goal.decreases-loop-from
-decreases-loop-from l = length (rows_left l.from-inside.place)
+decreases-loop-from g l = length (rows_left l.from-inside.place)

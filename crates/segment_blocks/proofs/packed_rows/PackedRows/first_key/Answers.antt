@@ -7,8 +7,8 @@ use Rattle.segment_blocks.specs.Walk.{rows_in}
 use Rattle.segment_blocks.proofs.PackedLemmas.{first_key-in}
 use Rattle.segment_blocks.proofs.packed_rows.PackedRows.first_key.Goals as goal
 
-pub returns-then-n-blocks : goal.returns-then-n-blocks
-returns-then-n-blocks c =
+pub returns-then-n-blocks-clause-key : goal.returns-then-n-blocks-clause-key
+returns-then-n-blocks-clause-key g c =
     let blocks : List (List Row) = c.self.inside.blocks.items in
     let n = c.args.n in
     let block = c.index-blocks-n.result in

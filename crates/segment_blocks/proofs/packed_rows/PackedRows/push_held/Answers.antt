@@ -1,5 +1,5 @@
-use Rattle.std.proofs.Common.{◌≡◌, suc, ◌-◌, List, ◌++◌, ◌∷◌, [], length, set, sym, ap, subst, ◌∙◌, arith}
-use Rattle.std.proofs.lemmas.List.{set-get_or}
+use Rattle.std.proofs.Common.{◌≡◌, suc, ◌-◌, ◌<◌, List, ◌++◌, ◌∷◌, [], length, set, sym, ap, subst, ◌∙◌, arith}
+use Rattle.std.proofs.lemmas.List.{set-get_or, get_or_default}
 use Rattle.tally_rows.specs.declared.row.Row.{Row}
 use Rattle.std.proofs.lemmas.Result.{on_ok_weaker}
 use Rattle.segment_blocks.specs.HeldRow.{row_in}
@@ -15,7 +15,10 @@ invariant_of-self-then-len-lt-BLOCK_LIMIT c =
     let e : suc n ≡ length blocks = omega (arith, ap length c.as_slice-count.ensures.value, c.if-count-eq0.false) in
     let ordered : AreInOrder (rows_in blocks ++ (row_in c.args.held.now) ∷ []) =
     rw (ap (λ (p : Packed). p.rows) c.self.view_is) c.requires.in_order in
-    ArePacked-after blocks (row_in c.args.held.now) n e c.index_mut.result.now c.push-then-len-lt-BLOCK_LIMIT.new.self c.index_mut.ensures.value c.self.invariant ordered
+    let same : c.index_mut.result.now ≡ c.index.result.now =
+    c.index_mut.ensures.value ∙ get_or_default blocks n c.index_mut.result.now c.index.result.now (omega (arith, e)) ∙ sym c.index.ensures in
+    let room : length c.index_mut.result.now < 128 = omega (arith, ap length same, c.len.ensures.len, c.if-len-lt-BLOCK_LIMIT.true) in
+    ArePacked-after blocks (row_in c.args.held.now) n e c.index_mut.result.now c.push-then-len-lt-BLOCK_LIMIT.new.self c.index_mut.ensures.value c.self.invariant ordered room
     (pushed_or_not c.push-then-len-lt-BLOCK_LIMIT.result c.index_mut.result.now c.push-then-len-lt-BLOCK_LIMIT.new.self (row_in c.args.held.now) c.push-then-len-lt-BLOCK_LIMIT.ensures.ok c.push-then-len-lt-BLOCK_LIMIT.ensures.err)
 
 pub returns-then-len-lt-BLOCK_LIMIT-clause-ok : goal.returns-then-len-lt-BLOCK_LIMIT-clause-ok

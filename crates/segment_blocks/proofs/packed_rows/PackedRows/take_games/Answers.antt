@@ -5,11 +5,12 @@ use Rattle.tally_rows.specs.Row.{shifted_row}
 use Rattle.segment_blocks.specs.Moving.{HaveMoved}
 use Rattle.segment_blocks.specs.PackedRows.{Packed, AreInOrder}
 use Rattle.segment_blocks.specs.Walk.{rows_in}
-use Rattle.segment_blocks.proofs.MovingLemmas.{HaveMoved-blocks, ArePacked-moved, Tells-weaker}
+use Rattle.segment_blocks.proofs.MovingLemmas.{HaveMoved-blocks, ArePacked-moved, Tells-weaker, moved-count}
+use Rattle.segment_blocks.proofs.PackedLemmas.{few-at}
 use Rattle.segment_blocks.proofs.packed_rows.PackedRows.take_games.Goals as goal
 
 pub invariant_of-self : goal.invariant_of-self
-invariant_of-self c =
+invariant_of-self g c =
     let blocks : List (List Row) = c.self.inside.blocks.items in
     let n = length c.as_slice-count.result.now - 1 in
     let e : suc n ≡ length blocks = omega (arith, ap length c.as_slice-count.ensures.value, c.if-count-eq0.false) in
@@ -17,10 +18,10 @@ invariant_of-self c =
     let ordered : AreInOrder (rows_in blocks ++ map (shifted_row c.args.by) c.args.walk.now) =
     rw (ap (λ (p : Packed). p.rows) c.self.view_is) c.requires.in_order in
     ArePacked-moved c.args.by c.args.bound.now blocks n e c.index_mut.result.now moved.new.block c.args.walk.now moved.new.self c.index_mut.ensures.value moved.ensures.moved
-    c.self.invariant ordered
+    c.self.invariant ordered (moved.ensures.few (few-at blocks n c.index_mut.result.now c.index_mut.ensures.value e c.self.invariant.few))
 
 pub returns-clause-moved : goal.returns-clause-moved
-returns-clause-moved c =
+returns-clause-moved g c =
     let blocks : List (List Row) = c.self.inside.blocks.items in
     let n = length c.as_slice-count.result.now - 1 in
     let e : suc n ≡ length blocks = omega (arith, ap length c.as_slice-count.ensures.value, c.if-count-eq0.false) in
@@ -30,7 +31,7 @@ returns-clause-moved c =
     (HaveMoved-blocks c.args.by c.args.bound.now blocks n e c.index_mut.result.now moved.new.block c.args.walk.now moved.new.self c.index_mut.ensures.value moved.ensures.moved)
 
 pub returns-clause-told : goal.returns-clause-told
-returns-clause-told c =
+returns-clause-told g c =
     let blocks : List (List Row) = c.self.inside.blocks.items in
     let n = length c.as_slice-count.result.now - 1 in
     let moved = c.move_games in
@@ -41,3 +42,12 @@ returns-clause-told c =
       ap rows_in (ap (set blocks n) (none.1 ∙ c.index_mut.ensures.value) ∙ set-get_or blocks n old) ∙ ap (λ (p : Packed). p.rows) c.self.view_is,
     ))
     moved.ensures.told
+
+pub returns-clause-cost : goal.returns-clause-cost
+returns-clause-cost g c =
+    let moved = c.move_games in
+    omega (
+      arith,
+      moved.ensures.cost,
+      moved-count c.args.by c.args.bound.now c.args.walk.now moved.new.self c.index_mut.result.now moved.new.block moved.ensures.moved,
+    )

@@ -23,5 +23,5 @@ invariant_of-result c =
     c.in_ok-push.ensures.items ∙ ap (λ l. l ++ new.field-0 ∷ []) c.new-batches.ensures.items in
     let held = IsHeld-one c.args.first new.field-0 c.in_ok-rows.rows tally told.counted new.ensures.start (new.ensures.batch ∙ told.batch)
     (new.ensures.classes ∙ told.classes) (c.in_ok-rows.ensures ∙ ap (λ l. flat_map (λ p. p.items) l) c.as_slice.ensures.value ∙ told.rows) c.requires c.len-games.result
-    (c.len-games.ensures ∙ ap length told.classes) in
+    (c.len-games.ensures ∙ ap length told.classes) c.block_count-blocks.ensures.blocks in
     rw items held

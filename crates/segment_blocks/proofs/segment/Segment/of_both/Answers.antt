@@ -26,4 +26,4 @@ invariant_of-result c =
     (subst (λ s. IsTallyOfBoth c.args.left.now s rows.rows) (sym c.right.view_is)
     (subst (IsTallyOfBoth c.args.left.now c.args.right.now) (sym c.in_ok-rows.ensures) c.requires.tally)) in
     IsHeld-both l.first r.first l.batches.items r.batches.items c.share_all-2.new.batches.items l.rows r.rows rows batches classes
-    l.games r.games c.left.invariant c.right.invariant spans tally two.stand
+    l.games r.games c.left.invariant c.right.invariant spans tally two.stand c.block_count-blocks.ensures.blocks
