@@ -7,7 +7,7 @@ use Rattle.tally_rows.specs.declared.row.Row.{Row}
 use Rattle.tally_rows.specs.Row.{shifted_row}
 use Rattle.segment_blocks.specs.PackedRows.{Packed, rows_of_parts}
 use Rattle.segment_blocks.specs.Segment.{CountedSpan, IsSegment}
-use Rattle.segment_merge.specs.Merging.{rows_of_both, ranges_of_both}
+use Rattle.segment_merge.specs.Merging.{rows_of_both, merged_in_range, ranges_of_both}
 use Rattle.segment_merge.specs.Merged.{merged}
 use Rattle.segment_merge.specs.Ranges.{AreRising, begin_of, rows_in_range, rows_of_ranges}
 use Rattle.segment_merge.proofs.MergedLemmas.{in_order-shifted}
@@ -35,7 +35,7 @@ made-rows (part ∷ made) (range ∷ ranges) long each =
 
 -- what is merged of one range of both sides
 pub range-rows : (keys : List (List ℕ)) (left right : CountedSpan) (n : ℕ) → n < length keys + 1
-    → merged (map (shifted_row 0) (rows_in_range keys n left.rows)) (map (shifted_row (length left.classes)) (rows_in_range keys n right.rows))
+    → merged_in_range keys n left right
     ≡ get_or (ranges_of_both keys left right) n []
 range-rows keys left right n below =
     let by = length left.classes in
@@ -44,8 +44,7 @@ range-rows keys left right n below =
 
 -- the same, of a result
 abbrev pub IsRange : List (List ℕ) → CountedSpan → CountedSpan → ℕ → Result Packed AllocError → Type 0
-IsRange keys left right n result = IfOk result (λ packed. packed.rows ≡ merged (map (shifted_row 0) (rows_in_range keys n left.rows))
-    (map (shifted_row (length left.classes)) (rows_in_range keys n right.rows)))
+IsRange keys left right n result = IfOk result (λ packed. packed.rows ≡ merged_in_range keys n left right)
 
 module _ (keys : List (List ℕ)) (left right : CountedSpan) (a : IsSegment left) (b : IsSegment right) where
   pub parts-rows : (results : List (Result Packed AllocError)) (made : List Packed) → map ok_part made ≡ results

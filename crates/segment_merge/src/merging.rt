@@ -4,12 +4,18 @@ ghost use Rattle.segment_blocks.specs.PackedRows.{AreInOrder};
 ghost use Rattle.segment_merge.specs.Merged.{merged, next_order};
 
 use crate::side::Side;
-use segment_blocks::{PackedRows, order_of_row_keys};
+use segment_blocks::{PackedRows, Steps, order_of_row_keys};
 use std::alloc::{AllocError, Global};
 use std::cmp::Ordering;
+use std::sync::ledger::Ledger;
 
 /// The rows of both sides in their order, those with the same five parts put together.
-pub fn merge_rows(alloc: Global, left: Side<'_>, right: Side<'_>) -> Result<PackedRows, AllocError>
+pub fn merge_rows<L: Ledger>(
+    alloc: Global,
+    left: Side<'_>,
+    right: Side<'_>,
+    steps: &mut Steps<L>,
+) -> Result<PackedRows, AllocError>
     requires left_in_order { AreInOrder left }
     requires right_in_order { AreInOrder right }
     ensures { IfOk result (λ packed. packed.rows ≡ merged left.entry right.entry) }
@@ -18,19 +24,20 @@ pub fn merge_rows(alloc: Global, left: Side<'_>, right: Side<'_>) -> Result<Pack
     let mut right = right;
     let mut packed = PackedRows::new(alloc);
     while let Some(order) = order_of(&left, &right) {
-        push_next(alloc, order, &mut left, &mut right, &mut packed)?;
+        push_next(alloc, order, &mut left, &mut right, &mut packed, steps)?;
     }
     Ok(packed)
 }
 
 /// Moves the next row of both sides, which stand so: the lesser one, perhaps with more of its side,
 /// or both put together where they have the same five parts.
-fn push_next(
+fn push_next<L: Ledger>(
     alloc: Global,
     order: Ordering,
     left: &mut Side<'_>,
     right: &mut Side<'_>,
     packed: &mut PackedRows,
+    steps: &mut Steps<L>,
 ) -> Result<(), AllocError>
     requires order { next_order left.old right.old ≡ Some order }
     requires in_order { AreInOrder (packed.old.rows ++ merged left.old right.old) }
@@ -40,10 +47,10 @@ fn push_next(
         < length left.old + length right.old) }
 {
     match order {
-        Ordering::Less => left.push_next(alloc, packed, &right.bound()),
-        Ordering::Greater => right.push_next(alloc, packed, &left.bound()),
+        Ordering::Less => left.push_next(alloc, packed, &right.bound(), steps),
+        Ordering::Greater => right.push_next(alloc, packed, &left.bound(), steps),
         Ordering::Equal => {
-            let (Some(first), Some(second)) = (left.take(), right.take()) else {
+            let (Some(first), Some(second)) = (left.take(steps), right.take(steps)) else {
                 return Ok(());
             };
             packed.push(alloc, &first.combine(&second))

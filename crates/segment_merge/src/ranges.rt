@@ -2,16 +2,18 @@
 ghost use Rattle.std.specs.Prelude.{◌≡◌, ◌+◌, ◌≤◌, ◌<◌, Ok, IfOk, length, map, slice_get};
 ghost use Rattle.segment_blocks.specs.PackedRows.{AreInOrder};
 ghost use Rattle.segment_blocks.specs.Segment.{CanJoin, segment_limit};
-ghost use Rattle.segment_merge.specs.Merging.{IsMergeOf};
+ghost use Rattle.segment_merge.specs.Merging.{IsMergeOf, merged_in_range};
 ghost use Rattle.segment_merge.specs.Ranges.{AreRising, IsNotAbove, begin_of, rows_in_range};
 ghost use Rattle.tally_rows.specs.Row.{shifted_row};
 
 use crate::merging::merge_rows;
 use crate::side::Side;
 use outside::Gate;
-use segment_blocks::{PackedRows, Segment};
+use segment_blocks::{PackedRows, Segment, Steps};
 use side_by_side::map_taken;
 use std::alloc::{AllocError, Global};
+use std::marker::Brand;
+use std::sync::ledger::{Blank, Ledger};
 use std::thread::Threads;
 
 /// How many ranges there are at most for each of several workers. Equal ranges take different times; a
@@ -50,11 +52,9 @@ pub fn merge<R: Threads + Sync, G: Gate>(
     };
     let range = |n: usize| -> Result<PackedRows, AllocError>
         requires { CanJoin left.now right.now }
-    {
-        let first = side_within(left, keys, n, 0);
-        let second = side_within(right, keys, n, left.games());
-        merge_rows(alloc, first, second)
-    };
+        ensures { IfOk result (λ packed. packed.rows
+            ≡ merged_in_range keys.entry.now n left.entry.now right.entry.now) }
+    { merge_range(alloc, left, right, keys, n) };
     let results = map_taken(rt, alloc, workers, keys.len() + 1, &enter, &range)?;
     let parts = all_made(alloc, results)?;
     Segment::of_both(alloc, left, right, parts)
@@ -90,11 +90,30 @@ fn cut_keys(alloc: Global, segment: &Segment, ranges: usize) -> Result<Vec<[u8; 
     ensures count { IfOk result (λ keys. length keys.items + 1 ≡ ranges) }
     ensures rising { IfOk result (λ keys. AreRising keys.items) }
 {
+    cut_keys_in::<Brand>(alloc, segment, ranges, Blank::new(1))
+}
+
+/// The same, with a ledger for its steps.
+fn cut_keys_in<L: Ledger>(
+    alloc: Global,
+    segment: &Segment,
+    ranges: usize,
+    blank: Blank,
+) -> Result<Vec<[u8; 34]>, AllocError>
+    requires ranges { 1 ≤ ranges }
+    requires name { blank.name ≡ L.name }
+    requires parts { blank.parts ≡ L.parts }
+    requires some { 0 < L.parts }
+    ensures count { IfOk result (λ keys. length keys.items + 1 ≡ ranges) }
+    ensures rising { IfOk result (λ keys. AreRising keys.items) }
+{
+    let mut steps = Steps::<L>::new(blank);
     let blocks = segment.block_count();
     let mut keys = Vec::with_capacity(alloc, ranges)?;
     let mut last = [0u8; 34];
     for part in 1..ranges {
-        let key = segment.first_key(blocks.saturating_sub(left_from(blocks, part, ranges)));
+        let block = blocks.saturating_sub(left_from(blocks, part, ranges));
+        let key = segment.first_key(block, &mut steps);
         let next = later_key(last, key.unwrap_or([255; 34]));
         keys.push(next)?;
         last = next;
@@ -123,16 +142,58 @@ fn later_key(before: [u8; 34], key: [u8; 34]) -> [u8; 34]
     }
 }
 
+/// The rows of both segments in range `n` between the keys, merged.
+fn merge_range(
+    alloc: Global,
+    left: &Segment,
+    right: &Segment,
+    keys: &[[u8; 34]],
+    n: usize,
+) -> Result<PackedRows, AllocError>
+    requires { CanJoin left.now right.now }
+    ensures { IfOk result (λ packed. packed.rows ≡ merged_in_range keys.now n left.now right.now) }
+{
+    merge_range_in::<Brand>(alloc, left, right, keys, n, Blank::new(1))
+}
+
+/// The same, with a ledger for its steps.
+fn merge_range_in<L: Ledger>(
+    alloc: Global,
+    left: &Segment,
+    right: &Segment,
+    keys: &[[u8; 34]],
+    n: usize,
+    blank: Blank,
+) -> Result<PackedRows, AllocError>
+    requires spans { CanJoin left.now right.now }
+    requires name { blank.name ≡ L.name }
+    requires parts { blank.parts ≡ L.parts }
+    requires some { 0 < L.parts }
+    ensures { IfOk result (λ packed. packed.rows ≡ merged_in_range keys.now n left.now right.now) }
+{
+    let mut steps = Steps::<L>::new(blank);
+    let first = side_within(left, keys, n, 0, &mut steps);
+    let second = side_within(right, keys, n, left.games(), &mut steps);
+    merge_rows(alloc, first, second, &mut steps)
+}
+
 /// The rows of a segment in range `n` between the keys, whose games have numbers that are greater by
 /// `by`.
-fn side_within<'a>(segment: &'a Segment, keys: &[[u8; 34]], n: usize, by: u32) -> Side<'a>
+fn side_within<'a, L: Ledger>(
+    segment: &'a Segment,
+    keys: &[[u8; 34]],
+    n: usize,
+    by: u32,
+    steps: &mut Steps<L>,
+) -> Side<'a>
     requires { by + length segment.now.classes ≤ segment_limit }
     ensures rows { result ≡ map (shifted_row by) (rows_in_range keys.now n segment.now.rows) }
     ensures in_order { AreInOrder result }
 {
     // That the rows are in order, and have room, the segment's span tells.
     let _span = segment.span();
-    Side::new(segment.rows_within(begin_of(keys, n), end_of(keys, n)), by)
+    let walk = segment.rows_within(begin_of(keys, n), end_of(keys, n), steps);
+    Side::new(walk, by)
 }
 
 /// The key at which range `n` begins.

@@ -12,9 +12,10 @@ ghost use Rattle.tally_rows.specs.Row.{row_key_of, shifted_row};
 ghost use Rattle.tally_rows.specs.RowKey.{row_order};
 
 use crate::shifting::{push_shifted, shifted};
-use segment_blocks::{Bound, PackedRows, RowWalk};
+use segment_blocks::{Bound, PackedRows, RowWalk, Steps};
 use std::alloc::{AllocError, Global};
 use std::marker::Model;
+use std::sync::ledger::Ledger;
 use tally_rows::{Row, RowKey};
 
 /// The rows of one side that are still to come, with the numbers that their games have among those
@@ -71,22 +72,23 @@ impl<'a> Side<'a> {
 
     /// Moves the next row, where there is one, to the rows of a merge, perhaps with rows behind it
     /// that stand before the bound as it does.
-    pub fn push_next(
+    pub fn push_next<L: Ledger>(
         &mut self,
         alloc: Global,
         packed: &mut PackedRows,
         bound: &Bound<'_>,
+        steps: &mut Steps<L>,
     ) -> Result<(), AllocError>
         requires in_order { AreInOrder (packed.old.rows ++ self.old) }
         ensures { OnOk result
             (HavePushed bound.now self.old self.new packed.old.rows packed.new.rows) }
     {
-        let moved = packed.take_games(&mut self.rest, self.by, bound);
+        let moved = packed.take_games(&mut self.rest, self.by, bound, steps);
         self.next = self.rest.next_row_key();
         if moved? {
             return Ok(());
         }
-        let Some(held) = self.rest.advance() else {
+        let Some(held) = self.rest.advance(steps) else {
             return Ok(());
         };
         self.next = self.rest.next_row_key();
@@ -94,11 +96,11 @@ impl<'a> Side<'a> {
     }
 
     /// The next row by itself, which is then past.
-    pub fn take(&mut self) -> Option<Row>
+    pub fn take<L: Ledger>(&mut self, steps: &mut Steps<L>) -> Option<Row>
         ensures { MatchOption result ((self.old ≡ []) × (self.new ≡ []))
             (λ row. (self.old ≡ row ∷ self.new) × IsSmall row) }
     {
-        let held = self.rest.advance()?;
+        let held = self.rest.advance(steps)?;
         let row = shifted(&held.to_row(), self.by);
         self.next = self.rest.next_row_key();
         Some(row)

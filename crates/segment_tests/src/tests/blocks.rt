@@ -160,17 +160,51 @@ fn a_walk_gives_what_a_plain_filter_gives(rt: HostRuntime) -> Result<(), Fail> {
 
 /// Whether a walk within the keys gives the rows whose key is not below the first one and is below
 /// the second, and then none.
-fn are_within(packed: &PackedRows, rows: &[Row], from: &[u8; 34], below: &[u8; 34]) -> bool {
-    let mut walk = packed.rows_within(Some(*from), Some(*below));
+fn walks_within<L: Ledger>(
+    packed: &PackedRows,
+    rows: &[Row],
+    from: &[u8; 34],
+    below: &[u8; 34],
+    blank: Blank,
+) -> bool
+    requires name { blank.name ≡ L.name }
+    requires parts { blank.parts ≡ L.parts }
+    requires some { 0 < L.parts }
+{
+    let mut steps = Steps::<L>::new(blank);
+    let mut walk = packed.rows_within(Some(*from), Some(*below), &mut steps);
     for row in rows {
         if row.key.cmp(from).is_ge() && row.key.cmp(below).is_lt() {
-            match walk.advance() {
+            match walk.advance(&mut steps) {
                 Some(held) if held.to_row() == *row => {}
                 _ => return false,
             }
         }
     }
-    walk.advance().is_none()
+    walk.advance(&mut steps).is_none()
+}
+
+/// The same, where nobody counts the steps.
+fn are_within(packed: &PackedRows, rows: &[Row], from: &[u8; 34], below: &[u8; 34]) -> bool {
+    walks_within::<Brand>(packed, rows, from, below, Blank::new(1))
+}
+
+/// The keys of the first rows of the blocks, and what is said of one block more.
+fn first_keys<L: Ledger>(
+    alloc: Global,
+    packed: &PackedRows,
+    blank: Blank,
+) -> Result<Vec<Option<[u8; 34]>>, AllocError>
+    requires name { blank.name ≡ L.name }
+    requires parts { blank.parts ≡ L.parts }
+    requires some { 0 < L.parts }
+{
+    let mut steps = Steps::<L>::new(blank);
+    let mut keys = Vec::new(alloc);
+    for n in 0..=packed.block_count() {
+        keys.push(packed.first_key(n, &mut steps))?;
+    }
+    Ok(keys)
 }
 
 #[test]
@@ -190,10 +224,11 @@ fn a_walk_within_keys_gives_what_a_plain_filter_gives(rt: HostRuntime) -> Result
     }
     // 662 rows take five full blocks and one of 22 rows.
     assert_eq!(rt; packed.block_count(), 6);
-    for at in [0, 127, 128, 661] {
-        assert_eq!(rt; packed.key_at(at), rows.get(at).map(|row| row.key));
+    let firsts = first_keys::<Brand>(rt.alloc(), &packed, Blank::new(1))?;
+    for (n, first) in firsts.iter().enumerate() {
+        let row = rows.get(n.saturating_mul(128));
+        assert_eq!(rt; *first, row.map(|row| row.key), "of block {n}");
     }
-    assert_eq!(rt; packed.key_at(662), None);
     Ok(())
 }
 

@@ -1,9 +1,13 @@
 //! Two segments of one game each, merged.
+ghost use Rattle.std.specs.Prelude.{◌≡◌, ◌<◌};
+
 use super::tallies::{rated_text, tallied};
 use outside::FreeGate;
-use segment_blocks::Segment;
+use segment_blocks::{Segment, Steps};
 use segment_merge::merge;
 use std::alloc::{AllocError, Global};
+use std::marker::Brand;
+use std::sync::ledger::{Blank, Ledger};
 use std::test::Fail;
 use std::thread::Threads;
 
@@ -51,13 +55,19 @@ fn merged<R: Threads + Sync>(
 
 /// The rows with a move, in their order: the square that it leaves, the games, their sum of ratings,
 /// and the number of the best game.
-fn rows_with_a_move(
+fn rows_with_a_move<L: Ledger>(
     alloc: Global,
     segment: &Segment,
-) -> Result<Vec<(u8, u32, u64, u32)>, AllocError> {
+    blank: Blank,
+) -> Result<Vec<(u8, u32, u64, u32)>, AllocError>
+    requires name { blank.name ≡ L.name }
+    requires parts { blank.parts ≡ L.parts }
+    requires some { 0 < L.parts }
+{
+    let mut steps = Steps::<L>::new(blank);
     let mut found = Vec::new(alloc);
-    let mut rows = segment.rows_within(None, None);
-    while let Some(held) = rows.advance() {
+    let mut rows = segment.rows_within(None, None, &mut steps);
+    while let Some(held) = rows.advance(&mut steps) {
         let row = held.to_row();
         if let (Some(played), Some(best)) = (row.next, row.top.entries().first()) {
             found.push((played.from.index, row.white, row.ratings, best.number))?;
@@ -81,7 +91,7 @@ fn rows_of_both_sides_are_put_together_or_in_order(rt: HostRuntime) -> Result<()
         let right = one_game(&rt, rt.alloc(), 1, (1800, 1700), movetext)?;
         for workers in [1, 16] {
             let both = merged(&rt, rt.alloc(), &left, &right, workers)?;
-            let rows = rows_with_a_move(rt.alloc(), &both)?;
+            let rows = rows_with_a_move::<Brand>(rt.alloc(), &both, Blank::new(1))?;
             assert!(rt;
                 rows.as_slice() == wanted,
                 "{movetext} with {workers} workers"

@@ -353,7 +353,8 @@ fn each_leaf_passes_the_gate_once(rt: HostRuntime) -> Result<(), Fail> {
     Ok(())
 }
 
-/// A gate that marks each leaf. It holds leaf 1 until leaf 2 has come, or a million turns are over.
+/// A gate that marks each leaf. It holds leaf 1, which has taken its first texts, until leaf 2 has
+/// come, or a million turns are over.
 #[derive(Drop)]
 struct HoldingGate {
     leaves: AtomicU64,

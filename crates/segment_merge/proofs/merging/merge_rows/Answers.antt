@@ -4,17 +4,17 @@ use Rattle.segment_merge.proofs.MergedLemmas.{in_order-merged, both-ended}
 use Rattle.segment_merge.proofs.merging.merge_rows.Goals as goal
 
 pub push_next-requires : goal.push_next-requires
-push_next-requires c = record {
+push_next-requires g c = record {
   order = sym c.order_of.ensures ∙ c.in-Some.is;
   in_order = subst AreInOrder (sym c.loop-order.invariant)
       (in_order-merged c.args.left c.args.right c.requires.left_in_order c.requires.right_in_order);
 }
 
 pub loop-order-preserved : goal.loop-order-preserved
-loop-order-preserved c = c.in_ok-push_next.ensures.whole ∙ c.loop-order.invariant
+loop-order-preserved g c = c.in_ok-push_next.ensures.whole ∙ c.loop-order.invariant
 
 pub returns : goal.returns
-returns c =
+returns g c =
     let rows = c.loop-order.packed.rows in
     let ended = both-ended c.loop-order.left c.loop-order.right (sym c.order_of.ensures ∙ c.in_default.is) in
     sym (append-nil rows) ∙ ap (λ l. rows ++ l) (sym ended) ∙ c.loop-order.invariant

@@ -7,48 +7,48 @@ use Rattle.segment_merge.proofs.PushedLemmas.{after-left, after-right, fewer-lef
 use Rattle.segment_merge.proofs.merging.push_next.Goals as goal
 
 pub push_next-requires : goal.push_next-requires
-push_next-requires c = record { in_order = in_order-left c.args.packed.now.rows c.args.left.now c.args.right.now c.requires.in_order }
+push_next-requires g c = record { in_order = in_order-left c.args.packed.now.rows c.args.left.now c.args.right.now c.requires.in_order }
 
 pub push_next-requires-in-Greater : goal.push_next-requires-in-Greater
-push_next-requires-in-Greater c = record { in_order = in_order-right c.args.packed.now.rows c.args.left.now c.args.right.now c.requires.in_order }
+push_next-requires-in-Greater g c = record { in_order = in_order-right c.args.packed.now.rows c.args.left.now c.args.right.now c.requires.in_order }
 
 pub returns-in-Less-clause-whole : goal.returns-in-Less-clause-whole
-returns-in-Less-clause-whole c =
+returns-in-Less-clause-whole g c =
     let moved = c.push_next in
     on_ok_weaker moved.result
     (after-left c.bound.result c.args.packed.now.rows moved.new.packed.rows c.args.left.now c.args.right.now moved.new.self (c.requires.order ∙ ap Some c.in-Less.is) c.bound.ensures)
     moved.ensures
 
 pub returns-in-Less-clause-fewer : goal.returns-in-Less-clause-fewer
-returns-in-Less-clause-fewer c =
+returns-in-Less-clause-fewer g c =
     let moved = c.push_next in
     on_ok_weaker moved.result
     (fewer-left c.bound.result c.args.packed.now.rows moved.new.packed.rows c.args.left.now c.args.right.now moved.new.self (c.requires.order ∙ ap Some c.in-Less.is))
     moved.ensures
 
 pub returns-in-Greater-clause-whole : goal.returns-in-Greater-clause-whole
-returns-in-Greater-clause-whole c =
+returns-in-Greater-clause-whole g c =
     let moved = c.push_next-in-Greater in
     on_ok_weaker moved.result
     (after-right c.bound-in-Greater.result c.args.packed.now.rows moved.new.packed.rows c.args.left.now c.args.right.now moved.new.self (c.requires.order ∙ ap Some c.in-Greater.is) c.bound-in-Greater.ensures)
     moved.ensures
 
 pub returns-in-Greater-clause-fewer : goal.returns-in-Greater-clause-fewer
-returns-in-Greater-clause-fewer c =
+returns-in-Greater-clause-fewer g c =
     let moved = c.push_next-in-Greater in
     on_ok_weaker moved.result
     (fewer-right c.bound-in-Greater.result c.args.packed.now.rows moved.new.packed.rows c.args.left.now c.args.right.now moved.new.self (c.requires.order ∙ ap Some c.in-Greater.is))
     moved.ensures
 
 pub combine-requires-clause-same : goal.combine-requires-clause-same
-combine-requires-clause-same c =
+combine-requires-clause-same g c =
     let both = c.in-Some-Some in
     row_order-IsAntisymmetric _ _
     (same-row_key both.first both.second c.args.left.now c.args.right.now c.take.new.self c.take-in-Equal.new.self
     (c.requires.order ∙ ap Some c.in-Equal.is) both.ensures.0 both.ensures'.0)
 
 pub push-requires : goal.push-requires
-push-requires c =
+push-requires g c =
     let both = c.in-Some-Some in
     let rows = c.args.packed.now.rows in
     record {
@@ -58,7 +58,7 @@ push-requires c =
     }
 
 pub returns-in-Some-Some-clause-whole : goal.returns-in-Some-Some-clause-whole
-returns-in-Some-Some-clause-whole c =
+returns-in-Some-Some-clause-whole g c =
     let both = c.in-Some-Some in
     let rows = c.args.packed.now.rows in
     on_ok_weaker c.push.result

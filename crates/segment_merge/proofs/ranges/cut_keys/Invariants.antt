@@ -1,9 +1,4 @@
-use Rattle.std.proofs.Common.{◌≡◌, ◌+◌, ◌++◌, [], ◌∷◌, length}
-use Rattle.segment_merge.specs.Ranges.{AreRising}
 use Rattle.segment_merge.proofs.ranges.cut_keys.Given as goal
 
-abbrev pub invariant-loop-part : goal.invariant-loop-part
-invariant-loop-part l = record {
-  count : length l.keys.items + 1 ≡ l.part;
-  rising : AreRising (l.keys.items ++ l.last ∷ []);
-}
+abbrev pub ghosts-cut_keys_in : goal.ghosts-cut_keys_in
+ghosts-cut_keys_in a = record { name = a.blank.name; parts = a.blank.parts }

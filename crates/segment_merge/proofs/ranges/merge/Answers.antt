@@ -1,4 +1,4 @@
-use Rattle.std.proofs.Common.{◌≡◌, List, ◌++◌, Ok, Err, Result, IfOk, sym, subst, ◌∙◌, rules}
+use Rattle.std.proofs.Common.{◌≡◌, List, ◌++◌, Ok, Err, Result, IfOk, sym, subst, ◌∙◌}
 use Rattle.std.specs.declared.alloc.AllocError.{AllocError}
 use Rattle.tally_rows.specs.declared.row.Row.{Row}
 use Rattle.segment_blocks.specs.PackedRows.{rows_of_parts}
@@ -21,10 +21,6 @@ merge-of left right rows (Ok segment) span classes is both tally = record {
 }
 merge-of left right rows (Err e) span classes is both tally = tt
 
--- Hands facts on, so that other variables may be hidden from a `search` by their names.
-hand : {A B C : Type 0} → A → B → (A → B → C) → C
-hand a b f = f a b
-
 pub of_both-requires : goal.of_both-requires
 of_both-requires g c =
     let left = c.args.left.now in
@@ -33,7 +29,7 @@ of_both-requires g c =
     let results = c.in_ok-results.results.items in
     let rising = subst AreRising (sym c.as_slice-keys.ensures.value) c.in_ok-keys.ensures.rising in
     let rows = parts-rows keys left right c.span-left.ensures.segment c.span-right.ensures.segment results c.in_ok-parts.parts.items c.in_ok-parts.ensures c.in_ok-results.ensures.len rising
-    (λ n d below. hand (c.in_ok-results.ensures.each n d below).1.met c.requires.spans.few (λ given few. let c : Unit {0} = tt in search (rules, given))) in
+    (λ n d below. (c.in_ok-results.ensures.each n d below).1.met) in
     record {
       spans = c.requires.spans;
       tally = subst (IsTallyOfBoth left right) (sym rows) (tally-both left right c.span-left.ensures.segment c.span-right.ensures.segment);
@@ -47,6 +43,6 @@ returns g c =
     let results = c.in_ok-results.results.items in
     let rising = subst AreRising (sym c.as_slice-keys.ensures.value) c.in_ok-keys.ensures.rising in
     let rows = parts-rows keys left right c.span-left.ensures.segment c.span-right.ensures.segment results c.in_ok-parts.parts.items c.in_ok-parts.ensures c.in_ok-results.ensures.len rising
-    (λ n d below. hand (c.in_ok-results.ensures.each n d below).1.met c.requires.spans.few (λ given few. let c : Unit {0} = tt in search (rules, given))) in
+    (λ n d below. (c.in_ok-results.ensures.each n d below).1.met) in
     let made = c.of_both.ensures in
     merge-of left right (rows_of_parts c.in_ok-parts.parts.items) c.of_both.result made.span made.classes made.rows rows (tally-both left right c.span-left.ensures.segment c.span-right.ensures.segment)

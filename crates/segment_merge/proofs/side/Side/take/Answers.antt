@@ -7,11 +7,11 @@ use Rattle.segment_merge.proofs.RoomLemmas.{small-shifted}
 use Rattle.segment_merge.proofs.side.Side.take.Goals as goal
 
 pub returns : goal.returns
-returns c =
+returns g c =
     let s = c.self.inside in
     let held = row_in c.in_ok-held.held in
     let rest = c.advance.new.self in
-    let is : s.rest ≡ held ∷ rest = c.in_ok-held.ensures in
+    let is : s.rest ≡ held ∷ rest = c.in_ok-held.ensures.rows in
     let room = subst (AllByRecursion (HasRoom s.by)) is c.self.invariant.room in
     let row : c.shifted-row.result ≡ shifted_row s.by held = c.shifted-row.ensures ∙ ap (shifted_row s.by) c.to_row.ensures in (
       sym c.self.view_is ∙ ap (map (shifted_row s.by)) is ∙ ap (λ r. r ∷ map (shifted_row s.by) rest) (sym row),

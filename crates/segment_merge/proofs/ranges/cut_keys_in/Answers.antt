@@ -1,10 +1,10 @@
 use Rattle.std.proofs.Common.{◌++◌, [], ◌∷◌, length, length-append, sym, ap, subst, arith}
 use Rattle.segment_merge.specs.Ranges.{AreRising}
 use Rattle.segment_merge.proofs.RisingLemmas.{rising-more, rising-front}
-use Rattle.segment_merge.proofs.ranges.cut_keys.Goals as goal
+use Rattle.segment_merge.proofs.ranges.cut_keys_in.Goals as goal
 
 pub loop-part-preserved : goal.loop-part-preserved
-loop-part-preserved c =
+loop-part-preserved g c =
     let keys = c.loop-part.keys.items in
     let old = c.loop-part.last in
     let new = c.later_key-next.result in
@@ -15,4 +15,4 @@ loop-part-preserved c =
     }
 
 pub returns-clause-rising : goal.returns-clause-rising
-returns-clause-rising c = rising-front c.loop-part.keys.items c.loop-part.last c.loop-part.invariant.rising
+returns-clause-rising g c = rising-front c.loop-part.keys.items c.loop-part.last c.loop-part.invariant.rising
