@@ -17,17 +17,17 @@ use Rattle.ingest_desk.proofs.AlikeLemmas.{alike_self, spans_alike}
 
 -- ---- one place
 
-none_there : (segment : CountedSpan) (P : Type 0) → slice_get [] zero ≡ Some segment → P
+pub none_there : (segment : CountedSpan) (P : Type 0) → slice_get [] zero ≡ Some segment → P
 none_there segment P e = absurd (no segment e)
   where
     no : (s : CountedSpan) → slice_get [] zero ≡ Some s → ⊥
     no s e = cc
 
-one_there : (a b : CountedSpan) → Some a ≡ Some b → a ≡ b
+pub one_there : (a b : CountedSpan) → Some a ≡ Some b → a ≡ b
 one_there a b e = cc
 
 -- a segment begins where its list does, or behind
-begins_behind : (list : List CountedSpan) (first at : ℕ) (segment : CountedSpan)
+pub begins_behind : (list : List CountedSpan) (first at : ℕ) (segment : CountedSpan)
     → Adjoin first (spans_of list) → slice_get list at ≡ Some segment → first ≤ segment.span.first
 begins_behind [] first at segment adjoin is = none_there segment _ is
 begins_behind (x ∷ list) first zero segment adjoin is =

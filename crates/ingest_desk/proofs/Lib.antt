@@ -10,3 +10,4 @@ pub mod SoundLemmas
 pub mod ListingLemmas
 pub mod AlikeLemmas
 pub mod InstallLemmas
+pub mod JobLemmas

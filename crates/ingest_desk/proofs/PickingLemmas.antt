@@ -2,17 +2,14 @@
 use Rattle.std.proofs.Common.{get_or, ◌≡◌, ◌<◌, ◌≤◌, ◌+◌, ◌*◌, ◌^◌, ℕ, zero, suc, Bool, true, false, List, [], ◌∷◌, ◌++◌, length, length-drop, map, set, take, drop, Option, None, Some, refl, sym, ap, ◌∙◌, subst, arith, length-append}
 use Rattle.std.proofs.Math.Nat.{pow-suc}
 use Rattle.std.proofs.Math.Pow.{pow_mono}
-use Rattle.std.proofs.lemmas.Bool.Decides.{Decides-eqb, nat_tests}
+use Rattle.std.proofs.lemmas.Bool.Decides.{nat_tests}
 use Rattle.std.proofs.lemmas.Grind.{flat_map-append}
 use Rattle.std.proofs.lemmas.List.{length-map, length-take-le}
 use Rattle.std.proofs.lemmas.List.Elements.{recursion_from_All}
 use Rattle.std.proofs.lemmas.Slice.Zip.{AllZip-long}
 use Rattle.std.proofs.lemmas.Option.{slice_get-map, slice_get_read, slice_get_within}
 use Rattle.std.specs.Option.{option_map}
-use Rattle.std.proofs.lemmas.Slice.Eq.{slice_eq-Decides}
-use Rattle.std.specs.Bool.{Decides}
-use Rattle.std.specs.Cmp.Lexicographic.{pointwise}
-use Rattle.std.specs.Prelude.{nat_lt, slice_get, ◌==◌}
+use Rattle.std.specs.Prelude.{nat_lt, slice_get}
 use Rattle.explorer_model.specs.declared.archive.Batch.{Batch}
 use Rattle.explorer_model.specs.declared.archive.Game.{Game}
 use Rattle.explorer_model.specs.Journal.{IsBatch, game_count, game_limit}
@@ -283,20 +280,6 @@ joined_length list at segment inside =
     )
 
 -- ---- neighbours with given spans
-
-text_same : (a b : List ℕ) → Decides (pointwise (λ (x y : ℕ). x == y) a b) (a ≡ b)
-text_same a b = slice_eq-Decides Decides-eqb a b _ refl
-
-pub label_same : (a b : List ℕ) (r : Bool) → r ≡ pointwise (λ (x y : ℕ). x == y) a b → Decides r (a ≡ b)
-label_same a b r is = slice_eq-Decides Decides-eqb a b r is
-
-pub batch_same : (a b : Batch) (r : Bool)
-    → r ≡ pointwise (pointwise (λ (x y : ℕ). x == y)) a.texts b.texts → a.label ≡ b.label → Decides r (a ≡ b)
-batch_same a b r is label =
-    let texts = slice_eq-Decides text_same a.texts b.texts r is in (
-      λ e. (let same = texts.0 e in λ i. record { label = label i; texts = same i }),
-      λ e. texts.1 (ap (λ (x : Batch). x.texts) e),
-    )
 
 pub list_same : {X : Type 0} (xs ys : List X) → length xs ≡ length ys
     → ((k : ℕ) → k < length xs → slice_get xs k ≡ slice_get ys k) → xs ≡ ys

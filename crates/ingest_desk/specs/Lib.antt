@@ -13,5 +13,6 @@ pub mod Importers
 pub mod Recounts
 pub mod Openings
 pub mod Installs
+pub mod Jobs
 pub mod Listing
 pub mod Alike

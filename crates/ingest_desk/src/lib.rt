@@ -4,7 +4,7 @@
 //! // Behind an Ok the batch is stored, counted and published.
 //! let receipt = ingest.commit(&rt, alloc, tally)?;
 //! if let Some(job) = ingest.pick()? {
-//!     let merged = merge(&rt, alloc, &job.left, &job.right, workers, &FreeGate)?;
+//!     let merged = merge(&rt, alloc, job.left(), job.right(), workers, &FreeGate)?;
 //!     let note = ingest.install(&rt, alloc, job, merged)?;
 //! }
 //! ```
@@ -21,6 +21,7 @@ mod ingest;
 mod job;
 pub mod laws;
 mod mark;
+mod merge_desk;
 mod merging;
 mod opening;
 mod picking;
@@ -36,6 +37,7 @@ pub use importer::Importer;
 pub use ingest::{Desk, Ingest};
 pub use job::{Job, Standing};
 pub use mark::{Mark, MarkKind, Marks};
+pub use merge_desk::MergeDesk;
 pub use opening::open;
 pub use receipt::Receipt;
 pub use report::{End, ImportCall, ImportEnding, Report};

@@ -4,7 +4,7 @@ ghost use Rattle.std.specs.Arc.{arc_value};
 ghost use Rattle.explorer_model.specs.Journal.{game_count, game_limit};
 ghost use Rattle.explorer_model.specs.Timeline.{both};
 ghost use Rattle.published_index.specs.Cover.{IsList, journal_of, list_limit};
-ghost use Rattle.ingest_desk.specs.Installs.{Installs};
+ghost use Rattle.ingest_desk.specs.Installs.{AreGone, Installs, StandAt};
 ghost use Rattle.ingest_desk.specs.Listing.{MakesRoom};
 ghost use Rattle.ingest_desk.specs.Picking.{HasNoneDue, IsPicked, rest_limit};
 ghost use Rattle.ingest_desk.specs.Stored.{journal};
@@ -28,9 +28,9 @@ const LIST_LIMIT: usize = 64;
 impl<D: Disk, J: Index> Ingest<D, J> {
     /// The last neighbours of the list of which the left one has at most twice as many games as the
     /// right one.
-    pub fn pick(&self) -> Result<Option<Job>, AllocError>
+    pub fn pick(&self) -> Result<Option<Job<J>>, AllocError>
         ensures { IfOk result (λ found. MatchOption found (HasNoneDue self.now.index.list)
-            (λ job. IsPicked self.now.index.list (arc_value job.left) (arc_value job.right))) }
+            (λ job. IsPicked self.now.index.list job.left job.right)) }
     {
         let segments = self.publisher.list().segments();
         let Some(at) = last_due(segments) else {
@@ -39,7 +39,8 @@ impl<D: Disk, J: Index> Ingest<D, J> {
         let left = Arc::try_clone(&segments[at])?;
         let right = Arc::try_clone(&segments[at + 1])?;
         let (_left, _right) = (left.span(), right.span());
-        Ok(Some(Job { left, right }))
+        let note = self.publisher.tell();
+        Ok(Some(Job { left, right, note }))
     }
 
     /// Puts the segment of a job's two in their place, where they still stand as neighbours. A change
@@ -48,11 +49,11 @@ impl<D: Disk, J: Index> Ingest<D, J> {
         &mut self,
         rt: &R,
         alloc: Global,
-        job: Job,
+        job: Job<J>,
         merged: Segment,
     ) -> Result<Note<J>, InstallFault>
-        requires { merged.span ≡ both (arc_value job.left).span (arc_value job.right).span }
-        ensures installs { Installs (arc_value job.left).span (arc_value job.right).span merged
+        requires { merged.span ≡ both job.left.span job.right.span }
+        ensures installs { Installs job.left.span job.right.span merged
             self.old.index self.new.index result }
         ensures manifest { self.new.manifest ≡ self.old.manifest }
         ensures journal { journal self.new ≡ journal self.old }
@@ -68,21 +69,19 @@ impl<D: Disk, J: Index> Ingest<D, J> {
         &mut self,
         rt: &R,
         alloc: Global,
-        job: &Job,
+        job: &Job<J>,
         merged: Segment,
     ) -> Result<Note<J>, InstallFault>
         requires none_held { self.old.index.held ≡ None }
-        requires both { merged.span
-            ≡ both (arc_value job.now.left).span (arc_value job.now.right).span }
-        ensures installs { Installs (arc_value job.now.left).span (arc_value job.now.right).span
-            merged self.old.index self.new.index result }
+        requires both { merged.span ≡ both job.now.left.span job.now.right.span }
+        ensures installs { Installs job.now.left.span job.now.right.span merged
+            self.old.index self.new.index result }
         ensures manifest { self.new.manifest ≡ self.old.manifest }
         ensures journal { journal self.new ≡ journal self.old }
     {
-        let segments = self.publisher.list().segments();
-        let Some(at) = place_of(segments, &job.left, &job.right) else {
+        let Some(at) = self.find(job) else {
             return Err(InstallFault::Gone {
-                spans: spans_of(segments),
+                spans: spans_of(self.publisher.list().segments()),
             });
         };
         let Ok(shared) = Arc::new(alloc, merged) else {
@@ -92,6 +91,19 @@ impl<D: Disk, J: Index> Ingest<D, J> {
             Ok(note) => Ok(note),
             Err(_) => Err(InstallFault::OutOfMemory),
         }
+    }
+
+    /// Where the two of a job stand as neighbours, with their batches. It takes no memory, and compares
+    /// no batches: what the list had when the job was picked it has still, at the same places.
+    fn find(&mut self, job: &Job<J>) -> Option<usize>
+        requires { self.old.index.held ≡ None }
+        ensures place { MatchOption result
+            (AreGone self.old.index.list job.now.left.span job.now.right.span)
+            (λ at. StandAt self.old.index.list at job.now.left.span job.now.right.span) }
+        ensures same { self.new ≡ self.old }
+    {
+        self.publisher.confirm_note(&job.note);
+        place_of(self.publisher.list().segments(), &job.left, &job.right)
     }
 
     /// Joins the neighbours that are due where the list has no room.

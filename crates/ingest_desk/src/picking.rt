@@ -3,14 +3,13 @@ ghost use Rattle.std.specs.Prelude.{◌≡◌, ◌↔◌, ◌≤◌, length, map
 ghost use Rattle.std.specs.Arc.{arc_value};
 ghost use Rattle.explorer_model.specs.Journal.{game_count, game_limit};
 ghost use Rattle.segment_blocks.specs.Segment.{IsSegment};
-ghost use Rattle.published_index.specs.Cover.{journal_of, list_limit};
+ghost use Rattle.published_index.specs.Cover.{IsList, journal_of, list_limit};
 ghost use Rattle.ingest_desk.specs.Installs.{AreGone, HaveSpans, StandAt, place_of as placed};
+ghost use Rattle.ingest_desk.specs.Jobs.{AreOfOneJournal, StandsIn};
 ghost use Rattle.ingest_desk.specs.Picking.{AreDue, Picks};
 
-use crate::batches::batch_of;
 use crate::job::Standing;
 use arrayvec::ArrayVec;
-use explorer_model::archive::Batch;
 use published_index::SharedSegment;
 use segment_blocks::Segment;
 
@@ -41,8 +40,11 @@ fn are_due(left: &Segment, right: &Segment) -> bool
     u64::from(left.games()) <= 2 * u64::from(right.games())
 }
 
-/// Where these two stand as neighbours, with their batches.
+/// Where these two stand as neighbours, with their batches. The list's journal has them too.
 pub(crate) fn place_of(segments: &[SharedSegment], left: &Segment, right: &Segment) -> Option<usize>
+    requires list { IsList (map arc_value segments.now) }
+    requires left { StandsIn (journal_of (map arc_value segments.now)) left.now.span }
+    requires right { StandsIn (journal_of (map arc_value segments.now)) right.now.span }
     ensures { MatchOption result
         (AreGone (map arc_value segments.now) left.now.span right.now.span)
         (λ at. StandAt (map arc_value segments.now) at left.now.span right.now.span) }
@@ -57,44 +59,28 @@ pub(crate) fn place_of(segments: &[SharedSegment], left: &Segment, right: &Segme
     None
 }
 
-/// Whether two segments have the same spans as two others, with the same batches.
+/// Whether two segments have the same spans as two others of one journal, with the same batches.
 fn have_spans_of(first: &Segment, second: &Segment, left: &Segment, right: &Segment) -> bool
+    requires left { AreOfOneJournal first.now.span left.now.span }
+    requires right { AreOfOneJournal second.now.span right.now.span }
     ensures { IsTrue result
         ↔ HaveSpans first.now.span second.now.span left.now.span right.now.span }
 {
     has_span_of(first, left) && has_span_of(second, right)
 }
 
-/// Whether a segment has the same span as another one, with the same batches.
+/// Whether a segment has the same span as another one of its journal, with the same batches: it has
+/// where it begins at the same place and has as many.
 fn has_span_of(segment: &Segment, other: &Segment) -> bool
+    requires { AreOfOneJournal segment.now.span other.now.span }
     ensures { IsTrue result ↔ segment.now.span ≡ other.now.span }
 {
     let span = segment.span();
     let other_span = other.span();
-    if span.first != other_span.first || span.count != other_span.count {
+    if span.first != other_span.first {
         return false;
     }
-    for n in 0..span.count {
-        if !is_same(batch_of(segment, n), batch_of(other, n)) {
-            return false;
-        }
-    }
-    true
-}
-
-fn is_same(batch: &Batch, other: &Batch) -> bool
-    ensures { IsTrue result ↔ batch.now ≡ other.now }
-{
-    if !have_one_label(batch, other) {
-        return false;
-    }
-    batch.texts == other.texts
-}
-
-fn have_one_label(batch: &Batch, other: &Batch) -> bool
-    ensures { IsTrue result ↔ batch.now.label ≡ other.now.label }
-{
-    batch.label == other.label
+    span.count == other_span.count
 }
 
 /// Where the segments stand.

@@ -82,9 +82,8 @@ impl<J: Index> Publisher<J> {
     }
 
     /// A note of the whole published journal. It takes no memory.
-    pub fn tell(&mut self) -> Note<J>
-        ensures note { result ≡ journal_of self.old.list }
-        ensures same { self.new ≡ self.old }
+    pub fn tell(&self) -> Note<J>
+        ensures { result ≡ journal_of self.now.list }
     {
         Note {
             front: self.writer.front(),
@@ -99,6 +98,14 @@ impl<J: Index> Publisher<J> {
         ensures seen { IsPrefix pass.now.seen (journal_by self.old) }
     {
         self.writer.confirm(pass.seat.front());
+    }
+
+    /// Makes sure that a note has nothing but what was published, or waits to be. It takes no memory.
+    pub fn confirm_note(&mut self, note: &Note<J>)
+        ensures same { self.new ≡ self.old }
+        ensures told { IsPrefix note.now (journal_by self.old) }
+    {
+        self.writer.confirm(&note.front);
     }
 
     /// A snapshot of the published list.
