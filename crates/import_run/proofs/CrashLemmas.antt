@@ -4,9 +4,9 @@ use Rattle.disk_model.specs.Disk.{DiskState, LeavesOnly}
 use Rattle.explorer_model.specs.declared.archive.Batch.{Batch}
 use Rattle.explorer_model.specs.Journal.{IsSound}
 use Rattle.record_log.specs.Log.{EachImage, Log}
-use Rattle.manifest.specs.Manifest.{HasJournal}
+use Rattle.manifest.specs.Manifest.{HasFrontOf, HasJournal}
 use Rattle.ingest_desk.specs.Stored.{Stored, journal}
-use Rattle.import_run.specs.Since.{Goes, HasFrontOf, HasSoundBehind, IsSince}
+use Rattle.import_run.specs.Since.{Goes, HasSoundBehind, IsSince}
 use Rattle.import_run.specs.SinceLaws.{weaker}
 
 module _ (fronts : (front rest : List Batch) → IsSound (front ++ rest) → IsSound front) where

@@ -10,7 +10,9 @@ use Rattle.explorer_model.specs.declared.archive.Batch.{Batch}
 use Rattle.explorer_model.specs.Journal.{IsBatch}
 use Rattle.explorer_model.specs.Spans.{Span}
 use Rattle.explorer_model.specs.Visits.{texts_of}
+use Rattle.segment_blocks.specs.PackedRows.{AreBlocksOf}
 use Rattle.segment_blocks.specs.Segment.{CanJoin, CountedSpan, IsSegment}
+use Rattle.tally_rows.specs.declared.row.Row.{Row}
 use Rattle.segment_merge.specs.Merging.{IsMergeOf}
 use Rattle.tally_rows.specs.Tally.{IsTallyOf}
 use Rattle.published_index.specs.Changes.{JoinAt, with_change}
@@ -24,7 +26,7 @@ use Rattle.ingest_desk.specs.Picking.{HasNoneDue}
 use Rattle.ingest_desk.specs.Stored.{Stored, journal}
 use Rattle.ingest_desk.proofs.AlikeLemmas.{alike_back, alike_self}
 use Rattle.ingest_desk.proofs.PickingLemmas.{joined_length, may_replace}
-use Rattle.import_run.specs.Upkeep.{Follows, FollowsAll, FollowsBatch, IsMerged}
+use Rattle.import_run.specs.Upkeep.{CountsItsSpan, Follows, FollowsAll, FollowsBatch, IsMerged}
 
 -- ---- joins
 
@@ -45,7 +47,7 @@ joins_list : (list new : List CountedSpan) → IsList list → JoinsPicked list 
 joins_list list new is joins =
     subst IsList (sym joins.list_is) (list-changed list (JoinAt joins.picked.at joins.joined) (may_join list new joins) is)
 
-joins_length : (list new : List CountedSpan) → (joins : JoinsPicked list new) → length new + 1 ≡ length list
+pub joins_length : (list new : List CountedSpan) → (joins : JoinsPicked list new) → length new + 1 ≡ length list
 joins_length list new joins =
     omega (arith, ap length joins.list_is, joined_length list joins.picked.at joins.joined (pair_in list new joins))
 
@@ -60,13 +62,27 @@ no_segment segment P e = absurd (no segment e)
 some_same : (a b : CountedSpan) → Some a ≡ Some b → a ≡ b
 some_same a b e = cc
 
-segment_at : (list : List CountedSpan) (at : ℕ) (segment : CountedSpan) → AllByRecursion IsSegment list → slice_get list at ≡ Some segment → IsSegment segment
+segment_at : (list : List CountedSpan) (at : ℕ) (segment : CountedSpan) → AllByRecursion CountsItsSpan list → slice_get list at ≡ Some segment → CountsItsSpan segment
 segment_at [] at segment all is = no_segment segment _ is
-segment_at (x ∷ list) zero segment all is = subst IsSegment (some_same x segment is) all.0
+segment_at (x ∷ list) zero segment all is = subst CountsItsSpan (some_same x segment is) all.0
 segment_at (x ∷ list) (suc at) segment all is = segment_at list at segment all.1 is
 
+-- as many blocks as rows hold these
+own_blocks : (rows : List Row) → AreBlocksOf rows (length rows)
+own_blocks rows = record { room = omega arith; some = omega arith }
+
+counts_its_span : (segment : CountedSpan) → IsSegment segment → CountsItsSpan segment
+counts_its_span segment is = record {
+  some = is.some;
+  place = is.place;
+  few = is.few;
+  batches = is.batches;
+  tally = is.tally;
+  blocks = own_blocks segment.rows;
+}
+
 -- the merge of two segments is one
-merge_counts : (left right joined : CountedSpan) → IsSegment left → IsSegment right → CanJoin left right → IsMergeOf left right joined → IsSegment joined
+merge_counts : (left right joined : CountedSpan) → CountsItsSpan left → CountsItsSpan right → CanJoin left right → IsMergeOf left right joined → CountsItsSpan joined
 merge_counts left right joined l r can merged =
     let first = ap (λ (s : Span). s.first) merged.span in
     let batches = ap (λ (s : Span). s.batches) merged.span in
@@ -81,18 +97,19 @@ merge_counts left right joined l r can merged =
       few = omega (arith, games, can.few);
       batches = subst (λ (bs : List Batch). All IsBatch bs) (sym batches) all;
       tally = subst (λ cs. IsTallyOf (texts_of joined.span.batches) cs joined.rows) (sym merged.classes) tally;
+      blocks = own_blocks joined.rows;
     }
 
-joins_segments : (list new : List CountedSpan) → All IsSegment list → JoinsPicked list new → All IsSegment new
+joins_segments : (list new : List CountedSpan) → All CountsItsSpan list → JoinsPicked list new → All CountsItsSpan new
 joins_segments list new all joins =
     let picked = joins.picked in
-    let each = recursion_from_All IsSegment list all in
+    let each = recursion_from_All CountsItsSpan list all in
     let left = segment_at list picked.at joins.left each picked.stand.left_is in
     let right = segment_at list (picked.at + 1) joins.right each picked.stand.right_is in
     let joined = merge_counts joins.left joins.right joins.joined left right picked.join joins.merged in
-    let rest = All-cons IsSegment joins.joined (drop (picked.at + 2) list) joined (All-drop IsSegment (picked.at + 2) list all) in
-    subst (λ (l : List CountedSpan). All IsSegment l) (sym joins.list_is)
-    (All-append IsSegment (take picked.at list) (joins.joined ∷ drop (picked.at + 2) list) (All-take IsSegment picked.at list all) rest)
+    let rest = All-cons CountsItsSpan joins.joined (drop (picked.at + 2) list) joined (All-drop CountsItsSpan (picked.at + 2) list all) in
+    subst (λ (l : List CountedSpan). All CountsItsSpan l) (sym joins.list_is)
+    (All-append CountsItsSpan (take picked.at list) (joins.joined ∷ drop (picked.at + 2) list) (All-take CountsItsSpan picked.at list all) rest)
 
 -- ---- what one batch does
 
@@ -143,12 +160,12 @@ batch_list batch list new is follows =
     subst IsList (sym puts.list_is) (list-one follows.roomy puts.segment roomy (has_room list follows.roomy is follows.room) puts.starts) in
     by_merge IsList follows.longer new (joins_list follows.longer new longer) longer follows.merged
 
-batch_segments : (batch : Batch) (list new : List CountedSpan) → All IsSegment list → FollowsBatch batch list new → All IsSegment new
+batch_segments : (batch : Batch) (list new : List CountedSpan) → All CountsItsSpan list → FollowsBatch batch list new → All CountsItsSpan new
 batch_segments batch list new all follows =
     let puts = follows.puts in
-    let A : List CountedSpan → Type 0 = λ l. All IsSegment l in
-    let roomy : All IsSegment follows.roomy = by_room A list follows.roomy (joins_segments list follows.roomy all) all follows.room in
-    let longer : All IsSegment follows.longer = subst A (sym puts.list_is) (All-push IsSegment follows.roomy puts.segment roomy puts.counts) in
+    let A : List CountedSpan → Type 0 = λ l. All CountsItsSpan l in
+    let roomy : All CountsItsSpan follows.roomy = by_room A list follows.roomy (joins_segments list follows.roomy all) all follows.room in
+    let longer : All CountsItsSpan follows.longer = subst A (sym puts.list_is) (All-push CountsItsSpan follows.roomy puts.segment roomy (counts_its_span puts.segment puts.counts)) in
     by_merge A follows.longer new (joins_segments follows.longer new longer) longer follows.merged
 
 -- ---- what batches do, one after another
@@ -165,8 +182,8 @@ follows_list [] list new is same = subst IsList (sym same) is
 follows_list (batch ∷ batches) list new is follows =
     follows_list batches follows.0 new (batch_list batch list follows.0 is follows.1) follows.2
 
-pub follows_segments : (batches : List Batch) (list new : List CountedSpan) → All IsSegment list → FollowsAll batches list new → All IsSegment new
-follows_segments [] list new all same = let A : List CountedSpan → Type 0 = λ l. All IsSegment l in subst A (sym same) all
+pub follows_segments : (batches : List Batch) (list new : List CountedSpan) → All CountsItsSpan list → FollowsAll batches list new → All CountsItsSpan new
+follows_segments [] list new all same = let A : List CountedSpan → Type 0 = λ l. All CountsItsSpan l in subst A (sym same) all
 follows_segments (batch ∷ batches) list new all follows =
     follows_segments batches follows.0 new (batch_segments batch list follows.0 all follows.1) follows.2
 

@@ -11,6 +11,7 @@ mod CountLemmas
 mod CrashLemmas
 mod CutLemmas
 mod DeterminedLemmas
+mod DrainLemmas
 mod EarlyLemmas
 mod EndedLemmas
 mod FollowLemmas

@@ -6,7 +6,7 @@ use Rattle.explorer_model.specs.declared.archive.Batch.{Batch}
 use Rattle.explorer_model.specs.Journal.{IsSound}
 use Rattle.explorer_model.specs.StoreFile.{payload_of}
 use Rattle.record_log.specs.Log.{Adds, Breaks, EachImage, Log}
-use Rattle.manifest.specs.Manifest.{HasJournal, IsWithOrWithoutBatch}
+use Rattle.manifest.specs.Manifest.{HasFrontOf, HasJournal, IsWithOrWithoutBatch}
 use Rattle.tally_rows.specs.Tally.{Counted}
 use Rattle.published_index.specs.Changes.{Change}
 use Rattle.ingest_desk.specs.Causes.{Cause}
@@ -16,7 +16,7 @@ use Rattle.ingest_desk.specs.Stored.{Stored, journal}
 use Rattle.ingest_desk.specs.declared.fault.CommitFault.{CommitFault}
 use Rattle.ingest_desk.specs.declared.fault.CommitFault.TheVariants as faults
 use Rattle.ingest_desk.specs.declared.receipt.Receipt.{Receipt}
-use Rattle.import_run.specs.Since.{Closes, Goes, HasFrontOf, IsSince, StaysOpen}
+use Rattle.import_run.specs.Since.{Closes, Goes, IsSince, StaysOpen}
 use Rattle.import_run.specs.SinceLaws.{one_front, since_same, weaker}
 
 module _ {D : Type 0} (disk : D → DiskState) (left_since : D → ℕ → List ℕ → Type 0) where

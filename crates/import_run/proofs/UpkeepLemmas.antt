@@ -1,7 +1,6 @@
 -- What becomes of a published list as neighbours become one.
-use Rattle.std.proofs.Common.{◌≡◌, ℕ, zero, suc, ◌+◌, ◌<◌, ◌≤◌, List, [], ◌∷◌, length, Option, None, Some, Ok, inl, inr, refl, sym, ap, subst, ◌∙◌, arith}
+use Rattle.std.proofs.Common.{◌≡◌, ℕ, zero, suc, ◌+◌, ◌<◌, ◌≤◌, List, [], ◌∷◌, length, Option, None, Some, Result, Ok, Err, inl, inr, refl, sym, ap, subst, ◌∙◌, arith}
 use Rattle.std.specs.Prelude.{slice_get}
-use Rattle.std.specs.Arc.{arc_value}
 use Rattle.explorer_model.specs.declared.archive.Batch.{Batch}
 use Rattle.explorer_model.specs.Spans.{Adjoin, Span}
 use Rattle.segment_blocks.specs.Segment.{CountedSpan, IsSegment}
@@ -12,25 +11,11 @@ use Rattle.published_index.specs.States.{Publishing, publishing}
 use Rattle.ingest_desk.specs.Installs.{Installs, IsGone, IsInstalled, caught_up, list_by}
 use Rattle.ingest_desk.specs.Listing.{JoinsPicked}
 use Rattle.ingest_desk.specs.Picking.{AreAt, HasNoneDue, IsPicked, NoneDueFrom}
-use Rattle.ingest_desk.specs.declared.job.Job.{Job}
+use Rattle.ingest_desk.specs.Jobs.{Neighbours}
+use Rattle.ingest_desk.specs.declared.fault.InstallFault.{InstallFault}
+use Rattle.ingest_desk.specs.declared.fault.InstallFault.TheVariants as install
 use Rattle.ingest_desk.specs.declared.job.Standing.{Standing}
-use Rattle.import_run.specs.declared.draining.Drained.TheVariants.{Gone}
-use Rattle.import_run.specs.declared.merging.Merging.TheVariants.{Joined, Left}
-use Rattle.import_run.specs.Upkeep.{Finds, IsMerged, Merges, WhereTold}
-
--- ---- what is told
-
-pub chain : (old mid new : Option Publishing) (P Q R : Publishing → Publishing → Type 0) → ((o m n : Publishing) → P o m → Q m n → R o n)
-    → WhereTold old mid P → WhereTold mid new Q → WhereTold old new R
-chain None mid new P Q R step p q = tt
-chain (Some o) None new P Q R step p q = absurd p
-chain (Some o) (Some m) None P Q R step p q = absurd q
-chain (Some o) (Some m) (Some n) P Q R step p q = step o m n p q
-
-pub weaken : (old new : Option Publishing) (P R : Publishing → Publishing → Type 0) → ((o n : Publishing) → P o n → R o n) → WhereTold old new P → WhereTold old new R
-weaken None new P R step p = tt
-weaken (Some o) None P R step p = absurd p
-weaken (Some o) (Some n) P R step p = step o n p
+use Rattle.import_run.specs.Upkeep.{Finds, IsMerged, Merges, merging_by}
 
 -- ---- what is held
 
@@ -82,12 +67,12 @@ one_place first (head ∷ list) (suc at) (suc other) one two adjoin is is' same 
 
 -- ---- one step
 
-module _ (old mid : Publishing) (job : Job) (finds : Finds (Some job) old mid) where
+module _ (old mid : Publishing) (job : Neighbours) (finds : Finds (Some job) old mid) where
   abbrev pub left : CountedSpan
-  left = arc_value job.left
+  left = job.left
 
   abbrev pub right : CountedSpan
-  right = arc_value job.right
+  right = job.right
 
   list_is : mid.list ≡ list_by old
   list_is = ap (λ (p : Publishing). p.list) finds.caught_up
@@ -107,7 +92,7 @@ module _ (old mid : Publishing) (job : Job) (finds : Finds (Some job) old mid) w
         join = finds.picks.join;
       }
 
-  pub not_gone : (new : Publishing) (spans : List Standing) → IsGone left.span right.span (list_by mid) new spans → ⊥
+  not_gone : (new : Publishing) (spans : List Standing) → IsGone left.span right.span (list_by mid) new spans → ⊥
   not_gone new spans is =
       let stand : AreAt mid.list finds.picks.at left right = finds.picks.stand in
       is.gone finds.picks.at (record {
@@ -118,7 +103,7 @@ module _ (old mid : Publishing) (job : Job) (finds : Finds (Some job) old mid) w
         right_is = refl;
       })
 
-  pub joins_due : (new : Publishing) (merged : CountedSpan) (note : List Batch) → IsMergeOf left right merged → IsSegment left
+  joins_due : (new : Publishing) (merged : CountedSpan) (note : List Batch) → IsMergeOf left right merged → IsSegment left
       → IsInstalled left.span right.span merged (list_by mid) new note → JoinsPicked (list_by old) new.list × (new.held ≡ None)
   unfolding picked
   joins_due new merged note merges segment is =
@@ -140,6 +125,13 @@ module _ (old mid : Publishing) (job : Job) (finds : Finds (Some job) old mid) w
         is.none_held,
       )
 
+  -- a step does what it came to, by the answer of the desk
+  pub merges_by : (new : Publishing) (merged : CountedSpan) (answer : Result (List Batch) InstallFault) → IsMergeOf left right merged → IsSegment left
+      → Installs left.span right.span merged mid new answer → Merges (merging_by answer) old new
+  merges_by new merged (Ok note) merges segment installed = joins_due new merged note merges segment installed
+  merges_by new merged (Err (install.Gone spans)) merges segment gone = not_gone new spans.items gone
+  merges_by new merged (Err install.OutOfMemory) merges segment lacks = tt
+
 -- ---- the list afterwards
 
 pub merged_joined : (old new : Publishing) → JoinsPicked (list_by old) new.list → new.held ≡ None → IsMerged (list_by old) (list_by new)
@@ -151,16 +143,3 @@ merged_idle old new is none =
     let list : new.list ≡ list_by old = ap (λ (p : Publishing). p.list) is in
     let held : new.held ≡ None = ap (λ (p : Publishing). p.held) is in
     inl (subst (λ (l : List CountedSpan). HasNoneDue l) list none, nothing_held new held ∙ list)
-
--- ---- a step, where the list is told
-
-module _ (old mid new : Option Publishing) (job : Job) (merged : CountedSpan) (finds : WhereTold old mid (λ o m. Finds (Some job) o m)) where
-  pub joined_told : (note : List Batch) → IsMergeOf (arc_value job.left) (arc_value job.right) merged → IsSegment (arc_value job.left)
-      → WhereTold mid new (λ m n. Installs (arc_value job.left).span (arc_value job.right).span merged m n (Ok note)) → WhereTold old new (Merges Joined)
-  joined_told note merges segment installs =
-      chain old mid new (λ o m. Finds (Some job) o m) (λ m n. Installs (arc_value job.left).span (arc_value job.right).span merged m n (Ok note)) (Merges Joined)
-      (λ o m n f i. joins_due o m job f n merged note merges segment i) finds installs
-
-  pub gone_told : (spans : List Standing) → WhereTold mid new (λ m n. IsGone (arc_value job.left).span (arc_value job.right).span (list_by m) n spans) → WhereTold old new (Merges (Left Gone))
-  gone_told spans installs =
-      chain old mid new (λ o m. Finds (Some job) o m) (λ m n. IsGone (arc_value job.left).span (arc_value job.right).span (list_by m) n spans) (Merges (Left Gone)) (λ o m n f i. not_gone o m job f n spans i) finds installs

@@ -1,11 +1,12 @@
 -- Statement: what an import comes to that alone stores in its store, and what draining does.
-use Rattle.std.specs.Prelude.{◌≡◌, ℕ, List, ◌++◌, None}
+use Rattle.std.specs.Prelude.{◌≡◌, ◌+◌, ◌≤◌, ℕ, List, ◌++◌, length, None}
 use Rattle.disk_model.specs.Disk.{DiskState}
 use Rattle.outside.specs.Stream.{Stream, Reads}
 use Rattle.explorer_model.specs.declared.archive.Batch.{Batch}
 use Rattle.explorer_model.specs.Cuts.{cuts}
 use Rattle.explorer_model.specs.Journal.{IsSound}
 use Rattle.record_log.specs.Log.{IsFault}
+use Rattle.ingest_desk.specs.Installs.{list_by}
 use Rattle.ingest_desk.specs.Kept.{Keeps}
 use Rattle.ingest_desk.specs.Picking.{HasNoneDue}
 use Rattle.ingest_desk.specs.Stored.{Stored, journal}
@@ -17,8 +18,9 @@ use Rattle.import_run.specs.Committing.{Known, Store, store_of}
 use Rattle.import_run.specs.Ending.{ReadFaultsAre, StandsAt, StoresBy}
 use Rattle.import_run.specs.Progress.{AreReceiptsOf}
 use Rattle.import_run.specs.Since.{IsSince}
+use Rattle.import_run.specs.declared.draining.DrainEnd.{DrainEnd}
+use Rattle.import_run.specs.declared.draining.DrainEnd.TheVariants.{Idle, Gone, OutOfMemory}
 use Rattle.import_run.specs.declared.draining.Drained.{Drained}
-use Rattle.import_run.specs.declared.draining.Drained.TheVariants.{Idle, Gone, OutOfMemory}
 
 -- the stored journal of a store on a disk, and the counts of the fault that closed it
 abbrev pub stored_in : {D : Type 0} → Stored D → Store
@@ -59,13 +61,17 @@ pub record ImportsAlone {D J : Type 0} (disk : D → DiskState)
 
 -- ---- draining
 
--- All neighbours that were due have become one, or memory was wanting; the store is as it was.
-abbrev pub AnswersDrained : {D : Type 0} → Drained → Stored D → Type 0
-AnswersDrained Idle after = (after.index.held ≡ None) × HasNoneDue after.index.list
-AnswersDrained Gone after = ⊥
-AnswersDrained OutOfMemory after = Unit {0}
+-- All neighbours that were due have become one, or memory was wanting. Each job has made the list one
+-- shorter, which begins with what was held.
+abbrev pub AnswersDrained : {D : Type 0} → DrainEnd → ℕ → Stored D → Stored D → Type 0
+AnswersDrained Idle jobs before after =
+    (after.index.held ≡ None) × HasNoneDue after.index.list
+    × (jobs + length after.index.list ≡ length (list_by before.index))
+AnswersDrained Gone jobs before after = ⊥
+AnswersDrained OutOfMemory jobs before after = jobs ≤ length (list_by before.index)
 
+-- so many jobs were installed, and the store is as it was
 pub record DrainsAlone {D : Type 0} (before after : Stored D) (drained : Drained) : Type 0 where
-  pub answers : AnswersDrained drained after
+  pub answers : AnswersDrained drained.end drained.jobs before after
   pub same_journal : journal after ≡ journal before
   pub same_manifest : after.manifest ≡ before.manifest

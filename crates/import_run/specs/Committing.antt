@@ -5,10 +5,7 @@ use Rattle.explorer_model.specs.declared.archive.Game.{Game}
 use Rattle.explorer_model.specs.Imports.{numbers_of}
 use Rattle.explorer_model.specs.Visits.{AreGamesOf}
 use Rattle.published_index.specs.Changes.{Change}
-use Rattle.segment_blocks.specs.Segment.{CanJoin}
-use Rattle.std.specs.Arc.{arc_value}
 use Rattle.tally_rows.specs.Tally.{Counted}
-use Rattle.ingest_desk.specs.declared.job.Job.{Job}
 use Rattle.ingest_desk.specs.Causes.{cause}
 use Rattle.ingest_desk.specs.Clashes.{clashes_of}
 use Rattle.ingest_desk.specs.Commits.{IsMarked, IsReceiptOf, Refuses, Stores}
@@ -67,9 +64,3 @@ IsClash (Err (faults.Clash handed pairs note)) tally told =
     × ((pairs.items ≡ clashes_of (numbers_of games) tally.classes)
     × ((known : Known) → told ≡ Some (store_of known) → known.games ≡ games)))))
 IsClash _ tally told = Unit {0}
-
--- ---- merging
-
--- the segments of the job can become one
-abbrev pub AdjoinIn : Job → Type 0
-AdjoinIn job = CanJoin (arc_value job.left) (arc_value job.right)

@@ -5,13 +5,8 @@ use Rattle.explorer_model.specs.declared.archive.Batch.{Batch}
 use Rattle.explorer_model.specs.Journal.{IsSound}
 use Rattle.explorer_model.specs.Timeline.{IsPrefix}
 use Rattle.record_log.specs.Log.{EachImage, IsFault, Log}
-use Rattle.manifest.specs.Manifest.{HasJournal, IsWithOrWithoutBatch}
+use Rattle.manifest.specs.Manifest.{HasFrontOf, HasJournal, IsWithOrWithoutBatch}
 use Rattle.ingest_desk.specs.Stored.{Stored, journal}
-
--- an image has the journal with some front of the batches behind it
-abbrev pub HasFrontOf : List Batch → List Batch → List ℕ → Type 0
-HasFrontOf journal batches image = (front : List Batch) × (rest : List Batch)
-    × (batches ≡ front ++ rest) × HasJournal (journal ++ front) image
 
 -- an image has a sound journal that begins with this one, so that it is opened
 pub record HasSoundBehind (journal : List Batch) (image : List ℕ) : Type 0 where

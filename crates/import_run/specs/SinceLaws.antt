@@ -5,9 +5,9 @@ use Rattle.disk_model.specs.Disk.{DiskState, LeavesOnly, MayLeave}
 use Rattle.explorer_model.specs.declared.archive.Batch.{Batch}
 use Rattle.explorer_model.specs.Journal.{IsSound}
 use Rattle.record_log.specs.Log.{EachImage, Log}
-use Rattle.manifest.specs.Manifest.{HasJournal, IsWithOrWithoutBatch}
+use Rattle.manifest.specs.Manifest.{HasFrontOf, HasJournal, IsWithOrWithoutBatch}
 use Rattle.ingest_desk.specs.Stored.{Stored, journal}
-use Rattle.import_run.specs.Since.{Closes, Goes, HasFrontOf, IsSince, StaysOpen}
+use Rattle.import_run.specs.Since.{Closes, Goes, IsSince, StaysOpen}
 
 -- ---- images
 

@@ -1,9 +1,8 @@
 -- Statement: what becomes of a published list as neighbours become one, and as batches are stored.
-use Rattle.std.specs.Prelude.{◌≡◌, ◌⊎◌, ⊤, ℕ, Bool, false, List, [], ◌∷◌, ◌++◌, Option, None, Some, Result, Ok, Err, MatchOption}
-use Rattle.std.specs.Arc.{arc_value}
+use Rattle.std.specs.Prelude.{◌≡◌, ◌⊎◌, ⊤, ℕ, Bool, false, List, [], ◌∷◌, ◌++◌, Option, None, Some, Result, Ok, Err, MatchOption, length}
 use Rattle.disk_model.specs.Disk.{DiskState}
 use Rattle.explorer_model.specs.declared.archive.Batch.{Batch}
-use Rattle.segment_blocks.specs.Segment.{CountedSpan}
+use Rattle.segment_blocks.specs.Segment.{CountedSpan, IsSegment}
 use Rattle.published_index.specs.Cover.{IsList}
 use Rattle.published_index.specs.States.{Publishing, publishing}
 use Rattle.ingest_desk.specs.Installs.{list_by}
@@ -12,28 +11,23 @@ use Rattle.ingest_desk.specs.Picking.{HasNoneDue, IsPicked}
 use Rattle.ingest_desk.specs.Stored.{Stored, journal}
 use Rattle.ingest_desk.specs.declared.fault.CommitFault.{CommitFault}
 use Rattle.ingest_desk.specs.declared.fault.CommitFault.TheVariants as faults
-use Rattle.ingest_desk.specs.declared.job.Job.{Job}
+use Rattle.ingest_desk.specs.declared.fault.InstallFault.{InstallFault}
+use Rattle.ingest_desk.specs.declared.fault.InstallFault.TheVariants as install
+use Rattle.ingest_desk.specs.Jobs.{Neighbours}
 use Rattle.ingest_desk.specs.declared.receipt.Receipt.{Receipt}
 use Rattle.import_run.specs.Since.{IsSince}
-use Rattle.import_run.specs.declared.draining.Drained.TheVariants.{Idle, Gone, OutOfMemory}
+use Rattle.import_run.specs.declared.draining.DrainEnd.TheVariants.{Idle, Gone, OutOfMemory}
 use Rattle.import_run.specs.declared.merging.Merging.{Merging}
 use Rattle.import_run.specs.declared.merging.Merging.TheVariants.{Joined, Left}
 
 -- ---- one step of merging
 
--- the fact holds of what was published before and after, where that is told; it stays told
-abbrev pub WhereTold : Option Publishing → Option Publishing → (Publishing → Publishing → Type 0)
-    → Type 0
-WhereTold None new P = ⊤
-WhereTold (Some old) None P = ⊥
-WhereTold (Some old) (Some new) P = P old new
-
 -- what was held is published, and this is the job of the list, or no neighbours are due
-pub record Finds (found : Option Job) (old new : Publishing) : Type 0 where
+pub record Finds (found : Option Neighbours) (old new : Publishing) : Type 0 where
   pub caught_up : new ≡ publishing (list_by old)
   pub list : IsList new.list
   pub picks : MatchOption found (HasNoneDue new.list)
-      (λ job. IsPicked new.list (arc_value job.left) (arc_value job.right))
+      (λ job. IsPicked new.list job.left job.right)
 
 -- What a step of merging does: what was held is published, and no neighbours are due, or the last
 -- that are have become one; or memory was wanting.
@@ -43,12 +37,22 @@ Merges (Left Idle) old new = (new ≡ publishing (list_by old)) × HasNoneDue ne
 Merges (Left Gone) old new = ⊥
 Merges (Left OutOfMemory) old new = ⊤
 
+-- what a step came to, by whether the segment that it merged was installed
+abbrev pub merging_by : Result (List Batch) InstallFault → Merging
+merging_by (Ok note) = Joined
+merging_by (Err (install.Gone spans)) = Left Gone
+merging_by (Err install.OutOfMemory) = Left OutOfMemory
+
 -- the stored journal and the manifest are as they were
 pub record StoresSame {D : Type 0} (before after : Stored D) : Type 0 where
   pub same_journal : journal after ≡ journal before
   pub same_manifest : after.manifest ≡ before.manifest
 
 -- ---- behind batches
+
+-- the segment counts the batches of its span, in however many blocks its rows stand
+abbrev pub CountsItsSpan : CountedSpan → Type 0
+CountsItsSpan segment = IsSegment (record segment { blocks = length segment.rows })
 
 -- the last neighbours that are due have become one; where none are due, the list is as it was
 abbrev pub IsMerged : List CountedSpan → List CountedSpan → Type 0

@@ -4,16 +4,15 @@ ghost use Rattle.import_run.specs.Alone.{ImportsAlone, stored_in};
 ghost use Rattle.import_run.specs.Upkeep.{Follows, IsSinceAlone, MergesBehind, StoresSame};
 
 use crate::committer::Committer;
-use crate::draining::Drained;
-use crate::merging::{Merger, Merging, merge_due};
+use crate::draining::DrainEnd;
+use crate::merging::{Merging, merge_due};
 use crate::stream::import_stream;
 use disk_model::Disk;
 use game_replay::laws::game_is_determined;
-use ingest_desk::{CommitFault, Ingest, InstallFault, Job, Receipt, Report};
+use ingest_desk::{CommitFault, Ingest, Receipt, Report};
 use outside::{Gate, Source};
-use published_index::{Index, Note};
-use segment_blocks::Segment;
-use std::alloc::{AllocError, Global};
+use published_index::Index;
+use std::alloc::Global;
 use std::sync::Wait;
 use std::thread::Threads;
 use tally_rows::Tally;
@@ -135,8 +134,8 @@ fn merge_behind<D: Disk, J: Index, R: Wait + Threads + Sync>(
 {
     match answer {
         Ok(_) => match merge_due(rt, alloc, ingest, workers) {
-            Merging::Joined | Merging::Left(Drained::Idle | Drained::Gone) => false,
-            Merging::Left(Drained::OutOfMemory) => true,
+            Merging::Joined | Merging::Left(DrainEnd::Idle | DrainEnd::Gone) => false,
+            Merging::Left(DrainEnd::OutOfMemory) => true,
         },
         Err(CommitFault::OutOfMemory { .. }) => true,
         Err(_) => false,
@@ -147,31 +146,4 @@ fn either(one: bool, other: bool) -> bool
     ensures { result ≡ false → (one ≡ false) × (other ≡ false) }
 {
     one || other
-}
-
-impl<D: Disk, J: Index> Merger<J> for Ingest<D, J> {
-    ghost use Rattle.import_run.specs.UpkeepLaws as laws;
-
-    ghost index = { λ ingest. Some ingest.index };
-
-    ghost same = { λ old new. StoresSame old new };
-
-    fn next_job<R: Wait + Threads + Sync>(&mut self, rt: &R) -> Result<Option<Job>, AllocError> {
-        let _note = self.catch_up(rt)?;
-        let _batches = self.batches();
-        self.pick()
-    }
-
-    fn put<R: Wait + Threads + Sync>(
-        &mut self,
-        rt: &R,
-        alloc: Global,
-        job: Job,
-        merged: Segment,
-    ) -> Result<Note<J>, InstallFault> {
-        self.install(rt, alloc, job, merged)
-    }
-
-    ghost same_before = { λ first second third earlier later.
-        laws.same_before first second third earlier later };
 }

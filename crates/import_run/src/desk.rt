@@ -1,16 +1,15 @@
 //! One who stores at a desk that others use too.
-ghost use Rattle.std.specs.Prelude.{⊤, IfOk, None};
+ghost use Rattle.std.specs.Prelude.{⊤, None};
 ghost use Rattle.std.specs.Thread.{IsSync};
 ghost use Rattle.import_run.specs.Beside.{AnswersTo};
 ghost use Rattle.import_run.specs.Committing.{IsClash};
 
 use crate::committer::Committer;
-use crate::merging::{Merger, merge_due};
+use crate::merging::merge_due_beside;
 use disk_model::Disk;
-use ingest_desk::{CommitFault, Desk, Ingest, InstallFault, Job, Receipt};
-use published_index::{Index, Note};
-use segment_blocks::Segment;
-use std::alloc::{AllocError, Global};
+use ingest_desk::{CommitFault, Desk, Ingest, MergeDesk, Receipt};
+use published_index::Index;
+use std::alloc::Global;
 use std::sync::{MutexGuard, Wait};
 use std::thread::Threads;
 use tally_rows::Tally;
@@ -70,7 +69,7 @@ impl<'a, D: Disk, J: Index> Committer<J> for Seat<'a, D, J> {
     ) -> Result<Receipt<J>, CommitFault<J>> {
         let answer = self.store(rt, alloc, tally);
         if answer.is_ok() {
-            let _merging = merge_due(rt, alloc, self, workers);
+            let _merging = merge_due_beside(rt, alloc, &MergeDesk::of(self.desk), workers);
         }
         answer
     }
@@ -78,32 +77,4 @@ impl<'a, D: Disk, J: Index> Committer<J> for Seat<'a, D, J> {
     ghost since_then = { λ seat. tt };
 
     ghost since_before = { λ first second third from then. tt };
-}
-
-impl<'a, D: Disk, J: Index> Merger<J> for Seat<'a, D, J> {
-    ghost index = { λ seat. None };
-
-    ghost same = { λ old new. ⊤ };
-
-    fn next_job<R: Wait + Threads + Sync>(&mut self, rt: &R) -> Result<Option<Job>, AllocError> {
-        let mut ingest = self.desk.lock(rt);
-        let found = ingest.next_job(rt);
-        MutexGuard::unlock(ingest);
-        found
-    }
-
-    fn put<R: Wait + Threads + Sync>(
-        &mut self,
-        rt: &R,
-        alloc: Global,
-        job: Job,
-        merged: Segment,
-    ) -> Result<Note<J>, InstallFault> {
-        let mut ingest = self.desk.lock(rt);
-        let answer = ingest.put(rt, alloc, job, merged);
-        MutexGuard::unlock(ingest);
-        answer
-    }
-
-    ghost same_before = { λ first second third from then. tt };
 }

@@ -9,7 +9,7 @@ ghost use Rattle.explorer_model.specs.Journal.{IsSound, input_limit};
 ghost use Rattle.explorer_model.specs.Visits.{AreGamesOf};
 ghost use Rattle.record_log.specs.Log.{EachImage};
 ghost use Rattle.manifest.specs.Manifest.{HasJournal, IsWithOrWithoutBatch};
-ghost use Rattle.segment_blocks.specs.Segment.{CountedSpan, IsSegment};
+ghost use Rattle.segment_blocks.specs.Segment.{CountedSpan};
 ghost use Rattle.published_index.specs.Cover.{IsList, journal_of};
 ghost use Rattle.ingest_desk.specs.Alike.{StandAlike};
 ghost use Rattle.ingest_desk.specs.Importers.{call_of};
@@ -26,7 +26,7 @@ ghost use Rattle.import_run.specs.EndingBeside.{ComesBeside};
 ghost use Rattle.import_run.specs.Faultless.{CanEnd, EndsWithoutFault, FindRoom, HasNewGames, IsFaultless, StoresAll};
 ghost use Rattle.import_run.specs.Since.{HasSoundBehind};
 ghost use Rattle.import_run.specs.SoFar.{ended_cuts};
-ghost use Rattle.import_run.specs.Upkeep.{Follows, FollowsAll};
+ghost use Rattle.import_run.specs.Upkeep.{CountsItsSpan, Follows, FollowsAll};
 
 use batch_tally::laws::accounting_is_determined;
 use disk_model::Disk;
@@ -172,7 +172,7 @@ pub fn a_list_that_follows_has_the_journal()
     ensures list { (batches : List Batch) (list new : List CountedSpan) → IsList list
         → FollowsAll batches list new → IsList new }
     ensures segments { (batches : List Batch) (list new : List CountedSpan)
-        → All IsSegment list → FollowsAll batches list new → All IsSegment new }
+        → All CountsItsSpan list → FollowsAll batches list new → All CountsItsSpan new }
 {}
 
 /// Lists that followed the same batches stand alike, where they were one list or stood alike: they have

@@ -1,15 +1,12 @@
 //! Neighbours of a published list that are due become one.
-ghost use Rattle.std.specs.Prelude.{◌≤◌, IfOk, IfSome, Option};
-ghost use Rattle.std.specs.Arc.{arc_value};
-ghost use Rattle.std.specs.Thread.{IsSync};
-ghost use Rattle.published_index.specs.States.{Publishing};
+ghost use Rattle.std.specs.Prelude.{◌≡◌, ◌≤◌, IfOk, IfSome};
+ghost use Rattle.segment_blocks.specs.Segment.{CanJoin, IsSegment};
 ghost use Rattle.segment_merge.specs.Merging.{IsMergeOf};
-ghost use Rattle.ingest_desk.specs.Installs.{Installs};
-ghost use Rattle.import_run.specs.Committing.{AdjoinIn};
-ghost use Rattle.import_run.specs.Upkeep.{Finds, Merges, WhereTold};
+ghost use Rattle.import_run.specs.Upkeep.{Finds, Merges, StoresSame, merging_by};
 
-use crate::draining::Drained;
-use ingest_desk::{InstallFault, Job};
+use crate::draining::DrainEnd;
+use disk_model::Disk;
+use ingest_desk::{Ingest, InstallFault, Job, MergeDesk};
 use outside::FreeGate;
 use published_index::{Index, Note};
 use segment_blocks::Segment;
@@ -24,70 +21,97 @@ pub enum Merging {
     /// Two neighbours have become one.
     Joined,
     /// All neighbours were left as they are.
-    Left(Drained),
+    Left(DrainEnd),
 }
 
-/// Who has neighbours of a published list become one.
-pub trait Merger<J: Index> {
-    // What is published and what is held, where nobody else changes it.
-    ghost index: { Self → Option Publishing };
-
-    // All but the published list is as it was, and the stored journal.
-    ghost same: { Self → Self → Type 0 };
-
-    /// The last neighbours of the list that are to become one. What is held is published before.
-    fn next_job<R: Wait + Threads + Sync>(&mut self, rt: &R) -> Result<Option<Job>, AllocError>
-        requires shares { IsSync R.row }
-        ensures joins { IfOk result (λ found. IfSome found AdjoinIn) }
-        ensures finds { WhereTold (index self.old) (index self.new)
-            (λ old new. IfOk result (λ found. Finds found old new)) }
-        ensures same { same self.old self.new };
-
-    /// Publishes the merged segment of a job in the place of its two, if they still stand there and
-    /// there is memory.
-    fn put<R: Wait + Threads + Sync>(
-        &mut self,
-        rt: &R,
-        alloc: Global,
-        job: Job,
-        merged: Segment,
-    ) -> Result<Note<J>, InstallFault>
-        requires shares { IsSync R.row }
-        requires merged { IsMergeOf (arc_value job.left) (arc_value job.right) merged }
-        ensures installs { WhereTold (index self.old) (index self.new) (λ old new. Installs
-            (arc_value job.left).span (arc_value job.right).span merged old new result) }
-        ensures same { same self.old self.new };
-
-    // What steps leave as it was one after another they leave together.
-    ghost same_before: { (first second third : Self) → same first second → same second third
-        → same first third };
-}
-
-/// Has the last neighbours that are due become one, if there are any. What is held is published before.
-pub fn merge_due<M: Merger<J>, J: Index, R: Wait + Threads + Sync>(
+/// Has the last neighbours that are due become one, if there are any, where nobody else stores or
+/// merges. What is held is published before.
+pub fn merge_due<D: Disk, J: Index, R: Wait + Threads + Sync>(
     rt: &R,
     alloc: Global,
-    merger: &mut M,
+    ingest: &mut Ingest<D, J>,
     workers: usize,
 ) -> Merging
     requires some_workers { 1 ≤ workers }
     requires few_workers { workers ≤ 16 }
-    ensures merges { WhereTold (M.index merger.old) (M.index merger.new) (Merges result) }
-    ensures same { M.same merger.old merger.new }
+    ensures merges { Merges result ingest.old.index ingest.new.index }
+    ensures same { StoresSame ingest.old ingest.new }
 {
-    let Ok(found) = merger.next_job(rt) else {
-        return Merging::Left(Drained::OutOfMemory);
+    let Ok(found) = next_job(rt, ingest) else {
+        return Merging::Left(DrainEnd::OutOfMemory);
     };
     let Some(job) = found else {
-        return Merging::Left(Drained::Idle);
+        return Merging::Left(DrainEnd::Idle);
     };
-    let _left = job.left.span();
-    let Ok(merged) = merge(rt, alloc, &job.left, &job.right, workers, &FreeGate) else {
-        return Merging::Left(Drained::OutOfMemory);
+    let Ok(segment) = merged(rt, alloc, &job, workers) else {
+        return Merging::Left(DrainEnd::OutOfMemory);
     };
-    match merger.put(rt, alloc, job, merged) {
+    merging_of(ingest.install(rt, alloc, job, segment))
+}
+
+/// The same at a desk that others use too. It merges without the lock, and waits for it before and
+/// behind.
+pub(crate) fn merge_due_beside<D: Disk, J: Index, R: Wait + Threads + Sync>(
+    rt: &R,
+    alloc: Global,
+    desk: &MergeDesk<D, J>,
+    workers: usize,
+) -> Merging
+    requires some_workers { 1 ≤ workers }
+    requires few_workers { workers ≤ 16 }
+{
+    let Ok(found) = desk.next_job(rt) else {
+        return Merging::Left(DrainEnd::OutOfMemory);
+    };
+    let Some(job) = found else {
+        return Merging::Left(DrainEnd::Idle);
+    };
+    let Ok(segment) = merged(rt, alloc, &job, workers) else {
+        return Merging::Left(DrainEnd::OutOfMemory);
+    };
+    merging_of(desk.install(rt, alloc, job, segment))
+}
+
+/// The last neighbours of the list that are to become one, once what is held is published.
+fn next_job<D: Disk, J: Index, R: Wait>(
+    rt: &R,
+    ingest: &mut Ingest<D, J>,
+) -> Result<Option<Job<J>>, AllocError>
+    ensures joins { IfOk result (λ found. IfSome found (λ job. CanJoin job.left job.right)) }
+    ensures finds { IfOk result (λ found. Finds found ingest.old.index ingest.new.index) }
+    ensures same { StoresSame ingest.old ingest.new }
+{
+    let _note = ingest.catch_up(rt)?;
+    let _batches = ingest.batches();
+    ingest.pick()
+}
+
+/// The segment that the two of a job become.
+fn merged<J: Index, R: Threads + Sync>(
+    rt: &R,
+    alloc: Global,
+    job: &Job<J>,
+    workers: usize,
+) -> Result<Segment, AllocError>
+    requires join { CanJoin job.now.left job.now.right }
+    requires some_workers { 1 ≤ workers }
+    requires few_workers { workers ≤ 16 }
+    ensures merges { IfOk result (λ segment. IsMergeOf job.now.left job.now.right segment) }
+    ensures left { IsSegment job.now.left }
+{
+    let (left, right) = (job.left(), job.right());
+    // That the left one is a segment, its span tells.
+    let _left = left.span();
+    merge(rt, alloc, left, right, workers, &FreeGate)
+}
+
+/// What a step came to, by whether the segment that it merged was installed.
+fn merging_of<J: Index>(answer: Result<Note<J>, InstallFault>) -> Merging
+    ensures { result ≡ merging_by answer }
+{
+    match answer {
         Ok(_note) => Merging::Joined,
-        Err(InstallFault::Gone { .. }) => Merging::Left(Drained::Gone),
-        Err(InstallFault::OutOfMemory) => Merging::Left(Drained::OutOfMemory),
+        Err(InstallFault::Gone { .. }) => Merging::Left(DrainEnd::Gone),
+        Err(InstallFault::OutOfMemory) => Merging::Left(DrainEnd::OutOfMemory),
     }
 }

@@ -5,14 +5,14 @@ ghost use Rattle.std.specs.Thread.{IsSync};
 use super::{Told, games, named, new_store, summary_of};
 use disk_model::MemDisk;
 use explorer_model::fault::{Refusal, Why};
-use import_run::{DeskHandle, Drained, OwnIngest, drain, import};
-use ingest_desk::{Desk, ImportEnding, Importer, Unnamed};
+use import_run::{DeskHandle, DrainEnd, Drained, OwnIngest, drain, import};
+use ingest_desk::{Desk, ImportEnding, Importer, MergeDesk, Unnamed};
 use outside::{FreeGate, MemSource};
 use published_index::Index;
 use std::alloc::{AllocError, Global};
 use std::marker::Brand;
 use std::process::Abort;
-use std::sync::{Mutex, Wait};
+use std::sync::{Mutex, MutexGuard, Wait};
 use std::test::Fail;
 use std::thread::{Threads, join};
 
@@ -77,9 +77,9 @@ fn import_two<J: Index + Send + Sync, R: Threads + Wait + Abort + Sync>(
             requires { IsSync R.row }
         { import_one(rt, alloc, &desk, second) },
     );
-    let drained = drain(rt, alloc, &desk, 2);
+    let drained = drain(rt, alloc, &MergeDesk::of(&desk), 2);
     let _disk = desk.into_inner().into_disk(rt);
-    assert_eq!(rt; drained, Drained::Idle);
+    assert_eq!(rt; drained.end, DrainEnd::Idle);
     Ok((one?, two?))
 }
 
@@ -92,6 +92,119 @@ fn import_one<J: Index, R: Threads + Wait + Sync>(
     let mut source = MemSource::new(games(alloc, first, count)?, 4096, Vec::new(alloc));
     let report = import(rt, alloc, &mut source, desk, 2, &FreeGate);
     summary_of(alloc, report)
+}
+
+/// A run of bodies of so many games each, and what becomes of the published list: two neighbours of
+/// which the left one has at most twice as many games as the right one are due, and behind each batch
+/// the last that are due become one.
+struct Run {
+    bodies: &'static [usize],
+    /// How many segments are left behind the imports.
+    left: usize,
+    /// How many jobs are left for draining.
+    jobs: u64,
+}
+
+/// In brackets how many games the segments have, behind each batch and its merge.
+const RUNS: [Run; 4] = [
+    // [5]
+    Run {
+        bodies: &[5],
+        left: 1,
+        jobs: 0,
+    },
+    // [4], [4, 1], [4, 2], and by draining [6]
+    Run {
+        bodies: &[4, 1, 1],
+        left: 2,
+        jobs: 1,
+    },
+    // [8], [8, 3], [8, 3, 1], [8, 3, 2], and by draining [8, 5], [13]
+    Run {
+        bodies: &[8, 3, 1, 1],
+        left: 3,
+        jobs: 2,
+    },
+    // [1], [2], [3], [3, 1], [3, 2], [3, 3], [6, 1], [6, 2], [6, 3], [9, 1], [9, 2], [9, 3]
+    Run {
+        bodies: &[1, 1, 1, 1, 1, 1, 1, 1, 1, 1, 1, 1],
+        left: 2,
+        jobs: 0,
+    },
+];
+
+#[test]
+fn segments_become_one_behind_imports_and_by_draining(rt: HostRuntime) -> Result<(), Fail> {
+    for run in &RUNS {
+        let (left, drained, last) = left_and_drained(&rt, rt.alloc(), run.bodies)?;
+        assert_eq!(rt; left, run.left);
+        let idle = Drained {
+            jobs: run.jobs,
+            end: DrainEnd::Idle,
+        };
+        assert_eq!(rt; drained, idle);
+        // Each job makes the list one shorter.
+        assert_eq!(rt; (last as u64).saturating_add(run.jobs), left as u64);
+    }
+    Ok(())
+}
+
+/// How many segments a new store has behind the imports of bodies of so many games each, what
+/// draining comes to, and how many segments it has behind that.
+fn left_and_drained<R: Threads + Wait + Sync>(
+    rt: &R,
+    alloc: Global,
+    bodies: &[usize],
+) -> Result<(usize, Drained, usize), Fail> {
+    let unnamed = new_store(rt, alloc, Vec::new(alloc))?;
+    merged::<Brand, _>(rt, alloc, unnamed, bodies)
+}
+
+/// The same, where the store is made.
+fn merged<J: Index, R: Threads + Wait + Sync>(
+    rt: &R,
+    alloc: Global,
+    unnamed: Unnamed<MemDisk>,
+    bodies: &[usize],
+) -> Result<(usize, Drained, usize), Fail>
+    requires { unnamed.index.name ≡ J.name }
+{
+    let (ingest, _passes) = named::<J, R>(rt, alloc, unnamed)?;
+    let desk = Mutex::new(ingest);
+    let stored = store_bodies(rt, alloc, &mut DeskHandle::new(&desk, 2), bodies);
+    let left = segments(rt, &desk);
+    let drained = drain(rt, alloc, &MergeDesk::of(&desk), 2);
+    let last = segments(rt, &desk);
+    let _disk = desk.into_inner().into_disk(rt);
+    stored?;
+    Ok((left, drained, last))
+}
+
+/// Stores bodies of so many games each, no game of which is stored.
+fn store_bodies<J: Index, I: Importer<J>, R: Threads + Wait + Sync>(
+    rt: &R,
+    alloc: Global,
+    importer: &mut I,
+    bodies: &[usize],
+) -> Result<(), Fail> {
+    let mut first = 0usize;
+    for count in bodies {
+        let body = games(alloc, first, *count)?;
+        if body.len() > 4_194_304 {
+            return Err(Fail::from("too long"));
+        }
+        let _report = importer.import(rt, alloc, body.as_slice());
+        first = first.saturating_add(*count);
+    }
+    Ok(())
+}
+
+/// How many segments the published list has.
+fn segments<J: Index, R: Wait>(rt: &R, desk: &Desk<MemDisk, J>) -> usize {
+    let ingest = desk.lock(rt);
+    let count = ingest.publisher().list().segments().len();
+    MutexGuard::unlock(ingest);
+    count
 }
 
 #[test]

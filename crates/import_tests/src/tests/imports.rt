@@ -4,7 +4,7 @@ ghost use Rattle.std.specs.Prelude.{◌≡◌};
 use super::{Told, games, named, new_store, summary_of};
 use disk_model::MemDisk;
 use explorer_model::fault::{GameFault, Refusal, TagFault, TagName, Why};
-use import_run::{Drained, drain_alone, import_alone};
+use import_run::{DrainEnd, drain_alone, import_alone};
 use ingest_desk::{ImportEnding, Ingest, Unnamed};
 use outside::{FreeGate, MemSource};
 use published_index::Index;
@@ -99,7 +99,7 @@ fn import_all<J: Index, R: Threads + Wait + Abort + Sync>(
     let told = import_each(rt, alloc, &mut ingest, streams);
     let drained = drain_alone(rt, alloc, &mut ingest, 2);
     let _disk = ingest.into_disk(rt);
-    assert_eq!(rt; drained, Drained::Idle);
+    assert_eq!(rt; drained.end, DrainEnd::Idle);
     told
 }
 

@@ -5,7 +5,7 @@ use super::{games, named, new_store};
 use disk_model::MemDisk;
 use explorer_model::wire::Reply;
 use import_run::{DeskHandle, drain};
-use ingest_desk::{Desk, Importer, Unnamed};
+use ingest_desk::{Desk, Importer, MergeDesk, Unnamed};
 use outside::{MemDoor, MemLink, MemSink, MemSource};
 use published_index::{Index, Pass};
 use session::{Answers, DoorEnd, answer_by, serve_door};
@@ -308,7 +308,7 @@ fn seen_over_batches<J: Index, R: Threads + Wait + Sync>(
     seen.push(reader.enters(alloc, b"")?)?;
     reader.ask(alloc, b"")?;
     seen.push(reader.enters(alloc, b"")?)?;
-    let _drained = drain(rt, alloc, desk, 2);
+    let _drained = drain(rt, alloc, &MergeDesk::of(desk), 2);
     seen.push(reader.enters(alloc, b"")?)?;
     store(rt, alloc, desk, games(alloc, 6, 1)?.as_slice())?;
     seen.push(reader.enters(alloc, b"")?)?;

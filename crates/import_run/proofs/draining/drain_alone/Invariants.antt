@@ -1,4 +1,4 @@
-use Rattle.std.proofs.Common.{◌≡◌, length}
+use Rattle.std.proofs.Common.{◌≡◌, ◌+◌, length}
 use Rattle.ingest_desk.specs.Installs.{list_by}
 use Rattle.ingest_desk.specs.Stored.{journal}
 use Rattle.import_run.proofs.draining.drain_alone.Given as goal
@@ -7,6 +7,7 @@ abbrev pub invariant-draining : goal.invariant-draining
 invariant-draining g l = record {
   same_journal : journal l.ingest ≡ journal l.fn.ingest;
   same_manifest : l.ingest.manifest ≡ l.fn.ingest.manifest;
+  counted : l.jobs + length (list_by l.ingest.index) ≡ length (list_by l.fn.ingest.index);
 }
 
 abbrev pub decreases-draining : goal.decreases-draining
