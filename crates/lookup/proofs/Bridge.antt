@@ -89,7 +89,7 @@ sees laws at bytes text game track board tidy of tracked = (
 -- ---- the move that follows
 
 -- what follows where a game first comes to a position is legal there
-visit-legal : Laws → ((p q : Position) (m : Move) → IsValid p → IsValid q → Same p q → Legal p m → Legal q m)
+pub visit-legal : Laws → ((p q : Position) (m : Move) → IsValid p → IsValid q → Same p q → Legal p m → Legal q m)
     → (at : Position) → IsValid at → (next : Move) (n : ℕ) (p : Position) (moves : List Move) → IsValid p → AreLegalFrom p moves
     → FirstVisit at (take n (stages p moves)) (Some (Some next)) → Legal at next
 visit-legal laws same at valid next zero p moves p_valid played is = absurd (none-some (Some next) (sym is))

@@ -26,3 +26,4 @@ pub mod Looking
 pub mod PartLoops
 pub mod SegmentRowLemmas
 pub mod OneKey
+pub mod FoundMoves

@@ -11,7 +11,7 @@ module _ (P : Move → Type 0) where
   abbrev pub HitHas : NumberedRow → Type 0
   HitHas hit = (m : Move) → hit.row.next ≡ Some m → P m
 
-  distinct-have : (moves : List Move) → AllByRecursion P moves → AllByRecursion P (distinct is_same_move moves)
+  pub distinct-have : (moves : List Move) → AllByRecursion P moves → AllByRecursion P (distinct is_same_move moves)
   distinct-have [] each = tt
   distinct-have (m ∷ moves) each = (each.0, filter-have P (λ n. not (is_same_move m n)) (distinct is_same_move moves) (distinct-have moves each.1))
 

@@ -1,17 +1,19 @@
 //! Laws of looking up. Each is the contract of a function that only cites the laws below it.
-ghost use Rattle.std.specs.Prelude.{◌≡◌, ℕ, List, length, map, Some};
+ghost use Rattle.std.specs.Prelude.{◌≡◌, ℕ, Bool, List, length, map, Some};
 ghost use Rattle.explorer_model.specs.declared.answer.Found.{Found};
 ghost use Rattle.explorer_model.specs.declared.archive.Batch.{Batch};
+ghost use Rattle.explorer_model.specs.declared.archive.Classes.{Classes};
 ghost use Rattle.explorer_model.specs.declared.archive.Game.{Game};
 ghost use Rattle.explorer_model.specs.declared.chess.Move.{Move};
 ghost use Rattle.explorer_model.specs.declared.chess.Position.{Position};
 ghost use Rattle.explorer_model.specs.declared.query.Query.{Query};
 ghost use Rattle.explorer_model.specs.Chess.{IsValid, Legal};
+ghost use Rattle.explorer_model.specs.Counting.{first_moves};
 ghost use Rattle.explorer_model.specs.Finds.{IsFound};
 ghost use Rattle.explorer_model.specs.Spans.{Span, Covers};
 ghost use Rattle.explorer_model.specs.Tidy.{IsTidyKey};
-ghost use Rattle.explorer_model.specs.Visits.{IsTextOf, IsGameAt};
-ghost use Rattle.std.specs.List.{AllByRecursion};
+ghost use Rattle.explorer_model.specs.Visits.{AreGamesOf, GameAt, IsTextOf, IsGameAt};
+ghost use Rattle.std.specs.List.{AllByRecursion, AllZip};
 ghost use Rattle.lookup.specs.Parts.{Part, IsPart, journal_of, tracks_in};
 ghost use Rattle.lookup.specs.FromRows.{AreTallied, IsAnswerable, IsFromRows};
 ghost use Rattle.tally_rows.specs.declared.row.Row.{Row};
@@ -88,4 +90,22 @@ pub fn answers_are_determined()
     game_is_determined();
     first_visit_is_determined();
     notation_is_determined();
+}
+
+/// Moves that are found are legal in the position that is asked for: each follows where a game first
+/// comes to a position that is the same.
+pub fn found_moves_are_legal()
+    ensures first { (at : Position) (journal : List Batch) (games : List Game)
+        (games_at : List GameAt) (most : ℕ) (wanted : Classes → Bool)
+        → IsValid at → AreGamesOf journal games → AllZip (IsGameAt at) games games_at
+        → AllByRecursion (λ m. Legal at m) (first_moves most wanted games_at) }
+    ensures found { (journal : List Batch) (query : Query) (found : Found)
+        → IsValid query.at → IsFound journal query found
+        → AllByRecursion (λ line. Legal query.at line.next) found.moves }
+{
+    legal_moves_keep_validity();
+    tidy_forms_decide_same();
+    same_positions_have_the_same_moves();
+    equal_keys_mean_equal_positions();
+    games_begin_validly();
 }

@@ -68,9 +68,7 @@ fn add_rows<'a, L: Ledger>(
     // A segment's rows are the tally of its texts.
     let _span = segment.span();
     let mut walk = segment.rows_at(key, steps);
-    steps.tick();
-    while let Some(row) = walk.advance() {
-        steps.tick();
+    while let Some(row) = walk.advance(steps) {
         add_row(hits, row, first, wanted)?;
     }
     Ok(())

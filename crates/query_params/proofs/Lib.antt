@@ -1,4 +1,5 @@
 pub mod Determined
+pub mod LegalPlays
 pub mod Names
 pub mod Numbers
 pub mod Played

@@ -1,8 +1,11 @@
 //! What holds of the reading of a query string.
-ghost use Rattle.std.specs.Prelude.{◌≡◌, ℕ, List, Result};
+ghost use Rattle.std.specs.Prelude.{◌≡◌, ℕ, List, Some, None, Result, Ok};
+ghost use Rattle.std.specs.List.{last_or};
 ghost use Rattle.explorer_model.specs.declared.query.BadParameter.{BadParameter as ABadParameter};
 ghost use Rattle.explorer_model.specs.declared.query.Query.{Query as AQuery};
+ghost use Rattle.explorer_model.specs.Openings.{positions_on};
 ghost use Rattle.explorer_model.specs.Query.{QueryReads};
+ghost use Rattle.explorer_model.specs.Visits.{AreLegalFrom};
 
 use fen_uci::laws::{fen_is_determined, uci_is_determined};
 
@@ -14,3 +17,12 @@ pub fn query_is_determined()
     fen_is_determined();
     uci_is_determined();
 }
+
+/// The plays of a query that is read are legal, each in its turn, and lead from its root to the
+/// position asked for.
+pub fn queries_play_legal_moves()
+    ensures legal { (text : List ℕ) (query : AQuery) → QueryReads text (Ok query)
+        → AreLegalFrom query.root query.plays }
+    ensures ends { (text : List ℕ) (query : AQuery) → QueryReads text (Ok query)
+        → last_or None (positions_on query.root query.plays) ≡ Some query.at }
+{}
