@@ -1,5 +1,5 @@
 -- What an import stored, in what the pass then has seen.
-use Rattle.std.proofs.Common.{◌≡◌, ◌+◌, ℕ, List, [], ◌∷◌, length, refl, sym, ◌∙◌, ap, length-append}
+use Rattle.std.proofs.Common.{◌≡◌, ◌+◌, ◌<◌, ℕ, List, [], ◌∷◌, length, refl, sym, ◌∙◌, ap, length-append, arith}
 use Rattle.std.specs.List.{All}
 use Rattle.std.proofs.lemmas.List.Concat.{flat_map-append}
 use Rattle.std.proofs.lemmas.List.Elements.{All-contains, All-from_recursion, All-weaker}
@@ -8,6 +8,7 @@ use Rattle.explorer_model.specs.declared.archive.Batch.{Batch}
 use Rattle.explorer_model.specs.declared.fault.Refusal.{Refusal}
 use Rattle.explorer_model.specs.declared.fault.Why.{Why}
 use Rattle.explorer_model.specs.declared.fault.Why.TheVariants.{Preamble, TooLong, Game, Twice, Repeated}
+use Rattle.explorer_model.specs.declared.wire.Reply.{Reply}
 use Rattle.explorer_model.specs.Cuts.{Cut, cuts}
 use Rattle.explorer_model.specs.Labels.{no_label}
 use Rattle.explorer_model.specs.Imports.{AccountedBeside, groups}
@@ -20,8 +21,8 @@ use Rattle.ingest_desk.specs.declared.report.End.TheVariants as ends
 use Rattle.ingest_desk.specs.declared.report.Report.{Report}
 use Rattle.ingest_desk.specs.Importers.{EndsInMemory, ending_of}
 use Rattle.ingest_desk.specs.Reporting.{AccountsTo, AreReceipts, RepeatsBy, RepeatsGame, Reports, games_of}
-use Rattle.session.specs.Imports.{AccountsBy, HasImported, HasStoredBody, IsRepeatOf, StandFrom}
-use Rattle.session.specs.Steps.{KnowsEnd, KnowsNotes, KnowsReceipts}
+use Rattle.session.specs.Imports.{AccountsBy, AreNew, HasImported, HasStoredBody, IsRepeatOf, RepliesTo, StandFrom, TellsEnding}
+use Rattle.session.specs.Steps.{AreBehind, KnowsEnd, KnowsNotes, KnowsReceipts}
 use Rattle.session.proofs.FrontLemmas.{get-prefix}
 
 -- the batches of receipts stand in a journal that begins with their notes
@@ -110,6 +111,36 @@ has-imported body report journal reports in_memory knows notes told = record {
   count = receipts-count 0 report.receipts.items reports.batches reports.are_receipts;
   accounted = accounts-by report.end journal (groups (cuts body)) reports.batches report.refused.items in_memory told reports.accounts;
   repeats = repeats-known (cuts body) report.clashes.items report.refused.items journal notes reports.repeats;
+}
+
+-- what is told by receipts behind so many batches stands behind them
+receipts-behind : {J : Type 0} (seen : ℕ) (receipts : List (Receipt J)) (batches : List Batch)
+    → AreBehind seen receipts → AreReceipts 0 receipts batches → AreReceipts seen receipts batches
+receipts-behind seen [] [] behind are = tt
+receipts-behind seen (r ∷ rs) (b ∷ bs) behind are =
+    let less : seen < r.batches = behind in (are.0, omega (arith, less, are.2.batches), are.2, are.3)
+receipts-behind seen [] (b ∷ bs) behind are = absurd are
+receipts-behind seen (r ∷ rs) [] behind are = absurd are
+
+pub stand-behind : {J : Type 0} (seen : ℕ) (receipts : List (Receipt J)) (batches journal : List Batch)
+    → AreBehind seen receipts → AreReceipts 0 receipts batches → KnowsReceipts receipts journal
+    → StandFrom seen journal batches
+stand-behind seen receipts batches journal behind are knows =
+    receipts-stand seen receipts batches journal (receipts-behind seen receipts batches behind are) knows
+
+-- the reply to an import, over a journal that has all that was told
+pub replies-to : {J : Type 0} (body : List ℕ) (report : Report J) (seen : ℕ) (journal : List Batch) (reply : Reply)
+    → (reports : Reports (cuts body) report) → EndsInMemory (ending_of report.end)
+    → KnowsReceipts report.receipts.items journal → KnowsNotes report.clashes.items journal → KnowsEnd report.end journal
+    → TellsEnding (ending_of report.end) (length journal) (games_of report.receipts.items) report.refused.items reply
+    → AreNew reply seen journal reports.batches
+    → RepliesTo (ending_of report.end) seen journal body (games_of report.receipts.items) reply
+unfolding has-imported
+replies-to body report seen journal reply reports in_memory knows notes told tells new = record {
+  refused = report.refused.items;
+  imported = has-imported body report journal reports in_memory knows notes told;
+  tells = tells;
+  are_new = new;
 }
 
 -- a whole import stored its body in a journal that has all that was told

@@ -55,7 +55,7 @@ pub record GrantsImport (body : List ℕ) (journal : List Batch) (before after :
   pub called : call ≡ Some made
   pub body_is : made.body ≡ body
   pub counts : CountsRose made.ending before.counts after.counts
-  pub replies : RepliesTo made.ending journal body made.games reply
+  pub replies : RepliesTo made.ending before.seen journal body made.games reply
   pub readings : after.readings ≡ before.readings
 
 -- the reply is a fixed one, and nothing else happens

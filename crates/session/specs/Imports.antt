@@ -88,10 +88,17 @@ TellsEnding (endings.Full games bytes) batches stored refused reply =
 TellsEnding endings.OutOfMemory batches stored refused reply = reply ≡ replies.NoMemory
 TellsEnding _ batches stored refused reply = ⊥
 
+-- where the reply is that a body is stored, its batches stand behind so many of the journal
+abbrev pub AreNew : Reply → ℕ → List Batch → List Batch → Type 0
+AreNew (replies.Stored number body) seen journal batches = StandFrom seen journal batches
+AreNew _ seen journal batches = ⊤
+
 -- The reply to an import of the body that ended so and stored so many games, whatever the end. The
--- journal is what the pass has seen when the reply is written, and has all that the import told.
-pub record RepliesTo (ending : ImportEnding) (journal : List Batch) (body : List ℕ) (stored : ℕ)
-    (reply : Reply) : Type 0 where
+-- journal is what the pass has seen when the reply is written, and has all that the import told. So
+-- many of its batches were seen when the request came.
+pub record RepliesTo (ending : ImportEnding) (seen : ℕ) (journal : List Batch) (body : List ℕ)
+    (stored : ℕ) (reply : Reply) : Type 0 where
   pub refused : List Refusal
   pub imported : HasImported ending journal body stored refused
   pub tells : TellsEnding ending (length journal) stored refused reply
+  pub are_new : AreNew reply seen journal imported.batches

@@ -1,5 +1,5 @@
 -- How a connection comes to be served, step by step.
-use Rattle.std.specs.Prelude.{◌≡◌, ⊤, ◌+◌, ◌≤◌, ℕ, List, [], ◌∷◌, length, Option}
+use Rattle.std.specs.Prelude.{◌≡◌, ⊤, ◌+◌, ◌<◌, ◌≤◌, ℕ, List, [], ◌∷◌, length, slice_get, Option, IfSome}
 use Rattle.std.specs.Io.KnownBytes.{Appends, Consumes}
 use Rattle.std.specs.List.{AllByRecursion}
 use Rattle.outside.specs.Stream.{Stream}
@@ -47,6 +47,10 @@ pub record HasLearnt (J : Type 0) (body : List ℕ) (before after : ImporterStat
   pub clashes : KnowsNotes report.clashes.items seen
   pub end : KnowsEnd report.end seen
 
+-- the first of the receipts, so each of them, tells of a batch behind so many
+abbrev pub AreBehind : {J : Type 0} → ℕ → List (Receipt J) → Type 0
+AreBehind seen receipts = IfSome (slice_get receipts 0) (λ receipt. seen < receipt.batches)
+
 -- the body is imported and gets the reply
 pub record ImportReplied (body : List ℕ) (before : Backend) (reply : Reply) (after : Backend)
     : Type 0 where
@@ -54,7 +58,8 @@ pub record ImportReplied (body : List ℕ) (before : Backend) (reply : Reply) (a
   pub grew : IsPrefix before.pass.seen after.pass.seen
   pub body_is : call.body ≡ body
   pub counts : CountsRose call.ending before.importer.counts after.importer.counts
-  pub replies : RepliesTo call.ending after.pass.seen body call.games reply
+  pub replies : RepliesTo call.ending (length before.pass.seen) after.pass.seen body call.games
+      reply
   pub readings : readings_of after.pass ≡ readings_of before.pass
   pub called : TellsAll before.importer.calls after.importer.calls (call ∷ [])
 
