@@ -9,6 +9,7 @@ An opening explorer for chess: what was played in a position, and how those game
   $name count [QUERY] < GAMES         count the games of a file of PGN, and answer a query
   $name create STORE                  make a store, a file that games are kept in
   $name import STORE GAMES            add the games of a file to it
+  $name migrate OLD NEW               make a store of one of format 1
   $name query STORE [QUERY]           answer a query over it
   $name serve STORE ADDRESS [GAMES..] answer over HTTP, and import meanwhile
   $name trial NUMBER SEED             try it on games that are drawn

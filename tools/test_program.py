@@ -4,6 +4,7 @@ answer as a count does, and batches that are merged beside answers."""
 import http.client
 import pathlib
 import shutil
+import struct
 import subprocess
 import tempfile
 import unittest
@@ -83,6 +84,30 @@ class Stores(unittest.TestCase):
             wanted = [played(1, san, uci, listed(numbers[uci], uci)) for san, uci in moves]
             by_number = sorted((listed(numbers[uci], uci) for _, uci in moves), key=lambda told: told["id"])
             self.assertEqual(answer.encode(), counted(len(games), moves=wanted, top=by_number, recent=by_number[::-1]) + b"\n")
+
+    def first_store(self, batches):
+        """Writes a store of format 1 with batches of so many texts of one byte, and gives the bytes of one of format 2 with them, and
+        the gate of the last batch."""
+        old, new, gate = b"OPENEXP1\1\0\0\0", b"OPENEXP1\2\0\0\0", 0
+        for count in batches:
+            texts, gate = struct.pack("<H", count) + b"\1\0\0\0x" * count, len(old)
+            old += struct.pack("<BL", 1, len(texts)) + texts
+            new += struct.pack("<BLB", 1, len(texts) + 1, 0) + texts
+        self.old.write_bytes(old + b"\0")
+        return new + b"\0", gate
+
+    def test_an_old_store_is_migrated_up_to_its_limit(self):
+        self.old = self.folder / "old"
+        new, _ = self.first_store([512] * 256)
+        self.assertEqual(self.run_program("migrate", str(self.old), self.store), (0, "migrated 256\n", ""))
+        self.assertEqual(pathlib.Path(self.store).read_bytes(), new)
+        old = self.old.read_bytes()
+        self.assertEqual(self.run_program("migrate", str(self.old), str(self.old)), (7, "", f"not empty {len(old)}\n"))
+        self.assertEqual(self.old.read_bytes(), old)
+        other = self.folder / "other"
+        _, gate = self.first_store([512] * 256 + [1])
+        self.assertEqual(self.run_program("migrate", str(self.old), str(other)), (7, "", f"damaged at {gate}\n"))
+        self.assertFalse(other.exists())
 
     def test_batches_are_merged_beside_answers(self):
         self.assertEqual(self.run_program("create", self.store)[0], 0)

@@ -87,6 +87,11 @@ abbrev pub import_shape : Shape
 import_shape = (with_rules (new_app (codes "import"))
     (required_rule (codes "store") ∷ required_rule (codes "file") ∷ workers_rule ∷ [])).top
 
+-- `migrate OLD NEW`
+abbrev pub migrate_shape : Shape
+migrate_shape = (with_rules (new_app (codes "migrate"))
+    (required_rule (codes "old") ∷ required_rule (codes "new") ∷ [])).top
+
 -- `query STORE [QUERY] [--workers N]`
 abbrev pub query_shape : Shape
 query_shape = (with_rules (new_app (codes "query"))
@@ -117,7 +122,8 @@ with_shapes app (shape ∷ shapes) = with_shapes (with_subcommand app shape) sha
 
 abbrev pub explorer_app : App
 explorer_app = with_shapes bare_app
-    (count_shape ∷ create_shape ∷ import_shape ∷ query_shape ∷ serve_shape ∷ trial_shape ∷ [])
+    (count_shape ∷ create_shape ∷ import_shape ∷ migrate_shape ∷ query_shape ∷ serve_shape
+    ∷ trial_shape ∷ [])
 
 -- ---- what words ask for
 
@@ -128,6 +134,8 @@ pub data Task : Type 0 where
   Create : (store : List ℕ) → Task
   -- import a file into a store
   Import : (store file : List ℕ) (workers : ℕ) → Task
+  -- make a store of the batches of a store in the first format
+  Migrate : (old new : List ℕ) → Task
   -- answer a query over a store
   Query : (store query : List ℕ) (workers : ℕ) → Task
   -- serve a store at an address while files are imported into it
@@ -173,6 +181,8 @@ task_named name rows =
     else if bytes_eq name (codes "create") then Some (Create (word_in (codes "store") rows))
     else if bytes_eq name (codes "import") then
     Some (Import (word_in (codes "store") rows) (word_in (codes "file") rows) (workers_in rows))
+    else if bytes_eq name (codes "migrate") then
+    Some (Migrate (word_in (codes "old") rows) (word_in (codes "new") rows))
     else if bytes_eq name (codes "query") then
     Some (Query (word_in (codes "store") rows) (word_in (codes "query") rows) (workers_in rows))
     else if bytes_eq name (codes "serve") then Some (serve_task rows)

@@ -11,6 +11,7 @@ ghost use Rattle.command_line.specs.Task.{
   files_rule,
   games_bounds,
   import_shape,
+  migrate_shape,
   number_rule,
   option_rule,
   optional_rule,
@@ -32,10 +33,20 @@ use std::alloc::{AllocError, Global};
 pub fn explorer_command<'a>(alloc: Global) -> Result<Command<'a>, AllocError>
     ensures { IfOk result (λ command. app_of command ≡ explorer_app) }
 {
-    let command = command_without_answers(alloc)?;
-    let command = with_command(command, query_command(alloc)?)?;
+    let command = command_without_service(alloc)?;
     let command = with_command(command, serve_command(alloc)?)?;
     with_command(command, trial_command(alloc)?)
+}
+
+/// The command line with the first five of its subcommands.
+fn command_without_service<'a>(alloc: Global) -> Result<Command<'a>, AllocError>
+    ensures { IfOk result (λ command.
+        app_of command ≡ with_shapes bare_app
+        (count_shape ∷ create_shape ∷ import_shape ∷ migrate_shape ∷ query_shape ∷ [])) }
+{
+    let command = command_without_answers(alloc)?;
+    let command = with_command(command, migrate_command(alloc)?)?;
+    with_command(command, query_command(alloc)?)
 }
 
 /// The command line with the first three of its subcommands.
@@ -85,6 +96,16 @@ fn import_command<'a>(alloc: Global) -> Result<Command<'a>, AllocError>
     let command = Command::new(alloc, "import").about("Import the games of a file into a store");
     let command = with_args(command, store_arg(alloc), file_arg(alloc))?;
     with_arg(command, workers_arg(alloc))
+}
+
+fn migrate_command<'a>(alloc: Global) -> Result<Command<'a>, AllocError>
+    ensures shape { IfOk result (λ command. shape_of command ≡ migrate_shape) }
+    ensures globals { IfOk result (λ command. (fields_of command).has_globals ≡ false) }
+{
+    let command = Command::new(alloc, "migrate").about(
+        "Make a store of the batches of a store in the first format",
+    );
+    with_args(command, old_arg(alloc), new_arg(alloc))
 }
 
 fn query_command<'a>(alloc: Global) -> Result<Command<'a>, AllocError>
@@ -147,6 +168,25 @@ fn store_arg<'a>(alloc: Global) -> Arg<'a>
         .value_name("STORE")
         .required(true)
         .help("The file of the store")
+}
+
+fn old_arg<'a>(alloc: Global) -> Arg<'a>
+    ensures rule { rule_of result ≡ required_rule (codes "old") }
+    ensures local { result.global ≡ false }
+{
+    Arg::new(alloc, "old").value_name("OLD").required(true).help(
+        "The file of the store in the first format, which is only read",
+    )
+}
+
+fn new_arg<'a>(alloc: Global) -> Arg<'a>
+    ensures rule { rule_of result ≡ required_rule (codes "new") }
+    ensures local { result.global ≡ false }
+{
+    Arg::new(alloc, "new")
+        .value_name("NEW")
+        .required(true)
+        .help("The file of the store that is made")
 }
 
 fn file_arg<'a>(alloc: Global) -> Arg<'a>

@@ -25,6 +25,11 @@ pub enum Command {
         file: String,
         workers: u8,
     },
+    /// Make a store of the batches of a store in the first format.
+    Migrate {
+        old: String,
+        new: String,
+    },
     /// Answer a query over a store.
     Query {
         store: String,
@@ -64,6 +69,9 @@ pub fn command_of(alloc: Global, matches: &ArgMatches<'_>) -> Result<Command, Al
     }
     if let Some(given) = matches.subcommand_matches("import") {
         return import_of(alloc, given);
+    }
+    if let Some(given) = matches.subcommand_matches("migrate") {
+        return migrate_of(alloc, given);
     }
     if let Some(given) = matches.subcommand_matches("query") {
         return query_of(alloc, given);
@@ -107,6 +115,17 @@ fn import_of(alloc: Global, given: &ArgMatches<'_>) -> Result<Command, AllocErro
         store: word_of(alloc, given, "store")?,
         file: word_of(alloc, given, "file")?,
         workers: workers_of(given),
+    })
+}
+
+fn migrate_of(alloc: Global, given: &ArgMatches<'_>) -> Result<Command, AllocError>
+    ensures task { IfOk result (λ command.
+        task_named (codes "migrate") (rows_of (found_of given.now)) ≡ Some (task_in command)) }
+    ensures bounds { IfOk result (λ command. IsInBounds (task_in command)) }
+{
+    Ok(Command::Migrate {
+        old: word_of(alloc, given, "old")?,
+        new: word_of(alloc, given, "new")?,
     })
 }
 

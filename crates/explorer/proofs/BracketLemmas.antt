@@ -187,15 +187,10 @@ idle refusal (inr (inr d)) = subst (λ (cs : List HostCall). IsIdle cs) (sym d.3
 
 -- ---- files that no worker had yet
 
-record FilesBack (all : List (List ℕ)) (names : List (List ℕ)) (at : ℕ) (calls : List HostCall) : Type 0 where
-  files : List Stream
-  even : length files ≡ length names
-  is : calls ≡ files_back names files
-
 back-of-files : {F G J : Type 0} (source : F → Stream) (door : G → Connections) (host : HostState) (front names more : List (List ℕ)) (at : ℕ)
     (workers : List (Worker F G J)) → at ≡ length front → AllZip (IsFileOf source host) names workers
-    → FilesBack (front ++ (names ++ more)) names at (calls_of source door (front ++ (names ++ more)) at workers)
-back-of-files source door host front [] more at [] place are = record { files = []; even = refl; is = refl }
+    → calls_of source door (front ++ (names ++ more)) at workers ≡ files_back names (map (file_at host) names)
+back-of-files source door host front [] more at [] place are = refl
 back-of-files source door host front [] more at (w ∷ ws) place are = absurd are
 back-of-files source door host front (n ∷ ns) more at [] place are = absurd are
 back-of-files source door host front (n ∷ ns) more at (Reader r ∷ ws) place are = absurd are.0
@@ -204,15 +199,12 @@ back-of-files source door host front (n ∷ ns) more at (File f ∷ ws) place ar
     let next : at + 1 ≡ length (front ++ n ∷ []) = omega (arith, place, length-append front (n ∷ [])) in
     let rest = back-of-files source door host (front ++ n ∷ []) ns more (at + 1) ws next are.1 in
     let same : (front ++ n ∷ []) ++ (ns ++ more) ≡ front ++ (n ∷ (ns ++ more)) = append_assoc front (n ∷ []) (ns ++ more) in
-    let tail : calls_of source door (front ++ (n ∷ (ns ++ more))) (at + 1) ws ≡ files_back ns rest.files =
-    ap (λ (all : List (List ℕ)). calls_of source door all (at + 1) ws) (sym same) ∙ rest.is in
-    record {
-      files = source f.source ∷ rest.files;
-      even = ap (λ (k : ℕ). suc k) rest.even;
-      is = ap (λ (name : List ℕ). FileBack name (source f.source) ∷ calls_of source door (front ++ (n ∷ (ns ++ more))) (at + 1) ws)
-          (name-at-front front n (ns ++ more) at place)
-          ∙ ap (λ (cs : List HostCall). FileBack n (source f.source) ∷ cs) tail;
-    }
+    let tail : calls_of source door (front ++ (n ∷ (ns ++ more))) (at + 1) ws ≡ files_back ns (map (file_at host) ns) =
+    ap (λ (all : List (List ℕ)). calls_of source door all (at + 1) ws) (sym same) ∙ rest in
+    ap (λ (name : List ℕ). FileBack name (source f.source) ∷ calls_of source door (front ++ (n ∷ (ns ++ more))) (at + 1) ws)
+    (name-at-front front n (ns ++ more) at place)
+    ∙ (ap (λ (cs : List HostCall). FileBack n (source f.source) ∷ cs) tail
+    ∙ ap (λ (file : Stream). FileBack n file ∷ files_back ns (map (file_at host) ns)) are.0)
 
 named-back : {F G J : Type 0} (source : F → Stream) (host : HostState) (all names : List (List ℕ)) (at : ℕ) (workers : List (Worker F G J))
     → at + length names ≤ length all → AllZip (IsFileOf source host) names workers → AreNamed all at workers
@@ -227,8 +219,11 @@ named-back source host all (n ∷ ns) at (File f ∷ ws) few are = (omega (arith
 module _ {F G J : Type 0} (source : F → Stream) (door : G → Connections) (all names : List (List ℕ)) (front : IsPrefix names all)
     (workers : List (Worker F G J)) (before middle now : HostState) (out : FilesOut source names workers before middle)
     (refusal : List HostCall) (refused : IsRefusal refusal) (noted_is : now.calls ≡ added refusal middle.calls) where
-  backs : FilesBack all names 0 (calls_of source door all 0 workers)
-  backs = subst (λ (l : List (List ℕ)). FilesBack l names 0 (calls_of source door l 0 workers)) (sym front.is)
+  abbrev files : List Stream
+  files = map (file_at before) names
+
+  backs : calls_of source door all 0 workers ≡ files_back names files
+  backs = subst (λ (l : List (List ℕ)). calls_of source door l 0 workers ≡ files_back names files) (sym front.is)
       (back-of-files source door before [] names front.rest 0 workers refl out.files)
 
   outs : now.calls ≡ added (refusal ++ files_out names) before.calls
@@ -237,10 +232,10 @@ module _ {F G J : Type 0} (source : F → Stream) (door : G → Connections) (al
   hand : HandOnly (refusal ++ files_out names)
   hand = hand-both refusal (files_out names) (idle refusal refused).hands (files-hand-only names)
 
-  returned_is : (thing : Thing) → sum_by (returned thing) (files_back names backs.files) ≡ sum_by (handed thing) (refusal ++ files_out names)
+  returned_is : (thing : Thing) → sum_by (returned thing) (files_back names files) ≡ sum_by (handed thing) (refusal ++ files_out names)
   returned_is = λ thing. omega (
     arith,
-    returned-files thing names backs.files backs.even,
+    returned-files thing names files (length-map names (file_at before)),
     files-handed thing names,
     sum_by-append (handed thing) refusal (files_out names),
     (idle refusal refused).none thing,
@@ -250,11 +245,10 @@ module _ {F G J : Type 0} (source : F → Stream) (door : G → Connections) (al
   front-named = named-back source before all names 0 workers (omega (arith, ap length front.is, length-append names front.rest)) out.files
 
   pub front-can : CanReturn (calls_of source door all 0 workers) now
-  front-can = rw backs.is (are-out (refusal ++ files_out names) before now (λ thing. sum_by (returned thing) (files_back names backs.files)) hand
+  front-can = rw backs (are-out (refusal ++ files_out names) before now (λ thing. sum_by (returned thing) (files_back names files)) hand
       (λ thing. omega (arith, returned_is thing)) outs)
 
   pub record GaveUp (after : HostState) : Type 0 where
-    pub files : List Stream
     pub calls : after.calls ≡ added (files_back names files ++ (refusal ++ files_out names)) before.calls
     pub disks : after.disks ≡ now.disks
     pub disk_faults : after.disk_faults ≡ now.disk_faults
@@ -263,17 +257,16 @@ module _ {F G J : Type 0} (source : F → Stream) (door : G → Connections) (al
   pub gave-up : (after : HostState) → GivenBack source door all 0 workers now after → GaveUp after
   gave-up after back =
       let given = given-rest source door all 0 workers now after back in
-      let calls : after.calls ≡ added (files_back names backs.files ++ (refusal ++ files_out names)) before.calls =
-      given.calls ∙ (ap (λ (cs : List HostCall). added cs now.calls) backs.is
-      ∙ (ap (λ (c : Option (List HostCall)). added (files_back names backs.files) c) outs
-      ∙ sym (added-both (files_back names backs.files) (refusal ++ files_out names) before.calls))) in
+      let calls : after.calls ≡ added (files_back names files ++ (refusal ++ files_out names)) before.calls =
+      given.calls ∙ (ap (λ (cs : List HostCall). added cs now.calls) backs
+      ∙ (ap (λ (c : Option (List HostCall)). added (files_back names files) c) outs
+      ∙ sym (added-both (files_back names files) (refusal ++ files_out names) before.calls))) in
       record {
-        files = backs.files;
         calls = calls;
         disks = given.disks;
         disk_faults = given.disk_faults;
-        gives_back = gives-back (files_back names backs.files) (refusal ++ files_out names) before after
-            (files-return-only names backs.files) hand returned_is calls;
+        gives_back = gives-back (files_back names files) (refusal ++ files_out names) before after
+            (files-return-only names files) hand returned_is calls;
       }
 
 -- ---- what was refused
@@ -336,7 +329,6 @@ module _ {F G J : Type 0} (source : F → Stream) (door : G → Connections) (se
       let rises : Rises before.own_faults after.own_faults = rw (own, sym was) r.refused.rises in (
         record {
           names = r.front;
-          files = up.files;
           refusal = n.refusal;
           calls = up.calls;
           disks = up.disks ∙ (ap (λ (h : HostState). h.disks) r.refused.rest ∙ ap (λ (h : HostState). h.disks) r.handed.rest);
@@ -392,13 +384,16 @@ module _ {F G J : Type 0} (source : F → Stream) (door : G → Connections) (se
       [] (inl refl) (ap (λ (h : HostState). h.calls) same) after back in (
         record {
           names = service.files;
-          files = up.files;
           refusal = [];
           calls = up.calls;
           disks = up.disks ∙ (ap (λ (h : HostState). h.disks) same ∙ ap (λ (h : HostState). h.disks) out.rest);
           disk_faults = up.disk_faults ∙ (ap (λ (h : HostState). h.disk_faults) same ∙ ap (λ (h : HostState). h.disk_faults) out.rest);
           placed = tt;
-          cause = (refl, refl);
+          cause = (
+            refl,
+            refl,
+            own-stays source door service.files 0 workers now after back ∙ (ap (λ (h : HostState). h.own_faults) same ∙ ap (λ (h : HostState). h.own_faults) out.rest),
+          );
         },
         up.gives_back,
       )
@@ -416,7 +411,6 @@ module _ {F G J : Type 0} (source : F → Stream) (door : G → Connections) (se
       let rises : Rises before.own_faults after.own_faults = rw (own, sym was) refuses.rises in (
         record {
           names = service.files;
-          files = up.files;
           refusal = n.refusal;
           calls = up.calls;
           disks = up.disks ∙ (ap (λ (h : HostState). h.disks) refuses.rest ∙ ap (λ (h : HostState). h.disks) out.rest);

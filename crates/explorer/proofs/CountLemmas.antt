@@ -1,6 +1,6 @@
 -- How a run of `count` ends.
 use Rattle.std.proofs.Common.{◌≡◌, ◌⊎◌, ⊎_elim, inl, inr, ℕ, ◌<◌, ◌-◌, ◌^◌, ◌≤◌, List, [], ◌∷◌, ◌++◌, Option, None, Some, Result, Ok, Err, length, codes, refl, sym, ap, subst, ◌∙◌, arith}
-use Rattle.std.specs.Prelude.{IsErrAnd, OnOk, OnErr, Vec}
+use Rattle.std.specs.Prelude.{IfErr, IfOk, IsErrAnd, MatchResult, OnOk, OnErr, Vec}
 use Rattle.std.specs.Global.{Global}
 use Rattle.disk_model.specs.Disk.{DiskState}
 use Rattle.outside.specs.Stream.{Rises, Stream, Takes, FailsToTake, Writes}
@@ -24,11 +24,11 @@ use Rattle.explorer.specs.declared.fault.Fault.{Fault}
 use Rattle.explorer.specs.declared.fault.Fault.TheVariants as faults
 use Rattle.explorer.specs.declared.importing.Came.{Came}
 use Rattle.explorer.specs.Answer.{IsAnswer, answer_line}
-use Rattle.explorer.specs.Count.{Answers, BreaksOff, CountedBy, CountedTo, Counts, CountsBy, ImportsNew, ReadsWithin}
+use Rattle.explorer.specs.Count.{Answers, BreaksOff, CountedBy, CountedTo, Counts, CountsBy, ImportsNew, ReadsBelow}
 use Rattle.explorer.specs.Faults.{fault_by, fault_of_query}
 use Rattle.explorer.specs.Imported.{FaultsBy, ImportedIn, IsAllSettled, IsFullAt, StandsBy, StoredBy, new_store}
 use Rattle.explorer.specs.Lines.{AreLinesOf, Ending, Stopped, ending_of}
-use Rattle.explorer.specs.Report.{report}
+use Rattle.explorer.specs.Report.{MayReport, report}
 use Rattle.explorer.specs.Run.{Starves}
 use Rattle.explorer.specs.World.{World, WriteFails, world}
 use Rattle.explorer.proofs.NewStoreLemmas.{known_is_new}
@@ -36,28 +36,54 @@ use Rattle.explorer.proofs.NewStoreLemmas.{known_is_new}
 -- ---- want of memory
 
 pub starves_at_once : (before : World) → Starves before before (Stopped faults.OutOfMemory)
-starves_at_once before = record { ending_is = refl; stream = []; reads = reads-none before.input; within = omega arith; rest = refl }
+starves_at_once before = record { ending_is = refl; stream = []; reads = reads-none before.input; below = omega arith; came = refl; rest = refl }
 
-pub starves_reading : (input input' output errors : Stream) (host : HostState) → ReadsWithin input input' → Starves (world input output errors host) (world input' output errors host) (Stopped faults.OutOfMemory)
-starves_reading input input' output errors host within = record { ending_is = refl; stream = within.stream; reads = within.reads; within = within.within; rest = refl }
+pub starves_reading : (input input' output errors : Stream) (host : HostState) → ReadsBelow input input' → Starves (world input output errors host) (world input' output errors host) (Stopped faults.OutOfMemory)
+starves_reading input input' output errors host reads = record { ending_is = refl; stream = reads.stream; reads = reads.reads; below = reads.below; came = reads.came; rest = refl }
+
+-- what holds anyhow holds behind a fault
+pub if_err : {T E : Type 0} {P : Type 0} → (result : Result T E) → P → IfErr result (λ fault. P)
+if_err (Ok value) holds = tt
+if_err (Err fault) holds = holds
 
 -- nothing was read
-pub within_nothing : (input : Stream) → ReadsWithin input input
-within_nothing input = record { stream = []; reads = reads-none input; within = omega arith }
+pub below_nothing : (input : Stream) → ReadsBelow input input
+below_nothing input = record { stream = []; reads = reads-none input; below = omega arith; came = refl }
 
-within_by : (ending : ImportEnding) (start : Known) (stream : List ℕ) (left : Option (List ℕ)) (batches : List Batch) (refused : List Refusal) (stored : List Batch) → StandsBy ending start stream left batches refused stored → length stream ≤ input_limit
-within_by endings.Whole start stream left batches refused stored stands = omega (arith, stands.below)
-within_by (endings.ReadFault first last) start stream left batches refused stored stands = omega (arith, stands.below)
-within_by (endings.TooMuch bytes) start stream left batches refused stored stands = omega (arith, stands.at)
-within_by (endings.DiskFault first last) start stream left batches refused stored stands = omega (arith, stands.0.below)
-within_by (endings.Closed first last) start stream left batches refused stored stands = absurd stands
-within_by (endings.Full games bytes) start stream left batches refused stored stands = omega (arith, stands.0.below)
-within_by endings.OutOfMemory start stream left batches refused stored stands = omega (arith, stands.below)
+-- an import that came to its end, or for which memory was wanting, read below the bound, and no read failed
+below_by : (ending : ImportEnding) (start : Known) (stream : List ℕ) (left : Option (List ℕ)) (batches : List Batch) (refused : List Refusal) (stored : List Batch) (disk disk_after : DiskState) (source source_after : Stream)
+    → (fault_by ending ≡ None) ⊎ (fault_by ending ≡ Some faults.OutOfMemory) → StandsBy ending start stream left batches refused stored → FaultsBy ending disk disk_after source source_after
+    → (length stream < input_limit) × (source_after.read_faults ≡ source.read_faults)
+below_by endings.Whole start stream left batches refused stored disk disk_after source source_after ends stands faults_are = (stands.below, faults_are.reads)
+below_by endings.OutOfMemory start stream left batches refused stored disk disk_after source source_after ends stands faults_are = (stands.below, faults_are.reads)
+below_by (endings.ReadFault first last) start stream left batches refused stored disk disk_after source source_after (inl none) stands faults_are = absurd (cc)
+below_by (endings.ReadFault first last) start stream left batches refused stored disk disk_after source source_after (inr memory) stands faults_are = absurd (cc)
+below_by (endings.TooMuch bytes) start stream left batches refused stored disk disk_after source source_after (inl none) stands faults_are = absurd (cc)
+below_by (endings.TooMuch bytes) start stream left batches refused stored disk disk_after source source_after (inr memory) stands faults_are = absurd (cc)
+below_by (endings.DiskFault first last) start stream left batches refused stored disk disk_after source source_after (inl none) stands faults_are = absurd (cc)
+below_by (endings.DiskFault first last) start stream left batches refused stored disk disk_after source source_after (inr memory) stands faults_are = absurd (cc)
+below_by (endings.Closed first last) start stream left batches refused stored disk disk_after source source_after ends stands faults_are = absurd stands
+below_by (endings.Full games bytes) start stream left batches refused stored disk disk_after source source_after (inl none) stands faults_are = absurd (cc)
+below_by (endings.Full games bytes) start stream left batches refused stored disk disk_after source source_after (inr memory) stands faults_are = absurd (cc)
 
--- an import reads no more than it may
-pub within : (journal stored : List Batch) (disk disk_after : DiskState) (source source_after : Stream) (came : Came) → ImportedIn journal stored disk disk_after source source_after came → ReadsWithin source source_after
-within journal stored disk disk_after source source_after came is =
-    record { stream = is.stream; reads = is.reads; within = within_by came.ending is.start is.stream source_after.left is.batches came.refused.items stored is.stands }
+below_of : (journal stored : List Batch) (disk disk_after : DiskState) (source source_after : Stream) (came : Came) → ImportedIn journal stored disk disk_after source source_after came
+    → (fault_by came.ending ≡ None) ⊎ (fault_by came.ending ≡ Some faults.OutOfMemory) → ReadsBelow source source_after
+below_of journal stored disk disk_after source source_after came is ends =
+    let both = below_by came.ending is.start is.stream source_after.left is.batches came.refused.items stored disk disk_after source source_after ends is.stands is.faults in
+    record { stream = is.stream; reads = is.reads; below = both.0; came = both.1 }
+
+pub below_whole : (journal stored : List Batch) (disk disk_after : DiskState) (source source_after : Stream) (came : Came) → ImportedIn journal stored disk disk_after source source_after came → fault_by came.ending ≡ None
+    → ReadsBelow source source_after
+below_whole journal stored disk disk_after source source_after came is none = below_of journal stored disk disk_after source source_after came is (inl none)
+
+pub below_lacking : (journal stored : List Batch) (disk disk_after : DiskState) (source source_after : Stream) (came : Came) → ImportedIn journal stored disk disk_after source source_after came → fault_by came.ending ≡ Some faults.OutOfMemory
+    → ReadsBelow source source_after
+below_lacking journal stored disk disk_after source source_after came is memory = below_of journal stored disk disk_after source source_after came is (inr memory)
+
+-- where memory is wanting for the report of an input that was read to its end
+pub below_counted : (query : Query) (faults faults_after : ℕ) (before after : Stream) (refused : List Refusal) (line : Vec ℕ Global) → CountedTo query faults faults_after before after refused (Ok line) → ReadsBelow before after
+below_counted query faults faults_after before after refused line (batches, (imports, answer, came)) =
+    record { stream = imports.stream; reads = imports.reads; below = imports.stands.below; came = came }
 
 -- ---- an import into a new store
 
@@ -201,14 +227,20 @@ writes_as chunk other old new is writes = subst (λ (l : List ℕ). Writes (l �
 no_rise : Rises 0 0 → ⊥
 no_rise rises = ⊎_elim (λ (less : 0 < 0). omega (arith, less)) (λ (most : 0 ≡ 2 ^ 64 - 1). omega (arith, most)) rises.rose
 
-pub broken : (text : List ℕ) (query : Query) (input input' output errors errors' : Stream) (host : HostState) (refused : List Refusal) (fault : Fault) (lines : List ℕ) → QueryReads text (Ok query) → CountedTo query 0 0 input input' refused (Err fault)
-    → lines ≡ report refused → Writes (lines ∷ []) errors errors'
+pub broken : {E : Type 0} (text : List ℕ) (query : Query) (input input' output errors errors' : Stream) (host : HostState) (refused : List Refusal) (fault : Fault) (made : Result (Vec ℕ Global) E) → QueryReads text (Ok query)
+    → CountedTo query 0 0 input input' refused (Err fault) → IfOk made (λ lines. lines.items ≡ report refused)
+    → MatchResult made (λ lines. Writes (lines.items ∷ []) errors errors') (λ none. errors' ≡ errors)
     → Counts text (world input output errors host) (world input' output errors' host) (Stopped fault)
-broken text query input input' output errors errors' host refused fault lines reads (batches, counted) lines_are writes =
+broken {E} text query input input' output errors errors' host refused fault made reads (batches, counted) lines_are writes =
     (Ok query, reads, by_fault fault counted)
   where
-    told : Writes (report refused ∷ []) errors errors'
-    told = writes_as lines (report refused) errors errors' lines_are writes
+    by_made : (r : Result (Vec ℕ Global) E) → IfOk r (λ lines. lines.items ≡ report refused)
+        → MatchResult r (λ lines. Writes (lines.items ∷ []) errors errors') (λ none. errors' ≡ errors) → MayReport (report refused) errors errors'
+    by_made (Ok lines) are wrote = inl (writes_as lines.items (report refused) errors errors' are wrote)
+    by_made (Err none) are same = inr same
+
+    told : MayReport (report refused) errors errors'
+    told = by_made made lines_are writes
 
     before : World
     before = world input output errors host

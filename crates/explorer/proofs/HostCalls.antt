@@ -16,6 +16,9 @@ if_some (Some x) P Q f h = f x h
 pub same_bytes : (name : List ℕ) → bytes_eq name name ≡ true
 same_bytes name = grind (arith, common_steps, bytes_eq-Decides name name)
 
+pub bytes_same : (name other : List ℕ) → bytes_eq name other ≡ true → name ≡ other
+bytes_same name other same = grind (arith, common_steps, bytes_eq-Decides name other)
+
 -- the name at a place of texts
 pub name_is : {A : Type 0} (text : A → List ℕ) (xs : List A) (i : ℕ) (d : A) → i < length (map text xs)
     → name_at (map text xs) i ≡ text (slice_index_or xs i d)

@@ -1,6 +1,6 @@
 -- How a run of the command `import` ends.
 use Rattle.std.proofs.Common.{◌≡◌, ◌⊎◌, inl, inr, ℕ, ◌<◌, List, [], ◌∷◌, Option, None, Some, length, refl, sym, ap, subst, ◌∙◌, arith}
-use Rattle.std.specs.Prelude.{IfSome}
+use Rattle.std.specs.Prelude.{IfSome, unwrap_or}
 use Rattle.disk_model.specs.Disk.{DiskState, IsQuiet}
 use Rattle.outside.specs.Stream.{Rises, Stream, Writes}
 use Rattle.explorer_model.specs.declared.archive.Batch.{Batch}
@@ -106,11 +106,18 @@ pub in_vain : (store file : List ℕ) (disk disk_after : DiskState) (source sour
     → disk_after.content ≡ disk.content → source_after ≡ source → OnlyHost before after → LacksMemory store file before after
 in_vain store file disk disk_after source source_after before after uses kept same only =
     let U : Stream → Type 0 = λ s. UsesBoth store file disk disk_after source s before.host after.host in
-    inl (inr (inl (record { disk = disk; disk_after = disk_after; source = source; uses = subst U same uses; kept = kept })), only)
+    inl (inr (record { disk = disk; disk_after = disk_after; source = source; uses = subst U same uses; kept = kept }), only)
 
 -- memory was wanting for what the import came to
-pub untold : (store file : List ℕ) (before after : World) (ending : ImportEnding) → ImportsInto ending store file before.host after.host → OnlyHost before after → LacksMemory store file before after
-untold store file before after ending imports only = inl (inr (inr (ending, imports)), only)
+pub untold : (store file : List ℕ) (before after : World) (ending : ImportEnding) → ImportsInto ending store file before.host after.host → OnlyHost before after
+    → ImportsBy store file before after (Stopped (unwrap_or (fault_by ending) faults.OutOfMemory))
+untold store file before after endings.Whole imports only = inr (inr (record { imports = imports; only = only }))
+untold store file before after (endings.ReadFault first last) imports only = (first, last, inr (record { imports = imports; only = only }))
+untold store file before after (endings.DiskFault first last) imports only = inr (first, last, inr (record { imports = imports; only = only }))
+untold store file before after (endings.Closed first last) imports only = absurd imports.stands
+untold store file before after (endings.Full games bytes) imports only = inr (record { imports = imports; only = only })
+untold store file before after (endings.TooMuch bytes) imports only = (bytes, inr (record { imports = imports; only = only }))
+untold store file before after endings.OutOfMemory imports only = inr (inl (inr (record { imports = imports; only = only })))
 
 -- streams that are as they were leave the host alone
 pub only_host : (before after : World) (output errors : Stream) (host : HostState) → after ≡ record before { output = output; errors = errors; host = host } → output ≡ before.output → errors ≡ before.errors
@@ -154,12 +161,12 @@ module _ (store file : List ℕ) (before after : World) where
   imports_by endings.Whole (Stopped (faults.CannotOpen name)) to outcome = absurd outcome
   imports_by endings.Whole (Stopped faults.CannotAccept) to outcome = absurd outcome
   imports_by endings.Whole (Stopped faults.TooMuchInput) to outcome = absurd outcome
-  imports_by (endings.ReadFault first last) ending to outcome = stopped ending faults.ReadFault outcome (first, last, to)
-  imports_by (endings.DiskFault first last) ending to outcome = stopped ending faults.DiskFault outcome (inr (first, last, to))
+  imports_by (endings.ReadFault first last) ending to outcome = stopped ending faults.ReadFault outcome (first, last, inl to)
+  imports_by (endings.DiskFault first last) ending to outcome = stopped ending faults.DiskFault outcome (inr (first, last, inl to))
   imports_by (endings.Closed first last) ending to outcome = absurd to.imports.stands
-  imports_by (endings.Full games bytes) ending to outcome = stopped ending (faults.Full games bytes) outcome to
-  imports_by (endings.TooMuch bytes) ending to outcome = stopped ending faults.TooMuchInput outcome (bytes, to)
-  imports_by endings.OutOfMemory ending to outcome = stopped ending faults.OutOfMemory outcome (inr to)
+  imports_by (endings.Full games bytes) ending to outcome = stopped ending (faults.Full games bytes) outcome (inl to)
+  imports_by (endings.TooMuch bytes) ending to outcome = stopped ending faults.TooMuchInput outcome (bytes, inl to)
+  imports_by endings.OutOfMemory ending to outcome = stopped ending faults.OutOfMemory outcome (inr (inl (inl to)))
 
 -- ---- a disk stays out while a file is asked for
 

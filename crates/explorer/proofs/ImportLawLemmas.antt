@@ -31,8 +31,8 @@ use Rattle.import_run.proofs.SoFarLemmas.{in_groups}
 use Rattle.import_run.proofs.VerdictLemmas.{OneGame}
 use Rattle.explorer.specs.declared.fault.Fault.TheVariants as faults
 use Rattle.explorer.specs.Faults.{fault_of_opening}
-use Rattle.explorer.specs.ImportStore.{ImportsBy, ImportsTo, SomeWriteFails, totals}
-use Rattle.explorer.specs.Laws.{GoesWell, ImportAlike, IsToldErrors, IsToldFile, IsToldStore, ReadsWell, ReportsWell}
+use Rattle.explorer.specs.ImportStore.{ImportsBy, ImportsInto, ImportsSo, ImportsTo, SomeWriteFails, totals}
+use Rattle.explorer.specs.Laws.{GoesWell, HasMemory, ImportAlike, IsToldErrors, IsToldFile, IsToldStore, ReadsWell, ReportsWell}
 use Rattle.explorer.specs.Lines.{Ending, Done, Stopped, status_of}
 use Rattle.explorer.specs.Opened.{FailsUnread, IsRefusedBy, RefusesStore}
 use Rattle.explorer.specs.Report.{report}
@@ -115,54 +115,54 @@ module _ (store image file stream : List ℕ) (all : List (List Cut)) (groups_ar
 
   -- ---- an import
 
-  module _ (end : ImportEnding) (to : ImportsTo end store file before after) where
-    host_is : after.host ≡ with_disk store (calls_behind store file to.imports.source_after before.host) to.imports.disk_after.content before.host
+  module _ (end : ImportEnding) (into : ImportsInto end store file before.host after.host) where
+    host_is : after.host ≡ with_disk store (calls_behind store file into.source_after before.host) into.disk_after.content before.host
     host_is =
-        used_both store file to.imports.disk to.imports.disk_after to.imports.source to.imports.source_after before.host after.host to.imports.uses well.faults reads
+        used_both store file into.disk into.disk_after into.source into.source_after before.host after.host into.uses well.faults reads
 
-    source : to.imports.source ≡ source_alone (Some stream) 0 0
+    source : into.source ≡ source_alone (Some stream) 0 0
     source =
-        source_is store file to.imports.disk to.imports.disk_after to.imports.source to.imports.source_after before.host after.host to.imports.uses well.faults reads
+        source_is store file into.disk into.disk_after into.source into.source_after before.host after.host into.uses well.faults reads
         stream told_file.file
 
-    rest : (rest : List ℕ) × (stream ≡ to.imports.stream ++ rest) × (to.imports.source_after.left ≡ Some rest)
-    rest = told_rest to.imports.source.left to.imports.source_after.left stream to.imports.stream (ap (λ (s : Stream). s.left) source) to.imports.reads.next
+    rest : (rest : List ℕ) × (stream ≡ into.stream ++ rest) × (into.source_after.left ≡ Some rest)
+    rest = told_rest into.source.left into.source_after.left stream into.stream (ap (λ (s : Stream). s.left) source) into.reads.next
 
-    no_read : Rises to.imports.source.read_faults to.imports.source_after.read_faults → ⊥
+    no_read : Rises into.source.read_faults into.source_after.read_faults → ⊥
     no_read =
-        no_read_fails store file to.imports.disk to.imports.disk_after to.imports.source to.imports.source_after before.host after.host to.imports.uses well.faults reads
+        no_read_fails store file into.disk into.disk_after into.source into.source_after before.host after.host into.uses well.faults reads
         told_file.faults
 
-    no_call : Rises to.imports.disk.faults to.imports.disk_after.faults → ⊥
+    no_call : Rises into.disk.faults into.disk_after.faults → ⊥
     no_call =
-        no_call_fails store file to.imports.disk to.imports.disk_after to.imports.source to.imports.source_after before.host after.host to.imports.uses well.faults reads
+        no_call_fails store file into.disk into.disk_after into.source into.source_after before.host after.host into.uses well.faults reads
         told.faults
 
-    goes : to.imports.stored ≡ to.imports.start.journal ++ to.imports.batches → IfSome to.imports.disk_after.content (HasJournal to.imports.stored)
-        → Goes store image to.imports.start to.imports.batches to.imports.refused before after
-    goes stored holds =
-        let journal = to.imports.start.journal ++ to.imports.batches in
-        let calls = calls_behind store file to.imports.source_after before.host in
-        let content = content_is store calls to.imports.disk_after.content before.host after.host host_is in
-        let held : IfSome to.imports.disk_after.content (HasJournal journal) =
-        subst (λ (j : List Batch). IfSome to.imports.disk_after.content (HasJournal j)) stored holds in
-        record {
-          is_open = to.imports.sound;
-          read = told_is (HasJournal to.imports.start.journal) to.imports.disk.content image (to.imports.uses.hands_disk.content ∙ told.disk) to.imports.read;
-          sound = subst IsSound stored to.imports.is_sound;
-          holds = subst (λ (o : Option (List ℕ)). IfSome o (HasJournal journal)) (sym content) held;
-          errors = wrote_stream (report to.imports.refused) before.errors after.errors told_errors.errors told_errors.reports reports to.errors;
-          output =
-              wrote_stream (totals_of to.imports.batches to.imports.stored) before.output after.output told.output told.writes well.writes to.output
-              ∙ ap (λ (j : List Batch). wrote_behind before.output (totals_of to.imports.batches j)) stored;
-          input = ap (λ (w : World). w.input) to.rest;
-          host = only_disk store calls to.imports.disk_after.content before.host after.host host_is;
-        }
+  goes : (end : ImportEnding) (to : ImportsTo end store file before after) → to.imports.stored ≡ to.imports.start.journal ++ to.imports.batches → IfSome to.imports.disk_after.content (HasJournal to.imports.stored)
+      → Goes store image to.imports.start to.imports.batches to.imports.refused before after
+  goes end to stored holds =
+      let journal = to.imports.start.journal ++ to.imports.batches in
+      let calls = calls_behind store file to.imports.source_after before.host in
+      let content = content_is store calls to.imports.disk_after.content before.host after.host (host_is end to.imports) in
+      let held : IfSome to.imports.disk_after.content (HasJournal journal) =
+      subst (λ (j : List Batch). IfSome to.imports.disk_after.content (HasJournal j)) stored holds in
+      record {
+        is_open = to.imports.sound;
+        read = told_is (HasJournal to.imports.start.journal) to.imports.disk.content image (to.imports.uses.hands_disk.content ∙ told.disk) to.imports.read;
+        sound = subst IsSound stored to.imports.is_sound;
+        holds = subst (λ (o : Option (List ℕ)). IfSome o (HasJournal journal)) (sym content) held;
+        errors = wrote_stream (report to.imports.refused) before.errors after.errors told_errors.errors told_errors.reports reports to.errors;
+        output =
+            wrote_stream (totals_of to.imports.batches to.imports.stored) before.output after.output told.output told.writes well.writes to.output
+            ∙ ap (λ (j : List Batch). wrote_behind before.output (totals_of to.imports.batches j)) stored;
+        input = ap (λ (w : World). w.input) to.rest;
+        host = only_disk store calls to.imports.disk_after.content before.host after.host (host_is end to.imports);
+      }
 
   done : ImportsTo endings.Whole store file before after → IsDone store image file stream before after
   done to =
-      let more = rest endings.Whole to in
-      let from = source endings.Whole to in
+      let more = rest endings.Whole to.imports in
+      let from = source endings.Whole to.imports in
       let none = end_is to.imports.source_after.left more.0 more.2 to.imports.stands.at_end in
       let same : to.imports.stream ≡ stream = sym (more.1 ∙ ap (λ (l : List ℕ). to.imports.stream ++ l) none ∙ append-nil to.imports.stream) in
       let left : to.imports.source_after.left ≡ Some [] = more.2 ∙ ap Some none in
@@ -176,12 +176,12 @@ module _ (store image file stream : List ℕ) (all : List (List Cut)) (groups_ar
         refused = to.imports.refused;
         goes = goes endings.Whole to to.imports.stored_are to.imports.holds;
         accounted = subst (λ (l : List ℕ). Accounted no_label to.imports.start.games (groups (cuts l)) to.imports.batches to.imports.refused) same to.imports.stands.settled.accounted;
-        calls = ap (λ (h : HostState). h.calls) (host_is endings.Whole to) ∙ ap (λ (s : Stream). calls_behind store file s before.host) back;
+        calls = ap (λ (h : HostState). h.calls) (host_is endings.Whole to.imports) ∙ ap (λ (s : Stream). calls_behind store file s before.host) back;
       }
 
   full : (games bytes : ℕ) → ImportsTo (endings.Full games bytes) store file before after → IsFull games bytes store image all before after
   full games bytes to =
-      let more = rest (endings.Full games bytes) to in
+      let more = rest (endings.Full games bytes) to.imports in
       record {
         start = to.imports.start;
         batches = to.imports.batches;
@@ -190,11 +190,15 @@ module _ (store image file stream : List ℕ) (all : List (List Cut)) (groups_ar
         full = full_in_all to.imports.start games bytes stream to.imports.stream more.0 to.imports.source_after.left to.imports.batches to.imports.refused all more.1 more.2 to.imports.stands groups_are;
       }
 
-  not_too_much : (bytes : ℕ) → ImportsTo (endings.TooMuch bytes) store file before after → ⊥
-  not_too_much bytes to =
-      let more = rest (endings.TooMuch bytes) to in
+  not_too_much : (bytes : ℕ) → ImportsInto (endings.TooMuch bytes) store file before.host after.host → ⊥
+  not_too_much bytes into =
+      let more = rest (endings.TooMuch bytes) into in
       let long = ap (λ (l : List ℕ). length l) more.1 in
-      omega (arith, told_file.below, to.imports.stands.at, long, length-append to.imports.stream more.0)
+      omega (arith, told_file.below, into.stands.at, long, length-append into.stream more.0)
+
+  so_into : (end : ImportEnding) → ImportsSo end store file before after → ImportsInto end store file before.host after.host
+  so_into end (inl to) = to.imports
+  so_into end (inr untold) = untold.imports
 
   refused_by : (fault : LogFault) → RefusesStore fault store before after → Comes store image file stream all before after (refusal fault)
   refused_by fault by =
@@ -212,20 +216,25 @@ module _ (store image file stream : List ℕ) (all : List (List Cut)) (groups_ar
         },
       ))
 
-  comes : (ending : Ending) → status_of ending ≢ 9 → ImportsBy store file before after ending → Comes store image file stream all before after ending
+  comes : (ending : Ending) → HasMemory (status_of ending) before after → ImportsBy store file before after ending → Comes store image file stream all before after ending
   comes Done fed by = inl (refl, done by.0)
-  comes (Stopped (faults.Full games bytes)) fed by = inr (inl (games, bytes, refl, full games bytes by))
+  comes (Stopped (faults.Full games bytes)) fed (inl to) = inr (inl (games, bytes, refl, full games bytes to))
+  comes (Stopped (faults.Full games bytes)) fed (inr untold) = absurd (fed.1 refl (ap (λ (w : World). w.output) untold.only))
   comes (Stopped faults.NotAStore) fed by = refused_by log.NotALog by
   comes (Stopped (faults.OtherFormat number)) fed by = refused_by (log.OtherFormat number) by
   comes (Stopped (faults.Damaged gate)) fed by = refused_by (log.Damaged gate) by
   comes (Stopped faults.WriteFault) fed by = absurd (no_write_fails by.1)
-  comes (Stopped faults.ReadFault) fed (first, last, to) = absurd (no_read (endings.ReadFault first last) to to.imports.faults.1)
-  comes (Stopped faults.TooMuchInput) fed (bytes, to) = absurd (not_too_much bytes to)
+  comes (Stopped faults.ReadFault) fed (first, last, so) =
+      let into = so_into (endings.ReadFault first last) so in
+      absurd (no_read (endings.ReadFault first last) into into.faults.1)
+  comes (Stopped faults.TooMuchInput) fed (bytes, so) = absurd (not_too_much bytes (so_into (endings.TooMuch bytes) so))
   comes (Stopped faults.DiskFault) fed (inl by) = absurd (no_fault_unread by.0)
-  comes (Stopped faults.DiskFault) fed (inr (first, last, to)) = absurd (no_call (endings.DiskFault first last) to to.imports.faults.0)
+  comes (Stopped faults.DiskFault) fed (inr (first, last, so)) =
+      let into = so_into (endings.DiskFault first last) so in
+      absurd (no_call (endings.DiskFault first last) into into.faults.0)
   comes (Stopped (faults.CannotOpen name)) fed (inl by) = absurd (no_rise before.host.own_faults after.host.own_faults well.refusals told.refusals by.1.rises)
   comes (Stopped (faults.CannotOpen name)) fed (inr by) = absurd (no_file_refused store file before.host after.host by.1 well.refusals told.refusals)
-  comes (Stopped faults.OutOfMemory) fed by = absurd (fed refl)
+  comes (Stopped faults.OutOfMemory) fed by = absurd (fed.0 refl)
   comes (Stopped faults.Usage) fed by = absurd by
   comes (Stopped (faults.BadParameter name)) fed by = absurd by
   comes (Stopped (faults.NotEmpty size)) fed by = absurd by
@@ -374,7 +383,7 @@ module _ (store image file stream : List ℕ) (all : List (List Cut)) (groups_ar
   )
 
 pub one_import : (store image file stream : List ℕ) (before after other : World) (ending ending' : Ending) → OneGame → OneAccount → OneOpening → IsToldStore store image before → IsToldFile file stream before → IsToldErrors before
-    → GoesWell before after → ReadsWell before after → ReportsWell before after → GoesWell before other → ReadsWell before other → ReportsWell before other → status_of ending ≢ 9 → status_of ending' ≢ 9
+    → GoesWell before after → ReadsWell before after → ReportsWell before after → GoesWell before other → ReadsWell before other → ReportsWell before other → HasMemory (status_of ending) before after → HasMemory (status_of ending') before other
     → ImportsBy store file before after ending → ImportsBy store file before other ending' → (ending ≡ ending') × ImportAlike store (status_of ending) after other
 one_import store image file stream before after other ending ending' one accounts once told told_file told_errors well reads reports well' reads' reports' fed fed' by by' =
     let parts = in_groups (cuts stream) in

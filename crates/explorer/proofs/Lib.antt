@@ -25,6 +25,9 @@ mod DefaultQueryLemmas
 mod TrialLemmas
 mod ToldStoreLemmas
 mod CreationLemmas
+mod MigrateLemmas
+mod MigrateLawLemmas
+mod KeptStoreLemmas
 mod QuestionLemmas
 mod ImportHostLemmas
 mod ImportLawLemmas

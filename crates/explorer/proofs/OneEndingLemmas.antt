@@ -29,7 +29,7 @@ use Rattle.explorer.specs.Answer.{answer_line}
 use Rattle.explorer.specs.Count.{Answers, Counts, CountsBy}
 use Rattle.explorer.specs.Imported.{IsFullAt, new_store}
 use Rattle.explorer.specs.Lines.{Ending, Done, Stopped}
-use Rattle.explorer.specs.Report.{report}
+use Rattle.explorer.specs.Report.{MayReport, report}
 use Rattle.explorer.specs.Laws.{IsTold, WroteAlike}
 use Rattle.explorer.specs.World.{World, IsFaultless}
 use Rattle.explorer.proofs.LawLemmas.{IsFullBehind, OneAnswer, one_answer, one_full_behind}
@@ -207,7 +207,7 @@ wrote chunk old new told low same writes = ap (λ (s : Stream). s.written) (wrot
 abbrev Comes : List ℕ → List (List Cut) → Query → World → World → Ending → Type 0
 Comes stream all query before after ending = ((ending ≡ Done) × Answers query before after)
     ⊎ ((games : ℕ) × (bytes : ℕ) × (batches : List Batch) × (refused : List Refusal) × (ending ≡ Stopped (faults.Full games bytes)) × IsFullBehind new_store games bytes all batches refused × IsSound batches
-    × (after.output ≡ before.output) × Writes (report refused ∷ []) before.errors after.errors)
+    × (after.output ≡ before.output) × MayReport (report refused) before.errors after.errors)
 
 comes : (stream : List ℕ) (all : List (List Cut)) (query : Query) (before after : World) (ending : Ending) → IsTold stream before → AreAllGroups (cuts stream) all → IsFaultless before after
     → CountsBy (Ok query) before after ending → Comes stream all query before after ending
@@ -256,22 +256,42 @@ whole_stored stream query before after told answers =
     let same : answers.imports.stream ≡ stream = sym (rest.1 ∙ ap (λ (l : List ℕ). answers.imports.stream ++ l) (end_is after.input.left rest.0 rest.2 answers.imports.stands.at_end) ∙ append-nil answers.imports.stream) in
     subst (λ (l : List ℕ). Accounted no_label [] (groups (cuts l)) answers.batches answers.refused) same answers.imports.stands.settled.accounted
 
-abbrev Alike : World → World → Ending → Ending → Type 0
-Alike after other ending ending' = (ending ≡ ending') × WroteAlike after other
+-- the lines were reported, or, where memory was wanting for them, nothing was
+abbrev pub Reported : List ℕ → Stream → Stream → Type 0
+Reported lines before after = (after.written ≡ append_known before.written lines) ⊎ (after.written ≡ before.written)
+
+-- a group found no room in both, before it was told
+pub record FoundNoRoom (before after other : World) : Type 0 where
+  pub output : after.output.written ≡ other.output.written
+  pub lines : List ℕ
+  pub first : Reported lines before.errors after.errors
+  pub second : Reported lines before.errors other.errors
+
+-- what runs that end alike wrote, before that was told
+abbrev pub WroteBy : World → World → World → Ending → Type 0
+WroteBy before after other (Stopped (faults.Full games bytes)) = FoundNoRoom before after other
+WroteBy before after other _ = WroteAlike after other
+
+abbrev Alike : World → World → World → Ending → Ending → Type 0
+Alike before after other ending ending' = (ending ≡ ending') × WroteBy before after other ending
+
+reported : (lines : List ℕ) (old new : Stream) → IsSome old.written → old.write_faults < 2 ^ 64 - 1 → new.write_faults ≡ old.write_faults → MayReport lines old new → Reported lines old new
+reported lines old new told low same (inl writes) = inl (wrote lines old new told low same writes)
+reported lines old new told low same (inr none) = inr (ap (λ (s : Stream). s.written) none)
 
 one_of_two : (stream : List ℕ) (all : List (List Cut)) (query : Query) (before after other : World) (ending ending' : Ending) → OneGame → OneAccount → OneAnswer → IsTold stream before → AreAllGroups (cuts stream) all
-    → IsFaultless before after → IsFaultless before other → Comes stream all query before after ending → Comes stream all query before other ending' → Alike after other ending ending'
+    → IsFaultless before after → IsFaultless before other → Comes stream all query before after ending → Comes stream all query before other ending' → Alike before after other ending ending'
 one_of_two stream all query before after other ending ending' game one answer told groups_are fine fine' (inl (is, first)) (inl (is', second)) =
     let same = one_answer query before after other one answer (told_some before.input.left stream told.input) first second in (
       is ∙ sym is',
-      record {
+      subst (λ (e : Ending). WroteBy before after other e) (sym is) (record {
         output =
             wrote _ before.output after.output told.output told.writes fine.output first.output ∙ ap (λ (f : Found). append_known before.output.written (answer_line f)) same.0
             ∙ sym (wrote _ before.output other.output told.output told.writes fine'.output second.output);
         errors =
             wrote _ before.errors after.errors told.errors told.reports fine.errors first.errors ∙ ap (λ (l : List Refusal). append_known before.errors.written (report l)) same.1
             ∙ sym (wrote _ before.errors other.errors told.errors told.reports fine'.errors second.errors);
-      },
+      }),
     )
 one_of_two stream all query before after other ending ending' game one answer told groups_are fine fine' (inl (is, first)) (inr (games, bytes, batches, refused, is', full, sound, output, errors)) =
     absurd (done_or_full new_store refl stream all games bytes batches first.batches refused first.refused game one (whole_stored stream query before after told first) first.imports.sound.within groups_are full)
@@ -280,31 +300,32 @@ one_of_two stream all query before after other ending ending' game one answer to
 one_of_two stream all query before after other ending ending' game one answer told groups_are fine fine' (inr (games, bytes, batches, refused, is, full, sound, output, errors)) (inr (games', bytes', batches', refused', is', full', sound', output', errors')) =
     let same = one_full_behind new_store refl games bytes games' bytes' all batches batches' refused refused' game one full full' sound sound' in (
       is ∙ ap₂ (λ (g : ℕ) (b : ℕ). Stopped (faults.Full g b)) same.0 same.1 ∙ sym is',
-      record {
+      subst (λ (e : Ending). WroteBy before after other e) (sym is) (record {
         output = ap (λ (s : Stream). s.written) (output ∙ sym output');
-        errors =
-            wrote _ before.errors after.errors told.errors told.reports fine.errors errors ∙ ap (λ (l : List Refusal). append_known before.errors.written (report l)) same.3
-            ∙ sym (wrote _ before.errors other.errors told.errors told.reports fine'.errors errors');
-      },
+        lines = report refused;
+        first = reported (report refused) before.errors after.errors told.errors told.reports fine.errors errors;
+        second = subst (λ (l : List Refusal). Reported (report l) before.errors other.errors) (sym same.3)
+            (reported (report refused') before.errors other.errors told.errors told.reports fine'.errors errors');
+      }),
     )
 
 abbrev pub OneQuery : Type 0
 OneQuery = (text : List ℕ) (r s : Result Query BadParameter) → QueryReads text r → QueryReads text s → r ≡ s
 
 pub one_ending : (text stream : List ℕ) (before after other : World) (ending ending' : Ending) → OneGame → OneAccount → OneAnswer → OneQuery → IsTold stream before → IsFaultless before after → IsFaultless before other
-    → Counts text before after ending → Counts text before other ending' → (ending ≡ ending') × WroteAlike after other
+    → Counts text before after ending → Counts text before other ending' → (ending ≡ ending') × WroteBy before after other ending
 one_ending text stream before after other ending ending' game one answer query told fine fine' first second = by_query first.0 second.0 (query text first.0 second.0 first.1 second.1) first.2 second.2
   where
-    by_query : (r s : Result Query BadParameter) → r ≡ s → CountsBy r before after ending → CountsBy s before other ending' → (ending ≡ ending') × WroteAlike after other
+    by_query : (r s : Result Query BadParameter) → r ≡ s → CountsBy r before after ending → CountsBy s before other ending' → (ending ≡ ending') × WroteBy before after other ending
     by_query (Err bad) (Ok asked) is counts counts' = cc
     by_query (Ok asked) (Err bad) is counts counts' = cc
     by_query (Err bad) (Err worse) is counts counts' =
         let same : bad ≡ worse = cc in (
           counts.0 ∙ ap (λ (b : BadParameter). Stopped (faults.BadParameter b.name)) same ∙ sym counts'.0,
-          record {
+          subst (λ (e : Ending). WroteBy before after other e) (sym counts.0) (record {
             output = ap (λ (w : World). w.output.written) (counts.1 ∙ sym counts'.1);
             errors = ap (λ (w : World). w.errors.written) (counts.1 ∙ sym counts'.1);
-          },
+          }),
         )
     by_query (Ok asked) (Ok also) is counts counts' =
         let same : asked ≡ also = cc in

@@ -9,26 +9,30 @@ use Rattle.explorer_model.specs.declared.query.Query.{Query as AQuery}
 use Rattle.explorer.specs.declared.fault.Fault.{Fault}
 use Rattle.explorer.specs.declared.fault.Fault.TheVariants as faults
 use Rattle.explorer.specs.Count.{Counts, CountsBy}
-use Rattle.explorer.specs.Laws.{CountsAtMost, IsTold, WroteAlike}
-use Rattle.explorer.specs.Lines.{AreLinesOf, Ending, Done, Stopped, Tells, status_of}
-use Rattle.explorer.specs.Report.{report}
+use Rattle.explorer.specs.Laws.{CountsAtMost, IsTold, WroteAlike, WroteAlikeButReport, WroteBehind}
+use Rattle.explorer.specs.Lines.{AreLinesOf, Ending, Done, Stopped, Tells, full_line, status_of}
+use Rattle.explorer.specs.Report.{MayReport, report}
 use Rattle.explorer.specs.Run.{Meets, Runs, StartsWithout}
-use Rattle.command_line.specs.Task.{Task, Count, Create, Import, Query, Serve, Trial, task_of}
+use Rattle.command_line.specs.Task.{Task, Count, Create, Import, Migrate, Query, Serve, Trial, task_of}
 use Rattle.explorer.specs.World.{World, IsFaultless}
 use Rattle.import_run.proofs.VerdictLemmas.{OneGame}
 use Rattle.explorer.proofs.LawLemmas.{OneAnswer}
 use Rattle.explorer.proofs.NoRoomLemmas.{OneAccount}
-use Rattle.explorer.proofs.OneEndingLemmas.{OneQuery, one_ending, wrote}
+use Rattle.explorer.proofs.OneEndingLemmas.{FoundNoRoom, OneQuery, Reported, WroteBy, one_ending, wrote}
 
 -- ---- what a count writes to the errors
+
+grew_may : (lines : List ℕ) (old new : Stream) → MayReport lines old new → (bytes : List ℕ) × Grows bytes old new
+grew_may lines old new (inl writes) = writes-grows (lines ∷ []) old new writes
+grew_may lines old new (inr same) = ([], subst (λ (s : Stream). Grows [] old s) (sym same) (grows-none old))
 
 grew_by : (query : Result AQuery BadParameter) (before after : World) (ending : Ending) → CountsBy query before after ending → (bytes : List ℕ) × Grows bytes before.errors after.errors
 grew_by (Err bad) before after ending counts = ([], subst (λ (w : World). Grows [] before.errors w.errors) (sym counts.1) (grows-none before.errors))
 grew_by (Ok query) before after Done counts = writes-grows (report counts.0.refused ∷ []) before.errors after.errors counts.0.errors
 grew_by (Ok query) before after (Stopped faults.WriteFault) counts = writes-grows (report counts.0.refused ∷ []) before.errors after.errors counts.0.errors
-grew_by (Ok query) before after (Stopped faults.ReadFault) counts = writes-grows (report counts.0.refused ∷ []) before.errors after.errors counts.0.errors
-grew_by (Ok query) before after (Stopped faults.TooMuchInput) counts = writes-grows (report counts.0.refused ∷ []) before.errors after.errors counts.0.errors
-grew_by (Ok query) before after (Stopped (faults.Full games bytes)) counts = writes-grows (report counts.0.refused ∷ []) before.errors after.errors counts.0.errors
+grew_by (Ok query) before after (Stopped faults.ReadFault) counts = grew_may (report counts.0.refused) before.errors after.errors counts.0.errors
+grew_by (Ok query) before after (Stopped faults.TooMuchInput) counts = grew_may (report counts.0.refused) before.errors after.errors counts.0.errors
+grew_by (Ok query) before after (Stopped (faults.Full games bytes)) counts = grew_may (report counts.0.refused) before.errors after.errors counts.0.errors
 grew_by (Ok query) before after (Stopped faults.Usage) counts = absurd counts
 grew_by (Ok query) before after (Stopped (faults.BadParameter name)) counts = absurd counts
 grew_by (Ok query) before after (Stopped faults.DiskFault) counts = absurd counts
@@ -113,46 +117,121 @@ told_alike (Stopped fault) ended after ended' other differs told told' low low' 
           ∙ sym (wrote_all lines' ended'.errors other.errors told' low' fine' writes');
     }
 
+-- where a group found no room, and one may have gone without the report
+full_line_behind : (lines : List ℕ) (line : List ℕ) (before ended after : Stream) → Reported lines before ended → after.written ≡ append_known ended.written line → WroteBehind lines line before after
+full_line_behind lines line before ended after (inl is) behind = inl (behind ∙ ap (λ (o : Option (List ℕ)). append_known o line) is)
+full_line_behind lines line before ended after (inr is) behind = inr (behind ∙ ap (λ (o : Option (List ℕ)). append_known o line) is)
+
+full_told : (games bytes : ℕ) (lines : List ℕ) (before ended after : World) → IsSome ended.errors.written → ended.errors.write_faults < 2 ^ 64 - 1 → after.errors.write_faults ≡ ended.errors.write_faults
+    → Tells (Stopped (faults.Full games bytes)) ended after → Reported lines before.errors ended.errors → WroteBehind lines (full_line games bytes) before.errors after.errors
+full_told games bytes lines before ended after told low fine ((all, are, writes), rest) reported =
+    full_line_behind lines (full_line games bytes) before.errors ended.errors after.errors reported
+    (wrote_all all ended.errors after.errors told low fine writes ∙ ap (append_all ended.errors.written) are)
+
+-- a run that ended alike and was told so
+alike_by : (ending : Ending) (before after other : World) → (status_of ending ≡ 8 → ⊥) → WroteBy before after other ending → WroteAlike after other
+alike_by Done before after other differs alike = alike
+alike_by (Stopped faults.Usage) before after other differs alike = alike
+alike_by (Stopped (faults.BadParameter name)) before after other differs alike = alike
+alike_by (Stopped faults.ReadFault) before after other differs alike = alike
+alike_by (Stopped faults.WriteFault) before after other differs alike = alike
+alike_by (Stopped faults.DiskFault) before after other differs alike = alike
+alike_by (Stopped (faults.NotEmpty size)) before after other differs alike = alike
+alike_by (Stopped faults.NotAStore) before after other differs alike = alike
+alike_by (Stopped (faults.OtherFormat number)) before after other differs alike = alike
+alike_by (Stopped (faults.Damaged gate)) before after other differs alike = alike
+alike_by (Stopped (faults.Full games bytes)) before after other differs alike = absurd (differs refl)
+alike_by (Stopped faults.OutOfMemory) before after other differs alike = alike
+alike_by (Stopped (faults.CannotOpen name)) before after other differs alike = alike
+alike_by (Stopped faults.CannotAccept) before after other differs alike = alike
+alike_by (Stopped faults.TooMuchInput) before after other differs alike = alike
+
+record IsFull (ending : Ending) : Type 0 where
+  games : ℕ
+  bytes : ℕ
+  is : ending ≡ Stopped (faults.Full games bytes)
+
+full_by : (ending : Ending) → status_of ending ≡ 8 → IsFull ending
+full_by (Stopped (faults.Full games bytes)) eight = record { games = games; bytes = bytes; is = refl }
+full_by Done eight = absurd (omega (arith, eight))
+full_by (Stopped faults.Usage) eight = absurd (omega (arith, eight))
+full_by (Stopped (faults.BadParameter name)) eight = absurd (omega (arith, eight))
+full_by (Stopped faults.ReadFault) eight = absurd (omega (arith, eight))
+full_by (Stopped faults.WriteFault) eight = absurd (omega (arith, eight))
+full_by (Stopped faults.DiskFault) eight = absurd (omega (arith, eight))
+full_by (Stopped (faults.NotEmpty size)) eight = absurd (omega (arith, eight))
+full_by (Stopped faults.NotAStore) eight = absurd (omega (arith, eight))
+full_by (Stopped (faults.OtherFormat number)) eight = absurd (omega (arith, eight))
+full_by (Stopped (faults.Damaged gate)) eight = absurd (omega (arith, eight))
+full_by (Stopped faults.OutOfMemory) eight = absurd (omega (arith, eight))
+full_by (Stopped (faults.CannotOpen name)) eight = absurd (omega (arith, eight))
+full_by (Stopped faults.CannotAccept) eight = absurd (omega (arith, eight))
+full_by (Stopped faults.TooMuchInput) eight = absurd (omega (arith, eight))
+
+full_alike : (ending : Ending) (before ended after ended' other : World) → IsSome ended.errors.written → IsSome ended'.errors.written → ended.errors.write_faults < 2 ^ 64 - 1 → ended'.errors.write_faults < 2 ^ 64 - 1
+    → after.errors.write_faults ≡ ended.errors.write_faults → other.errors.write_faults ≡ ended'.errors.write_faults → IsFull ending → WroteBy before ended ended' ending → Tells ending ended after → Tells ending ended' other
+    → WroteAlikeButReport before after other
+full_alike ending before ended after ended' other told told' low low' fine fine' full wrote_by tells tells' =
+    let F : FoundNoRoom before ended ended' = subst (λ (e : Ending). WroteBy before ended ended' e) full.is wrote_by in
+    let t = subst (λ (e : Ending). Tells e ended after) full.is tells in
+    let t' = subst (λ (e : Ending). Tells e ended' other) full.is tells' in
+    record {
+      output = ap (λ (w : World). w.output.written) t.1 ∙ F.output ∙ sym (ap (λ (w : World). w.output.written) t'.1);
+      report = F.lines;
+      line = full_line full.games full.bytes;
+      first = full_told full.games full.bytes F.lines before ended after told low fine t F.first;
+      second = full_told full.games full.bytes F.lines before ended' other told' low' fine' t' F.second;
+    }
+
 -- ---- runs
 
 pub no_memory : (status : ℕ) (ending : Ending) → (status ≡ 9 → ⊥) → status ≡ status_of ending → ending ≡ Stopped faults.OutOfMemory → ⊥
 no_memory status ending differs is starves = differs (is ∙ ap status_of starves)
 
-abbrev OneRun : World → World → ℕ → ℕ → Type 0
-OneRun after other status status' = (status ≡ status') × ((status ≡ 2 → ⊥) → WroteAlike after other)
+abbrev OneRun : World → World → World → ℕ → ℕ → Type 0
+OneRun before after other status status' =
+    (status ≡ status') × ((status ≡ 2 → ⊥) → (status ≡ 8 → ⊥) → WroteAlike after other) × (status ≡ 8 → WroteAlikeButReport before after other)
 
 pub one_run : (words : List (List ℕ)) (stream : List ℕ) (before after other : World) (status status' : ℕ) → CountsAtMost (task_of words) → OneGame → OneAccount → OneAnswer → OneQuery → IsTold stream before → IsFaultless before after → IsFaultless before other
-    → (status ≡ 9 → ⊥) → (status' ≡ 9 → ⊥) → Runs words before after status → Runs words before other status' → OneRun after other status status'
+    → (status ≡ 9 → ⊥) → (status' ≡ 9 → ⊥) → Runs words before after status → Runs words before other status' → OneRun before after other status status'
 one_run words stream before after other status status' counts_only game one answer query told fine fine' fed fed' first second = by_meets first.meets second.meets
   where
-    by_counts : (text : List ℕ) → Counts text before first.ended first.ending → Counts text before second.ended second.ending → OneRun after other status status'
+    by_counts : (text : List ℕ) → Counts text before first.ended first.ending → Counts text before second.ended second.ending → OneRun before after other status status'
     by_counts text counts counts' =
         let grows = grew_by counts.0 before first.ended first.ending counts.2 in
         let grows' = grew_by counts'.0 before second.ended second.ending counts'.2 in
         let was = fine_by first.ending before first.ended after grows.1.never_falls.least first.tells fine in
         let was' = fine_by second.ending before second.ended other grows'.1.never_falls.least second.tells fine' in
         let both = one_ending text stream before first.ended second.ended first.ending second.ending game one answer query told was.0 was'.0 counts counts' in
-        let tells : Tells first.ending second.ended other = subst (λ (e : Ending). Tells e second.ended other) (sym both.0) second.tells in (
+        let tells : Tells first.ending second.ended other = subst (λ (e : Ending). Tells e second.ended other) (sym both.0) second.tells in
+        let known = still_told before.errors.written first.ended.errors.written grows.0 told.errors grows.1.appended in
+        let known' = still_told before.errors.written second.ended.errors.written grows'.0 told.errors grows'.1.appended in
+        let low : first.ended.errors.write_faults < 2 ^ 64 - 1 = omega (arith, told.reports, was.0.errors) in
+        let low' : second.ended.errors.write_faults < 2 ^ 64 - 1 = omega (arith, told.reports, was'.0.errors) in (
           first.status_is ∙ ap status_of both.0 ∙ sym second.status_is,
-          λ differs. told_alike first.ending first.ended after second.ended other (λ usage. differs (first.status_is ∙ ap status_of usage))
-              (still_told before.errors.written first.ended.errors.written grows.0 told.errors grows.1.appended) (still_told before.errors.written second.ended.errors.written grows'.0 told.errors grows'.1.appended)
-              (omega (arith, told.reports, was.0.errors)) (omega (arith, told.reports, was'.0.errors)) was.1 was'.1 both.1 first.tells tells,
+          λ differs other_than.
+              told_alike first.ending first.ended after second.ended other (λ usage. differs (first.status_is ∙ ap status_of usage)) known known' low low' was.1 was'.1
+              (alike_by first.ending before first.ended second.ended (λ eight. other_than (first.status_is ∙ eight)) both.1) first.tells tells,
+          λ eight.
+              full_alike first.ending before first.ended after second.ended other known known' low low' was.1 was'.1
+              (full_by first.ending (sym first.status_is ∙ eight)) both.1 first.tells tells,
         )
 
-    by_task : (task : Option Task) → CountsAtMost task → Meets task before first.ended first.ending → Meets task before second.ended second.ending → OneRun after other status status'
+    by_task : (task : Option Task) → CountsAtMost task → Meets task before first.ended first.ending → Meets task before second.ended second.ending → OneRun before after other status status'
     by_task None only meets meets' =
         let status_is : status ≡ 2 = first.status_is ∙ ap status_of meets.0 in
-        (status_is ∙ sym (second.status_is ∙ ap status_of meets'.0), λ differs. absurd (differs status_is))
+        (status_is ∙ sym (second.status_is ∙ ap status_of meets'.0), λ differs other_than. absurd (differs status_is), λ eight. absurd (omega (arith, status_is, eight)))
     by_task (Some (Count text workers)) only (inl starves) meets' = absurd (no_memory status first.ending fed first.status_is starves.ending_is)
     by_task (Some (Count text workers)) only (inr counts) (inl starves) = absurd (no_memory status' second.ending fed' second.status_is starves.ending_is)
     by_task (Some (Count text workers)) only (inr counts) (inr counts') = by_counts text counts counts'
     by_task (Some (Create store)) only meets meets' = absurd only
     by_task (Some (Import store file workers)) only meets meets' = absurd only
+    by_task (Some (Migrate old new)) only meets meets' = absurd only
     by_task (Some (Query store query workers)) only meets meets' = absurd only
     by_task (Some (Serve store address files workers readers connections)) only meets meets' = absurd only
     by_task (Some (Trial games seed workers)) only meets meets' = absurd only
 
-    by_meets : StartsWithout before first.ended first.ending ⊎ Meets (task_of words) before first.ended first.ending → StartsWithout before second.ended second.ending ⊎ Meets (task_of words) before second.ended second.ending → OneRun after other status status'
+    by_meets : StartsWithout before first.ended first.ending ⊎ Meets (task_of words) before first.ended first.ending → StartsWithout before second.ended second.ending ⊎ Meets (task_of words) before second.ended second.ending → OneRun before after other status status'
     by_meets (inl starves) meets' = absurd (no_memory status first.ending fed first.status_is starves.0)
     by_meets (inr meets) (inl starves) = absurd (no_memory status' second.ending fed' second.status_is starves.0)
     by_meets (inr meets) (inr meets') = by_task (task_of words) counts_only meets meets'

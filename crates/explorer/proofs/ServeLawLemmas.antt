@@ -93,18 +93,18 @@ module _ (service : Service) (image : List ℕ) (before after : World)
       worked = to.worked;
       opening_is = refl;
       goes_on = to.goes_on;
-      listens = to.reports.listens;
+      listens = to.listens;
     };
   }
 
   comes : (ending : Ending) → status_of ending ≢ 9 → ServesBy service before after ending
       → Comes service image before after ending
-  comes Done fed by = inr (works None by.0.to)
-  comes (Stopped faults.WriteFault) fed by = inr (works None by.0.to)
-  comes (Stopped faults.ReadFault) fed by = inr (works (Some faults.ReadFault) by.0)
-  comes (Stopped (faults.Full games bytes)) fed by = inr (works (Some (faults.Full games bytes)) by)
-  comes (Stopped faults.TooMuchInput) fed by = inr (works (Some faults.TooMuchInput) by)
-  comes (Stopped faults.CannotAccept) fed by = inr (works (Some faults.CannotAccept) by.0)
+  comes Done fed by = inr (works None by.0.served.to)
+  comes (Stopped faults.WriteFault) fed by = inr (works None by.0.served.to)
+  comes (Stopped faults.ReadFault) fed by = inr (works (Some faults.ReadFault) by.0.to)
+  comes (Stopped (faults.Full games bytes)) fed by = inr (works (Some (faults.Full games bytes)) by.to)
+  comes (Stopped faults.TooMuchInput) fed by = inr (works (Some faults.TooMuchInput) by.to)
+  comes (Stopped faults.CannotAccept) fed by = inr (works (Some faults.CannotAccept) by.0.to)
   comes (Stopped faults.NotAStore) fed by = inl refl
   comes (Stopped (faults.OtherFormat number)) fed by = inl refl
   comes (Stopped (faults.Damaged gate)) fed by = inl refl

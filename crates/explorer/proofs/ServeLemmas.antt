@@ -1,9 +1,7 @@
 -- A run of the command `serve`, from the moments between its calls.
 use Rattle.std.proofs.Common.{◌≡◌, ◌⊎◌, Bool, true, false, ℕ, zero, suc, replicate, ◌+◌, ◌-◌, ◌<◌, ◌≤◌, List, [], ◌∷◌, ◌++◌, Option, None, Some, IfSome, length, map, refl, sym, ap, subst, ◌∙◌, append_assoc, inl, inr, arith, string_bytes}
 use Rattle.std.proofs.lemmas.Bool.{cases_Bool}
-use Rattle.std.proofs.lemmas.Grind.{common_steps}
-use Rattle.std.proofs.lemmas.Slice.Eq.{bytes_eq-Decides}
-use Rattle.std.specs.Prelude.{if◌then◌else◌, ◌≢◌, Result, Ok, Err}
+use Rattle.std.specs.Prelude.{if◌then◌else◌, ◌≢◌, Result, Ok, Err, unwrap_or}
 use Rattle.std.specs.List.{All, AllByRecursion, AllZip}
 use Rattle.std.specs.Option.{option_map, option_or}
 use Rattle.std.specs.Str.{bytes_eq}
@@ -48,15 +46,15 @@ use Rattle.session.specs.Imports.{HasStoredBody, IsRepeatOf, StandFrom}
 use Rattle.session.proofs.FrontLemmas.{get-prefix}
 use Rattle.explorer.specs.declared.fault.Fault.{Fault}
 use Rattle.explorer.specs.declared.fault.Fault.TheVariants as faults
-use Rattle.explorer.specs.Concluding.{Concludes, EndsBy, TellsLonger}
+use Rattle.explorer.specs.Concluding.{Concludes, EndsBy, TellsLonger, cause}
 use Rattle.explorer.specs.Lines.{Ending, Stopped}
-use Rattle.explorer.specs.Serve.{GoesOn, HasNoStore, HasStore, IsServed, IsWorkedTo, Listens, RefusesAddress, RefusesOneFile, Reports, Serves, ServesBy, listening_line}
-use Rattle.explorer.specs.Served.{DoorRun, FileRun, FindsFull, IsFullBy, IsGivenUp, IsImported, IsKeptIn, IsSeenIn, IsServedIn, IsStoredIn, IsWorked, KeepsOthers, Service, fault_of_door, fault_of_doors, fault_of_import, file_at, files_back, files_out, first_fault, serve_report}
+use Rattle.explorer.specs.Serve.{FailsBy, GoesOn, HasNoStore, HasStore, IsServed, IsWorkedTo, Listens, MayReport, RefusesAddress, RefusesOneFile, Reports, Serves, ServesAll, ServesBy, listening_line}
+use Rattle.explorer.specs.Served.{DoorRun, FileRun, FindsFull, IsFullBy, IsGivenUp, IsImported, IsKeptIn, IsSeenIn, IsServedIn, IsStoredIn, IsWorked, KeepsOthers, Service, fault_of_door, fault_of_doors, fault_of_import, file_at, files_back, files_out, first_fault, opening_calls, serve_report}
 use Rattle.explorer.specs.Serving.{AreCounted, FilesServed, HasGivenUp, HasWorked, IsGivenUpSo, IsToldBy, ListensSo, WroteLine, lines_told}
 use Rattle.explorer.specs.Workers.{name_at}
 use Rattle.explorer.specs.World.{World, world}
 use Rattle.explorer.proofs.BracketLemmas.{added-both}
-use Rattle.explorer.proofs.HostCalls.{same_bytes}
+use Rattle.explorer.proofs.HostCalls.{bytes_same, same_bytes}
 use Rattle.explorer.proofs.StoreLemmas.{told_has}
 
 -- ---- a disk that is out, and comes back
@@ -143,9 +141,6 @@ content-back name disk before after takes =
     ap (λ (h : HostState). h.disks name) takes.rest
     ∙ ap (λ (b : Bool). if b then disk.content else before.disks name) (same_bytes name)
 
-bytes_same : (name other : List ℕ) → bytes_eq name other ≡ true → name ≡ other
-bytes_same name other same = grind (arith, common_steps, bytes_eq-Decides name other)
-
 different_bytes : (name other : List ℕ) → name ≢ other → bytes_eq name other ≡ false
 different_bytes name other differs = by (cases_Bool (bytes_eq name other))
   where
@@ -178,19 +173,22 @@ module _ (service : Service) (before lent used after : HostState) (given returns
       ∙ (ap (λ (h : HostState). h.disks name) hands.rest
       ∙ ap (λ (b : Bool). if b then None else before.disks name) apart)))
 
-  pub is-given-up : (names : List (List ℕ)) (files : List Stream) (refusal : List HostCall)
-      → used.calls ≡ added (files_back names files ++ (refusal ++ files_out names)) lent.calls
+  pub is-given-up : (names : List (List ℕ)) (refusal : List HostCall)
+      → used.calls ≡ added (files_back names (map (file_at lent) names) ++ (refusal ++ files_out names)) lent.calls
       → returns.content ≡ given.content → used.disks ≡ lent.disks → IsGivenUp service names refusal before after
-  is-given-up names files refusal is same disks =
+  is-given-up names refusal is same disks =
+      let files : List Stream = map (file_at lent) names in
+      let stood : files ≡ map (file_at before) names =
+      ap (λ (at : List ℕ → Option (List ℕ)). map (λ (name : List ℕ). source_alone (at name) 0 0) names) (ap (λ (h : HostState). h.files) hands.rest) in
       let tail : List HostCall = DiskOut service.store ∷ [] in
       let order : (files_back names files ++ (refusal ++ files_out names)) ++ tail
       ≡ files_back names files ++ (refusal ++ (files_out names ++ tail)) =
       append_assoc (files_back names files) (refusal ++ files_out names) tail
       ∙ ap (λ (cs : List HostCall). files_back names files ++ cs) (append_assoc refusal (files_out names) tail) in
       record {
-        files = files;
         called = calls-round (files_back names files ++ (refusal ++ files_out names)) is
-            ∙ ap (λ (cs : List HostCall). added (DiskBack service.store ∷ cs) before.calls) order;
+            ∙ (ap (λ (cs : List HostCall). added (DiskBack service.store ∷ cs) before.calls) order
+            ∙ ap (λ (fs : List Stream). added (opening_calls service names fs refusal) before.calls) stood);
         kept = content-back service.store returns used after takes ∙ (same ∙ hands.content);
         others = keeps-others disks;
       }
@@ -199,6 +197,9 @@ module _ (service : Service) (before lent used after : HostState) (given returns
   own-rises r =
       subst (λ (n : ℕ). Rises before.own_faults n) (sym (ap (λ (h : HostState). h.own_faults) takes.rest))
       (subst (λ (n : ℕ). Rises n used.own_faults) (ap (λ (h : HostState). h.own_faults) hands.rest) r)
+
+  pub own-same : used.own_faults ≡ lent.own_faults → after.own_faults ≡ before.own_faults
+  own-same same = ap (λ (h : HostState). h.own_faults) takes.rest ∙ (same ∙ ap (λ (h : HostState). h.own_faults) hands.rest)
 
   pub disk-rises : used.disk_faults ≡ lent.disk_faults → 0 < returns.faults → Rises before.disk_faults after.disk_faults
   disk-rises same some =
@@ -224,7 +225,7 @@ module _ (service : Service) (before lent used after : HostState) (given returns
     next = h.cause.1;
     refusal = h.refusal;
     noted = h.cause.2;
-    given_up = is-given-up h.names h.files h.refusal h.calls same h.disks;
+    given_up = is-given-up h.names h.refusal h.calls same h.disks;
     rises = own-rises h.cause.0;
   }
 
@@ -235,7 +236,7 @@ module _ (service : Service) (before lent used after : HostState) (given returns
     refusal = h.refusal;
     noted = h.cause.2;
     given_up = subst (λ (ns : List (List ℕ)). IsGivenUp service ns h.refusal before after) h.cause.1
-        (is-given-up h.names h.files h.refusal h.calls same h.disks);
+        (is-given-up h.names h.refusal h.calls same h.disks);
     rises = own-rises h.cause.0;
   }
 
@@ -243,20 +244,27 @@ module _ (service : Service) (before lent used after : HostState) (given returns
   no-memory h same =
       subst (λ (ns : List (List ℕ)). IsGivenUp service ns [] before after) h.cause.0
       (subst (λ (cs : List HostCall). IsGivenUp service h.names cs before after) h.cause.1
-      (is-given-up h.names h.files h.refusal h.calls same h.disks))
+      (is-given-up h.names h.refusal h.calls same h.disks))
 
   pub gives-up : (errors output input : Stream) (opening : List Batch) (why : Unserved) (fault : Fault) → IfSome given.content (HasJournal opening)
-      → IsSound opening → HasGivenUp service why lent used → returns.content ≡ given.content → IsToldBy service why fault
+      → IsSound opening → HasGivenUp service why lent used → returns.content ≡ given.content → returns.faults ≡ 0 → IsToldBy service why fault
       → ServesBy service (world input output errors before) (world input output errors after) (Stopped fault)
-  gives-up errors output input opening (whys.NoFile at) fault read sound h same told =
+  gives-up errors output input opening (whys.NoFile at) fault read sound h same none told =
       subst (λ (f : Fault). ServesBy service (world input output errors before) (world input output errors after) (Stopped f)) (sym told.1)
       (inr (inl (rw told.2 (no-file opening at read sound h same))), refl)
-  gives-up errors output input opening whys.NoAddress fault read sound h same told =
+  gives-up errors output input opening whys.NoAddress fault read sound h same none told =
       subst (λ (f : Fault). ServesBy service (world input output errors before) (world input output errors after) (Stopped f)) (sym told.1)
       (inr (inr (told.2, no-address opening read sound h same)), refl)
-  gives-up errors output input opening whys.NoMemory fault read sound h same told =
+  gives-up errors output input opening whys.NoMemory fault read sound h same none told =
       subst (λ (f : Fault). ServesBy service (world input output errors before) (world input output errors after) (Stopped f)) (sym told)
-      (inl (service.files, prefix-self service.files, no-memory h same, refl))
+      (inl (record {
+        names = service.files;
+        front = prefix-self service.files;
+        given_up = no-memory h same;
+        silent = refl;
+        disk = disk-stays h.disk_faults none;
+        own = own-same h.cause.2;
+      }))
 
   -- doors were handed out and served
   pub is-worked : (opening journal : List Batch) (first : Option Fault) (lines : Option (List ℕ))
@@ -521,45 +529,52 @@ listens-by line (Ok written) old new wrote = writes-takes line old new wrote
 listens-by line (Err failed) old new wrote = writes-fails line old new wrote
 
 module _ (service : Service) (before after : World) (worked : IsWorked service before.host after.host)
-    (same_input : after.input ≡ before.input) (reports : Reports service worked.files before after) where
-  to-first : (first : Option Fault) → first ≡ first_fault worked.files worked.doors → GoesOn service before.host after.host worked
+    (listened : Listens service before after) where
+  abbrev to-first : (first : Option Fault) → first ≡ first_fault worked.files worked.doors → GoesOn service before.host after.host worked
       → after.host.disk_faults ≡ before.host.disk_faults → IsWorkedTo service first before after
-  to-first first is goes_on disk = record { worked = worked; goes_on = goes_on; reports = reports; first = is; disk = disk }
+  to-first first is goes_on disk = record { worked = worked; goes_on = goes_on; listens = listened; first = is; disk = disk }
+
+  by-first : (fault : Fault) → Some fault ≡ first_fault worked.files worked.doors → GoesOn service before.host after.host worked
+      → after.host.disk_faults ≡ before.host.disk_faults → MayReport service worked.files before after → FailsBy service fault before after
+  by-first fault is goes_on disk reports = record { to = to-first (Some fault) is goes_on disk; reports = reports }
 
   -- a worker had a fault
   by-worker : (fault : Fault) → IsWorkers fault → Some fault ≡ first_fault worked.files worked.doors
       → after.host.disk_faults ≡ before.host.disk_faults → AreCounted (Some fault) before.host after.host
-      → SeesAll service before.host after.host worked (Some fault)
+      → SeesAll service before.host after.host worked (Some fault) → MayReport service worked.files before after
       → ServesBy service before after (Stopped fault)
-  by-worker faults.ReadFault is first disk counted sees = (to-first (Some faults.ReadFault) first sees.goes_on disk, counted.files refl)
-  by-worker (faults.Full games bytes) is first disk counted sees = to-first (Some (faults.Full games bytes)) first sees.goes_on disk
-  by-worker faults.TooMuchInput is first disk counted sees = to-first (Some faults.TooMuchInput) first sees.goes_on disk
-  by-worker faults.CannotAccept is first disk counted sees = (to-first (Some faults.CannotAccept) first sees.goes_on disk, counted.doors refl)
-  by-worker faults.OutOfMemory is first disk counted sees = inr (inl (to-first (Some faults.OutOfMemory) first sees.goes_on disk))
-  by-worker faults.Usage is first disk counted sees = absurd is
-  by-worker (faults.BadParameter p) is first disk counted sees = absurd is
-  by-worker faults.WriteFault is first disk counted sees = absurd is
-  by-worker faults.DiskFault is first disk counted sees = absurd is
-  by-worker (faults.NotEmpty n) is first disk counted sees = absurd is
-  by-worker faults.NotAStore is first disk counted sees = absurd is
-  by-worker (faults.OtherFormat n) is first disk counted sees = absurd is
-  by-worker (faults.Damaged n) is first disk counted sees = absurd is
-  by-worker (faults.CannotOpen name) is first disk counted sees = absurd is
+  by-worker faults.ReadFault is first disk counted sees reports = (by-first faults.ReadFault first sees.goes_on disk reports, counted.files refl)
+  by-worker (faults.Full games bytes) is first disk counted sees reports = by-first (faults.Full games bytes) first sees.goes_on disk reports
+  by-worker faults.TooMuchInput is first disk counted sees reports = by-first faults.TooMuchInput first sees.goes_on disk reports
+  by-worker faults.CannotAccept is first disk counted sees reports = (by-first faults.CannotAccept first sees.goes_on disk reports, counted.doors refl)
+  by-worker faults.OutOfMemory is first disk counted sees reports = inr (inl (by-first faults.OutOfMemory first sees.goes_on disk reports))
+  by-worker faults.Usage is first disk counted sees reports = absurd is
+  by-worker (faults.BadParameter p) is first disk counted sees reports = absurd is
+  by-worker faults.WriteFault is first disk counted sees reports = absurd is
+  by-worker faults.DiskFault is first disk counted sees reports = absurd is
+  by-worker (faults.NotEmpty n) is first disk counted sees reports = absurd is
+  by-worker faults.NotAStore is first disk counted sees reports = absurd is
+  by-worker (faults.OtherFormat n) is first disk counted sees reports = absurd is
+  by-worker (faults.Damaged n) is first disk counted sees reports = absurd is
+  by-worker (faults.CannotOpen name) is first disk counted sees reports = absurd is
 
-  is-served : None ≡ first_fault worked.files worked.doors → after.host.disk_faults ≡ before.host.disk_faults
+  abbrev is-served : None ≡ first_fault worked.files worked.doors → after.host.disk_faults ≡ before.host.disk_faults
       → SeesAll service before.host after.host worked None → IsServed service before after
-  unfolding to-first
   is-served is disk sees = record {
     to = to-first None is sees.goes_on disk;
     stored = sees.stored refl;
     served = sees.served refl;
   }
 
+  serves-all : None ≡ first_fault worked.files worked.doors → after.host.disk_faults ≡ before.host.disk_faults
+      → SeesAll service before.host after.host worked None → Reports service worked.files before after → ServesAll service before after
+  serves-all is disk sees reports = record { served = is-served is disk sees; reports = reports }
+
   same_reads : after.input.read_faults ≡ before.input.read_faults
-  same_reads = ap (λ (s : Stream). s.read_faults) same_input
+  same_reads = ap (λ (s : Stream). s.read_faults) listened.input
 
   by-sinks : {A E : Type 0} (listens : Result A E) (lines : List ℕ) → WroteLine (listening_line service.address) listens before.output after.output
-      → IsServed service before after → (ending : Ending) → EndsBy false None listens lines before.errors after.errors ending
+      → ServesAll service before after → (ending : Ending) → EndsBy None listens lines before.errors after.errors ending
       → ServesBy service before after ending
   by-sinks (Err failed) lines wrote served ending is =
       subst (λ (e : Ending). ServesBy service before after e) (sym is)
@@ -577,23 +592,47 @@ module _ (service : Service) (before after : World) (worked : IsWorked service b
       subst (λ (e : Ending). ServesBy service before after e) (sym fails.1)
       (served, record { reads = same_reads; rises = inr fails.0.rises })
 
+  -- a call of the disk failed
+  by-disk : Rises before.host.disk_faults after.host.disk_faults → GoesOn service before.host after.host worked
+      → MayReport service worked.files before after → ServesBy service before after (Stopped faults.DiskFault)
+  by-disk rises goes_on reports = (rises, inr (record { worked = worked; goes_on = goes_on; listens = listened; reports = reports }))
+
   ends-by : {A E : Type 0} (failed : Bool) (first : Option Fault) (listens : Result A E) (lines : List ℕ)
       → WroteLine (listening_line service.address) listens before.output after.output
+      → Reports service worked.files before after
       → (failed ≡ true → Rises before.host.disk_faults after.host.disk_faults)
       → (failed ≡ false → after.host.disk_faults ≡ before.host.disk_faults)
       → first ≡ first_fault worked.files worked.doors
       → AreCounted first before.host after.host
       → SeesAll service before.host after.host worked first
-      → (ending : Ending) → EndsBy failed first listens lines before.errors after.errors ending
+      → (ending : Ending) → EndsBy (cause failed first) listens lines before.errors after.errors ending
       → ServesBy service before after ending
-  ends-by true first listens lines wrote rises stays is counted sees ending by =
-      subst (λ (e : Ending). ServesBy service before after e) (sym by) (rises refl, inr (worked, reports, sees.goes_on))
-  ends-by false (Some fault) listens lines wrote rises stays is counted sees ending by =
+  ends-by true first listens lines wrote reports rises stays is counted sees ending by =
+      subst (λ (e : Ending). ServesBy service before after e) (sym by) (by-disk (rises refl) sees.goes_on (inl reports))
+  ends-by false (Some fault) listens lines wrote reports rises stays is counted sees ending by =
       subst (λ (e : Ending). ServesBy service before after e) (sym by)
       (by-worker fault (subst (λ (o : Option Fault). IfSome o IsWorkers) (sym is) (of-workers worked.files worked.doors))
-      is (stays refl) counted sees)
-  ends-by false None listens lines wrote rises stays is counted sees ending by =
-      by-sinks listens lines wrote (is-served is (stays refl) sees) ending by
+      is (stays refl) counted sees (inl reports))
+  ends-by false None listens lines wrote reports rises stays is counted sees ending by =
+      by-sinks listens lines wrote (serves-all is (stays refl) sees reports) ending by
+
+  -- nothing was reported
+  ends-untold : (failed : Bool) (first : Option Fault) → after.errors ≡ before.errors
+      → (failed ≡ true → Rises before.host.disk_faults after.host.disk_faults)
+      → (failed ≡ false → after.host.disk_faults ≡ before.host.disk_faults)
+      → first ≡ first_fault worked.files worked.doors
+      → AreCounted first before.host after.host
+      → SeesAll service before.host after.host worked first
+      → (ending : Ending) → ending ≡ Stopped (unwrap_or (cause failed first) faults.OutOfMemory) → ServesBy service before after ending
+  ends-untold true first same rises stays is counted sees ending by =
+      subst (λ (e : Ending). ServesBy service before after e) (sym by) (by-disk (rises refl) sees.goes_on (inr same))
+  ends-untold false (Some fault) same rises stays is counted sees ending by =
+      subst (λ (e : Ending). ServesBy service before after e) (sym by)
+      (by-worker fault (subst (λ (o : Option Fault). IfSome o IsWorkers) (sym is) (of-workers worked.files worked.doors))
+      is (stays refl) counted sees (inr same))
+  ends-untold false None same rises stays is counted sees ending by =
+      subst (λ (e : Ending). ServesBy service before after e) (sym by)
+      (inr (inr (record { served = is-served is (stays refl) sees; errors = same })))
 
 module _ {A E : Type 0} (service : Service) (before after : World) (worked : IsWorked service before.host after.host)
     (same_input : after.input ≡ before.input) (failed : Bool) (first : Option Fault) (listens : Result A E)
@@ -610,17 +649,14 @@ module _ {A E : Type 0} (service : Service) (before after : World) (worked : IsW
   }
 
   pub concludes : (lines : Option (List ℕ)) → IfSome lines (λ told. told ≡ serve_report service.files worked.files)
-      → (ending : Ending) → Concludes lines failed first listens before.errors after.errors ending
+      → (ending : Ending) → Concludes lines (cause failed first) listens before.errors after.errors ending
       → ServesBy service before after ending
   concludes None are ending by =
-      subst (λ (e : Ending). ServesBy service before after e) (sym by.1)
-      (inr (inr (record { worked = worked; goes_on = sees.goes_on; listens = listened; errors = by.0 })))
+      ends-untold service before after worked listened failed first by.0 rises stays first_is counted sees ending by.1
   concludes (Some lines) are ending by =
-      let reports : Reports service worked.files before after = record {
-        listens = listened;
-        errors = subst (λ (l : List ℕ). Writes (l ∷ []) before.errors after.errors) are (reported-by lines before.errors after.errors by.0);
-      } in
-      ends-by service before after worked same_input reports failed first listens lines wrote rises stays first_is counted sees ending by.1
+      let reports : Reports service worked.files before after =
+      subst (λ (l : List ℕ). Writes (l ∷ []) before.errors after.errors) are (reported-by lines before.errors after.errors by.0) in
+      ends-by service before after worked listened failed first listens lines wrote reports rises stays first_is counted sees ending by.1
 
 module _ (service : Service) (before lent used after : HostState) (given returns : DiskState)
     (hands : HandsDisk service.store given before lent) (takes : TakesDisk service.store returns used after)
@@ -671,17 +707,24 @@ module _ (service : Service) (before lent after : HostState) (given returns : Di
     (hands : HandsDisk service.store given before lent) (takes : TakesDisk service.store returns lent after)
     (same : returns.content ≡ given.content) (input output errors : Stream) where
   closed : IsGivenUp service [] [] before after
-  closed = is-given-up service before lent lent after given returns hands takes [] [] [] refl same refl
+  closed = is-given-up service before lent lent after given returns hands takes [] [] refl same refl
 
-  starved-by : ServesBy service (world input output errors before) (world input output errors after) (Stopped faults.OutOfMemory)
-  starved-by = inl ([], prefix-nil service.files, closed, refl)
+  starved-by : returns.faults ≡ 0 → ServesBy service (world input output errors before) (world input output errors after) (Stopped faults.OutOfMemory)
+  starved-by none = inl (record {
+    names = [];
+    front = prefix-nil service.files;
+    given_up = closed;
+    silent = refl;
+    disk = disk-stays service before lent lent after given returns hands takes refl none;
+    own = own-same service before lent lent after given returns hands takes refl;
+  })
 
   closes : GivesBack before after
   closes = rounds service before lent lent after given returns hands takes (λ thing. refl)
 
   -- memory was wanting before anything else was asked for
-  pub starves : Serves service (world input output errors before) (world input output errors after) (Stopped faults.OutOfMemory)
-  starves = record { by = starved-by; gives_back = closes }
+  pub starves : returns.faults ≡ 0 → Serves service (world input output errors before) (world input output errors after) (Stopped faults.OutOfMemory)
+  starves none = record { by = starved-by none; gives_back = closes }
 
   -- calls of the disk failed while it was opened
   pub breaks : 0 < returns.faults → Serves service (world input output errors before) (world input output errors after) (Stopped faults.DiskFault)
@@ -712,7 +755,7 @@ module _ (service : Service) (before lent after : HostState) (given returns : Di
       let first : earlier ≡ 0 = not.before_is ∙ (ap (λ (d : DiskState). d.faults) o ∙ hands.faultless) in
       let last : later ≡ 0 = not.after_is ∙ (ap (λ (d : DiskState). d.faults) n ∙ none) in
       absurd (omega (arith, first, last, not.rises.rose))
-  not-opened-by disk old new openings.OutOfMemory o n none not = starved-by
+  not-opened-by disk old new openings.OutOfMemory o n none not = starved-by none
 
   -- what is told is no store, or memory was wanting
   pub not-opened : {D : Type 0} (disk : D → DiskState) (old new : D) (fault : OpenFault) (told : Fault) → told ≡ fault_of_opening fault
@@ -736,12 +779,12 @@ refuses-store service before after input output errors name refuses is = record 
 pub gives-up-so : (service : Service) (before lent used after : HostState) (given returns : DiskState)
     → HandsDisk service.store given before lent → TakesDisk service.store returns used after
     → (input output later errors : Stream) (opening : List Batch) (why : Unserved) (fault : Fault) → IfSome given.content (HasJournal opening) → IsSound opening
-    → HasGivenUp service why lent used → returns.content ≡ given.content → IsToldBy service why fault
+    → HasGivenUp service why lent used → returns.content ≡ given.content → returns.faults ≡ 0 → IsToldBy service why fault
     → GivesBack lent used → later ≡ output
     → Serves service (world input output errors before) (world input later errors after) (Stopped fault)
-gives-up-so service before lent used after given returns hands takes input output later errors opening why fault read sound h same told g is =
+gives-up-so service before lent used after given returns hands takes input output later errors opening why fault read sound h same none told g is =
     subst (λ (s : Stream). Serves service (world input output errors before) (world input s errors after) (Stopped fault)) (sym is) (record {
-      by = gives-up service before lent used after given returns hands takes errors output input opening why fault read sound h same told;
+      by = gives-up service before lent used after given returns hands takes errors output input opening why fault read sound h same none told;
       gives_back = rounds service before lent used after given returns hands takes g;
     })
 
@@ -754,7 +797,7 @@ pub served-so : {A E : Type 0} (service : Service) (before lent used after : Hos
     → (failed : Bool) → (failed ≡ true → 0 < returns.faults) → (failed ≡ false → returns.faults ≡ 0)
     → (input output written errors reported : Stream) (listens : Result A E)
     → WroteLine (listening_line service.address) listens output written
-    → (ending : Ending) → Concludes lines failed first listens errors reported ending
+    → (ending : Ending) → Concludes lines (cause failed first) listens errors reported ending
     → Serves service (world input output errors before) (world input written reported after) ending
 unfolding is-worked
 served-so service before lent used after given returns hands takes opening journal first lines w read sound some l g failed some_faults no_faults
@@ -777,6 +820,9 @@ served-so service before lent used after given returns hands takes opening journ
 
 pub content-of : {D : Type 0} (disk : D → DiskState) (one other : D) → one ≡ other → (disk one).content ≡ (disk other).content
 content-of {D} disk one other is = ap (λ (d : D). (disk d).content) is
+
+pub faults-of : {D : Type 0} (disk : D → DiskState) (one other : D) → one ≡ other → (disk one).faults ≡ (disk other).faults
+faults-of {D} disk one other is = ap (λ (d : D). (disk d).faults) is
 
 pub nameless-disk : {D : Type 0} (one other : Nameless D) → one ≡ other → one.manifest.disk ≡ other.manifest.disk
 nameless-disk {D} one other is = ap (λ (s : Nameless D). s.manifest.disk) is

@@ -1,4 +1,4 @@
--- A run that creates, asks, imports, tries or serves comes to what the laws of these say, where no call fails and memory is there.
+-- A run that creates, asks, imports, migrates, tries or serves comes to what the laws of these say, where no call fails and memory is there.
 use Rattle.std.proofs.Common.{◌≡◌, ℕ, ◌-◌, ◌^◌, ◌<◌, ◌≤◌, ◌⊎◌, inl, inr, List, [], ◌∷◌, Option, None, Some, Result, Ok, Err, refl, sym, ap, subst, ◌∙◌, arith}
 use Rattle.std.specs.Prelude.{◌≢◌, IsSome}
 use Rattle.std.specs.Io.KnownBytes.{Appends, append_known}
@@ -14,9 +14,10 @@ use Rattle.ingest_desk.specs.declared.report.ImportEnding.TheVariants as endings
 use Rattle.explorer.specs.declared.fault.Fault.{Fault}
 use Rattle.explorer.specs.declared.fault.Fault.TheVariants as faults
 use Rattle.explorer.specs.Create.{CreatesBy}
-use Rattle.explorer.specs.ImportStore.{ImportsBy, ImportsTo}
-use Rattle.explorer.specs.Laws.{GoesWell, HoldAlike, ImportAlike, IsToldErrors, IsToldFile, IsToldOutput, IsToldStore, ReadsWell, RefusedAlike, ReportsWell, ServedAlike, ServesDoors, WritesWell, serving, with_workers}
+use Rattle.explorer.specs.ImportStore.{ImportsBy, ImportsSo, ImportsTo}
+use Rattle.explorer.specs.Laws.{GoesWell, HasMemory, HoldAlike, ImportAlike, IsToldErrors, IsToldFile, IsToldOutput, IsToldStore, MigratedAlike, ReadsWell, RefusedAlike, ReportsWell, ServedAlike, ServesDoors, WritesWell, serving, with_workers}
 use Rattle.explorer.specs.Lines.{AreLinesOf, Ending, Done, Stopped, Tells, status_of}
+use Rattle.explorer.specs.Migrate.{MigratesBy}
 use Rattle.explorer.specs.QueryStore.{AsksBy, QueriesBy}
 use Rattle.explorer.specs.Report.{report}
 use Rattle.explorer.specs.Run.{Ends, Meets, Runs, StartsWithout}
@@ -25,11 +26,12 @@ use Rattle.explorer.specs.Served.{Service}
 use Rattle.explorer.specs.Stores.{OnlyHost}
 use Rattle.explorer.specs.Trial.{TriesBy}
 use Rattle.explorer.specs.World.{World}
-use Rattle.command_line.specs.Task.{Task, Create, Import, Query, Trial, task_of}
+use Rattle.command_line.specs.Task.{Task, Create, Import, Migrate, Query, Trial, task_of}
 use Rattle.import_run.proofs.VerdictLemmas.{OneGame}
 use Rattle.explorer.proofs.CreationLemmas.{one_creation}
 use Rattle.explorer.proofs.ImportLawLemmas.{one_import}
 use Rattle.explorer.proofs.LawLemmas.{OneAnswer}
+use Rattle.explorer.proofs.MigrateLawLemmas.{one_migration}
 use Rattle.explorer.proofs.NoRoomLemmas.{OneAccount}
 use Rattle.explorer.proofs.OneEndingLemmas.{OneQuery, wrote_stream}
 use Rattle.explorer.proofs.QuestionLemmas.{OneOpening, one_question}
@@ -113,6 +115,23 @@ created_errors store before after (Stopped (faults.Damaged gate)) by = absurd by
 created_errors store before after (Stopped faults.OutOfMemory) by = absurd by
 created_errors store before after (Stopped faults.CannotAccept) by = absurd by
 
+migrated_errors : (old new : List ℕ) (before after : World) (ending : Ending) → MigratesBy old new before after ending → after.errors ≡ before.errors
+migrated_errors old new before after Done by = ap (λ (w : World). w.errors) by.rest
+migrated_errors old new before after (Stopped faults.WriteFault) by = ap (λ (w : World). w.errors) by.rest
+migrated_errors old new before after (Stopped faults.NotAStore) by = by_host before after by.1
+migrated_errors old new before after (Stopped (faults.OtherFormat number)) by = by_host before after by.1
+migrated_errors old new before after (Stopped (faults.Damaged gate)) by = by_host before after by.1
+migrated_errors old new before after (Stopped (faults.NotEmpty size)) by = by_host before after by.1
+migrated_errors old new before after (Stopped faults.DiskFault) by = by_host before after by.2
+migrated_errors old new before after (Stopped (faults.CannotOpen name)) by = by_host before after by.1
+migrated_errors old new before after (Stopped faults.OutOfMemory) by = by_host before after by.1
+migrated_errors old new before after (Stopped faults.Usage) by = absurd by
+migrated_errors old new before after (Stopped (faults.BadParameter name)) by = absurd by
+migrated_errors old new before after (Stopped faults.ReadFault) by = absurd by
+migrated_errors old new before after (Stopped faults.TooMuchInput) by = absurd by
+migrated_errors old new before after (Stopped (faults.Full games bytes)) by = absurd by
+migrated_errors old new before after (Stopped faults.CannotAccept) by = absurd by
+
 asked_errors : (store : List ℕ) (r : Result AQuery BadParameter) (before after : World) (ending : Ending) → AsksBy store r before after ending → after.errors ≡ before.errors
 asked_errors store (Err bad) before after ending by = ap (λ (w : World). w.errors) by.1
 asked_errors store (Ok query) before after Done by = ap (λ (w : World). w.errors) by.rest
@@ -162,21 +181,26 @@ by_import end store file before after to = writes-grows (report to.imports.refus
 by_none : (before after : World) → OnlyHost before after → Grew before after
 by_none before after only = ([], no_more before.errors after.errors (by_host before after only))
 
+by_so : (end : ImportEnding) (store file : List ℕ) (before after : World) → ImportsSo end store file before after → Grew before after
+by_so end store file before after (inl to) = by_import end store file before after to
+by_so end store file before after (inr untold) = by_none before after untold.only
+
 imported_errors : (store file : List ℕ) (before after : World) (ending : Ending) → ImportsBy store file before after ending → Grew before after
 imported_errors store file before after Done by = by_import endings.Whole store file before after by.0
 imported_errors store file before after (Stopped faults.WriteFault) by = by_import endings.Whole store file before after by.0
-imported_errors store file before after (Stopped faults.ReadFault) (first, last, to) = by_import (endings.ReadFault first last) store file before after to
-imported_errors store file before after (Stopped faults.TooMuchInput) (bytes, to) = by_import (endings.TooMuch bytes) store file before after to
-imported_errors store file before after (Stopped (faults.Full games bytes)) by = by_import (endings.Full games bytes) store file before after by
+imported_errors store file before after (Stopped faults.ReadFault) (first, last, so) = by_so (endings.ReadFault first last) store file before after so
+imported_errors store file before after (Stopped faults.TooMuchInput) (bytes, so) = by_so (endings.TooMuch bytes) store file before after so
+imported_errors store file before after (Stopped (faults.Full games bytes)) so = by_so (endings.Full games bytes) store file before after so
 imported_errors store file before after (Stopped faults.DiskFault) (inl by) = by_none before after by.1
-imported_errors store file before after (Stopped faults.DiskFault) (inr (first, last, to)) = by_import (endings.DiskFault first last) store file before after to
+imported_errors store file before after (Stopped faults.DiskFault) (inr (first, last, so)) = by_so (endings.DiskFault first last) store file before after so
 imported_errors store file before after (Stopped faults.NotAStore) by = by_none before after by.1
 imported_errors store file before after (Stopped (faults.OtherFormat number)) by = by_none before after by.1
 imported_errors store file before after (Stopped (faults.Damaged gate)) by = by_none before after by.1
 imported_errors store file before after (Stopped (faults.CannotOpen name)) (inl by) = by_none before after by.2
 imported_errors store file before after (Stopped (faults.CannotOpen name)) (inr by) = by_none before after by.2
 imported_errors store file before after (Stopped faults.OutOfMemory) (inl by) = by_none before after by.1
-imported_errors store file before after (Stopped faults.OutOfMemory) (inr to) = by_import endings.OutOfMemory store file before after to
+imported_errors store file before after (Stopped faults.OutOfMemory) (inr (inl so)) = by_so endings.OutOfMemory store file before after so
+imported_errors store file before after (Stopped faults.OutOfMemory) (inr (inr untold)) = by_none before after untold.only
 imported_errors store file before after (Stopped faults.Usage) by = absurd by
 imported_errors store file before after (Stopped (faults.BadParameter name)) by = absurd by
 imported_errors store file before after (Stopped (faults.NotEmpty size)) by = absurd by
@@ -207,6 +231,11 @@ meets_task task words before ended ending status asks fed is (inr meets) = subst
 
 fed_by : (status : ℕ) (ending : Ending) → status ≡ status_of ending → status ≢ 9 → status_of ending ≢ 9
 fed_by status ending is fed = λ nine. fed (is ∙ nine)
+
+memory_before : (status : ℕ) (ending : Ending) (before ended after : World) → status ≡ status_of ending → Tells ending ended after → HasMemory status before after
+    → HasMemory (status_of ending) before ended
+memory_before status ending before ended after is tells fed =
+    (fed_by status ending is fed.0, λ eight same. fed.1 (is ∙ eight) (ap (λ (w : World). w.output) (told_rest ending ended after tells) ∙ same))
 
 -- what was written and asked before the ending was told
 goes_before : (ending : Ending) (before ended after : World) → Tells ending ended after → GoesWell before after → GoesWell before ended
@@ -288,6 +317,41 @@ module _ (words words' : List (List ℕ)) (before after other : World) (status s
       (one_question store image text before first.ended second.ended first.ending second.ending found once query told (goes_before first.ending before first.ended after first.tells well)
       (goes_before second.ending before second.ended other second.tells well') (fed_by status first.ending first.status_is fed) (fed_by status' second.ending second.status_is fed') meets meets')
 
+  -- of a migration
+  pub one_migrating : (old image new there : List ℕ) → task_of words ≡ Some (Migrate old new) → task_of words' ≡ Some (Migrate old new) → IsToldStore old image before → before.host.disks new ≡ Some there → GoesWell before after → GoesWell before other
+      → status ≢ 9 → status' ≢ 9 → (status ≡ status') × MigratedAlike new after other
+  one_migrating old image new there asks asks' told told_new well well' fed fed' =
+      let meets = meets_task (Migrate old new) words before first.ended first.ending status asks fed first.status_is first.meets in
+      let meets' = meets_task (Migrate old new) words' before second.ended second.ending status' asks' fed' second.status_is second.meets in
+      let grew = no_more before.errors first.ended.errors (migrated_errors old new before first.ended first.ending meets) in
+      let grew' = no_more before.errors second.ended.errors (migrated_errors old new before second.ended second.ending meets') in
+      let fine = calm first.ending before first.ended after [] errors reports grew first.tells in
+      let fine' = calm second.ending before second.ended other [] errors reports' grew' second.tells in
+      let rest = told_rest first.ending first.ended after first.tells in
+      let rest' = told_rest second.ending second.ended other second.tells in
+      let host : after.host ≡ first.ended.host = ap (λ (w : World). w.host) rest in
+      let host' : other.host ≡ second.ended.host = ap (λ (w : World). w.host) rest' in
+      let both = one_migration old new image there before first.ended second.ended first.ending second.ending told told_new
+      (goes_before first.ending before first.ended after first.tells well) (goes_before second.ending before second.ended other second.tells well')
+      (fed_by status first.ending first.status_is fed) (fed_by status' second.ending second.status_is fed') meets meets' in
+      let alike = both.1 in
+      let moved = subst (λ (e : Ending). Tells e second.ended other) (sym both.0) second.tells in
+      let P : HostState → HostState → Type 0 = λ h k. k ≡ record h { calls = k.calls; disks = put new (k.disks new) h.disks } in
+      let Q : HostState → HostState → Type 0 = λ h k. HoldAlike (h.disks new) (k.disks new) in (
+        first.status_is ∙ ap status_of both.0 ∙ sym second.status_is,
+        record {
+          streams = record {
+            input = ap (λ (w : World). w.input) rest' ∙ alike.streams.input ∙ sym (ap (λ (w : World). w.input) rest);
+            output = ap (λ (w : World). w.output) rest' ∙ alike.streams.output ∙ sym (ap (λ (w : World). w.output) rest);
+            errors = sym (told_alike first.ending before first.ended after second.ended other
+                (λ usage. subst (λ (e : Ending). MigratesBy old new before first.ended e) usage meets) fine fine' (sym alike.streams.errors) first.tells moved);
+          };
+          disk = subst (λ (h : HostState). Q h other.host) (sym host) (subst (λ (k : HostState). Q first.ended.host k) (sym host') alike.disk);
+          calls = ap (λ (h : HostState). h.calls) host' ∙ alike.calls ∙ sym (ap (λ (h : HostState). h.calls) host);
+          rest = subst (λ (h : HostState). P h other.host) (sym host) (subst (λ (k : HostState). P first.ended.host k) (sym host') alike.rest);
+        },
+      )
+
   -- of a trial
   pub one_trying : (games seed workers workers' : ℕ) → OneGame → OneAccount → OneSample → OneAnswer → OneQuery → task_of words ≡ Some (Trial games seed workers) → task_of words' ≡ Some (Trial games seed workers') → IsToldOutput before → WritesWell before after → WritesWell before other
       → status ≢ 9 → status' ≢ 9 → (status ≡ status') × (after ≡ other)
@@ -304,10 +368,10 @@ module _ (words words' : List (List ℕ)) (before after other : World) (status s
 
   -- of an import
   pub one_importing : (store file image stream : List ℕ) (workers workers' : ℕ) → OneGame → OneAccount → OneOpening → task_of words ≡ Some (Import store file workers) → task_of words' ≡ Some (Import store file workers') → IsToldStore store image before → IsToldFile file stream before
-      → GoesWell before after → ReadsWell before after → GoesWell before other → ReadsWell before other → status ≢ 9 → status' ≢ 9 → (status ≡ status') × ImportAlike store status after other
+      → GoesWell before after → ReadsWell before after → GoesWell before other → ReadsWell before other → HasMemory status before after → HasMemory status' before other → (status ≡ status') × ImportAlike store status after other
   one_importing store file image stream workers workers' one accounts once asks asks' told told_file well reads well' reads' fed fed' =
-      let meets = meets_task (Import store file workers) words before first.ended first.ending status asks fed first.status_is first.meets in
-      let meets' = meets_task (Import store file workers') words' before second.ended second.ending status' asks' fed' second.status_is second.meets in
+      let meets = meets_task (Import store file workers) words before first.ended first.ending status asks fed.0 first.status_is first.meets in
+      let meets' = meets_task (Import store file workers') words' before second.ended second.ending status' asks' fed'.0 second.status_is second.meets in
       let grew = imported_errors store file before first.ended first.ending meets in
       let grew' = imported_errors store file before second.ended second.ending meets' in
       let fine = calm first.ending before first.ended after grew.0 errors reports grew.1 first.tells in
@@ -321,7 +385,7 @@ module _ (words words' : List (List ℕ)) (before after other : World) (status s
       let both = one_import store image file stream before first.ended second.ended first.ending second.ending one accounts once told told_file errors
       (goes_before first.ending before first.ended after first.tells well) (sym (ap (λ (h : HostState). h.file_faults) host) ∙ reads) still
       (goes_before second.ending before second.ended other second.tells well') (sym (ap (λ (h : HostState). h.file_faults) host') ∙ reads') still'
-      (fed_by status first.ending first.status_is fed) (fed_by status' second.ending second.status_is fed') meets meets' in
+      (memory_before status first.ending before first.ended after first.status_is first.tells fed) (memory_before status' second.ending before second.ended other second.status_is second.tells fed') meets meets' in
       let alike = both.1 in
       let moved = subst (λ (e : Ending). Tells e second.ended other) (sym both.0) second.tells in
       let P : HostState → HostState → Type 0 = λ h k. k ≡ record h { calls = k.calls; disks = put store (k.disks store) h.disks } in

@@ -1,5 +1,5 @@
 -- Bridge: how a run of the command `serve` ends once its workers have returned.
-use Rattle.std.specs.Prelude.{◌≡◌, ◌⊎◌, ℕ, Bool, true, false, List, Option, None, Some, IfSome, Result, Ok, Err}
+use Rattle.std.specs.Prelude.{◌≡◌, ◌⊎◌, ℕ, Bool, true, false, List, Option, None, Some, IfSome, Result, Ok, Err, unwrap_or}
 use Rattle.outside.specs.Stream.{FailsToTake, Stream, Takes, Wrote}
 use Rattle.explorer_model.specs.declared.archive.Batch.{Batch}
 use Rattle.explorer_model.specs.Journal.{IsSound}
@@ -9,24 +9,28 @@ use Rattle.explorer.specs.declared.fault.Fault.{Fault}
 use Rattle.explorer.specs.declared.fault.Fault.TheVariants.{DiskFault, OutOfMemory, WriteFault}
 use Rattle.explorer.specs.Lines.{Ending, Done, Stopped}
 
--- The ending of a run whose lines had memory: by a fault of the disk, else by the first fault of a
--- worker, else by a fault of a sink.
-abbrev pub EndsBy : {A E : Type 0} → Bool → Option Fault → Result A E → List ℕ
+-- the fault by which a run ends that served: the disk's, else the first of the workers
+abbrev pub cause : Bool → Option Fault → Option Fault
+cause true first = Some DiskFault
+cause false first = first
+
+-- the ending of a run whose lines had memory: by its cause, else by a fault of a sink
+abbrev pub EndsBy : {A E : Type 0} → Option Fault → Result A E → List ℕ
     → Stream → Stream → Ending → Type 0
-EndsBy true first listens lines old new ending = ending ≡ Stopped DiskFault
-EndsBy false (Some fault) listens lines old new ending = ending ≡ Stopped fault
-EndsBy false None (Err failed) lines old new ending = ending ≡ Stopped WriteFault
-EndsBy false None (Ok listening) lines old new ending =
+EndsBy (Some fault) listens lines old new ending = ending ≡ Stopped fault
+EndsBy None (Err failed) lines old new ending = ending ≡ Stopped WriteFault
+EndsBy None (Ok listening) lines old new ending =
     (Takes lines old new × (ending ≡ Done))
     ⊎ (FailsToTake lines old new × (ending ≡ Stopped WriteFault))
 
--- the lines were written, or their write failed, and the run ended; or memory was wanting for them
-abbrev pub Concludes : {A E : Type 0} → Option (List ℕ) → Bool → Option Fault → Result A E
+-- The lines were written, or their write failed, and the run ended. Where memory was wanting for them,
+-- it ended by its cause all the same.
+abbrev pub Concludes : {A E : Type 0} → Option (List ℕ) → Option Fault → Result A E
     → Stream → Stream → Ending → Type 0
-Concludes None failed first listens old new ending =
-    (new ≡ old) × (ending ≡ Stopped OutOfMemory)
-Concludes (Some lines) failed first listens old new ending =
-    Wrote lines old new × EndsBy failed first listens lines old new ending
+Concludes None fault listens old new ending =
+    (new ≡ old) × (ending ≡ Stopped (unwrap_or fault OutOfMemory))
+Concludes (Some lines) fault listens old new ending =
+    Wrote lines old new × EndsBy fault listens lines old new ending
 
 -- what is told of a disk is a sound journal that begins with this one
 pub record TellsLonger (journal : List Batch) (content : Option (List ℕ)) : Type 0 where

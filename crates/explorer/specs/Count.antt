@@ -1,5 +1,5 @@
 -- Statement: how a run of the command `count` ends.
-use Rattle.std.specs.Prelude.{◌≡◌, ◌≤◌, ℕ, List, [], ◌∷◌, Vec, Result, Ok, Err, length}
+use Rattle.std.specs.Prelude.{◌≡◌, ◌<◌, ℕ, List, [], ◌∷◌, Vec, Result, Ok, Err, length}
 use Rattle.std.specs.Global.{Global}
 use Rattle.outside.specs.Stream.{Reads, Rises, Stream, Writes}
 use Rattle.explorer_model.specs.declared.answer.Found.{Found}
@@ -16,7 +16,7 @@ use Rattle.explorer.specs.declared.fault.Fault.TheVariants.{BadParameter, DiskFa
 use Rattle.explorer.specs.Answer.{IsAnswer, answer_line}
 use Rattle.explorer.specs.Imported.{IsAllSettled, IsFullAt, new_store}
 use Rattle.explorer.specs.Lines.{Ending, Done, Stopped}
-use Rattle.explorer.specs.Report.{report}
+use Rattle.explorer.specs.Report.{MayReport, report}
 use Rattle.explorer.specs.World.{World, AllReadsCame, IsFaultless, ReadFails, WriteFails}
 
 -- Bytes of the input were taken, of which an import into a new store stands so. It stored these
@@ -46,14 +46,14 @@ pub record Answers (query : Query) (before after : World) : Type 0 where
   pub host : after.host ≡ before.host
 
 -- A part of the input was read, of which an import that stands so has refused these cuts. They are
--- reported; nothing else was written.
+-- reported, but for want of memory; nothing else was written.
 pub record BreaksOff (Stands : List ℕ → List Batch → List Refusal → Type 0)
     (before after : World) : Type 0 where
   pub batches : List Batch
   pub refused : List Refusal
   pub imports : ImportsNew Stands before.input after.input batches refused
   pub output : after.output ≡ before.output
-  pub errors : Writes (report refused ∷ []) before.errors after.errors
+  pub errors : MayReport (report refused) before.errors after.errors
   pub host : after.host ≡ before.host
 
 -- the endings by what the query reads as; no other can be
@@ -80,11 +80,12 @@ Counts text before after ending =
 
 -- ---- bridge: what the code comes to on the way
 
--- some of the input was read, up to the bound at most
-pub record ReadsWithin (before after : Stream) : Type 0 where
+-- some of the input was read, which is not up to the bound, and no read failed
+pub record ReadsBelow (before after : Stream) : Type 0 where
   pub stream : List ℕ
   pub reads : Reads stream before after
-  pub within : length stream ≤ input_limit
+  pub below : length stream < input_limit
+  pub came : after.read_faults ≡ before.read_faults
 
 -- what an import into a new store came to, and the line that answers the query over it, or why there
 -- is none; with the counts of the disk's faults before and after

@@ -6,6 +6,8 @@ use Rattle.explorer_model.specs.declared.query.BadParameter as query_fault
 use Rattle.explorer_model.specs.declared.store.LogFault.TheVariants as log
 use Rattle.ingest_desk.specs.declared.report.ImportEnding.{ImportEnding}
 use Rattle.ingest_desk.specs.declared.report.ImportEnding.TheVariants as endings
+use Rattle.record_log.specs.declared.fault.AppendFault.{AppendFault}
+use Rattle.record_log.specs.declared.fault.AppendFault.TheVariants as append
 use Rattle.record_log.specs.declared.fault.CreateFault.{CreateFault}
 use Rattle.record_log.specs.declared.fault.CreateFault.TheVariants as creation
 use Rattle.record_log.specs.declared.fault.OpenFault.{OpenFault}
@@ -31,6 +33,12 @@ fault_by endings.OutOfMemory = Some OutOfMemory
 abbrev pub fault_of_creation : CreateFault → Fault
 fault_of_creation (creation.NotEmpty size) = NotEmpty size
 fault_of_creation (creation.DiskFault before after) = DiskFault
+
+-- a batch that is not stored; none is `Closed` where no call of the disk failed before
+abbrev pub fault_of_append : AppendFault → Fault
+fault_of_append (append.Closed before after) = DiskFault
+fault_of_append (append.DiskFault before after) = DiskFault
+fault_of_append append.OutOfMemory = OutOfMemory
 
 -- a store that is not opened
 abbrev pub fault_of_opening : OpenFault → Fault

@@ -1,5 +1,5 @@
 -- Statement: how a run of the command `import` ends.
-use Rattle.std.specs.Prelude.{◌≡◌, ◌⊎◌, ◌++◌, ℕ, List, [], ◌∷◌, length, IfSome, Option, None, Some, Result, Err, codes, string_bytes}
+use Rattle.std.specs.Prelude.{◌≡◌, ◌⊎◌, ◌++◌, ℕ, List, [], ◌∷◌, length, IfSome, Option, None, Some, Result, Err, codes, string_bytes, unwrap_or}
 use Rattle.std.specs.Fmt.{decimal}
 use Rattle.disk_model.specs.Disk.{DiskState}
 use Rattle.outside.specs.Stream.{Stream, Reads, Rises, Writes}
@@ -45,11 +45,15 @@ pub record UsesBoth (store file : List ℕ) (disk disk_after : DiskState)
   pub takes_file : TakesFile file source_after given taken
   pub takes_disk : TakesDisk store disk_after taken after
 
--- a disk was handed out, the file of this name was refused, and the disk was given back as it was
+-- The disk of a store with a sound journal was handed out, the file of this name was refused, and the
+-- disk was given back as it was.
 pub record LacksFile (store file : List ℕ) (before after : HostState) : Type 0 where
   pub disk : DiskState
   pub opened : HostState
   pub hands : HandsDisk store disk before opened
+  pub journal : List Batch
+  pub read : IfSome disk.content (HasJournal journal)
+  pub sound : IsSound journal
   pub refused : HostState
   pub refuses : RefusesFile file opened refused
   pub disk_after : DiskState
@@ -99,18 +103,28 @@ pub record ImportsTo (ending : ImportEnding) (store file : List ℕ) (before aft
   pub rest : after ≡ record before
       { output = after.output; errors = after.errors; host = after.host }
 
--- memory was wanting when the store was opened, before the import began, or when what it came to was
--- to be told
+-- or, where memory was wanting for that, nothing was
+pub record ImportsUntold (ending : ImportEnding) (store file : List ℕ) (before after : World)
+    : Type 0 where
+  pub imports : ImportsInto ending store file before.host after.host
+  pub only : OnlyHost before after
+
+-- the import ended so, and was told or was not
+abbrev pub ImportsSo : ImportEnding → List ℕ → List ℕ → World → World → Type 0
+ImportsSo ending store file before after =
+    ImportsTo ending store file before after ⊎ ImportsUntold ending store file before after
+
+-- memory was wanting when the store was opened, or before the import began
 abbrev pub LacksBy : List ℕ → List ℕ → HostState → HostState → Type 0
 LacksBy store file before after = UsesDisk store KeepsBytes before after
     ⊎ UsesInVain store file before after
-    ⊎ ((ending : ImportEnding) × ImportsInto ending store file before after)
 
--- memory was wanting: nothing was written, or it was wanting in the import alone
+-- memory was wanting: before the import began, in it, or to tell of one that came to its end
 abbrev pub LacksMemory : List ℕ → List ℕ → World → World → Type 0
 LacksMemory store file before after =
     (LacksBy store file before.host after.host × OnlyHost before after)
-    ⊎ ImportsTo endings.OutOfMemory store file before after
+    ⊎ ImportsSo endings.OutOfMemory store file before after
+    ⊎ ImportsUntold endings.Whole store file before after
 
 -- no write failed
 pub record WroteAll (before after : World) : Type 0 where
@@ -129,14 +143,14 @@ ImportsBy store file before after Done =
 ImportsBy store file before after (Stopped WriteFault) =
     ImportsTo endings.Whole store file before after × SomeWriteFails before after
 ImportsBy store file before after (Stopped ReadFault) =
-    (first : ℕ) × (last : ℕ) × ImportsTo (endings.ReadFault first last) store file before after
+    (first : ℕ) × (last : ℕ) × ImportsSo (endings.ReadFault first last) store file before after
 ImportsBy store file before after (Stopped TooMuchInput) =
-    (bytes : ℕ) × ImportsTo (endings.TooMuch bytes) store file before after
+    (bytes : ℕ) × ImportsSo (endings.TooMuch bytes) store file before after
 ImportsBy store file before after (Stopped (Full games bytes)) =
-    ImportsTo (endings.Full games bytes) store file before after
+    ImportsSo (endings.Full games bytes) store file before after
 ImportsBy store file before after (Stopped DiskFault) =
     (UsesDisk store FailsUnread before.host after.host × OnlyHost before after)
-    ⊎ ((first : ℕ) × (last : ℕ) × ImportsTo (endings.DiskFault first last) store file before after)
+    ⊎ ((first : ℕ) × (last : ℕ) × ImportsSo (endings.DiskFault first last) store file before after)
 ImportsBy store file before after (Stopped NotAStore) = RefusesStore log.NotALog store before after
 ImportsBy store file before after (Stopped (OtherFormat number)) =
     RefusesStore (log.OtherFormat number) store before after
@@ -171,8 +185,10 @@ pub record IsTold (came : Came) (output output_after errors errors_after : Strea
   pub output_is : Writes (totals came.games came.batches came.journal ∷ []) output output_after
   pub outcome : OutcomeBy (fault_by came.ending) output output_after errors errors_after ending
 
--- it was told what the import came to; or memory was wanting for that, and nothing was written
+-- it was told what the import came to; or memory was wanting for that, nothing was written, and the
+-- run ended by the import's fault all the same
 abbrev pub IsToldOf : Came → Result (Unit {0}) Fault → Stream → Stream → Stream → Stream → Type 0
 IsToldOf came result output output_after errors errors_after =
-    ((result ≡ Err OutOfMemory) × (output_after ≡ output) × (errors_after ≡ errors))
+    ((result ≡ Err (unwrap_or (fault_by came.ending) OutOfMemory))
+    × (output_after ≡ output) × (errors_after ≡ errors))
     ⊎ IsTold came output output_after errors errors_after (ending_of result)

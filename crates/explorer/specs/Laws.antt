@@ -1,5 +1,6 @@
 -- Words of laws: runs that can be told apart by nothing.
 use Rattle.std.specs.Prelude.{◌≡◌, ◌≢◌, ◌⊎◌, ⊤, ◌<◌, ◌-◌, ◌^◌, ℕ, List, [], ◌∷◌, Option, None, Some, IfSome, IsSome, length}
+use Rattle.std.specs.Io.KnownBytes.{append_known}
 use Rattle.std.specs.List.{AllZip, Contains}
 use Rattle.outside.specs.Doors.{Connections}
 use Rattle.outside.specs.Stream.{Stream}
@@ -39,6 +40,20 @@ pub record IsTold (stream : List ℕ) (world : World) : Type 0 where
 pub record WroteAlike (after other : World) : Type 0 where
   pub output : after.output.written ≡ other.output.written
   pub errors : after.errors.written ≡ other.errors.written
+
+-- the report and the line behind it were written, or that line alone
+abbrev pub WroteBehind : List ℕ → List ℕ → Stream → Stream → Type 0
+WroteBehind report line before after =
+    (after.written ≡ append_known (append_known before.written report) line)
+    ⊎ (after.written ≡ append_known before.written line)
+
+-- The same was written, but that one may have gone without the report, for which memory was wanting.
+pub record WroteAlikeButReport (before after other : World) : Type 0 where
+  pub output : after.output.written ≡ other.output.written
+  pub report : List ℕ
+  pub line : List ℕ
+  pub first : WroteBehind report line before.errors after.errors
+  pub second : WroteBehind report line before.errors other.errors
 
 -- the words ask for a count, or for nothing
 abbrev pub CountsAtMost : Option Task → Type 0
@@ -102,6 +117,12 @@ pub record IsToldFile (name stream : List ℕ) (world : World) : Type 0 where
 abbrev pub ReadsWell : World → World → Type 0
 ReadsWell before after = after.host.file_faults ≡ before.host.file_faults
 
+-- memory was there: the run did not end for want of it, and where a group found no room it printed
+-- what is stored
+abbrev pub HasMemory : ℕ → World → World → Type 0
+HasMemory status before after =
+    (status ≢ 9) × (status ≡ 8 → after.output ≢ before.output)
+
 -- the contents are the same, or one journal is that of each of them that is told
 abbrev pub HoldAlike : Option (List ℕ) → Option (List ℕ) → Type 0
 HoldAlike content other = (content ≡ other)
@@ -117,6 +138,17 @@ pub record ImportAlike (store : List ℕ) (status : ℕ) (after other : World) :
   pub rest : other.host ≡ record after.host {
     calls = other.host.calls;
     disks = put store (other.host.disks store) after.host.disks;
+  }
+
+-- Migrations came to the same, but for the bytes that hold one journal under the name of the new
+-- store.
+pub record MigratedAlike (new : List ℕ) (after other : World) : Type 0 where
+  pub streams : SameStreams after other
+  pub disk : HoldAlike (after.host.disks new) (other.host.disks new)
+  pub calls : other.host.calls ≡ after.host.calls
+  pub rest : other.host ≡ record after.host {
+    calls = other.host.calls;
+    disks = put new (other.host.disks new) after.host.disks;
   }
 
 -- the service with so many workers

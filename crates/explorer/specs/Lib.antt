@@ -13,6 +13,7 @@ pub mod Segments
 pub mod Trial
 pub mod Trying
 pub mod Create
+pub mod Migrate
 pub mod Opened
 pub mod ImportStore
 pub mod Served

@@ -1,5 +1,5 @@
 -- Statement: what a run comes to, from the words of its command line to its exit status.
-use Rattle.std.specs.Prelude.{◌≡◌, ◌⊎◌, ◌≤◌, ℕ, List, length, Option, None, Some}
+use Rattle.std.specs.Prelude.{◌≡◌, ◌⊎◌, ◌<◌, ℕ, List, length, Option, None, Some}
 use Rattle.outside.specs.Stream.{Reads}
 use Rattle.explorer_model.specs.Journal.{input_limit}
 use Rattle.explorer.specs.declared.fault.Fault.{Fault}
@@ -8,19 +8,21 @@ use Rattle.explorer.specs.Count.{Counts}
 use Rattle.explorer.specs.Create.{CreatesBy}
 use Rattle.explorer.specs.ImportStore.{ImportsBy}
 use Rattle.explorer.specs.Lines.{Ending, Stopped, Tells, status_of}
+use Rattle.explorer.specs.Migrate.{MigratesBy}
 use Rattle.explorer.specs.QueryStore.{QueriesBy}
 use Rattle.explorer.specs.Serve.{Serves}
 use Rattle.explorer.specs.Trial.{TriesBy}
-use Rattle.command_line.specs.Task.{Task, Count, Create, Import, Query, Serve, Trial, task_of}
-use Rattle.explorer.specs.World.{World}
+use Rattle.command_line.specs.Task.{Task, Count, Create, Import, Migrate, Query, Serve, Trial, task_of}
+use Rattle.explorer.specs.World.{World, AllReadsCame}
 
--- Memory was refused, which may come at any moment: some of the input may be read, and nothing is
--- written.
+-- Memory was refused, which may come at any moment: some of the input may be read, of which no read
+-- failed and which is not up to the bound, and nothing is written.
 pub record Starves (before after : World) (ending : Ending) : Type 0 where
   pub ending_is : ending ≡ Stopped OutOfMemory
   pub stream : List ℕ
   pub reads : Reads stream before.input after.input
-  pub within : length stream ≤ input_limit
+  pub below : length stream < input_limit
+  pub came : AllReadsCame before after
   pub rest : after ≡ record before { input = after.input }
 
 -- a run of a task, by its ending
@@ -30,6 +32,7 @@ Ends (Count query workers) before after ending =
 Ends (Create store) before after ending = CreatesBy store before after ending
 Ends (Import store file workers) before after ending =
     ImportsBy store file before after ending
+Ends (Migrate old new) before after ending = MigratesBy old new before after ending
 Ends (Query store query workers) before after ending =
     QueriesBy store query before after ending
 Ends (Serve store address files workers readers connections) before after ending =

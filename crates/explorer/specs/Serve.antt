@@ -30,10 +30,15 @@ pub record Listens (service : Service) (before after : World) : Type 0 where
   pub input : after.input ≡ before.input
   pub output : Writes (listening_line service.address ∷ []) before.output after.output
 
--- the address was told, and then what was refused of the files
-pub record Reports (service : Service) (files : List FileRun) (before after : World) : Type 0 where
-  pub listens : Listens service before after
-  pub errors : Writes (serve_report service.files files ∷ []) before.errors after.errors
+-- what is refused of the files was reported
+abbrev pub Reports : Service → List FileRun → World → World → Type 0
+Reports service files before after =
+    Writes (serve_report service.files files ∷ []) before.errors after.errors
+
+-- or, where memory was wanting for that, nothing was
+abbrev pub MayReport : Service → List FileRun → World → World → Type 0
+MayReport service files before after =
+    Reports service files before after ⊎ (after.errors ≡ before.errors)
 
 -- ---- the endings
 
@@ -50,14 +55,19 @@ pub record GoesOn (service : Service) (before after : HostState)
   pub full : AllZip (FindsFull journal) (map (file_at before) service.files) worked.files
   pub seen : AllZip (IsSeenIn worked.opening journal) worked.handed worked.doors
 
--- doors were served, and this was the first fault of the workers
+-- doors were served, no call of the store's disk failed, and this was the first fault of the workers
 pub record IsWorkedTo (service : Service) (fault : Option Fault) (before after : World)
     : Type 0 where
   pub worked : IsWorked service before.host after.host
   pub goes_on : GoesOn service before.host after.host worked
-  pub reports : Reports service worked.files before after
+  pub listens : Listens service before after
   pub first : fault ≡ first_fault worked.files worked.doors
   pub disk : after.host.disk_faults ≡ before.host.disk_faults
+
+-- this was the first fault of the workers, with the report or with nothing reported
+pub record FailsBy (service : Service) (fault : Fault) (before after : World) : Type 0 where
+  pub to : IsWorkedTo service (Some fault) before after
+  pub reports : MayReport service to.worked.files before after
 
 -- No worker had a fault. Each file is stored in the journal of the disk given back, and no door has
 -- a connection left.
@@ -67,6 +77,11 @@ pub record IsServed (service : Service) (before after : World) : Type 0 where
       to.worked.files
   pub served : AllZip (IsServedIn to.worked.opening to.goes_on.journal) to.worked.handed
       to.worked.doors
+
+-- and what is refused of the files was reported
+pub record ServesAll (service : Service) (before after : World) : Type 0 where
+  pub served : IsServed service before after
+  pub reports : Reports service served.to.worked.files before after
 
 -- the call is noted, or it is not
 abbrev pub IsMaybe : HostCall → List HostCall → Type 0
@@ -111,42 +126,54 @@ pub record HasNoStore (service : Service) (fault : LogFault) (before after : Wor
   pub silent : IsSilent before after
   pub disk : after.host.disk_faults ≡ before.host.disk_faults
 
+-- calls of the store's disk failed while doors were served
+pub record DiskFailsLate (service : Service) (before after : World) : Type 0 where
+  pub worked : IsWorked service before.host after.host
+  pub goes_on : GoesOn service before.host after.host worked
+  pub listens : Listens service before after
+  pub reports : MayReport service worked.files before after
+
 -- calls of the store's disk failed: while it was opened, or while doors were served
 abbrev pub DiskFails : Service → World → World → Type 0
 DiskFails service before after =
     Rises before.host.disk_faults after.host.disk_faults
     × ((IsGivenUp service [] [] before.host after.host × IsSilent before after)
-    ⊎ ((worked : IsWorked service before.host after.host)
-    × Reports service worked.files before after × GoesOn service before.host after.host worked))
+    ⊎ DiskFailsLate service before after)
 
--- doors were served, and memory was wanting for the lines of what is refused
+-- memory was wanting before doors were handed out, no call of the store's disk failed, and nothing
+-- was refused
+pub record LacksRoom (service : Service) (before after : World) : Type 0 where
+  pub names : List (List ℕ)
+  pub front : IsPrefix names service.files
+  pub given_up : IsGivenUp service names [] before.host after.host
+  pub silent : IsSilent before after
+  pub disk : after.host.disk_faults ≡ before.host.disk_faults
+  pub own : after.host.own_faults ≡ before.host.own_faults
+
+-- doors were served without a fault, and memory was wanting for the lines of what is refused
 pub record LacksLines (service : Service) (before after : World) : Type 0 where
-  pub worked : IsWorked service before.host after.host
-  pub goes_on : GoesOn service before.host after.host worked
-  pub listens : Listens service before after
+  pub served : IsServed service before after
   pub errors : after.errors ≡ before.errors
 
--- memory was wanting: before doors were handed out, or for a worker, or for the lines
+-- memory was wanting: before doors were handed out, or for a worker, or for the lines alone
 abbrev pub LacksMemory : Service → World → World → Type 0
 LacksMemory service before after =
-    ((names : List (List ℕ)) × IsPrefix names service.files
-    × IsGivenUp service names [] before.host after.host × IsSilent before after)
-    ⊎ (IsWorkedTo service (Some OutOfMemory) before after ⊎ LacksLines service before after)
+    LacksRoom service before after
+    ⊎ (FailsBy service OutOfMemory before after ⊎ LacksLines service before after)
 
 -- a run of `serve`, by its ending; no other can be
 abbrev pub ServesBy : Service → World → World → Ending → Type 0
-ServesBy service before after Done = IsServed service before after × IsFaultless before after
+ServesBy service before after Done = ServesAll service before after × IsFaultless before after
 ServesBy service before after (Stopped WriteFault) =
-    IsServed service before after × WriteFails before after
+    ServesAll service before after × WriteFails before after
 ServesBy service before after (Stopped ReadFault) =
-    IsWorkedTo service (Some ReadFault) before after
+    FailsBy service ReadFault before after
     × Rises before.host.file_faults after.host.file_faults
 ServesBy service before after (Stopped (Full games bytes)) =
-    IsWorkedTo service (Some (Full games bytes)) before after
-ServesBy service before after (Stopped TooMuchInput) =
-    IsWorkedTo service (Some TooMuchInput) before after
+    FailsBy service (Full games bytes) before after
+ServesBy service before after (Stopped TooMuchInput) = FailsBy service TooMuchInput before after
 ServesBy service before after (Stopped CannotAccept) =
-    IsWorkedTo service (Some CannotAccept) before after
+    FailsBy service CannotAccept before after
     × Rises before.host.door_faults after.host.door_faults
 ServesBy service before after (Stopped DiskFault) = DiskFails service before after
 ServesBy service before after (Stopped NotAStore) = HasNoStore service logs.NotALog before after

@@ -207,12 +207,12 @@ abbrev pub KeepsOthers : List ℕ → HostState → HostState → Type 0
 KeepsOthers store before after =
     (name : List ℕ) → name ≢ store → after.disks name ≡ before.disks name
 
--- No door was handed out: the store and the files of these names were, and came back. All disks are
--- as they were.
+-- No door was handed out: the store and the files of these names were, and came back as they were. All
+-- disks are as they were.
 pub record IsGivenUp (service : Service) (names : List (List ℕ)) (refusal : List HostCall)
     (before after : HostState) : Type 0 where
-  pub files : List Stream
-  pub called : after.calls ≡ added (opening_calls service names files refusal) before.calls
+  pub called : after.calls
+      ≡ added (opening_calls service names (map (file_at before) names) refusal) before.calls
   pub kept : after.disks service.store ≡ before.disks service.store
   pub others : KeepsOthers service.store before after
 

@@ -102,14 +102,13 @@ GivesUpFor service names refusal NoAddress before after =
     Rises before.own_faults after.own_faults × (names ≡ service.files)
     × IsMaybe (DoorsRefused service.address service.readers service.connections) refusal
 GivesUpFor service names refusal NoMemory before after =
-    (names ≡ service.files) × (refusal ≡ [])
+    (names ≡ service.files) × (refusal ≡ []) × (after.own_faults ≡ before.own_faults)
 
 pub record HasGivenUp (service : Service) (why : Unserved) (before after : HostState) : Type 0 where
   pub names : List (List ℕ)
-  pub files : List Stream
   pub refusal : List HostCall
-  pub calls : after.calls
-      ≡ added (files_back names files ++ (refusal ++ files_out names)) before.calls
+  pub calls : after.calls ≡ added (files_back names (map (file_at before) names)
+      ++ (refusal ++ files_out names)) before.calls
   pub disks : after.disks ≡ before.disks
   pub disk_faults : after.disk_faults ≡ before.disk_faults
   pub placed : IsPlaced service why

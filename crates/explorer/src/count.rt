@@ -1,9 +1,9 @@
 //! The command `count`: stores the games of a stream in a new store, and answers a query over them.
-ghost use Rattle.std.specs.Prelude.{◌≡◌, ◌≢◌, ◌⊎◌, ◌≤◌, [], None, IfOk};
+ghost use Rattle.std.specs.Prelude.{◌≡◌, ◌≢◌, ◌⊎◌, ◌≤◌, [], None, IfErr, IfOk};
 ghost use Rattle.host.specs.Hosts.{HostState};
 ghost use Rattle.explorer_model.specs.Chess.{IsValid};
 ghost use Rattle.ingest_desk.specs.Stored.{journal};
-ghost use Rattle.explorer.specs.Count.{CountedTo, Counts, ReadsWithin};
+ghost use Rattle.explorer.specs.Count.{CountedTo, Counts, ReadsBelow};
 ghost use Rattle.explorer.specs.Lines.{ending_of};
 ghost use Rattle.explorer.specs.Run.{Starves};
 ghost use Rattle.explorer.specs.World.{world};
@@ -13,7 +13,7 @@ use crate::answer::line_for;
 use crate::fault::Fault;
 use crate::importing::import_into;
 use crate::opening::new_store;
-use crate::report::{report, write_lines};
+use crate::report::{report, write_lines, write_made};
 use disk_model::{Disk, Unkept};
 use explorer_model::fault::Refusal;
 use explorer_model::query::Query;
@@ -27,7 +27,8 @@ use std::sync::Wait;
 use std::thread::Threads;
 
 /// Reads the query and then the input, reports what is refused of the input, and prints the answer
-/// over its games. Ids are compared over the whole input.
+/// over its games. Ids are compared over the whole input. Where memory is wanting for the report of an
+/// input that was not read to its end, why it was not is told all the same.
 pub fn count<R: AllocGlobal + Wait + Threads + Sync, I: Source, O: Sink, E: Sink>(
     rt: &R,
     query_text: &[u8],
@@ -47,14 +48,15 @@ pub fn count<R: AllocGlobal + Wait + Threads + Sync, I: Source, O: Sink, E: Sink
     let query = query(rt.alloc(), query_text)?;
     let counted = count_input(rt, &query, workers, input)?;
     let Counted { refused, line } = counted;
-    let lines = report(rt.alloc(), refused.as_slice())?;
+    let made = report(rt.alloc(), refused.as_slice());
     let answer = match line {
         Ok(line) => line,
         Err(fault) => {
-            let _ = write_lines(errors, lines.as_slice());
+            write_made(errors, made);
             return Err(fault);
         }
     };
+    let lines = made?;
     let reported = write_lines(errors, lines.as_slice());
     let answered = output.write(answer.as_slice());
     reported?;
@@ -85,7 +87,8 @@ fn count_input<R: AllocGlobal + Wait + Threads + Sync, I: Source>(
     requires recent { query.now.recent ≤ 4 }
     ensures counted { IfOk result (λ counted. CountedTo query.now 0 0 (I.source input.old)
         (I.source input.new) counted.refused.items counted.line) }
-    ensures within { ReadsWithin (I.source input.old) (I.source input.new) }
+    ensures starves { IfErr result
+        (λ _. ReadsBelow (I.source input.old) (I.source input.new)) }
 {
     let unnamed = new_store(rt)?;
     count_unnamed::<Brand, R, I>(rt, unnamed, query, workers, input)
@@ -109,7 +112,8 @@ fn count_unnamed<J: Index, R: AllocGlobal + Wait + Threads + Sync, I: Source>(
     requires recent { query.now.recent ≤ 4 }
     ensures counted { IfOk result (λ counted. CountedTo query.now 0 0 (I.source input.old)
         (I.source input.new) counted.refused.items counted.line) }
-    ensures within { ReadsWithin (I.source input.old) (I.source input.new) }
+    ensures starves { IfErr result
+        (λ _. ReadsBelow (I.source input.old) (I.source input.new)) }
 {
     let (mut ingest, _passes) = match unnamed.named::<J>(rt.alloc()) {
         Ok(named) => named,
@@ -124,7 +128,7 @@ fn count_unnamed<J: Index, R: AllocGlobal + Wait + Threads + Sync, I: Source>(
 }
 
 /// The same, where the store without a batch is open.
-#[tactic(auto, using(crate::proofs::CountLemmas::within, crate::proofs::CountLemmas::counted_all))]
+#[tactic(auto, using(crate::proofs::CountLemmas::counted_all, crate::proofs::CountLemmas::below_whole, crate::proofs::CountLemmas::below_lacking))]
 fn count_in<J: Index, R: AllocGlobal + Wait + Threads + Sync, I: Source, D: Disk>(
     rt: &R,
     ingest: &mut Ingest<D, J>,
@@ -142,7 +146,8 @@ fn count_in<J: Index, R: AllocGlobal + Wait + Threads + Sync, I: Source, D: Disk
     ensures counted { IfOk result (λ counted. CountedTo query.now
         (D.disk ingest.old.manifest.disk).faults (D.disk ingest.new.manifest.disk).faults
         (I.source input.old) (I.source input.new) counted.refused.items counted.line) }
-    ensures within { ReadsWithin (I.source input.old) (I.source input.new) }
+    ensures starves { IfErr result
+        (λ _. ReadsBelow (I.source input.old) (I.source input.new)) }
 {
     let came = import_into(rt, ingest, input, workers);
     match came.fault() {
@@ -169,6 +174,7 @@ fn count_in<J: Index, R: AllocGlobal + Wait + Threads + Sync, I: Source, D: Disk
 fn unless_memory(fault: Fault) -> Result<Fault, AllocError>
     ensures same { IfOk result (λ other. other ≡ fault) }
     ensures other { IfOk result (λ other. other ≢ AFault.OutOfMemory) }
+    ensures memory { IfErr result (λ _. fault ≡ AFault.OutOfMemory) }
 {
     match fault {
         Fault::OutOfMemory => Err(AllocError),

@@ -52,7 +52,8 @@ fn make_store<D: Disk>(disk: D) -> Result<D, Back<D, CreateFault>>
     }
 }
 
-fn fault_of_creation(fault: CreateFault) -> Fault
+/// Why a store is not made, as a run tells it.
+pub fn fault_of_creation(fault: CreateFault) -> Fault
     ensures { result ≡ fault_of_creation fault }
 {
     match fault {

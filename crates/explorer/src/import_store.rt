@@ -109,7 +109,8 @@ fn import_in<J: Index, R: AllocGlobal + Wait + Threads + Sync, S: Source, D: Dis
 }
 
 /// Reports what is refused, and prints how much is stored. What can still be written behind a fault
-/// of a sink is written.
+/// of a sink is written. Where memory is wanting for the report nothing is, and the import's fault is
+/// told all the same.
 fn tell<O: Sink, E: Sink>(
     alloc: Global,
     came: &Came,
@@ -120,7 +121,7 @@ fn tell<O: Sink, E: Sink>(
         (E.sink errors.old) (E.sink errors.new) }
 {
     let Ok(lines) = report(alloc, came.refused.as_slice()) else {
-        return Err(Fault::OutOfMemory);
+        return Err(came.fault().unwrap_or(Fault::OutOfMemory));
     };
     let reported = write_lines(errors, lines.as_slice());
     let totals = totals_line(came.games, came.batches, came.journal);

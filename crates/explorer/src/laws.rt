@@ -19,9 +19,10 @@ ghost use Rattle.explorer.specs.Count.{Answers};
 ghost use Rattle.explorer.specs.Create.{CreatesBy};
 ghost use Rattle.explorer.specs.Imported.{new_store};
 ghost use Rattle.explorer.specs.ImportStore.{ImportsBy};
-ghost use Rattle.command_line.specs.Task.{Create, Import, Query as Ask, Trial, task_of};
-ghost use Rattle.explorer.specs.Laws.{CountsAtMost, GoesWell, ImportAlike, IsAnswered, IsFullIn, IsNoRepeat, IsTold, IsToldErrors, IsToldFile, IsToldOutput, IsToldStore, ReadsWell, RefusedAlike, ReportsWell, ServedAlike, WritesWell, WroteAlike, serving, with_workers};
+ghost use Rattle.command_line.specs.Task.{Create, Import, Migrate, Query as Ask, Trial, task_of};
+ghost use Rattle.explorer.specs.Laws.{CountsAtMost, GoesWell, HasMemory, ImportAlike, IsAnswered, IsFullIn, IsNoRepeat, IsTold, IsToldErrors, IsToldFile, IsToldOutput, IsToldStore, MigratedAlike, ReadsWell, RefusedAlike, ReportsWell, ServedAlike, WritesWell, WroteAlike, WroteAlikeButReport, serving, with_workers};
 ghost use Rattle.explorer.specs.Lines.{Ending, status_of};
+ghost use Rattle.explorer.specs.Migrate.{MigratesBy};
 ghost use Rattle.explorer.specs.QueryStore.{QueriesBy};
 ghost use Rattle.explorer.specs.Run.{Runs};
 ghost use Rattle.explorer.specs.Serve.{Serves};
@@ -83,7 +84,8 @@ pub fn a_told_input_has_one_answer()
 
 /// Runs of words that ask for a count, or for nothing, over one told input below the bound have one
 /// status, and write the same but for the text that tells of refused words, where memory is there
-/// and no call fails.
+/// and no call fails. Where a group finds no room, one may go without the report, for which memory was
+/// wanting.
 pub fn a_run_is_determined()
     ensures { (words : List (List ℕ)) (stream : List ℕ) (before after other : World)
         (status status' : ℕ)
@@ -91,7 +93,9 @@ pub fn a_run_is_determined()
         → IsTold stream before → IsFaultless before after → IsFaultless before other
         → status ≢ 9 → status' ≢ 9
         → Runs words before after status → Runs words before other status'
-        → (status ≡ status') × (status ≢ 2 → WroteAlike after other) }
+        → (status ≡ status')
+        × (status ≢ 2 → status ≢ 8 → WroteAlike after other)
+        × (status ≡ 8 → WroteAlikeButReport before after other) }
 {
     game_is_determined();
     accounting_is_determined();
@@ -132,7 +136,8 @@ pub fn an_import_is_determined()
         → IsToldErrors before
         → GoesWell before after → ReadsWell before after → ReportsWell before after
         → GoesWell before other → ReadsWell before other → ReportsWell before other
-        → status_of ending ≢ 9 → status_of ending' ≢ 9
+        → HasMemory (status_of ending) before after
+        → HasMemory (status_of ending') before other
         → ImportsBy store file before after ending → ImportsBy store file before other ending'
         → (ending ≡ ending') × ImportAlike store (status_of ending) after other }
 {
@@ -140,6 +145,26 @@ pub fn an_import_is_determined()
     accounting_is_determined();
     opening_is_determined();
 }
+
+/// Runs of `migrate` over two told stores, which may be one, have one ending, and come to the same but
+/// for how one journal is held, where no call fails and memory is there.
+pub fn a_migration_is_determined()
+    ensures { (old image new there : List ℕ) (before after other : World)
+        (ending ending' : Ending)
+        → IsToldStore old image before → before.host.disks new ≡ Some there
+        → GoesWell before after → GoesWell before other
+        → status_of ending ≢ 9 → status_of ending' ≢ 9
+        → MigratesBy old new before after ending → MigratesBy old new before other ending'
+        → (ending ≡ ending') × MigratedAlike new after other }
+{}
+
+/// A run of `migrate` leaves the bytes of the old store as they were, at every ending, also where both
+/// names are one.
+pub fn a_migration_keeps_the_old_store()
+    ensures { (old new image : List ℕ) (before after : World) (ending : Ending)
+        → before.host.disks old ≡ Some image → MigratesBy old new before after ending
+        → after.host.disks old ≡ Some image }
+{}
 
 /// Runs of `trial` of as many games from one seed have one ending, and come to the same, where no
 /// write fails and memory is there.
@@ -240,9 +265,19 @@ pub fn a_run_of_a_command_is_determined()
         → IsToldErrors before
         → GoesWell before after → ReadsWell before after → ReportsWell before after
         → GoesWell before other → ReadsWell before other → ReportsWell before other
-        → status ≢ 9 → status' ≢ 9
+        → HasMemory status before after → HasMemory status' before other
         → Runs words before after status → Runs words' before other status'
         → (status ≡ status') × ImportAlike store status after other }
+    ensures migrates { (words words' : List (List ℕ)) (old image new there : List ℕ)
+        (before after other : World) (status status' : ℕ)
+        → task_of words ≡ Some (Migrate old new) → task_of words' ≡ Some (Migrate old new)
+        → IsToldStore old image before → before.host.disks new ≡ Some there
+        → IsToldErrors before
+        → GoesWell before after → ReportsWell before after
+        → GoesWell before other → ReportsWell before other
+        → status ≢ 9 → status' ≢ 9
+        → Runs words before after status → Runs words' before other status'
+        → (status ≡ status') × MigratedAlike new after other }
     ensures tries { (words words' : List (List ℕ)) (games seed workers workers' : ℕ)
         (before after other : World) (status status' : ℕ)
         → task_of words ≡ Some (Trial games seed workers)

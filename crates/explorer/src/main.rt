@@ -12,6 +12,8 @@ mod fault;
 mod import_store;
 mod importing;
 mod laws;
+mod listening;
+mod migrate;
 mod opening;
 mod order;
 mod program;

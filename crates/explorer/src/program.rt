@@ -11,6 +11,7 @@ use crate::count::count;
 use crate::create::create;
 use crate::fault::Fault;
 use crate::import_store::import_store;
+use crate::migrate::migrate;
 use crate::order::Order;
 use crate::query_store::query_store;
 use crate::serve::serve;
@@ -106,6 +107,7 @@ fn run_command<R: AllocGlobal + Wait + Threads + Sync, I: Source, O: Sink, E: Si
             file,
             workers,
         } => import_store(rt, store, file, usize::from(workers), output, errors, host),
+        Command::Migrate { old, new } => migrate(rt.alloc(), old, new, output, host),
         Command::Query {
             store,
             query,

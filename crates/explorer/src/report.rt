@@ -1,6 +1,6 @@
 //! The report lines of what is refused.
-ghost use Rattle.std.specs.Prelude.{◌≡◌, ◌++◌, IfOk, OnOk, OnErr};
-ghost use Rattle.outside.specs.Stream.{Takes, FailsToTake};
+ghost use Rattle.std.specs.Prelude.{◌≡◌, ◌∷◌, ◌++◌, [], IfOk, MatchResult, OnOk, OnErr};
+ghost use Rattle.outside.specs.Stream.{Takes, FailsToTake, Writes};
 ghost use Rattle.explorer.specs.Report.{report, report_line};
 ghost use Rattle.explorer.specs.Served.{file_lines};
 
@@ -46,6 +46,17 @@ pub fn write_lines<S: Sink>(sink: &mut S, lines: &[u8]) -> Result<(), Failed>
         return Ok(());
     }
     sink.write(lines)
+}
+
+/// Writes lines, if there was memory for them. Whether the write fails is not told.
+pub fn write_made<S: Sink>(sink: &mut S, made: Result<Vec<u8>, AllocError>)
+    ensures { MatchResult made
+        (λ lines. Writes (lines.items ∷ []) (S.sink sink.old) (S.sink sink.new))
+        (λ _. S.sink sink.new ≡ S.sink sink.old) }
+{
+    if let Ok(lines) = made {
+        let _ = write_lines(sink, lines.as_slice());
+    }
 }
 
 fn push_line(alloc: Global, lines: &mut Vec<u8>, place: u64, why: &Why) -> Result<(), AllocError>

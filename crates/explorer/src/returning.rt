@@ -65,7 +65,12 @@ fn take_back<H: Host, J: Index>(
             learn_report(ingest, last, report)
         }
         Worker::Reader(reader) => {
-            let ReaderWork { door, pass, end: _ } = reader;
+            let ReaderWork {
+                door,
+                pass,
+                end: _,
+                told: _,
+            } = reader;
             host.close_door(door);
             ingest.confirm(&pass);
             match last {

@@ -7,13 +7,14 @@ ghost use Rattle.host.specs.Hosts.{ADisk, HandsDisk, HostState, IsOut};
 ghost use Rattle.manifest.specs.Manifest.{HasJournal};
 ghost use Rattle.published_index.specs.Cover.{journal_of};
 ghost use Rattle.ingest_desk.specs.Stored.{journal};
-ghost use Rattle.explorer.specs.Concluding.{Concludes, TellsLonger};
+ghost use Rattle.explorer.specs.Concluding.{Concludes, TellsLonger, cause};
 ghost use Rattle.explorer.specs.Lines.{ending_of};
-ghost use Rattle.explorer.specs.Serve.{Serves, listening_line};
+ghost use Rattle.explorer.specs.Serve.{Serves};
 ghost use Rattle.explorer.specs.Serving.{IsPlaced, IsToldBy, lines_told, service_of};
 ghost use Rattle.explorer.specs.World.{world};
 
 use crate::fault::Fault;
+use crate::listening::listening_line;
 use crate::opening::fault_of_opening;
 use crate::order::Order;
 use crate::report::write_lines;
@@ -85,7 +86,8 @@ fn serve_store<R: Wait + Threads + Sync, O: Sink, E: Sink, H: Host, J: Index + S
     ensures { (given : DiskState) (earlier : HostState) (input : Stream)
         → HandsDisk (string_bytes order.store) given earlier (H.host host.old)
         → IfSome given.content (HasJournal (journal_of store.index.list))
-        → (H.Disk.disk store.manifest.disk).content ≡ given.content →
+        → (H.Disk.disk store.manifest.disk).content ≡ given.content
+        → (H.Disk.disk store.manifest.disk).faults ≡ given.faults →
         let before = world input (O.sink output.old) (E.sink errors.old) earlier in
         let after = world input (O.sink output.new) (E.sink errors.new) (H.host host.new) in
         Serves (service_of order) before after (ending_of result) }
@@ -109,15 +111,7 @@ fn serve_store<R: Wait + Threads + Sync, O: Sink, E: Sink, H: Host, J: Index + S
         }
     };
     let (ingest, outcome) = serve_files(
-        rt,
-        alloc,
-        output,
-        host,
-        &order,
-        line.as_slice(),
-        ingest,
-        passes,
-        list,
+        rt, alloc, output, host, &order, &line, ingest, passes, list,
     );
     let disk = disk_of(rt, ingest);
     let failed = has_failed(&disk);
@@ -180,19 +174,11 @@ fn room_for<F, G, J: Index>(
     Vec::with_capacity(alloc, count)
 }
 
-fn listening_line(alloc: Global, address: &str) -> Result<Vec<u8>, AllocError>
-    ensures { IfOk result (λ line. line.items ≡ listening_line address.now) }
-{
-    let mut line = Vec::from_slice(alloc, b"listening ")?;
-    line.extend_from_slice(address.as_bytes())?;
-    line.push(b'\n')?;
-    Ok(line)
-}
-
 /// Reports what is refused of the files, and says how the run ends: by a fault of the store's disk,
-/// else by the first fault of a worker, else by one of the sinks.
+/// else by the first fault of a worker, else by one of the sinks. Want of memory for the report goes
+/// before those of the sinks alone.
 fn conclude<E: Sink>(errors: &mut E, done: Done, failed: bool) -> Result<(), Fault>
-    ensures { Concludes (lines_told done.lines) failed done.first done.listens
+    ensures { Concludes (lines_told done.lines) (cause failed done.first) done.listens
         (E.sink errors.old) (E.sink errors.new) (ending_of result) }
 {
     let Done {
@@ -200,14 +186,12 @@ fn conclude<E: Sink>(errors: &mut E, done: Done, failed: bool) -> Result<(), Fau
         lines,
         listens,
     } = done;
+    let cause = cause_of(failed, first);
     let Ok(lines) = lines else {
-        return Err(Fault::OutOfMemory);
+        return Err(cause.unwrap_or(Fault::OutOfMemory));
     };
     let reported = write_lines(errors, lines.as_slice());
-    if failed {
-        return Err(Fault::DiskFault);
-    }
-    if let Some(fault) = first {
+    if let Some(fault) = cause {
         return Err(fault);
     }
     if let Err(Failed) = listens {
@@ -217,4 +201,14 @@ fn conclude<E: Sink>(errors: &mut E, done: Done, failed: bool) -> Result<(), Fau
         Ok(()) => Ok(()),
         Err(Failed) => Err(Fault::WriteFault),
     }
+}
+
+/// The fault by which a run ends that served: that of the store's disk, else the first of a worker.
+fn cause_of(failed: bool, first: Option<Fault>) -> Option<Fault>
+    ensures { result ≡ cause failed first }
+{
+    if failed {
+        return Some(Fault::DiskFault);
+    }
+    first
 }

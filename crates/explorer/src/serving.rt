@@ -10,6 +10,7 @@ ghost use Rattle.explorer.specs.Serving.{AreOut, FilesServed, IsGivenUpSo, Liste
 ghost use Rattle.explorer.specs.Workers.{FilesOut, FilesRefused, HasReaders, IsFileOf};
 
 use crate::fault::Fault;
+use crate::listening::{Line, Told};
 use crate::order::Order;
 use crate::returning::give_back;
 use crate::workers::{FileWork, ReaderWork, Worker, first_fault, report_lines, work_all};
@@ -82,8 +83,10 @@ pub fn open_files<H: Host, J: Index>(
     true
 }
 
-/// Puts a worker for each door at the end of the list, each with a pass, and one that merges.
+/// Puts a worker for each door at the end of the list, each with a pass, and one that merges. The
+/// address was told.
 pub fn with_readers<F: Source, G: Door, J: Index>(
+    told: Told,
     doors: Vec<G>,
     passes: Vec<Pass<J>>,
     list: Vec<Worker<F, G, J>>,
@@ -105,6 +108,7 @@ pub fn with_readers<F: Source, G: Door, J: Index>(
             door,
             pass,
             end: DoorEnd::Whole,
+            told,
         }));
     }
     doors.destroy_empty();
@@ -130,7 +134,7 @@ pub fn serve_files<R: Wait + Threads + Sync, O: Sink, H: Host, J: Index + Send +
     output: &mut O,
     host: &mut H,
     order: &Order,
-    line: &[u8],
+    line: &Line,
     ingest: Ingest<H::Disk, J>,
     passes: Vec<Pass<J>>,
     list: Vec<Worker<H::File, H::Door, J>>,
@@ -142,7 +146,7 @@ pub fn serve_files<R: Wait + Threads + Sync, O: Sink, H: Host, J: Index + Send +
     ensures served { FilesServed (service_of order.now) (journal ingest) (journal result.0) result.1
         (H.host host.old) (H.host host.new) }
     ensures kept { IsGivenUpSo result.1 → result.0 ≡ ingest }
-    ensures written { ListensSo line.now result.1 (O.sink output.old) (O.sink output.new) }
+    ensures written { ListensSo line.now.bytes.items result.1 (O.sink output.old) (O.sink output.new) }
     ensures gives_back { GivesBack (H.host host.old) (H.host host.new) }
 {
     let mut list = list;
@@ -176,7 +180,7 @@ fn serve_doors<R: Wait + Threads + Sync, O: Sink, H: Host, J: Index + Send + Syn
     output: &mut O,
     host: &mut H,
     order: &Order,
-    line: &[u8],
+    line: &Line,
     ingest: Ingest<H::Disk, J>,
     doors: Vec<H::Door>,
     passes: Vec<Pass<J>>,
@@ -193,12 +197,13 @@ fn serve_doors<R: Wait + Threads + Sync, O: Sink, H: Host, J: Index + Send + Syn
     ensures over { WorksOver (map string_bytes order.now.files.items) (journal ingest)
         (journal result.0) (map H.Door.door doors.items) result.1.first
         (lines_told result.1.lines) (H.host host.old) (H.host host.new) }
-    ensures told { OnOk result.1.listens (Takes line.now (O.sink output.old) (O.sink output.new)) }
+    ensures told { OnOk result.1.listens
+        (Takes line.now.bytes.items (O.sink output.old) (O.sink output.new)) }
     ensures untold { OnErr result.1.listens
-        (FailsToTake line.now (O.sink output.old) (O.sink output.new)) }
+        (FailsToTake line.now.bytes.items (O.sink output.old) (O.sink output.new)) }
 {
-    let listens = output.write(line);
-    let list = with_readers(doors, passes, list);
+    let told = Told::tell(output, line);
+    let list = with_readers(told, doors, passes, list);
     let (mut ingest, list) = work_all(rt, alloc, ingest, list, order.workers);
     let first = first_fault(list.as_slice());
     let names = order.files.as_slice();
@@ -207,7 +212,7 @@ fn serve_doors<R: Wait + Threads + Sync, O: Sink, H: Host, J: Index + Send + Syn
     let done = Done {
         first,
         lines,
-        listens,
+        listens: told.result(),
     };
     (ingest, done)
 }

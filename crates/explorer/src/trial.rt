@@ -34,7 +34,7 @@ use fen_uci::write_fen;
 use game_replay::laws::{game_is_determined, games_begin_validly};
 use game_replay::replay;
 use import_run::laws::new_games_are_stored;
-use import_run::{Drained, Merging, ending_of, import_and_tell, merge_due};
+use import_run::{DrainEnd, Merging, ending_of, import_and_tell, merge_due};
 use ingest_desk::{ImportEnding, Ingest, Unnamed};
 use itoa::Buffer;
 use legal_moves::board::Board;
@@ -307,7 +307,7 @@ fn merge_all<J: Index, R: AllocGlobal + Wait + Threads + Sync>(
     'merging: loop {
         match merge_due(rt, rt.alloc(), ingest, workers) {
             Merging::Joined => {}
-            Merging::Left(Drained::Idle) => return Ok(()),
+            Merging::Left(DrainEnd::Idle) => return Ok(()),
             // Nobody else changes the list: where some are left, memory is wanting.
             Merging::Left(_) => return Err(AllocError),
         }

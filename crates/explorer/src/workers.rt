@@ -7,10 +7,11 @@ ghost use Rattle.explorer.specs.Workers.{Works, fault_in, fault_of, lines_in, li
 ghost use Rattle.ingest_desk.specs.Importers.{ending_of};
 
 use crate::fault::Fault;
+use crate::listening::Told;
 use crate::report::push_file_lines;
 use disk_model::Disk;
 use import_run::{DeskHandle, drain, import};
-use ingest_desk::{Desk, End, Ingest, Report};
+use ingest_desk::{Desk, End, Ingest, MergeDesk, Report};
 use outside::{Door, FreeGate, Source};
 use published_index::{Index, Pass};
 use session::{DoorEnd, serve_door};
@@ -31,6 +32,8 @@ pub struct ReaderWork<G, J: Index> {
     pub door: G,
     pub pass: Pass<J>,
     pub end: DoorEnd,
+    /// That the address of the door was told, or could not be.
+    pub told: Told,
 }
 
 /// What runs beside the others while a store is served.
@@ -61,11 +64,16 @@ impl<F: Source, G: Door, J: Index> Worker<F, G, J> {
             }
             Worker::Reader(reader) => {
                 let mut importer = DeskHandle::new(desk, workers);
-                let ReaderWork { door, pass, end } = reader;
+                let ReaderWork {
+                    door,
+                    pass,
+                    end,
+                    told: _,
+                } = reader;
                 *end = serve_door(rt, alloc, door, pass, &mut importer);
             }
             Worker::Merger => {
-                let _ = drain(rt, alloc, desk, workers);
+                let _ = drain(rt, alloc, &MergeDesk::of(desk), workers);
             }
         }
     }

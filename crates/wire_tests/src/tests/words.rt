@@ -26,7 +26,7 @@ fn shown(alloc: Global, words: &[&str]) -> Result<String, AllocError> {
 #[test]
 fn each_command_is_read(rt: HostRuntime) -> Result<(), Fail> {
     let alloc = rt.alloc();
-    let table: [(&[&str], &str); 13] = [
+    let table: [(&[&str], &str); 14] = [
         (&["count"], "Count { query: \"\", workers: 4 }"),
         (
             &["count", "play=e2e4"],
@@ -49,6 +49,7 @@ fn each_command_is_read(rt: HostRuntime) -> Result<(), Fail> {
             &["import", "s", "f"],
             "Import { store: \"s\", file: \"f\", workers: 4 }",
         ),
+        (&["migrate", "s", "t"], "Migrate { old: \"s\", new: \"t\" }"),
         (
             &["query", "s"],
             "Query { store: \"s\", query: \"\", workers: 4 }",
@@ -93,7 +94,7 @@ fn each_command_is_read(rt: HostRuntime) -> Result<(), Fail> {
 #[test]
 fn other_words_are_refused(rt: HostRuntime) -> Result<(), Fail> {
     let alloc = rt.alloc();
-    let table: [(&[&str], &str); 16] = [
+    let table: [(&[&str], &str); 19] = [
         (
             &[],
             "error: 'explorer' requires a subcommand but one was not provided\n",
@@ -126,6 +127,18 @@ fn other_words_are_refused(rt: HostRuntime) -> Result<(), Fail> {
         (
             &["import", "s"],
             "error: the following required arguments were not provided:\n  <FILE>\n",
+        ),
+        (
+            &["migrate", "s"],
+            "error: the following required arguments were not provided:\n  <NEW>\n",
+        ),
+        (
+            &["migrate", "s", "t", "u"],
+            "error: unexpected argument 'u' found\n",
+        ),
+        (
+            &["migrate", "s", "t", "--workers", "4"],
+            "error: unexpected argument '--workers' found\n",
         ),
         (
             &["query", "s", "q", "r"],

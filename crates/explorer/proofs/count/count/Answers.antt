@@ -5,7 +5,7 @@ use Rattle.explorer.specs.Faults.{fault_of_query}
 use Rattle.explorer.specs.Report.{report}
 use Rattle.explorer.specs.Run.{Starves}
 use Rattle.explorer.specs.World.{World, world}
-use Rattle.explorer.proofs.CountLemmas.{all_came, answered, broken, by_residual, starved_by, starves_reading, unread_query, unwritten_by, write_one}
+use Rattle.explorer.proofs.CountLemmas.{all_came, answered, below_counted, broken, by_residual, starved_by, starves_reading, unread_query, unwritten_by, write_one}
 use Rattle.explorer.proofs.count.count.Goals as goal
 
 pub returns-in_err-query : goal.returns-in_err-query
@@ -17,18 +17,17 @@ returns-in_err-query g c = λ host.
 pub returns-in_err-counted : goal.returns-in_err-counted
 returns-in_err-counted g c = λ host.
     starved_by c.from_residual-in_err-counted.result c.args.query_text.now _ _ c.from_residual-in_err-counted.ensures.1
-    (starves_reading _ _ _ _ host c.count_input.ensures.within)
+    (starves_reading _ _ _ _ host c.in_err-counted.ensures.starves)
 
 pub returns-in_err-lines : goal.returns-in_err-lines
 returns-in_err-lines g c = λ host.
     starved_by c.from_residual-in_err-lines.result c.args.query_text.now _ _ c.from_residual-in_err-lines.ensures.1
-    (starves_reading _ _ _ _ host c.count_input.ensures.within)
+    (starves_reading _ _ _ _ host (below_counted c.in_ok-query.query 0 0 _ _ c.in_ok-counted.counted.refused.items c.in-Ok.line (rw c.in-Ok.is at c.in_ok-counted.ensures.counted)))
 
 pub returns-in-Err : goal.returns-in-Err
 returns-in-Err g c = λ host.
-    inr (broken c.args.query_text.now c.in_ok-query.query _ _ _ _ _ host c.in_ok-counted.counted.refused.items c.in-Err.fault _ c.in_ok-query.ensures.reads (rw c.in-Err.is at c.in_ok-counted.ensures.counted)
-    (c.as_slice-in-Err.ensures.value ∙ c.in_ok-lines.ensures ∙ ap report c.as_slice.ensures.value)
-    (write_one c.write_lines.result _ _ _ c.write_lines.ensures.takes c.write_lines.ensures.fails))
+    inr (broken c.args.query_text.now c.in_ok-query.query _ _ _ _ _ host c.in_ok-counted.counted.refused.items c.in-Err.fault c.report-made.result c.in_ok-query.ensures.reads (rw c.in-Err.is at c.in_ok-counted.ensures.counted)
+    (rw c.as_slice.ensures.value at c.report-made.ensures) c.write_made.ensures)
 
 pub returns-in_err-reported : goal.returns-in_err-reported
 returns-in_err-reported g c = λ host.

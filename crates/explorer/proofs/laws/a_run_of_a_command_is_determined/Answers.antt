@@ -1,4 +1,4 @@
-use Rattle.explorer.proofs.StoreRunLemmas.{one_asking, one_creating, one_importing, one_refusing, one_serving, one_trying}
+use Rattle.explorer.proofs.StoreRunLemmas.{one_asking, one_creating, one_importing, one_migrating, one_refusing, one_serving, one_trying}
 use Rattle.explorer.proofs.laws.a_run_of_a_command_is_determined.Goals as goal
 
 pub returns-clause-creates : goal.returns-clause-creates
@@ -17,6 +17,10 @@ returns-clause-imports c = λ words words' store file image stream workers worke
     one_importing words words' before after other status status' first second errors reports reports' store file image stream workers workers' c.game_is_determined.ensures
     (record { batches = c.accounting_is_determined.ensures.batches; refused = c.accounting_is_determined.ensures.refused })
     (record { opened = once.opened; refused = once.refused; either = once.either }) asks asks' told told_file well reads well' reads' fed fed'
+
+pub returns-clause-migrates : goal.returns-clause-migrates
+returns-clause-migrates c = λ words words' old image new there before after other status status' asks asks' told told_new errors well reports well' reports' fed fed' first second.
+    one_migrating words words' before after other status status' first second errors reports reports' old image new there asks asks' told told_new well well' fed fed'
 
 pub returns-clause-tries : goal.returns-clause-tries
 returns-clause-tries c = λ words words' games seed workers workers' before after other status status' asks asks' told errors well reports well' reports' fed fed' first second.

@@ -13,6 +13,9 @@ returns-in-Create g c = rw c.in-Create.is (c.create.ensures (g.I.Source.source c
 pub returns-in-Import : goal.returns-in-Import
 returns-in-Import g c = rw c.in-Import.is (c.import_store.ensures (g.I.Source.source c.args.input.now))
 
+pub returns-in-Migrate : goal.returns-in-Migrate
+returns-in-Migrate g c = rw c.in-Migrate.is (c.migrate.ensures (g.I.Source.source c.args.input.now) (g.E.Sink.sink c.args.errors.now))
+
 pub returns-in-Query : goal.returns-in-Query
 returns-in-Query g c =
     rw c.in-Query.is (subst (λ (text : List ℕ). QueriesBy (string_bytes c.in-Query.store) text

@@ -13,7 +13,7 @@ returns-then-failed g c = λ input.
 pub returns-in-Ok-open : goal.returns-in-Ok-open
 returns-in-Ok-open g c = λ input.
     c.serve_store.ensures (g.H.Disk.Disk.disk c.in-Ok.disk) (g.H.Host.host c.args.host.now) input (rw c.as_str-name.ensures.value at c.in-Ok.ensures.hands)
-    c.in-Ok-open.ensures.read (ap (λ (d : DiskState). d.content) c.in-Ok-open.ensures.quiet.rest)
+    c.in-Ok-open.ensures.read (ap (λ (d : DiskState). d.content) c.in-Ok-open.ensures.quiet.rest) c.in-Ok-open.ensures.no_fault
 
 pub returns-else-failed : goal.returns-else-failed
 returns-else-failed g c = λ input.

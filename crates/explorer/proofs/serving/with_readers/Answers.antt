@@ -19,7 +19,7 @@ loop-door-preserved g c =
     omega (arith, ap (λ (ds : List g.row.G.Denot). length ds) c.in-Some.ensures) in
     let passes : length c.loop-door.passes.items ≡ length c.pop.new.self.items + 1 =
     ap (λ (ps : List Watching). length ps) c.in-Some-pop.ensures.items ∙ length-append c.pop.new.self.items (c.in-Some-pop.pass ∷ []) in
-    let reader : ReaderWork g.row.G.Denot g.row.J.Denot = record { door = c.in-Some.door; pass = c.in-Some-pop.pass; end = ends.Whole } in
+    let reader : ReaderWork g.row.G.Denot g.row.J.Denot = record { door = c.in-Some.door; pass = c.in-Some-pop.pass; end = ends.Whole; told = c.args.told } in
     record {
       even = omega (arith, fewer, passes, c.loop-door.invariant.even, c.loop-door.doors.ok.0, c.loop-door.passes.ok.0, c.first_of.new.list.ok.0, c.pop.new.self.ok.0);
       room = omega (arith, fewer, c.loop-door.invariant.room, c.push_reserved.ensures.len, c.push_reserved.ensures.capacity, c.loop-door.doors.ok.0, c.first_of.new.list.ok.0);

@@ -6,7 +6,7 @@ use Rattle.explorer.proofs.trial.merge_all.Goals as goal
 
 pub merging-preserved : goal.merging-preserved
 merging-preserved g c =
-    let after = c.merge_due.new.merger.index in
+    let after = c.merge_due.new.ingest.index in
     let merges = c.in-Joined.ensures.merges in
     record {
       same_journal = c.merge_due.ensures.same.same_journal ∙ c.merging.invariant.same_journal;
@@ -16,6 +16,6 @@ merging-preserved g c =
 
 pub returns-in-Left-Idle-clause-joined : goal.returns-in-Left-Idle-clause-joined
 returns-in-Left-Idle-clause-joined g c =
-    let after = c.merge_due.new.merger.index in
+    let after = c.merge_due.new.ingest.index in
     let merges = rw c.in-Left-Idle.field-0-is at c.in-Left-Idle.ensures.merges in
     c.merging.invariant.joined (segment_sizes after.list) (join_none c.merging.ingest.index after.list (ap (λ (p : Publishing). p.list) merges.0) merges.1)
