@@ -2,6 +2,7 @@
 mod calls;
 mod disks;
 mod doors;
+mod first;
 mod labels;
 mod logs;
 mod stores;

@@ -4,6 +4,7 @@ mod commits;
 mod cuts;
 mod desk;
 mod held;
+mod labels;
 mod merges;
 mod published;
 mod samples;

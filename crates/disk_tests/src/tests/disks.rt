@@ -19,7 +19,7 @@ pub(super) fn disk_with(
     bytes: &[u8],
     failing: &[u64],
 ) -> Result<MemDisk, Fail> {
-    if room > 100_000 || bytes.len() > room {
+    if room > 1_000_000 || bytes.len() > room {
         return Err(Fail::from("too long"));
     }
     let mut disk = disk_of(alloc, room, failing)?;
@@ -34,6 +34,14 @@ pub(super) fn content<D: Disk, const N: usize>(disk: &mut D) -> Result<[u8; N], 
     if disk.size()? != N as u64 {
         return Err(Failed);
     }
+    disk.read_at(0, &mut bytes)?;
+    Ok(bytes)
+}
+
+/// The bytes of a disk.
+pub(super) fn bytes_of<D: Disk>(alloc: Global, disk: &mut D) -> Result<Vec<u8>, Fail> {
+    let size = disk.size()?;
+    let mut bytes = vec![in alloc; 0; size as usize]?;
     disk.read_at(0, &mut bytes)?;
     Ok(bytes)
 }
@@ -99,6 +107,78 @@ fn crash_tears_what_was_not_synced(rt: HostRuntime) -> Result<(), Fail> {
     for (choice, left) in table.iter().enumerate() {
         let both = crashed_twice(rt.alloc(), choice as u64)?;
         assert_eq!(rt; both, (*left, *left));
+    }
+    Ok(())
+}
+
+/// What a crash with this number leaves of `xyz`, which was synced, and of these writes after it.
+fn left_of(alloc: Global, writes: &[(u64, &[u8])], number: u64) -> Result<Vec<u8>, Fail> {
+    let mut disk = disk_with(alloc, 16, b"xyz", &[])?;
+    for (at, piece) in writes {
+        put(&mut disk, *at, piece)?;
+    }
+    bytes_of(alloc, &mut disk.crashed(number))
+}
+
+/// What a write's part of the number says of the bytes that it adds at the end.
+const HALF: u64 = 1 << 9;
+
+const NONE: u64 = 1 << 10;
+
+/// What stands above it in the number is of the write before.
+const EARLIER: u64 = 1 << 11;
+
+#[test]
+fn crash_cuts_what_was_added_at_the_end(rt: HostRuntime) -> Result<(), Fail> {
+    let table = [
+        (0, b"xyabcd".as_slice()),
+        (1, b"xy\0bc\0".as_slice()),
+        (HALF, b"xyab".as_slice()),
+        (HALF + 4, b"xyab".as_slice()),
+        (HALF + 2, b"xya\x01".as_slice()),
+        (NONE, b"xya".as_slice()),
+        (NONE + HALF, b"xya".as_slice()),
+        (NONE + 1, b"xy\0".as_slice()),
+    ];
+    for (number, left) in table {
+        let bytes = left_of(rt.alloc(), &[(2, b"abcd".as_slice())], number)?;
+        assert_eq!(rt; bytes.as_slice(), left, "{number}");
+        // Nothing is added at the end.
+        let bytes = left_of(rt.alloc(), &[(1, b"ab".as_slice())], number & (HALF + NONE))?;
+        assert_eq!(rt; bytes.as_slice(), b"xab".as_slice());
+    }
+    Ok(())
+}
+
+#[test]
+fn crash_tears_the_writes_before_the_newest(rt: HostRuntime) -> Result<(), Fail> {
+    let table = [
+        (0, b"cyzab".as_slice()),
+        (1, b"\0yzab".as_slice()),
+        (EARLIER, b"cyz\0b".as_slice()),
+        (EARLIER * 2, b"cyza\x01".as_slice()),
+        (EARLIER * HALF, b"cyza".as_slice()),
+        (EARLIER * NONE, b"cyz".as_slice()),
+        (EARLIER * NONE + 1, b"\0yz".as_slice()),
+        // No third write is there.
+        (EARLIER * EARLIER, b"cyzab".as_slice()),
+    ];
+    for (number, left) in table {
+        let writes = [(3, b"ab".as_slice()), (0, b"c".as_slice())];
+        let bytes = left_of(rt.alloc(), &writes, number)?;
+        assert_eq!(rt; bytes.as_slice(), left, "{number}");
+    }
+    // Behind a cut the newest write would leave a gap.
+    let table = [
+        (0, b"xyzabcd".as_slice()),
+        (HALF, b"xyzabc".as_slice()),
+        (EARLIER * HALF, b"xyza".as_slice()),
+        (EARLIER * NONE, b"xyz".as_slice()),
+    ];
+    for (number, left) in table {
+        let writes = [(3, b"ab".as_slice()), (5, b"cd".as_slice())];
+        let bytes = left_of(rt.alloc(), &writes, number)?;
+        assert_eq!(rt; bytes.as_slice(), left, "{number}");
     }
     Ok(())
 }

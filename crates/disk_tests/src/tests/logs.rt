@@ -1,5 +1,5 @@
 //! Logs of payloads, damaged, cut and crashed.
-use super::disks::{content, disk_of, disk_with};
+use super::disks::{bytes_of, content, disk_of, disk_with};
 use disk_model::{Disk, FileDisk, MemDisk};
 use explorer_model::store::LogFault;
 use record_log::{AppendFault, CreateFault, Format, OpenFault, RecordLog, create, open};
@@ -20,14 +20,6 @@ const TEXT: [u8; 7] = *b"\x01\x00\x01\x00\x00\x00x";
 
 /// The room of a disk that has bytes from the start.
 const ROOM: usize = 4096;
-
-/// The bytes of a disk.
-fn bytes_of<D: Disk>(alloc: Global, disk: &mut D) -> Result<Vec<u8>, Fail> {
-    let size = disk.size()?;
-    let mut bytes = vec![in alloc; 0; size as usize]?;
-    disk.read_at(0, &mut bytes)?;
-    Ok(bytes)
-}
 
 /// A new log on an empty disk with room for so many bytes.
 fn new_log(alloc: Global, room: usize) -> Result<RecordLog<MemDisk>, Fail> {
@@ -317,6 +309,52 @@ fn each_call_of_a_creation_may_fail(rt: HostRuntime) -> Result<(), Fail> {
     for call in 0..3 {
         let (fault, _) = not_created(disk_of(rt.alloc(), 100, &[call])?)?;
         assert_eq!(rt; fault, CreateFault::DiskFault { before, after });
+    }
+    Ok(())
+}
+
+/// How many bytes a crash with this number leaves of an empty disk on which a creation failed at the
+/// disk call of this number.
+fn left_of_creation(alloc: Global, call: u64, number: u64) -> Result<usize, Fail> {
+    let (_, disk) = not_created(disk_of(alloc, 100, &[call])?)?;
+    Ok(bytes_of(alloc, &mut disk.crashed(number))?.len())
+}
+
+#[test]
+fn failed_creation_leaves_few_bytes(rt: HostRuntime) -> Result<(), Fail> {
+    // All, half or none of the thirteen bytes are kept.
+    let table = [(0, [0; 3]), (1, [13, 6, 0]), (2, [13, 6, 0])];
+    for (call, sizes) in table {
+        for (cut, size) in sizes.iter().enumerate() {
+            for tear in 0..8 {
+                let left = left_of_creation(rt.alloc(), call, 512 * cut as u64 + tear)?;
+                assert_eq!(rt; left, *size);
+            }
+        }
+    }
+    Ok(())
+}
+
+#[test]
+fn refused_creation_leaves_the_log(rt: HostRuntime) -> Result<(), Fail> {
+    let alloc: Global = rt.alloc();
+    // The creation makes the call 2, which fails or answers that the disk is not empty.
+    let faults = [
+        (
+            2,
+            CreateFault::DiskFault {
+                before: 0,
+                after: 1,
+            },
+        ),
+        (3, CreateFault::NotEmpty { size: 25 }),
+    ];
+    for (call, answer) in faults {
+        for number in 0..2048 {
+            let (fault, disk) = not_created(disk_with(alloc, ROOM, &ONE, &[call])?)?;
+            assert_eq!(rt; fault, answer);
+            assert_eq!(rt; content(&mut disk.crashed(number)), Ok(ONE));
+        }
     }
     Ok(())
 }

@@ -12,11 +12,11 @@ use std::alloc::{AllocError, Global};
 use std::test::Fail;
 
 /// A store of format 2 with one batch of one text, `x`, without a label, byte by byte.
-const ONE: [u8; 26] =
+pub(super) const ONE: [u8; 26] =
     *b"OPENEXP1\x02\x00\x00\x00\x01\x08\x00\x00\x00\x00\x01\x00\x01\x00\x00\x00x\x00";
 
 /// The room of a disk that has bytes from the start.
-const ROOM: usize = 70_000;
+pub(super) const ROOM: usize = 70_000;
 
 /// Stores a batch of one short text without a label.
 fn store_text<D: Disk>(
@@ -68,7 +68,7 @@ pub(super) fn new_store(alloc: Global, room: usize) -> Result<Manifest<MemDisk>,
 }
 
 /// Why no store is made on a disk, which is given back.
-fn not_created(disk: MemDisk) -> Result<(CreateFault, MemDisk), Fail> {
+pub(super) fn not_created(disk: MemDisk) -> Result<(CreateFault, MemDisk), Fail> {
     match create(disk) {
         Ok(_) => Err(Fail::from("created")),
         Err(back) => Ok((back.fault, back.disk)),

@@ -240,7 +240,7 @@ fn join_without_memory<J: Index, R: Threads + Wait + Abort + Sync>(
     ingest: &mut Ingest<MemDisk, J>,
 ) -> Result<(bool, bool), Fail> {
     let job = ingest.pick()?.ok_or("two are due")?;
-    let merged = merge(rt, alloc, &job.left, &job.right, 1, &FreeGate)?;
+    let merged = merge(rt, alloc, job.left(), job.right(), 1, &FreeGate)?;
     let (blocks, has_all) = all_but_a_share(alloc)?;
     let answer = ingest.install(rt, alloc, job, merged);
     drop(blocks);

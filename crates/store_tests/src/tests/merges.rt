@@ -1,16 +1,20 @@
 //! Two segments as one.
+ghost use Rattle.std.specs.Prelude.{◌≡◌, ◌<◌};
+
 use super::{BATCH, merged, one_game, segment_of, tally_of_batch};
 use best_lists::Entry;
 use outside::{FreeGate, Gate};
-use segment_blocks::Segment;
+use segment_blocks::{Segment, Steps};
 use std::alloc::Global;
+use std::marker::Brand;
 use std::process::Abort;
 use std::sync::atomic::{AtomicU64, Ordering};
+use std::sync::ledger::{Blank, Ledger};
 use std::test::Fail;
 use std::thread::{Threads, yield_now};
 
-/// A gate that marks each leaf and counts how often it is passed. It holds leaf 1 until leaf 2 has
-/// come, or a million turns are over.
+/// A gate that marks each leaf and counts how often it is passed. It holds leaf 1, which has taken its
+/// first range, until leaf 2 has come, or a million turns are over.
 #[derive(Drop)]
 struct HoldingGate {
     leaves: AtomicU64,
@@ -55,10 +59,15 @@ fn merged_games<R: Threads + Sync>(
 }
 
 /// How many rows a segment has in which White won one game, those in which it won two, and all.
-fn rows_by_wins(segment: &Segment) -> (usize, usize, usize) {
+fn rows_by_wins<L: Ledger>(segment: &Segment, blank: Blank) -> (usize, usize, usize)
+    requires name { blank.name ≡ L.name }
+    requires parts { blank.parts ≡ L.parts }
+    requires some { 0 < L.parts }
+{
+    let mut steps = Steps::<L>::new(blank);
     let (mut one, mut two, mut all) = (0usize, 0usize, 0usize);
-    let mut rows = segment.rows_within(None, None);
-    while let Some(held) = rows.advance() {
+    let mut rows = segment.rows_within(None, None, &mut steps);
+    while let Some(held) = rows.advance(&mut steps) {
         let wins = held.to_row().white;
         one = one.saturating_add(usize::from(wins == 1));
         two = two.saturating_add(usize::from(wins == 2));
@@ -68,10 +77,15 @@ fn rows_by_wins(segment: &Segment) -> (usize, usize, usize) {
 }
 
 /// How often the rows of a segment list game 0, game 1, and any game.
-fn listed_games(segment: &Segment) -> (usize, usize, usize) {
+fn listed_games<L: Ledger>(segment: &Segment, blank: Blank) -> (usize, usize, usize)
+    requires name { blank.name ≡ L.name }
+    requires parts { blank.parts ≡ L.parts }
+    requires some { 0 < L.parts }
+{
+    let mut steps = Steps::<L>::new(blank);
     let (mut first, mut second, mut all) = (0usize, 0usize, 0usize);
-    let mut rows = segment.rows_within(None, None);
-    while let Some(held) = rows.advance() {
+    let mut rows = segment.rows_within(None, None, &mut steps);
+    while let Some(held) = rows.advance(&mut steps) {
         let row = held.to_row();
         let listed = row.top.entries();
         first = first.saturating_add(count_of(0, listed));
@@ -97,23 +111,28 @@ fn two_leaves_of_a_merge_run_at_once(rt: HostRuntime) -> Result<(), Fail> {
         (0, 2, 2)
     );
     // The start with e4 counts both games; e4 with e5 and with c5, and the two last positions.
-    assert_eq!(rt; rows_by_wins(&both), (4, 1, 5));
+    assert_eq!(rt; rows_by_wins::<Brand>(&both, Blank::new(1)), (4, 1, 5));
     // The start lists games 0 and 1, e4 lists game 0 with e5 and game 1 with c5.
-    assert_eq!(rt; listed_games(&both), (2, 2, 4));
+    assert_eq!(rt; listed_games::<Brand>(&both, Blank::new(1)), (2, 2, 4));
     Ok(())
 }
 
 /// Whether both segments have the same rows.
-fn have_same_rows(a: &Segment, b: &Segment) -> bool {
-    let mut rows = a.rows_within(None, None);
-    let mut others = b.rows_within(None, None);
-    while let Some(row) = rows.advance() {
-        match others.advance() {
+fn have_same_rows<L: Ledger>(a: &Segment, b: &Segment, blank: Blank) -> bool
+    requires name { blank.name ≡ L.name }
+    requires parts { blank.parts ≡ L.parts }
+    requires some { 0 < L.parts }
+{
+    let mut steps = Steps::<L>::new(blank);
+    let mut rows = a.rows_within(None, None, &mut steps);
+    let mut others = b.rows_within(None, None, &mut steps);
+    while let Some(row) = rows.advance(&mut steps) {
+        match others.advance(&mut steps) {
             Some(other) if row.to_row() == other.to_row() => {}
             _ => return false,
         }
     }
-    others.advance().is_none()
+    others.advance(&mut steps).is_none()
 }
 
 /// Whether both segments have games of the same ids.
@@ -131,7 +150,7 @@ fn have_same_games(a: &Segment, b: &Segment) -> bool {
 
 /// Whether both segments have the same span, games and rows.
 fn are_same(a: &Segment, b: &Segment) -> bool {
-    a.span() == b.span() && have_same_games(a, b) && have_same_rows(a, b)
+    a.span() == b.span() && have_same_games(a, b) && have_same_rows::<Brand>(a, b, Blank::new(1))
 }
 
 /// Asserts that the merge of both is the same for every number of workers, each of which is a leaf.

@@ -111,7 +111,7 @@ pub(super) fn games<R: Threads + Sync>(
 }
 
 /// Two workers have the job of the last two that are due, and one of them comes later. It finds
-/// these spans.
+/// these spans. A job of another index is no value of this type.
 pub(super) fn join_twice<J: Index, R: Threads + Wait + Abort + Sync>(
     rt: &R,
     alloc: Global,
@@ -120,8 +120,8 @@ pub(super) fn join_twice<J: Index, R: Threads + Wait + Abort + Sync>(
     let (Some(job), Some(late)) = (ingest.pick()?, ingest.pick()?) else {
         return Err(Fail::from("two are due"));
     };
-    let merged = merge(rt, alloc, &job.left, &job.right, 1, &FreeGate)?;
-    let merged_late = merge(rt, alloc, &late.left, &late.right, 2, &FreeGate)?;
+    let merged = merge(rt, alloc, job.left(), job.right(), 1, &FreeGate)?;
+    let merged_late = merge(rt, alloc, late.left(), late.right(), 2, &FreeGate)?;
     assert!(rt; ingest.install(rt, alloc, job, merged).is_ok());
     let Err(InstallFault::Gone { spans }) = ingest.install(rt, alloc, late, merged_late) else {
         return Err(Fail::from("joined twice"));

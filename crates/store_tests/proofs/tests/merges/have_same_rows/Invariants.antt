@@ -2,4 +2,4 @@ use Rattle.std.proofs.Common.{length}
 use Rattle.store_tests.proofs.tests.merges.have_same_rows.Given as goal
 
 abbrev pub decreases-loop-row : goal.decreases-loop-row
-decreases-loop-row l = length l.rows
+decreases-loop-row g l = length l.rows

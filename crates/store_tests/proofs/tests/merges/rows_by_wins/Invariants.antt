@@ -2,4 +2,4 @@ use Rattle.std.proofs.Common.{length}
 use Rattle.store_tests.proofs.tests.merges.rows_by_wins.Given as goal
 
 abbrev pub decreases-loop-held : goal.decreases-loop-held
-decreases-loop-held l = length l.rows
+decreases-loop-held g l = length l.rows
