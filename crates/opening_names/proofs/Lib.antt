@@ -1,0 +1,7 @@
+mod ColumnLemmas
+mod Determined
+mod HeldLemmas
+mod LineLemmas
+mod PieceLemmas
+mod Walking
+mod WordLemmas

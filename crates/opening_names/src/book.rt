@@ -1,0 +1,114 @@
+//! Books of openings.
+ghost use Rattle.std.specs.Prelude.{◌≡◌, ◌≤◌, [], length, map, option_map, IfOk};
+ghost use Rattle.explorer_model.specs.Openings.{BookReads, OpeningOf};
+ghost use Rattle.explorer_model.specs.Stop.{Answers};
+ghost use Rattle.std.specs.Result.{result_map_both};
+ghost use Rattle.opening_names.specs.Held.{AreKeyed, named_line};
+
+use crate::line::{NamedLine, is_passed, read_line};
+use crate::pieces::split_line;
+use crate::places::{Places, places_of};
+use explorer_model::fault::Stop;
+use explorer_model::opening::{BookFault, Opening};
+use legal_moves::board::Board;
+use legal_moves::laws::tidy_forms_decide_same;
+use packed_keys::laws::equal_keys_mean_equal_positions;
+use packed_keys::pack;
+use std::alloc::Global;
+use std::collections::HashMap;
+use std::marker::Model;
+
+/// The positions that a file of openings names, in the order of its lines.
+#[derive(Drop)]
+pub struct Book {
+    lines: Vec<NamedLine>,
+    /// The place of the first line of each position, by its key.
+    places: Places,
+}
+
+impl Model for Book {
+    ghost use Rattle.std.specs.Prelude.{List, map};
+    ghost use Rattle.explorer_model.specs.Openings.{NamedPosition};
+    ghost use Rattle.opening_names.specs.Held.{AreKeyed, TellsPlaces, named_line};
+
+    ghost Value = { List NamedPosition };
+
+    ghost view = { λ book. map named_line book.lines.items };
+
+    ghost invariant = { λ book. AreKeyed book.lines.items
+        × TellsPlaces book.places book.lines.items };
+}
+
+impl Book {
+    /// A book without a line. It takes no memory.
+    pub fn empty(alloc: Global) -> Book
+        ensures { result ≡ [] }
+    {
+        Book {
+            lines: Vec::new(alloc),
+            places: HashMap::new(alloc),
+        }
+    }
+
+    /// The book of a file, or its first faulty line.
+    pub fn read(alloc: Global, text: &[u8]) -> Result<Book, Stop<BookFault>>
+        requires { length text.now ≤ 4194304 }
+        ensures { Answers result (BookReads text.now) }
+    {
+        let lines = read_lines(alloc, text)?;
+        let places = places_of(alloc, lines.as_slice())?;
+        Ok(Book { lines, places })
+    }
+
+    /// The opening of the first line that ends in the same position (FIDE 9.2.3), or None exactly
+    /// where no line does. An empty book makes neither tidy form nor key.
+    pub fn at(&self, board: &Board) -> Option<&Opening>
+        ensures { OpeningOf self.now board.now (option_map (λ opening. opening.now) result) }
+    {
+        // laws: positions are the same exactly where their tidy forms have equal keys
+        tidy_forms_decide_same();
+        equal_keys_mean_equal_positions();
+        if self.lines.is_empty() {
+            return None;
+        }
+        let key = pack(&board.tidy().position());
+        match self.places.get(&key) {
+            None => None,
+            Some(place) => Some(&self.lines[*place].opening),
+        }
+    }
+}
+
+/// The lines of a file that name positions.
+fn read_lines(alloc: Global, text: &[u8]) -> Result<Vec<NamedLine>, Stop<BookFault>>
+    requires { length text.now ≤ 4194304 }
+    ensures reads { Answers (result_map_both (λ lines. map named_line lines.items) (λ stop. stop) result)
+        (BookReads text.now) }
+    ensures keyed { IfOk result (λ lines. AreKeyed lines.items) }
+{
+    let mut lines = Vec::new(alloc);
+    let mut number = 1;
+    let mut rest = Some(text);
+    while let Some(text) = rest {
+        let (line, more) = split_line(text);
+        if !is_passed(number, line) {
+            match read_line(alloc, line) {
+                Ok(named) => {
+                    if lines.push(named).is_err() {
+                        return Err(Stop::OutOfMemory);
+                    }
+                }
+                Err(Stop::Fault(cause)) => {
+                    return Err(Stop::Fault(BookFault {
+                        line: number,
+                        cause,
+                    }));
+                }
+                Err(Stop::OutOfMemory) => return Err(Stop::OutOfMemory),
+            }
+        }
+        number += 1;
+        rest = more;
+    }
+    Ok(lines)
+}

@@ -1,0 +1,14 @@
+//! Names of openings, by the positions that they lead to: a book is read from a file, and names the
+//! positions of an answer.
+#![tactic(auto)]
+
+mod book;
+pub mod laws;
+mod line;
+mod names;
+mod pieces;
+mod places;
+mod words;
+
+pub use book::Book;
+pub use names::{name_moves, naming};
