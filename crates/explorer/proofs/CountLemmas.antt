@@ -51,25 +51,25 @@ pub below_nothing : (input : Stream) → ReadsBelow input input
 below_nothing input = record { stream = []; reads = reads-none input; below = omega arith; came = refl }
 
 -- an import that came to its end, or for which memory was wanting, read below the bound, and no read failed
-below_by : (ending : ImportEnding) (start : Known) (stream : List ℕ) (left : Option (List ℕ)) (batches : List Batch) (refused : List Refusal) (stored : List Batch) (disk disk_after : DiskState) (source source_after : Stream)
-    → (fault_by ending ≡ None) ⊎ (fault_by ending ≡ Some faults.OutOfMemory) → StandsBy ending start stream left batches refused stored → FaultsBy ending disk disk_after source source_after
+below_by : (ending : ImportEnding) (start : Known) (stream : List ℕ) (left : Option (List ℕ)) (batches : List Batch) (refused : List Refusal) (stored : List Batch) (failed : Option Batch) (disk disk_after : DiskState) (source source_after : Stream)
+    → (fault_by ending ≡ None) ⊎ (fault_by ending ≡ Some faults.OutOfMemory) → StandsBy ending start stream left batches refused stored failed → FaultsBy ending disk disk_after source source_after
     → (length stream < input_limit) × (source_after.read_faults ≡ source.read_faults)
-below_by endings.Whole start stream left batches refused stored disk disk_after source source_after ends stands faults_are = (stands.below, faults_are.reads)
-below_by endings.OutOfMemory start stream left batches refused stored disk disk_after source source_after ends stands faults_are = (stands.below, faults_are.reads)
-below_by (endings.ReadFault first last) start stream left batches refused stored disk disk_after source source_after (inl none) stands faults_are = absurd (cc)
-below_by (endings.ReadFault first last) start stream left batches refused stored disk disk_after source source_after (inr memory) stands faults_are = absurd (cc)
-below_by (endings.TooMuch bytes) start stream left batches refused stored disk disk_after source source_after (inl none) stands faults_are = absurd (cc)
-below_by (endings.TooMuch bytes) start stream left batches refused stored disk disk_after source source_after (inr memory) stands faults_are = absurd (cc)
-below_by (endings.DiskFault first last) start stream left batches refused stored disk disk_after source source_after (inl none) stands faults_are = absurd (cc)
-below_by (endings.DiskFault first last) start stream left batches refused stored disk disk_after source source_after (inr memory) stands faults_are = absurd (cc)
-below_by (endings.Closed first last) start stream left batches refused stored disk disk_after source source_after ends stands faults_are = absurd stands
-below_by (endings.Full games bytes) start stream left batches refused stored disk disk_after source source_after (inl none) stands faults_are = absurd (cc)
-below_by (endings.Full games bytes) start stream left batches refused stored disk disk_after source source_after (inr memory) stands faults_are = absurd (cc)
+below_by endings.Whole start stream left batches refused stored failed disk disk_after source source_after ends stands faults_are = (stands.below, faults_are.reads)
+below_by endings.OutOfMemory start stream left batches refused stored failed disk disk_after source source_after ends stands faults_are = (stands.below, faults_are.reads)
+below_by (endings.ReadFault first last) start stream left batches refused stored failed disk disk_after source source_after (inl none) stands faults_are = absurd (cc)
+below_by (endings.ReadFault first last) start stream left batches refused stored failed disk disk_after source source_after (inr memory) stands faults_are = absurd (cc)
+below_by (endings.TooMuch bytes) start stream left batches refused stored failed disk disk_after source source_after (inl none) stands faults_are = absurd (cc)
+below_by (endings.TooMuch bytes) start stream left batches refused stored failed disk disk_after source source_after (inr memory) stands faults_are = absurd (cc)
+below_by (endings.DiskFault first last) start stream left batches refused stored failed disk disk_after source source_after (inl none) stands faults_are = absurd (cc)
+below_by (endings.DiskFault first last) start stream left batches refused stored failed disk disk_after source source_after (inr memory) stands faults_are = absurd (cc)
+below_by (endings.Closed first last) start stream left batches refused stored failed disk disk_after source source_after ends stands faults_are = absurd stands
+below_by (endings.Full games bytes) start stream left batches refused stored failed disk disk_after source source_after (inl none) stands faults_are = absurd (cc)
+below_by (endings.Full games bytes) start stream left batches refused stored failed disk disk_after source source_after (inr memory) stands faults_are = absurd (cc)
 
 below_of : (journal stored : List Batch) (disk disk_after : DiskState) (source source_after : Stream) (came : Came) → ImportedIn journal stored disk disk_after source source_after came
     → (fault_by came.ending ≡ None) ⊎ (fault_by came.ending ≡ Some faults.OutOfMemory) → ReadsBelow source source_after
 below_of journal stored disk disk_after source source_after came is ends =
-    let both = below_by came.ending is.start is.stream source_after.left is.batches came.refused.items stored disk disk_after source source_after ends is.stands is.faults in
+    let both = below_by came.ending is.start is.stream source_after.left is.batches came.refused.items stored is.failed disk disk_after source source_after ends is.stands is.faults in
     record { stream = is.stream; reads = is.reads; below = both.0; came = both.1 }
 
 pub below_whole : (journal stored : List Batch) (disk disk_after : DiskState) (source source_after : Stream) (came : Came) → ImportedIn journal stored disk disk_after source source_after came → fault_by came.ending ≡ None
@@ -89,11 +89,11 @@ below_counted query faults faults_after before after refused line (batches, (imp
 
 module _ (query : Query) (journal stored : List Batch) (empty : journal ≡ []) (disk disk_after : DiskState) (source source_after : Stream) (came : Came) (is : ImportedIn journal stored disk disk_after source source_after came) where
   started : is.start ≡ new_store
-  started = known_is_new is.start (is.journal_is ∙ empty) is.sound
+  started = known_is_new is.start (is.journal_is ∙ empty) is.sound is.none_failed
 
-  stands_new : StandsBy came.ending new_store is.stream source_after.left is.batches came.refused.items stored
+  stands_new : StandsBy came.ending new_store is.stream source_after.left is.batches came.refused.items stored is.failed
   stands_new =
-      let P : Known → Type 0 = λ k. StandsBy came.ending k is.stream source_after.left is.batches came.refused.items stored in
+      let P : Known → Type 0 = λ k. StandsBy came.ending k is.stream source_after.left is.batches came.refused.items stored is.failed in
       subst P started is.stands
 
   stored_by_ending : (ending : ImportEnding) → came.ending ≡ ending → StoredBy ending is.batches stored
@@ -102,9 +102,9 @@ module _ (query : Query) (journal stored : List Batch) (empty : journal ≡ []) 
       let Q : Known → Type 0 = λ k. StoredBy ending (k.journal ++ is.batches) stored in
       subst Q started (subst P e is.stored_are)
 
-  stands_at : (ending : ImportEnding) → came.ending ≡ ending → StandsBy ending new_store is.stream source_after.left is.batches came.refused.items stored
+  stands_at : (ending : ImportEnding) → came.ending ≡ ending → StandsBy ending new_store is.stream source_after.left is.batches came.refused.items stored is.failed
   stands_at ending e =
-      let P : ImportEnding → Type 0 = λ f. StandsBy f new_store is.stream source_after.left is.batches came.refused.items stored in
+      let P : ImportEnding → Type 0 = λ f. StandsBy f new_store is.stream source_after.left is.batches came.refused.items stored is.failed in
       subst P e stands_new
 
   faults_at : (ending : ImportEnding) → came.ending ≡ ending → FaultsBy ending disk disk_after source source_after

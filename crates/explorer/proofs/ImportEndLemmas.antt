@@ -82,6 +82,7 @@ imports_into store file before after journal disk opened disk_after source sourc
       refused = came.refused.items;
       stands = is.stands;
       stored = stored;
+      failed = is.failed;
       stored_are = is.stored_are;
       is_sound = is.is_sound;
       holds = is.holds;

@@ -7,18 +7,20 @@ use Rattle.disk_model.specs.Disk.{DiskState, MayLeave}
 use Rattle.outside.specs.Stream.{Rises, Stream, Writes}
 use Rattle.explorer_model.specs.declared.archive.Batch.{Batch}
 use Rattle.explorer_model.specs.declared.fault.Refusal.{Refusal}
-use Rattle.explorer_model.specs.Journal.{IsSound, game_count}
+use Rattle.explorer_model.specs.Journal.{game_count}
 use Rattle.explorer_model.specs.Visits.{texts_of}
-use Rattle.manifest.specs.Manifest.{HasJournal, IsWithOrWithoutBatch}
+use Rattle.manifest.specs.Manifest.{HasJournal}
 use Rattle.ingest_desk.specs.Importers.{ending_of}
-use Rattle.ingest_desk.specs.Kept.{Keeps, KeepsBy}
+use Rattle.ingest_desk.specs.Kept.{Keeps}
 use Rattle.ingest_desk.specs.Reporting.{FindsNoRoom, games_of}
 use Rattle.ingest_desk.specs.Stored.{Stored, journal}
 use Rattle.ingest_desk.specs.declared.receipt.Receipt.{Receipt}
 use Rattle.ingest_desk.specs.declared.report.End.{End}
 use Rattle.ingest_desk.specs.declared.report.End.TheVariants as ends
 use Rattle.ingest_desk.specs.declared.report.ImportEnding.{ImportEnding}
+use Rattle.ingest_desk.specs.declared.report.ImportEnding.TheVariants as endings
 use Rattle.ingest_desk.specs.declared.report.Report.{Report}
+use Rattle.ingest_desk.proofs.KeptLemmas.{left_broken, sound_manifest}
 use Rattle.import_run.specs.Alone.{DiskFaultsAre, ImportsAlone, stored_in}
 use Rattle.import_run.specs.Committing.{Known, Store}
 use Rattle.import_run.specs.Ending.{ReadFaultsAre, StandsAt, StoresBy}
@@ -55,16 +57,16 @@ games_append : (a b : List Batch) → game_count (a ++ b) ≡ game_count a + gam
 games_append a b = ap (λ (l : List (List ℕ)). length l) (flat_map-append _ a b) ∙ length-append (texts_of a) (texts_of b)
 
 holds_open : {D : Type 0} (disk : D → DiskState) (left_since : D → ℕ → List ℕ → Type 0) → ((it : D) (file : List ℕ) → (disk it).content ≡ Some file → MayLeave disk left_since it file)
-    → (after : Stored D) → Keeps disk left_since (journal after) after.manifest → after.manifest.fault ≡ None → IfSome (disk after.manifest.disk).content (HasJournal (journal after))
+    → (after : Stored D) → Keeps disk left_since (journal after) after.manifest after.failed → after.manifest.fault ≡ None → IfSome (disk after.manifest.disk).content (HasJournal (journal after))
 holds_open {D} disk left_since told after keeps none =
-    let K : Option (ℕ × ℕ) → Type 0 = λ f. KeepsBy disk left_since (journal after) after.manifest f in
-    told_has (HasJournal (journal after)) (disk after.manifest.disk).content (λ bytes is. (subst K none keeps).images bytes (told after.manifest.disk bytes is))
+    let kept = sound_manifest disk left_since after.failed (journal after) after.manifest keeps none in
+    told_has (HasJournal (journal after)) (disk after.manifest.disk).content (λ bytes is. kept.images bytes (told after.manifest.disk bytes is))
 
 -- ---- by the end
 
 module _ {J : Type 0} (start : Known) (open_is : start.fault ≡ None) where
   stands_by : (end : End J) (stream : List ℕ) (left : Option (List ℕ)) (batches : List Batch) (refused : List Refusal) (new : Store) → StandsAt end start stream left batches refused new
-      → StandsBy (ending_of end) start stream left batches refused new.journal
+      → StandsBy (ending_of end) start stream left batches refused new.journal new.failed
   stands_by ends.Whole stream left batches refused new s = record { at_end = s.0; below = s.1; settled = s.2 }
   stands_by (ends.ReadFault first last) stream left batches refused new s = s
   stands_by (ends.TooMuch bytes) stream left batches refused new s = s.1
@@ -101,13 +103,12 @@ module _ {J : Type 0} (start : Known) (open_is : start.fault ≡ None) where
       by_stored ends.OutOfMemory (inr (batch, is)) = omega (arith, ap game_count is, games_append (j ++ batches) (batch ∷ []), games_append j batches)
 
   module _ {D : Type 0} (disk : D → DiskState) (left_since : D → ℕ → List ℕ → Type 0) (told : (it : D) (file : List ℕ) → (disk it).content ≡ Some file → MayLeave disk left_since it file)
-      (after : Stored D) (keeps : Keeps disk left_since (journal after) after.manifest) where
-    holds_by : (end : End J) (j : List Batch) → StoresBy end j start.fault (stored_in after) → IfSome (disk after.manifest.disk).content (HoldsBy (ending_of end) (journal after))
+      (after : Stored D) (keeps : Keeps disk left_since (journal after) after.manifest after.failed) where
+    holds_by : (end : End J) (j : List Batch) → StoresBy end j start.fault (stored_in after) → IfSome (disk after.manifest.disk).content (HoldsBy (ending_of end) (journal after) after.failed)
     holds_by (ends.DiskFault first last mark) j s =
-        let K : Option (ℕ × ℕ) → Type 0 = λ f. KeepsBy disk left_since (journal after) after.manifest f in
-        let kept = subst K s.1 keeps in
-        told_has (λ image. (batch : Batch) × IsSound (journal after ++ batch ∷ []) × IsWithOrWithoutBatch (journal after) batch image) (disk after.manifest.disk).content
-        (λ bytes is. (kept.0, kept.1, kept.2 bytes (told after.manifest.disk bytes is)))
+        let kept = left_broken disk left_since after.failed (first, last) (journal after) after.manifest keeps s.1 in
+        told_has (HoldsBy (endings.DiskFault first last) (journal after) after.failed) (disk after.manifest.disk).content
+        (λ bytes is. (kept.batch, kept.is_failed, kept.sound, kept.images bytes (told after.manifest.disk bytes is)))
     holds_by ends.Whole j s = holds_open disk left_since told after keeps (s.1 ∙ open_is)
     holds_by (ends.ReadFault first last) j s = holds_open disk left_since told after keeps (s.1 ∙ open_is)
     holds_by (ends.TooMuch bytes) j s = holds_open disk left_since told after keeps (s.1 ∙ open_is)
@@ -148,14 +149,16 @@ module _ {D J : Type 0} (disk : D → DiskState) (left_since : D → ℕ → Lis
       → ImportedIn (journal before) (journal after) (disk before.manifest.disk) (disk after.manifest.disk) source source_after came
   imported_in came ending refused games batches stored =
       let e : ending_of report.end ≡ came.ending = sym ending in
-      let S : List Refusal → Type 0 = λ l. StandsBy (ending_of report.end) is.start is.stream source_after.left is.batches l (journal after) in
-      let T : ImportEnding → Type 0 = λ f. StandsBy f is.start is.stream source_after.left is.batches came.refused.items (journal after) in
+      let S : List Refusal → Type 0 = λ l. StandsBy (ending_of report.end) is.start is.stream source_after.left is.batches l (journal after) after.failed in
+      let T : ImportEnding → Type 0 = λ f. StandsBy f is.start is.stream source_after.left is.batches came.refused.items (journal after) after.failed in
       let M : ImportEnding → Type 0 = λ f. StoredBy f (is.start.journal ++ is.batches) (journal after) in
-      let H : ImportEnding → Type 0 = λ f. IfSome (disk after.manifest.disk).content (HoldsBy f (journal after)) in
+      let H : ImportEnding → Type 0 = λ f. IfSome (disk after.manifest.disk).content (HoldsBy f (journal after) after.failed) in
       let F : ImportEnding → Type 0 = λ f. FaultsBy f (disk before.manifest.disk) (disk after.manifest.disk) source source_after in
       record {
         start = is.start;
         sound = started;
+        none_failed = is.none_failed started;
+        failed = after.failed;
         journal_is = ap (λ (s : Store). s.journal) is.start_is;
         stream = is.stream;
         reads = is.reads;

@@ -459,21 +459,26 @@ one-more journal batch None sound more each = record { longer = journal; extends
 one-more journal batch (Some bytes) sound more each = with-or-without journal batch bytes sound more (each bytes refl)
 
 kept-by : {D : Type 0} (disk : D → DiskState) (left_since : D → ℕ → List ℕ → Type 0) (journal : List Batch) (manifest : Log D)
-    (fault : Option (ℕ × ℕ)) → ((it : D) (file : List ℕ) → (disk it).content ≡ Some file → MayLeave disk left_since it file)
-    → IsSound journal → KeepsBy disk left_since journal manifest fault → TellsLonger journal (disk manifest.disk).content
-kept-by disk left_since journal manifest None told sound k = record {
+    (fault : Option (ℕ × ℕ)) (failed : Option Batch)
+    → ((it : D) (file : List ℕ) → (disk it).content ≡ Some file → MayLeave disk left_since it file)
+    → IsSound journal → KeepsBy disk left_since journal manifest fault failed → TellsLonger journal (disk manifest.disk).content
+kept-by disk left_since journal manifest None None told sound k = record {
   longer = journal;
   extends = prefix-self journal;
   sound = sound;
   tells = told_has (HasJournal journal) (disk manifest.disk).content (λ bytes is. k.images bytes (told manifest.disk bytes is));
 }
-kept-by disk left_since journal manifest (Some counts) told sound k =
-    one-more journal k.0 (disk manifest.disk).content sound k.1 (λ bytes is. k.2 bytes (told manifest.disk bytes is))
+kept-by disk left_since journal manifest None (Some batch) told sound k = absurd k
+kept-by disk left_since journal manifest (Some counts) None told sound k = absurd k
+kept-by disk left_since journal manifest (Some counts) (Some batch) told sound k =
+    one-more journal batch (disk manifest.disk).content sound k.0 (λ bytes is. k.1 bytes (told manifest.disk bytes is))
 
 pub longer : {D : Type 0} (disk : D → DiskState) (left_since : D → ℕ → List ℕ → Type 0) (journal : List Batch) (manifest : Log D)
+    (failed : Option Batch)
     → ((it : D) (file : List ℕ) → (disk it).content ≡ Some file → MayLeave disk left_since it file)
-    → IsSound journal → Keeps disk left_since journal manifest → TellsLonger journal (disk manifest.disk).content
-longer disk left_since journal manifest told sound k = kept-by disk left_since journal manifest manifest.fault told sound k
+    → IsSound journal → Keeps disk left_since journal manifest failed → TellsLonger journal (disk manifest.disk).content
+longer disk left_since journal manifest failed told sound k =
+    kept-by disk left_since journal manifest manifest.fault failed told sound k
 
 -- ---- the first fault
 
@@ -869,8 +874,8 @@ listens-so line other outcome done old new is same listens =
 
 pub longer-by : {D : Type 0} (disk : D → DiskState) (left_since : D → ℕ → List ℕ → Type 0) (stored : Stored D) (returns : D)
     → ((it : D) (file : List ℕ) → (disk it).content ≡ Some file → MayLeave disk left_since it file)
-    → returns ≡ stored.manifest.disk → IsSound (journal stored) → Keeps disk left_since (journal stored) stored.manifest
+    → returns ≡ stored.manifest.disk → IsSound (journal stored) → Keeps disk left_since (journal stored) stored.manifest stored.failed
     → TellsLonger (journal stored) (disk returns).content
 longer-by disk left_since stored returns told is sound k =
     subst (λ (c : Option (List ℕ)). TellsLonger (journal stored) c) (sym (content-of disk returns stored.manifest.disk is))
-    (longer disk left_since (journal stored) stored.manifest told sound k)
+    (longer disk left_since (journal stored) stored.manifest stored.failed told sound k)

@@ -51,7 +51,7 @@ accounts-so : {J : Type 0} (end : End J) (stream : List ℕ) (left : Option (Lis
     → AccountsSo (ending_of end) stream left batches refused
 accounts-so ends.Whole stream left batches refused a stands = a
 accounts-so (ends.ReadFault before after) stream left batches refused a stands = stands.1
-accounts-so (ends.DiskFault before after mark) stream left batches refused a stands = stands
+accounts-so (ends.DiskFault before after mark) stream left batches refused a stands = (stands.0, stands.1)
 accounts-so (ends.Closed before after mark) stream left batches refused a stands = stands
 accounts-so (ends.Full games bytes note) stream left batches refused a stands = (stands.0, stands.1, note, stands.2)
 accounts-so (ends.TooMuch bytes) stream left batches refused a stands = stands.1

@@ -111,7 +111,9 @@ module _ {D J : Type 0} (disk : D → DiskState) (left_since : D → ℕ → Lis
   start_journal = ap (λ (s : Store). s.journal) is.start_is ∙ empty
 
   start_is : is.start ≡ new_store
-  start_is = known_is_new is.start start_journal (ap (λ (s : Store). s.fault) is.start_is ∙ open_is)
+  start_is =
+      let started = ap (λ (s : Store). s.fault) is.start_is ∙ open_is in
+      known_is_new is.start start_journal started (is.none_failed started)
 
   -- no call of the disk failed
   pub still_open : after.manifest.fault ≡ None

@@ -87,10 +87,12 @@ pub record ImportsInto (ending : ImportEnding) (store file : List ℕ) (before a
   pub batches : List Batch
   pub refused : List Refusal
   pub stored : List Batch
-  pub stands : StandsBy ending start stream source_after.left batches refused stored
+  -- the batch that failed, where the ending is a disk fault
+  pub failed : Option Batch
+  pub stands : StandsBy ending start stream source_after.left batches refused stored failed
   pub stored_are : StoredBy ending (start.journal ++ batches) stored
   pub is_sound : IsSound stored
-  pub holds : IfSome disk_after.content (HoldsBy ending stored)
+  pub holds : IfSome disk_after.content (HoldsBy ending stored failed)
   pub faults : FaultsBy ending disk disk_after source source_after
 
 -- and what it refused and stored was told

@@ -1,13 +1,14 @@
 -- Statement: what an import into an open store comes to.
-use Rattle.std.specs.Prelude.{◌≡◌, ◌<◌, ◌++◌, ℕ, List, [], ◌∷◌, length, IfSome, Option, None}
+use Rattle.std.specs.Prelude.{◌≡◌, ◌<◌, ◌++◌, ℕ, List, [], ◌∷◌, length, IfSome, Option, None, Some}
 use Rattle.std.specs.Io.KnownBytes.{IsAtEnd}
 use Rattle.disk_model.specs.Disk.{DiskState}
 use Rattle.outside.specs.Stream.{Stream, Reads, Rises}
 use Rattle.explorer_model.specs.declared.archive.Batch.{Batch}
 use Rattle.explorer_model.specs.declared.fault.Refusal.{Refusal}
 use Rattle.explorer_model.specs.Cuts.{cuts}
-use Rattle.explorer_model.specs.Imports.{groups}
+use Rattle.explorer_model.specs.Imports.{batch_of, groups}
 use Rattle.explorer_model.specs.Journal.{IsSound, game_count, input_limit}
+use Rattle.explorer_model.specs.Labels.{no_label}
 use Rattle.manifest.specs.Manifest.{HasJournal, IsWithOrWithoutBatch}
 use Rattle.ingest_desk.specs.Reporting.{FindsNoRoom}
 use Rattle.ingest_desk.specs.declared.report.ImportEnding.{ImportEnding}
@@ -18,7 +19,7 @@ use Rattle.explorer.specs.declared.importing.Came.{Came}
 
 -- a store without a batch, that is open
 abbrev pub new_store : Known
-new_store = record { journal = []; fault = None; games = []; are_games = tt }
+new_store = record { journal = []; fault = None; failed = None; games = []; are_games = tt }
 
 -- a group of the stream finds no room, by so many games and bytes that are stored
 abbrev pub IsFullAt : ℕ → ℕ → Known → List ℕ → Option (List ℕ) → List Batch → List Refusal
@@ -34,23 +35,24 @@ pub record IsAllSettled (start : Known) (stream : List ℕ) (left_over : Option 
   pub below : length stream < input_limit
   pub settled : AreSettled start (groups (cuts stream)) batches refused
 
--- how an import stands with the bytes that it took and with the stored journal, by its ending; the
--- store was open before
+-- How an import stands with the bytes that it took and with the stored journal, by its ending; the
+-- store was open before. After a disk fault the batch that failed is that of the texts that were left
+-- of the group.
 abbrev pub StandsBy : ImportEnding → Known → List ℕ → Option (List ℕ) → List Batch
-    → List Refusal → List Batch → Type 0
-StandsBy endings.Whole start stream left_over batches refused stored =
+    → List Refusal → List Batch → Option Batch → Type 0
+StandsBy endings.Whole start stream left_over batches refused stored failed =
     IsAllSettled start stream left_over batches refused
-StandsBy (endings.ReadFault before after) start stream left_over batches refused stored =
+StandsBy (endings.ReadFault before after) start stream left_over batches refused stored failed =
     IsCutOff start stream batches refused
-StandsBy (endings.TooMuch bytes) start stream left_over batches refused stored =
+StandsBy (endings.TooMuch bytes) start stream left_over batches refused stored failed =
     IsTooMuch start stream batches refused
-StandsBy (endings.DiskFault before after) start stream left_over batches refused stored =
+StandsBy (endings.DiskFault before after) start stream left_over batches refused stored failed =
     (ends : EndsAt start stream left_over batches refused)
-    × HasRoomFor (start.journal ++ batches) ends.left
-StandsBy (endings.Closed before after) start stream left_over batches refused stored = ⊥
-StandsBy (endings.Full games bytes) start stream left_over batches refused stored =
+    × HasRoomFor (start.journal ++ batches) ends.left × (failed ≡ batch_of no_label ends.left)
+StandsBy (endings.Closed before after) start stream left_over batches refused stored failed = ⊥
+StandsBy (endings.Full games bytes) start stream left_over batches refused stored failed =
     IsFullAt games bytes start stream left_over batches refused
-StandsBy endings.OutOfMemory start stream left_over batches refused stored =
+StandsBy endings.OutOfMemory start stream left_over batches refused stored failed =
     Lacks start stream left_over batches refused stored
 
 -- the stored journal: the batches stand behind the one before; where memory was wanting, there may
@@ -59,12 +61,13 @@ abbrev pub StoredBy : ImportEnding → List Batch → List Batch → Type 0
 StoredBy endings.OutOfMemory journal stored = HasMaybeOneMore journal stored
 StoredBy _ journal stored = stored ≡ journal
 
--- the bytes of the store: they have the journal; after a disk fault perhaps with a batch more, with
--- which it is sound too
-abbrev pub HoldsBy : ImportEnding → List Batch → List ℕ → Type 0
-HoldsBy (endings.DiskFault before after) stored image =
-    (batch : Batch) × IsSound (stored ++ batch ∷ []) × IsWithOrWithoutBatch stored batch image
-HoldsBy _ stored image = HasJournal stored image
+-- the bytes of the store: they have the journal; after a disk fault perhaps with the batch that
+-- failed, with which it is sound too
+abbrev pub HoldsBy : ImportEnding → List Batch → Option Batch → List ℕ → Type 0
+HoldsBy (endings.DiskFault before after) stored failed image =
+    (batch : Batch) × (failed ≡ Some batch) × IsSound (stored ++ batch ∷ [])
+    × IsWithOrWithoutBatch stored batch image
+HoldsBy _ stored failed image = HasJournal stored image
 
 -- no call of the disk failed, and no read
 pub record NoFault (disk disk_after : DiskState) (source source_after : Stream) : Type 0 where
@@ -85,14 +88,18 @@ pub record ImportedIn (journal stored : List Batch) (disk disk_after : DiskState
     (source source_after : Stream) (came : Came) : Type 0 where
   pub start : Known
   pub sound : start.fault ≡ None
+  pub none_failed : start.failed ≡ None
   pub journal_is : start.journal ≡ journal
   pub stream : List ℕ
   pub reads : Reads stream source source_after
   pub batches : List Batch
+  -- the batch that failed, where the ending is a disk fault
+  pub failed : Option Batch
   pub stands : StandsBy came.ending start stream source_after.left batches came.refused.items stored
+      failed
   pub stored_are : StoredBy came.ending (start.journal ++ batches) stored
   pub is_sound : IsSound stored
-  pub holds : IfSome disk_after.content (HoldsBy came.ending stored)
+  pub holds : IfSome disk_after.content (HoldsBy came.ending stored failed)
   pub faults : FaultsBy came.ending disk disk_after source source_after
   pub games_are : came.games ≡ game_count batches
   pub batches_are : came.batches ≡ length batches

@@ -15,7 +15,7 @@ use Rattle.record_log.specs.Log.{IsFault, Log}
 use Rattle.tally_rows.specs.Tally.{Counted}
 use Rattle.ingest_desk.specs.Causes.{HasIds, HasNoRoom, cause, cause_by, has_no_room}
 use Rattle.ingest_desk.specs.Clashes.{clashes_of}
-use Rattle.ingest_desk.specs.Commits.{IsMarked, IsReceiptOf, Leaves, Refuses, Stores, Tells}
+use Rattle.ingest_desk.specs.Commits.{Fails, IsMarked, IsReceiptOf, Leaves, Refuses, Stores, Tells}
 use Rattle.ingest_desk.specs.Kept.{Keeps}
 use Rattle.ingest_desk.specs.Stored.{Stored, journal}
 use Rattle.ingest_desk.specs.declared.clashing.Clashing.{Clashing}
@@ -25,6 +25,7 @@ use Rattle.ingest_desk.specs.declared.receipt.Receipt.{Receipt}
 use Rattle.ingest_desk.specs.declared.report.End.{End}
 use Rattle.ingest_desk.specs.declared.report.End.TheVariants as ends
 use Rattle.ingest_desk.specs.declared.report.Report.{Report}
+use Rattle.ingest_desk.proofs.KeptLemmas.{none_failed}
 use Rattle.import_run.specs.Alone.{DiskFaultsAre, ImportsAlone, stored_in}
 use Rattle.import_run.specs.Committing.{Commits, FaultAfter, IsClash, Known, Receives, Store, store_of}
 use Rattle.import_run.specs.Ending.{StandsAt, StoresBy}
@@ -99,9 +100,9 @@ module _ {D J : Type 0} (disk : D → DiskState) (old new : Stored D) (tally : C
   module _ (result : Result (Receipt J) (CommitFault J))
       (refused : (games : List Game) → AreGamesOf (journal old) games → Refuses result (cause old.manifest.fault games (journal old) tally) tally old.index.held)
       (stores : Stores result tally.batch (journal old) (journal new)) (tells : Tells result (journal new) new.index.held) where
-    pub commits : Leaves disk result tally.batch old.manifest new.manifest → IfOk result (λ receipt. IsReceiptOf receipt (journal old) tally.batch) → IsMarked result
-        → (known : Known) → Some (stored_in old) ≡ Some (store_of known) → Commits result known tally (Some (stored_in new))
-    commits leaves receipt marked known is =
+    pub commits : Leaves disk result tally.batch old.manifest new.manifest → IfOk result (λ receipt. IsReceiptOf receipt (journal old) tally.batch) → IsMarked result tally.batch
+        → Fails result tally.batch old.failed new.failed → (known : Known) → Some (stored_in old) ≡ Some (store_of known) → Commits result known tally (Some (stored_in new))
+    commits leaves receipt marked fails known is =
         let same = some_same (stored_in old) (store_of known) is in
         let at : journal old ≡ known.journal = ap (λ (s : Store). s.journal) same in
         let fault : old.manifest.fault ≡ known.fault = ap (λ (s : Store). s.fault) same in
@@ -110,6 +111,7 @@ module _ {D J : Type 0} (disk : D → DiskState) (old new : Stored D) (tally : C
         let F : Option (ℕ × ℕ) → Type 0 = λ f. Refuses result (cause f known.games known.journal tally) tally old.index.held in
         let S : List Batch → Type 0 = λ j. Stores result tally.batch j (journal new) in
         let A : Option (ℕ × ℕ) → Type 0 = λ f. FaultAfter result f new.manifest.fault in
+        let B : Option Batch → Type 0 = λ f. Fails result tally.batch f new.failed in
         let V : List Batch → Type 0 = λ j. Receives result j tally.batch (journal new) in
         record {
           new = stored_in new;
@@ -118,6 +120,7 @@ module _ {D J : Type 0} (disk : D → DiskState) (old new : Stored D) (tally : C
           refused = subst F fault (subst R at (refused known.games (subst G (sym at) known.are_games)));
           stores = subst S at stores;
           fault = subst A fault (fault_after result leaves);
+          fails = subst B (ap (λ (s : Store). s.failed) same) fails;
           marked = marked;
           receives = subst V at (receives result receipt tells);
         }
@@ -149,7 +152,7 @@ module _ {D J : Type 0} (disk : D → DiskState) (old new : Stored D) (tally : C
 -- ---- an import
 
 module _ {D : Type 0} (disk : D → DiskState) (left_since : D → ℕ → List ℕ → Type 0) (before after : Stored D) (since : IsSince disk left_since before after) where
-  no_fault_by : (f g : Option (ℕ × ℕ)) → before.manifest.fault ≡ f → after.manifest.fault ≡ g → g ≡ f → Goes disk left_since (journal before) since.batches f g before.manifest after.manifest
+  no_fault_by : (f g : Option (ℕ × ℕ)) → before.manifest.fault ≡ f → after.manifest.fault ≡ g → g ≡ f → Goes disk left_since (journal before) since.batches f g before.failed after.failed before.manifest after.manifest
       → (disk after.manifest.disk).faults ≡ (disk before.manifest.disk).faults
   no_fault_by None None a b same goes = goes.no_fault
   no_fault_by None (Some counts) a b same goes = absurd (none_some counts same)
@@ -160,8 +163,8 @@ module _ {D : Type 0} (disk : D → DiskState) (left_since : D → ℕ → List 
 
   met_fault : (first last : ℕ) → before.manifest.fault ≡ None → after.manifest.fault ≡ Some (first, last) → IsFault first last (disk before.manifest.disk) (disk after.manifest.disk)
   met_fault first last was is =
-      let F : Option (ℕ × ℕ) → Type 0 = λ f. Goes disk left_since (journal before) since.batches f after.manifest.fault before.manifest after.manifest in
-      let G : Option (ℕ × ℕ) → Type 0 = λ f. Goes disk left_since (journal before) since.batches None f before.manifest after.manifest in
+      let F : Option (ℕ × ℕ) → Type 0 = λ f. Goes disk left_since (journal before) since.batches f after.manifest.fault before.failed after.failed before.manifest after.manifest in
+      let G : Option (ℕ × ℕ) → Type 0 = λ f. Goes disk left_since (journal before) since.batches None f before.failed after.failed before.manifest after.manifest in
       (subst G is (subst F was since.manifest)).fault
 
   module _ {J : Type 0} where
@@ -175,11 +178,12 @@ module _ {D : Type 0} (disk : D → DiskState) (left_since : D → ℕ → List 
     disk_faults start stream left_over batches stored refused was (ends.TooMuch bytes) stands stores = no_fault (stores.1 ∙ was)
     disk_faults start stream left_over batches stored refused was ends.OutOfMemory stands stores = no_fault (stores.1 ∙ was)
 
-    pub imports_alone : (report : Report J) (source source_after : Stream) → IsSound (journal before) → IsSound (journal after) → Keeps disk left_since (journal after) after.manifest
+    pub imports_alone : (report : Report J) (source source_after : Stream) → IsSound (journal before) → Keeps disk left_since (journal before) before.manifest before.failed
+        → IsSound (journal after) → Keeps disk left_since (journal after) after.manifest after.failed
         → ((start : Known) → Some (stored_in before) ≡ Some (store_of start) → Imports start source source_after report (Some (stored_in after)))
         → ImportsAlone disk left_since source before source_after after report
-    imports_alone report source source_after sound sound_after keeps imports =
-        let start : Known = record { journal = journal before; fault = before.manifest.fault; games = sound.games; are_games = sound.are_games } in
+    imports_alone report source source_after sound keeps_before sound_after keeps imports =
+        let start : Known = record { journal = journal before; fault = before.manifest.fault; failed = before.failed; games = sound.games; are_games = sound.are_games } in
         let i = imports start refl in
         let c = i.comes in
         let S : Store → Type 0 = λ s. StoresBy report.end (journal before ++ c.batches) before.manifest.fault s in
@@ -192,6 +196,7 @@ module _ {D : Type 0} (disk : D → DiskState) (left_since : D → ℕ → List 
           read_faults = i.faults;
           start = start;
           start_is = refl;
+          none_failed = none_failed disk left_since before.failed (journal before) before.manifest keeps_before;
           batches = c.batches;
           receipts = c.receipts;
           stands = stands;

@@ -109,7 +109,7 @@ module _ {J : Type 0} (fault : Option (ℕ × ℕ)) (stored : List Game) (journa
   }
 
   pub answers-to : (result : Result (Receipt J) (CommitFault J)) → Refuses result (cause fault stored journal tally) tally held → Stores result tally.batch journal new
-      → IfOk result (λ receipt. IsReceiptOf receipt journal tally.batch) → Tells result new held' → IsMarked result → AnswersTo result tally
+      → IfOk result (λ receipt. IsReceiptOf receipt journal tally.batch) → Tells result new held' → IsMarked result tally.batch → AnswersTo result tally
   answers-to (Ok receipt) refused stores is tells marked = record { place = length journal; is = receipt-of receipt is (tells.0 ∙ stores) }
   answers-to (Err (faults.Closed before after mark)) refused stores is tells marked = marked
   answers-to (Err (faults.DiskFault before after mark)) refused stores is tells marked = marked

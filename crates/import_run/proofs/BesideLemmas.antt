@@ -24,9 +24,11 @@ use Rattle.batch_tally.specs.Tallying.{Counts, IsTallying}
 use Rattle.batch_tally.specs.declared.tallying.Tallying.{Tallying}
 use Rattle.ingest_desk.specs.Causes.{is_over}
 use Rattle.ingest_desk.specs.Clashes.{clashes_from}
+use Rattle.ingest_desk.specs.Marked.{IsMark}
 use Rattle.ingest_desk.specs.Reporting.{AreReceipts, FindsNoRoom, IsReceipt, RepeatsBy}
 use Rattle.ingest_desk.specs.declared.fault.CommitFault.{CommitFault}
 use Rattle.ingest_desk.specs.declared.fault.CommitFault.TheVariants as faults
+use Rattle.ingest_desk.specs.declared.mark.MarkKind.TheVariants as kinds
 use Rattle.ingest_desk.specs.declared.receipt.Receipt.{Receipt}
 use Rattle.ingest_desk.specs.declared.report.End.{End}
 use Rattle.import_run.specs.declared.groups.OpenImport.{OpenImport}
@@ -271,7 +273,9 @@ full_left note games bytes cs counted counts full =
 module _ {J : Type 0} where
   ends_beside : (fault : CommitFault J) (end : End J) (cs : List Candidate) (counted : Counted) → Counts cs counted → AnswersTo (Err fault) counted → IsEndOf fault end → IsDecided {J = J} (Err fault) → EndsBeside end cs
   ends_beside (faults.Closed before after mark) end cs counted counts answers is never = subst (λ (e : End J). EndsBeside e cs) (sym is) answers
-  ends_beside (faults.DiskFault before after mark) end cs counted counts answers is never = subst (λ (e : End J). EndsBeside e cs) (sym is) answers
+  ends_beside (faults.DiskFault before after mark) end cs counted counts answers is never =
+      let M : Option Batch → Type 0 = λ failed. IsMark kinds.DiskFault before after failed mark in
+      subst (λ (e : End J). EndsBeside e cs) (sym is) (subst M (sym counts.batch) answers)
   ends_beside (faults.Full games bytes note) end cs counted counts answers is never = subst (λ (e : End J). EndsBeside e cs) (sym is) (full_left note games bytes cs counted counts answers)
   ends_beside (faults.Clash handed pairs note) end cs counted counts answers is never = absurd never
   ends_beside (faults.OutOfMemory out) end cs counted counts answers is never = absurd never

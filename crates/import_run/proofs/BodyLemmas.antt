@@ -25,11 +25,12 @@ body_read body =
     }
 
 pub imports_body : {D J : Type 0} (disk : D → DiskState) (left_since : D → ℕ → List ℕ → Type 0) (before after : Stored D) → IsSince disk left_since before after
-    → (body : List ℕ) (report : Report J) → IsSound (journal before) → IsSound (journal after) → Keeps disk left_since (journal after) after.manifest
+    → (body : List ℕ) (report : Report J) → IsSound (journal before) → Keeps disk left_since (journal before) before.manifest before.failed
+    → IsSound (journal after) → Keeps disk left_since (journal after) after.manifest after.failed
     → ((start : Known) → Some (stored_in before) ≡ Some (store_of start) → ComesQuietly start body (Some []) report (Some (stored_in after)))
     → ComesQuietlyBeside body (Some []) report → ImportsBody disk left_since body before after report
-imports_body disk left_since before after since body report sound sound_after keeps imports beside =
+imports_body disk left_since before after since body report sound keeps_before sound_after keeps imports beside =
     let old = source_alone (Some body) 0 0 in
     let new = source_alone (Some []) (length body) 0 in
-    imports_alone disk left_since before after since report old new sound sound_after keeps
+    imports_alone disk left_since before after since report old new sound keeps_before sound_after keeps
     (λ start is. let quietly = imports start is in record { stream = body; reads = body_read body; faults = quietly.quiet old new refl; comes = quietly.comes; repeats = beside.comes.reports.repeats })

@@ -124,8 +124,8 @@ module _ {J : Type 0} (stream : List ℕ) (left_over : Option (List ℕ)) where
       → EndsSo end batches refused
   ends_stopped ends.Whole batches refused left so breaks beside = absurd so
   ends_stopped (ends.ReadFault before after) batches refused left so breaks beside = absurd so
-  ends_stopped (ends.DiskFault before after mark) batches refused left so breaks beside = record { accounts = (so, left, breaks); stands = (left, beside); quiet = λ old new same. same }
-  ends_stopped (ends.Closed before after mark) batches refused left so breaks beside = record { accounts = (so, left, breaks); stands = (left, beside); quiet = λ old new same. same }
+  ends_stopped (ends.DiskFault before after mark) batches refused left so breaks beside = record { accounts = (left, breaks, so); stands = (left, beside, so.failed_is); quiet = λ old new same. same }
+  ends_stopped (ends.Closed before after mark) batches refused left so breaks beside = record { accounts = (left, breaks, so); stands = (left, beside); quiet = λ old new same. same }
   ends_stopped (ends.Full games bytes note) batches refused left so breaks beside = record { accounts = (left, breaks, so); stands = (left, beside, so); quiet = λ old new same. same }
   ends_stopped (ends.TooMuch bytes) batches refused left so breaks beside = absurd so
   ends_stopped ends.OutOfMemory batches refused left so breaks beside = absurd so
@@ -434,8 +434,8 @@ few_games body report few c = let games = c.comes.few in omega (arith, games, fe
 pub marked_so : {J : Type 0} (end : End J) (gs : List (List Cut)) (batches : List Batch) (refused : List Refusal) → AccountsTo end gs batches refused → IsMarkedSo end
 marked_so ends.Whole gs batches refused a = tt
 marked_so (ends.ReadFault before after) gs batches refused a = tt
-marked_so (ends.DiskFault before after mark) gs batches refused a = a.0
-marked_so (ends.Closed before after mark) gs batches refused a = a.0
+marked_so (ends.DiskFault before after mark) gs batches refused a = a.2.kind_is
+marked_so (ends.Closed before after mark) gs batches refused a = a.2.kind_is
 marked_so (ends.Full games bytes note) gs batches refused a = tt
 marked_so (ends.TooMuch bytes) gs batches refused a = tt
 marked_so ends.OutOfMemory gs batches refused a = tt

@@ -5,7 +5,7 @@ use Rattle.outside.specs.Stream.{NeverFalls, Rises}
 use Rattle.outside.proofs.StreamLemmas.{never_falls-refl}
 use Rattle.ingest_desk.specs.Importers.{CountsRose, RisesExactly, ending_of}
 use Rattle.ingest_desk.specs.Marking.{counted, one_more}
-use Rattle.ingest_desk.specs.declared.mark.Mark.{Mark}
+use Rattle.ingest_desk.specs.Marked.{Marked}
 use Rattle.ingest_desk.specs.declared.mark.MarkKind.{MarkKind}
 use Rattle.ingest_desk.specs.declared.mark.MarkKind.TheVariants as kinds
 use Rattle.ingest_desk.specs.declared.mark.Marks.{Marks}
@@ -41,7 +41,7 @@ rises_exactly : (n m : ℕ) → Rises n m → RisesExactly true n m
 rises_exactly n m r = record { rises = λ e. r; only = λ more. refl; never_falls = r.never_falls }
 
 module _ {J : Type 0} (old new : EndCounts) (full : new.full ≡ old.full) where
-  pub adds_disk_fault : (end : End J) (before after : ℕ) (mark : Mark J) → end ≡ ends.DiskFault before after mark → IsMarkedSo end → new.marks ≡ counted mark.kind old.marks → old.marks.disk_faults < 2 ^ 64
+  pub adds_disk_fault : (end : End J) (before after : ℕ) (mark : Marked) → end ≡ ends.DiskFault before after mark → IsMarkedSo end → new.marks ≡ counted mark.kind old.marks → old.marks.disk_faults < 2 ^ 64
       → CountsRose (ending_of end) (counts_of old) (counts_of new)
   adds_disk_fault end before after mark is marked marks small =
       let kind : mark.kind ≡ kinds.DiskFault = subst (λ (e : End J). IsMarkedSo e) is marked in
@@ -57,7 +57,7 @@ module _ {J : Type 0} (old new : EndCounts) (full : new.full ≡ old.full) where
         full = stays old.full new.full full;
       })
 
-  pub adds_closed : (end : End J) (before after : ℕ) (mark : Mark J) → end ≡ ends.Closed before after mark → IsMarkedSo end → new.marks ≡ counted mark.kind old.marks → old.marks.closed < 2 ^ 64
+  pub adds_closed : (end : End J) (before after : ℕ) (mark : Marked) → end ≡ ends.Closed before after mark → IsMarkedSo end → new.marks ≡ counted mark.kind old.marks → old.marks.closed < 2 ^ 64
       → CountsRose (ending_of end) (counts_of old) (counts_of new)
   adds_closed end before after mark is marked marks small =
       let kind : mark.kind ≡ kinds.Closed = subst (λ (e : End J). IsMarkedSo e) is marked in

@@ -23,14 +23,15 @@ module _ (fronts : (front rest : List Batch) → IsSound (front ++ rest) → IsS
       }
 
   module _ {D : Type 0} (disk : D → DiskState) (left_since : D → ℕ → List ℕ → Type 0) where
-    leaves_sound : (j batches : List Batch) (fault : Option (ℕ × ℕ)) (old new : Log D)
-        → Goes disk left_since j batches None fault old new → IsSound (j ++ batches)
+    leaves_sound : (j batches : List Batch) (fault : Option (ℕ × ℕ)) (was failed : Option Batch)
+        (old new : Log D) → Goes disk left_since j batches None fault was failed old new
+        → IsSound (j ++ batches)
         → EachImage disk left_since old.disk (HasJournal j)
         → LeavesOnly disk left_since old.disk new.disk (HasSoundBehind j)
-    leaves_sound j batches None old new goes sound each =
+    leaves_sound j batches None was failed old new goes sound each =
         weaker disk left_since old.disk new.disk (HasFrontOf j batches) (HasSoundBehind j)
         (sound_front j batches sound) (goes.crash each).meanwhile
-    leaves_sound j batches (Some counts) old new goes sound each =
+    leaves_sound j batches (Some counts) was failed old new goes sound each =
         let but = goes.crash each in
         let all = batches ++ but.last ∷ [] in
         weaker disk left_since old.disk new.disk (HasFrontOf j all) (HasSoundBehind j)
@@ -42,6 +43,6 @@ module _ (fronts : (front rest : List Batch) → IsSound (front ++ rest) → IsS
         → LeavesOnly disk left_since old.manifest.disk new.manifest.disk (HasSoundBehind (journal old))
     since_sound old new since sound open_is each =
         let G : Option (ℕ × ℕ) → Type 0 =
-        λ f. Goes disk left_since (journal old) since.batches f new.manifest.fault old.manifest new.manifest in
-        leaves_sound (journal old) since.batches new.manifest.fault old.manifest new.manifest
+        λ f. Goes disk left_since (journal old) since.batches f new.manifest.fault old.failed new.failed old.manifest new.manifest in
+        leaves_sound (journal old) since.batches new.manifest.fault old.failed new.failed old.manifest new.manifest
         (subst G open_is since.manifest) (subst IsSound since.journal_is sound) each

@@ -7,14 +7,15 @@ use Rattle.explorer_model.specs.declared.archive.Batch.{Batch}
 use Rattle.explorer_model.specs.declared.archive.Game.{Game}
 use Rattle.explorer_model.specs.Cuts.{Cut, cuts}
 use Rattle.explorer_model.specs.Labels.{no_label}
-use Rattle.explorer_model.specs.Imports.{Accounted, AreExaminations, groups}
+use Rattle.explorer_model.specs.Imports.{Accounted, AreExaminations, batch_of, groups}
 use Rattle.explorer_model.specs.Journal.{IsSound, byte_count, game_count}
 use Rattle.explorer_model.specs.Visits.{AreGamesOf, texts_of}
 use Rattle.ingest_desk.specs.Commits.{IsReceiptOf}
 use Rattle.ingest_desk.specs.Importers.{call_of, ending_of}
 use Rattle.ingest_desk.specs.Reporting.{FindsNoRoom, games_of}
 use Rattle.ingest_desk.specs.Stored.{Stored, journal}
-use Rattle.ingest_desk.specs.declared.mark.Mark.{Mark}
+use Rattle.ingest_desk.specs.declared.mark.MarkKind.TheVariants as kinds
+use Rattle.ingest_desk.specs.Marked.{IsMark, Marked}
 use Rattle.ingest_desk.specs.declared.receipt.Receipt.{Receipt}
 use Rattle.ingest_desk.specs.declared.report.End.{End}
 use Rattle.ingest_desk.specs.declared.report.End.TheVariants as ends
@@ -54,8 +55,13 @@ same_receipts start (batch ∷ batches) (r ∷ first) (s ∷ other) a b =
 
 -- ---- ends
 
-one_mark : {J : Type 0} (mark other : Mark J) → mark.kind ≡ other.kind → mark ≡ other
-one_mark mark other is = λ i. record { kind = is i; of = mark.of }
+one_mark : (a b a' b' : ℕ) (mark other : Marked) → (a ≡ a') × (b ≡ b') → IsMark kinds.Closed a b None mark → IsMark kinds.Closed a' b' None other → mark ≡ other
+one_mark a b a' b' mark other counts one second =
+    let kind = one.kind_is ∙ sym second.kind_is in
+    let before = one.before_is ∙ counts.0 ∙ sym second.before_is in
+    let after = one.after_is ∙ counts.1 ∙ sym second.after_is in
+    let failed = one.failed_is ∙ sym second.failed_is in
+    λ i. record { kind = kind i; before = before i; after = after i; failed = failed i }
 
 pair_same : (a b a' b' : ℕ) → ◌≡◌ {A = Option (ℕ × ℕ)} (Some (a, b)) (Some (a', b')) → (a ≡ a') × (b ≡ b')
 pair_same a b a' b' e =
@@ -114,11 +120,11 @@ module _ {D J : Type 0} (disk : D → DiskState) (left_since : D → ℕ → Lis
         same_there one same_batches same_refused first.start second.start games_are stores_are faults_are x.so_far y.so_far first.batches second.batches report.refused.items other.refused.items x.left y.left x.ends y.ends done next
 
     -- where both ended with as many batches
-    ends_alike : first.start.fault ≡ None → length first.batches ≡ length second.batches → AreAlike first.batches second.batches report other
+    ends_alike : first.start.fault ≡ None → length first.batches ≡ length second.batches → AreAlike first.batches second.batches report other × (x.left ≡ y.left)
     ends_alike is_open long = by compared
       where
-        by : Compare x.ends.done x.ends.next y.ends.done y.ends.next → AreAlike first.batches second.batches report other
-        by (inl (done, next)) = let same = at_one done next in alike same.0 same.1.0
+        by : Compare x.ends.done x.ends.next y.ends.done y.ends.next → AreAlike first.batches second.batches report other × (x.left ≡ y.left)
+        by (inl (done, next)) = let same = at_one done next in (alike same.0 same.1.0, same.1.1)
         by (inr (inl goes)) =
             absurd (one_longer first.batches second.batches x.left
             (stored_later one same_batches same_refused first.start second.start games_are stores_are faults_are x.so_far y.so_far first.batches second.batches report.refused.items other.refused.items x.left y.left x.ends y.ends goes is_open) long)
@@ -191,12 +197,12 @@ module _ {D J : Type 0} (disk : D → DiskState) (left_since : D → ℕ → Lis
       let sizes : b ≡ b' = x.2.1.bytes_are ∙ ap byte_count notes ∙ sym y.2.1.bytes_are in
       (same, is ∙ (λ i. ends.Full (games i) (sizes i) (notes i)) ∙ sym also)
 
-  pub same_closed : (a b a' b' : ℕ) (mark mark' : Mark J) → report.end ≡ ends.Closed a b mark → other.end ≡ ends.Closed a' b' mark' → AreAlike first.batches second.batches report other × (report.end ≡ other.end)
+  pub same_closed : (a b a' b' : ℕ) (mark mark' : Marked) → report.end ≡ ends.Closed a b mark → other.end ≡ ends.Closed a' b' mark' → AreAlike first.batches second.batches report other × (report.end ≡ other.end)
   same_closed a b a' b' mark mark' is also =
       let x = stands_by (ends.Closed a b mark) is in
       let y = stands_by_other (ends.Closed a' b' mark') also in
       let counts = pair_same a b a' b' (sym x.1 ∙ sym faults_are ∙ y.1) in
-      let marks = one_mark mark mark' (x.0 ∙ sym y.0) in
+      let marks = one_mark a b a' b' mark mark' counts x.0 y.0 in
       (closed_alike x.2 y.2 (a, b) x.1, is ∙ (λ i. ends.Closed (counts.0 i) (counts.1 i) (marks i)) ∙ sym also)
 
   -- ---- where the other one settled all of the stream
@@ -232,11 +238,12 @@ module _ {D J : Type 0} (disk : D → DiskState) (left_since : D → ℕ → Lis
         settled_all.accounted.examinations (subst B among.is settled_all.accounted.are_examinations)
         (settled_all.closed (is_some second.start.fault counts (faults_are ∙ is))) (is_some first.start.fault counts is)
 
-  pub same_disk_fault : (a b a' b' : ℕ) (mark mark' : Mark J) → report.end ≡ ends.DiskFault a b mark → other.end ≡ ends.DiskFault a' b' mark' → length first.batches ≡ length second.batches → AreAlike first.batches second.batches report other
+  pub same_disk_fault : (a b a' b' : ℕ) (mark mark' : Marked) → report.end ≡ ends.DiskFault a b mark → other.end ≡ ends.DiskFault a' b' mark' → length first.batches ≡ length second.batches → AreAlike first.batches second.batches report other × (after.failed ≡ other_after.failed)
   same_disk_fault a b a' b' mark mark' is also long =
       let x = stands_by (ends.DiskFault a b mark) is in
       let y = stands_by_other (ends.DiskFault a' b' mark') also in
-      ends_alike x.2.0 y.2.0 x.1 long
+      let both = ends_alike x.2.0 y.2.0 x.1 long in
+      (both.0, x.2.2 ∙ ap (batch_of no_label) both.1 ∙ sym y.2.2)
 
   pub not_full_and_whole : (a b : ℕ) (note : List Batch) → report.end ≡ ends.Full a b note → other.end ≡ ends.Whole → ⊥
   not_full_and_whole a b note is also =
@@ -244,12 +251,12 @@ module _ {D J : Type 0} (disk : D → DiskState) (left_since : D → ℕ → Lis
       let F : List Batch → Type 0 = λ j. FindsNoRoom j a b x.2.0.left in
       not_full x.2.0 also a b x.0 (subst F x.1 x.2.1)
 
-  pub not_closed_and_whole : (a b : ℕ) (mark : Mark J) → report.end ≡ ends.Closed a b mark → other.end ≡ ends.Whole → ⊥
+  pub not_closed_and_whole : (a b : ℕ) (mark : Marked) → report.end ≡ ends.Closed a b mark → other.end ≡ ends.Whole → ⊥
   not_closed_and_whole a b mark is also =
       let x = stands_by (ends.Closed a b mark) is in
       not_closed x.2 also (a, b) x.1
 
-  pub not_full_and_closed : (a b a' b' : ℕ) (note : List Batch) (mark : Mark J) → report.end ≡ ends.Full a b note → other.end ≡ ends.Closed a' b' mark → ⊥
+  pub not_full_and_closed : (a b a' b' : ℕ) (note : List Batch) (mark : Marked) → report.end ≡ ends.Full a b note → other.end ≡ ends.Closed a' b' mark → ⊥
   not_full_and_closed a b a' b' note mark is also =
       let x = stands_by (ends.Full a b note) is in
       let y = stands_by_other (ends.Closed a' b' mark) also in

@@ -91,7 +91,7 @@ module _ {D : Type 0} (disk : D → DiskState) (left_since : D → ℕ → List 
         → Leaves disk result tally.batch old.manifest mid.manifest → IsSince disk left_since old mid → (lacked lacks now : Bool) → (lacks ≡ false → MergesBehind result mid.index new.index)
         → (now ≡ false → (lacked ≡ false) × (lacks ≡ false)) → IsSinceAlone disk left_since old new lacked now
     commit_alone result refused stores tells lists leaves since lacked lacks now merges either = record {
-      since = since_before disk left_since old mid new since (since_same disk left_since mid new same.same_journal same.same_manifest);
+      since = since_before disk left_since old mid new since (since_same disk left_since mid new same.same_journal same.same_manifest same.same_failed);
       keeps_up = λ had sound_now.
           let both = either had in
           let sound_then : mid.manifest.fault ≡ None = ap (λ (l : Log D). l.fault) (sym same.same_manifest) ∙ sound_now in

@@ -15,7 +15,7 @@ use Rattle.segment_blocks.specs.Segment.{CanJoin, CountedSpan, IsSegment}
 use Rattle.tally_rows.specs.declared.row.Row.{Row}
 use Rattle.segment_merge.specs.Merging.{IsMergeOf}
 use Rattle.tally_rows.specs.Tally.{IsTallyOf}
-use Rattle.published_index.specs.Changes.{JoinAt, with_change}
+use Rattle.published_index.specs.Changes.{JoinAt}
 use Rattle.published_index.specs.Changes as index
 use Rattle.published_index.specs.Cover.{IsList, journal_of, list_limit}
 use Rattle.published_index.proofs.CoverLemmas.{journal-changed, journal-one, list-changed, list-one}
@@ -71,7 +71,7 @@ segment_at (x ∷ list) (suc at) segment all is = segment_at list at segment all
 own_blocks : (rows : List Row) → AreBlocksOf rows (length rows)
 own_blocks rows = record { room = omega arith; some = omega arith }
 
-counts_its_span : (segment : CountedSpan) → IsSegment segment → CountsItsSpan segment
+pub counts_its_span : (segment : CountedSpan) → IsSegment segment → CountsItsSpan segment
 counts_its_span segment is = record {
   some = is.some;
   place = is.place;

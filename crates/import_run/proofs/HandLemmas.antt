@@ -210,7 +210,7 @@ module _ {J : Type 0} where
       → ((k : Known) → now ≡ Some (store_of k) → Commits {J = J} (Err (faults.Clash handed pairs note)) k counted now') → IsStill known now'
   still_clash known handed counted pairs note now now' is holds =
       let commits = holds known is in
-      commits.still ∙ (λ i. Some (record { journal = commits.stores i; fault = commits.fault i }))
+      commits.still ∙ (λ i. Some (record { journal = commits.stores i; fault = commits.fault i; failed = commits.fails i }))
 
   -- what a clash names is stored
   pub right_clash : (known : Known) (handed counted : Counted) (pairs : ArrayVec Clashing) (note : List Batch) (now now' : Option Store) (games : List Game) → IsStill known now

@@ -104,7 +104,7 @@ module _ {J : Type 0} (start : Known) (groups : List (List Cut)) (receipts recei
   -- the batch of the group, or none
   step : (examinations : List Examination) → AllZip IsExaminationOf cuts examinations → (IsSome start.fault → HasNoCandidate examinations) → refused' ≡ refused ++ refusals (verdicts_behind (numbers_of p.known.games) examinations)
       → (o : Option Batch) → batch_of no_label (candidates (verdicts_behind (numbers_of p.known.games) examinations)) ≡ o → AreReceiptsOf start.journal receipts' (p.batches ++ cons_option o [])
-      → told' ≡ Some (record { journal = p.known.journal ++ cons_option o []; fault = p.known.fault })
+      → told' ≡ Some (record { journal = p.known.journal ++ cons_option o []; fault = p.known.fault; failed = p.known.failed })
       → Progress start (groups ++ cuts ∷ []) receipts' refused' told'
   unfolding one_more
   step examinations each closed refused_is o is receipts_are still =
@@ -123,7 +123,7 @@ module _ {J : Type 0} (start : Known) (groups : List (List Cut)) (receipts recei
         batches = p.batches ++ cons_option o [];
         accounted = acc;
         receipts_are = receipts_are;
-        known = record { journal = p.known.journal ++ cons_option o []; fault = p.known.fault; games = and_games p.known.games examinations; are_games = by_batch p.known.journal p.known.games cuts examinations p.known.are_games each o is };
+        known = record { journal = p.known.journal ++ cons_option o []; fault = p.known.fault; failed = p.known.failed; games = and_games p.known.games examinations; are_games = by_batch p.known.journal p.known.games cuts examinations p.known.are_games each o is };
         still = still;
         journal = ap (λ (j : List Batch). j ++ cons_option o []) p.journal ∙ append_assoc start.journal p.batches (cons_option o []);
         games = ap (λ (g : List Game). and_games g examinations) p.games ∙ sym (games-after start.games p.accounted.examinations examinations);
@@ -145,7 +145,7 @@ module _ {J : Type 0} (start : Known) (groups : List (List Cut)) (receipts recei
       (refused_is ∙ ap (λ (l : List Refusal). refused ++ l) (s.refused ∙ ap refusals same))
       None (ap (λ (v : List Verdict). batch_of no_label (candidates v)) (sym same) ∙ ap (batch_of no_label) a.0)
       (subst C (sym receipts_is) (subst D (sym (append-nil p.batches)) p.receipts_are))
-      (a.1 ∙ ap (λ (j : List Batch). Some (record { journal = j; fault = p.known.fault })) (sym (append-nil p.known.journal)))
+      (a.1 ∙ ap (λ (j : List Batch). Some (record { journal = j; fault = p.known.fault; failed = p.known.failed })) (sym (append-nil p.known.journal)))
 
   pub one_batch : (done : Done J) (receipt : Receipt J) → Settles p.known cuts done told' → done.answer ≡ Some (Ok receipt) → refused' ≡ refused ++ done.refused.items
       → receipts' ≡ receipts ++ receipt ∷ [] → Progress start (groups ++ cuts ∷ []) receipts' refused' told'
@@ -162,7 +162,7 @@ module _ {J : Type 0} (start : Known) (groups : List (List Cut)) (receipts recei
       (Some a.0.batch) (ap (λ (v : List Verdict). batch_of no_label (candidates v)) (sym same) ∙ a.1.batch)
       (subst C (sym receipts_is) (receipts_more start.journal receipts p.batches receipt a.0.batch p.receipts_are (subst I p.journal commits.receives.0)
       (commits.receives.1 ∙ commits.stores ∙ ap (λ (j : List Batch). j ++ a.0.batch ∷ []) p.journal)))
-      (commits.still ∙ (λ i. Some (record { journal = commits.stores i; fault = commits.fault i })))
+      (commits.still ∙ (λ i. Some (record { journal = commits.stores i; fault = commits.fault i; failed = commits.fails i })))
 
 -- ---- want of memory
 

@@ -10,27 +10,27 @@ use Rattle.manifest.specs.Manifest.{HasFrontOf, HasJournal, IsWithOrWithoutBatch
 use Rattle.tally_rows.specs.Tally.{Counted}
 use Rattle.published_index.specs.Changes.{Change}
 use Rattle.ingest_desk.specs.Causes.{Cause}
-use Rattle.ingest_desk.specs.Commits.{Leaves, Refuses, Stores}
-use Rattle.ingest_desk.specs.Kept.{Keeps, KeepsBy}
+use Rattle.ingest_desk.specs.Commits.{Fails, Leaves, Refuses, Stores}
+use Rattle.ingest_desk.specs.Kept.{Keeps}
 use Rattle.ingest_desk.specs.Stored.{Stored, journal}
 use Rattle.ingest_desk.specs.declared.fault.CommitFault.{CommitFault}
 use Rattle.ingest_desk.specs.declared.fault.CommitFault.TheVariants as faults
 use Rattle.ingest_desk.specs.declared.receipt.Receipt.{Receipt}
+use Rattle.ingest_desk.proofs.KeptLemmas.{sound_manifest}
 use Rattle.import_run.specs.Since.{Closes, Goes, IsSince, StaysOpen}
 use Rattle.import_run.specs.SinceLaws.{one_front, since_same, weaker}
 
 module _ {D : Type 0} (disk : D → DiskState) (left_since : D → ℕ → List ℕ → Type 0) where
   module _ (counts_now : (it : D) (t : ℕ) (image : List ℕ) → t ≤ (disk it).moment → MayLeave disk left_since it image → left_since it t image) (old new : Stored D) (batch : Batch)
-      (keeps : Keeps disk left_since (journal new) new.manifest)
+      (keeps : Keeps disk left_since (journal new) new.manifest new.failed)
       (crash : old.manifest.fault ≡ None → LeavesOnly disk left_since old.manifest.disk new.manifest.disk (IsWithOrWithoutBatch (journal old) batch)) where
     since_stored : journal new ≡ journal old ++ batch ∷ [] → Adds disk (length (payload_of batch)) old.manifest new.manifest → IsSince disk left_since old new
     since_stored more adds =
         let same : new.manifest.fault ≡ None = ap (λ (l : Log D). l.fault) adds.rest ∙ adds.sound in
-        let K : Option (ℕ × ℕ) → Type 0 = λ f. KeepsBy disk left_since (journal new) new.manifest f in
-        let kept = subst K same keeps in
+        let kept = sound_manifest disk left_since new.failed (journal new) new.manifest keeps same in
         let I : List Batch → Type 0 = λ j. EachImage disk left_since new.manifest.disk (HasJournal j) in
-        let F : Option (ℕ × ℕ) → Type 0 = λ f. Goes disk left_since (journal old) (batch ∷ []) f new.manifest.fault old.manifest new.manifest in
-        let G : Option (ℕ × ℕ) → Type 0 = λ f. Goes disk left_since (journal old) (batch ∷ []) None f old.manifest new.manifest in
+        let F : Option (ℕ × ℕ) → Type 0 = λ f. Goes disk left_since (journal old) (batch ∷ []) f new.manifest.fault old.failed new.failed old.manifest new.manifest in
+        let G : Option (ℕ × ℕ) → Type 0 = λ f. Goes disk left_since (journal old) (batch ∷ []) None f old.failed new.failed old.manifest new.manifest in
         let opens : StaysOpen disk left_since (journal old) (batch ∷ []) old.manifest.disk new.manifest.disk = record {
           no_fault = adds.no_fault;
           crash = λ each. record {
@@ -40,17 +40,18 @@ module _ {D : Type 0} (disk : D → DiskState) (left_since : D → ℕ → List 
         } in
         record { batches = batch ∷ []; journal_is = more; manifest = subst F (sym adds.sound) (subst G (sym same) opens) }
 
-    since_broken : (before after : ℕ) → IsSound (journal old ++ batch ∷ []) → journal new ≡ journal old → Breaks disk before after old.manifest new.manifest → IsSince disk left_since old new
-    since_broken before after sound same breaks =
+    since_broken : (before after : ℕ) → IsSound (journal old ++ batch ∷ []) → journal new ≡ journal old → Breaks disk before after old.manifest new.manifest → new.failed ≡ Some batch → IsSince disk left_since old new
+    since_broken before after sound same breaks failed =
         let is : new.manifest.fault ≡ Some (before, after) = ap (λ (l : Log D). l.fault) breaks.rest in
         let leaves = crash breaks.sound in
         let I : List Batch → Type 0 = λ j. EachImage disk left_since new.manifest.disk (IsWithOrWithoutBatch j batch) in
-        let F : Option (ℕ × ℕ) → Type 0 = λ f. Goes disk left_since (journal old) [] f new.manifest.fault old.manifest new.manifest in
-        let G : Option (ℕ × ℕ) → Type 0 = λ f. Goes disk left_since (journal old) [] None f old.manifest new.manifest in
-        let closes : Closes disk left_since (before, after) (journal old) [] old.manifest.disk new.manifest.disk = record {
+        let F : Option (ℕ × ℕ) → Type 0 = λ f. Goes disk left_since (journal old) [] f new.manifest.fault old.failed new.failed old.manifest new.manifest in
+        let G : Option (ℕ × ℕ) → Type 0 = λ f. Goes disk left_since (journal old) [] None f old.failed new.failed old.manifest new.manifest in
+        let closes : Closes disk left_since (before, after) (journal old) [] new.failed old.manifest.disk new.manifest.disk = record {
           fault = breaks.counts;
           crash = λ each. record {
             last = batch;
+            is_failed = failed;
             sound = sound;
             now = subst I (sym (append-nil (journal old))) (λ image left. leaves.each image (counts_now new.manifest.disk (disk old.manifest.disk).moment image leaves.later left));
             meanwhile = weaker disk left_since old.manifest.disk new.manifest.disk (IsWithOrWithoutBatch (journal old) batch) (HasFrontOf (journal old) (batch ∷ [])) (λ image h. one_front (journal old) batch image h) leaves;
@@ -60,11 +61,11 @@ module _ {D : Type 0} (disk : D → DiskState) (left_since : D → ℕ → List 
 
     module _ {J : Type 0} where
       pub commit_since : (result : Result (Receipt J) (CommitFault J)) (cause : Option Cause) (tally : Counted) (held : Option Change) → Refuses result cause tally held → (cause ≡ None → IsSound (journal old ++ batch ∷ []))
-          → Leaves disk result batch old.manifest new.manifest → Stores result batch (journal old) (journal new) → IsSince disk left_since old new
-      commit_since (Ok receipt) cause tally held refuses behind leaves stores = since_stored stores leaves
-      commit_since (Err (faults.OutOfMemory true)) cause tally held refuses behind leaves stores = since_stored stores leaves
-      commit_since (Err (faults.OutOfMemory false)) cause tally held refuses behind leaves stores = since_same disk left_since old new stores leaves
-      commit_since (Err (faults.DiskFault before after mark)) cause tally held refuses behind leaves stores = since_broken before after (behind refuses) stores leaves
-      commit_since (Err (faults.Closed before after mark)) cause tally held refuses behind leaves stores = since_same disk left_since old new stores leaves
-      commit_since (Err (faults.Clash handed pairs note)) cause tally held refuses behind leaves stores = since_same disk left_since old new stores leaves
-      commit_since (Err (faults.Full games bytes note)) cause tally held refuses behind leaves stores = since_same disk left_since old new stores leaves
+          → Leaves disk result batch old.manifest new.manifest → Stores result batch (journal old) (journal new) → Fails result batch old.failed new.failed → IsSince disk left_since old new
+      commit_since (Ok receipt) cause tally held refuses behind leaves stores fails = since_stored stores leaves
+      commit_since (Err (faults.OutOfMemory true)) cause tally held refuses behind leaves stores fails = since_stored stores leaves
+      commit_since (Err (faults.OutOfMemory false)) cause tally held refuses behind leaves stores fails = since_same disk left_since old new stores leaves fails
+      commit_since (Err (faults.DiskFault before after mark)) cause tally held refuses behind leaves stores fails = since_broken before after (behind refuses) stores leaves fails
+      commit_since (Err (faults.Closed before after mark)) cause tally held refuses behind leaves stores fails = since_same disk left_since old new stores leaves fails
+      commit_since (Err (faults.Clash handed pairs note)) cause tally held refuses behind leaves stores fails = since_same disk left_since old new stores leaves fails
+      commit_since (Err (faults.Full games bytes note)) cause tally held refuses behind leaves stores fails = since_same disk left_since old new stores leaves fails

@@ -17,10 +17,12 @@ use Rattle.explorer_model.specs.Visits.{texts_of}
 use Rattle.tally_rows.specs.Tally.{Counted}
 use Rattle.ingest_desk.specs.Causes.{HasNoRoom, IsClosed, cause, cause_by, cause_of_new, has_no_room, is_over}
 use Rattle.ingest_desk.specs.Clashes.{clashes_from, clashes_of}
+use Rattle.ingest_desk.specs.Marked.{IsMark}
 use Rattle.ingest_desk.specs.Reporting.{FindsNoRoom}
 use Rattle.ingest_desk.specs.declared.clashing.Clashing.{Clashing}
 use Rattle.ingest_desk.specs.declared.fault.CommitFault.{CommitFault}
 use Rattle.ingest_desk.specs.declared.fault.CommitFault.TheVariants as faults
+use Rattle.ingest_desk.specs.declared.mark.MarkKind.TheVariants as kinds
 use Rattle.ingest_desk.specs.declared.receipt.Receipt.{Receipt}
 use Rattle.ingest_desk.specs.declared.report.End.{End}
 use Rattle.import_run.specs.declared.groups.Stopped.{Stopped}
@@ -205,8 +207,13 @@ module _ {J : Type 0} (start : Known) (stream : List ℕ) (left_over : Option (L
       (sym (over_with p.known.journal left s.answer.0.batch s.answer.1.batch) ∙ room.room) in
       let P : End J → Type 0 = λ e. EndsSo start stream left_over p.batches (refused ++ stopped.refused.items) told e in
       let H : List Batch → Type 0 = λ j. HasRoomFor j left in
+      let M : Option Batch → Type 0 = λ failed. IsMark kinds.DiskFault before' after failed mark in
       subst P (sym is) (record {
-        stands = (commits.marked, sym p.fault ∙ opens, (ends_at (faults.DiskFault before' after mark) s, subst H p.journal within));
+        stands = (
+          subst M (sym commits.fails) commits.marked,
+          sym p.fault ∙ opens,
+          (ends_at (faults.DiskFault before' after mark) s, subst H p.journal within, commits.fails ∙ sym s.answer.1.batch),
+        );
         quiet = λ old new same. same;
         new = commits.new;
         still = commits.still;

@@ -1,5 +1,5 @@
 -- What becomes of a published list as neighbours become one.
-use Rattle.std.proofs.Common.{◌≡◌, ℕ, zero, suc, ◌+◌, ◌<◌, ◌≤◌, List, [], ◌∷◌, length, Option, None, Some, Result, Ok, Err, inl, inr, refl, sym, ap, subst, ◌∙◌, arith}
+use Rattle.std.proofs.Common.{◌≡◌, ℕ, zero, suc, ◌+◌, ◌<◌, ◌≤◌, List, [], ◌∷◌, length, Option, None, Some, Result, Ok, Err, refl, sym, ap, subst, ◌∙◌, arith}
 use Rattle.std.specs.Prelude.{slice_get}
 use Rattle.explorer_model.specs.declared.archive.Batch.{Batch}
 use Rattle.explorer_model.specs.Spans.{Adjoin, Span}
@@ -7,15 +7,15 @@ use Rattle.segment_blocks.specs.Segment.{CountedSpan, IsSegment}
 use Rattle.segment_merge.specs.Merging.{IsMergeOf}
 use Rattle.published_index.specs.Changes.{Change, JoinAt, with_change}
 use Rattle.published_index.specs.Cover.{spans_of}
-use Rattle.published_index.specs.States.{Publishing, publishing}
+use Rattle.published_index.specs.States.{Publishing}
 use Rattle.ingest_desk.specs.Installs.{Installs, IsGone, IsInstalled, caught_up, list_by}
 use Rattle.ingest_desk.specs.Listing.{JoinsPicked}
-use Rattle.ingest_desk.specs.Picking.{AreAt, HasNoneDue, IsPicked, NoneDueFrom}
+use Rattle.ingest_desk.specs.Picking.{AreAt, IsPicked, NoneDueFrom}
 use Rattle.ingest_desk.specs.Jobs.{Neighbours}
 use Rattle.ingest_desk.specs.declared.fault.InstallFault.{InstallFault}
 use Rattle.ingest_desk.specs.declared.fault.InstallFault.TheVariants as install
 use Rattle.ingest_desk.specs.declared.job.Standing.{Standing}
-use Rattle.import_run.specs.Upkeep.{Finds, IsMerged, Merges, merging_by}
+use Rattle.import_run.specs.Upkeep.{Finds, Merges, merging_by}
 
 -- ---- what is held
 
@@ -131,15 +131,3 @@ module _ (old mid : Publishing) (job : Neighbours) (finds : Finds (Some job) old
   merges_by new merged (Ok note) merges segment installed = joins_due new merged note merges segment installed
   merges_by new merged (Err (install.Gone spans)) merges segment gone = not_gone new spans.items gone
   merges_by new merged (Err install.OutOfMemory) merges segment lacks = tt
-
--- ---- the list afterwards
-
-pub merged_joined : (old new : Publishing) → JoinsPicked (list_by old) new.list → new.held ≡ None → IsMerged (list_by old) (list_by new)
-merged_joined old new joins none =
-    inr (subst (λ (l : List CountedSpan). JoinsPicked (list_by old) l) (sym (nothing_held new none)) joins)
-
-pub merged_idle : (old new : Publishing) → new ≡ publishing (list_by old) → HasNoneDue new.list → IsMerged (list_by old) (list_by new)
-merged_idle old new is none =
-    let list : new.list ≡ list_by old = ap (λ (p : Publishing). p.list) is in
-    let held : new.held ≡ None = ap (λ (p : Publishing). p.held) is in
-    inl (subst (λ (l : List CountedSpan). HasNoneDue l) list none, nothing_held new held ∙ list)

@@ -22,9 +22,14 @@ use Rattle.import_run.specs.declared.draining.DrainEnd.{DrainEnd}
 use Rattle.import_run.specs.declared.draining.DrainEnd.TheVariants.{Idle, Gone, OutOfMemory}
 use Rattle.import_run.specs.declared.draining.Drained.{Drained}
 
--- the stored journal of a store on a disk, and the counts of the fault that closed it
+-- the stored journal of a store on a disk, and the counts of the fault that closed it, with the batch
+-- that failed
 abbrev pub stored_in : {D : Type 0} → Stored D → Store
-stored_in stored = record { journal = journal stored; fault = stored.manifest.fault }
+stored_in stored = record {
+  journal = journal stored;
+  fault = stored.manifest.fault;
+  failed = stored.failed;
+}
 
 -- the disk's count rose exactly where the end says so, by the call that it tells of
 abbrev pub DiskFaultsAre : {J : Type 0} → End J → DiskState → DiskState → Type 0
@@ -42,6 +47,7 @@ pub record ImportsAlone {D J : Type 0} (disk : D → DiskState)
   -- the store at the beginning, with the games of its journal
   pub start : Known
   pub start_is : store_of start ≡ stored_in before
+  pub none_failed : start.fault ≡ None → start.failed ≡ None
   -- the batches of the receipts, and what became of the groups of the stream
   pub batches : List Batch
   pub receipts : AreReceiptsOf start.journal report.receipts.items batches
@@ -56,7 +62,7 @@ pub record ImportsAlone {D J : Type 0} (disk : D → DiskState)
       DiskFaultsAre report.end (disk before.manifest.disk) (disk after.manifest.disk)
   -- What a crash leaves now, and what it may have left meanwhile: fronts of a sound journal, which
   -- are sound.
-  pub keeps : Keeps disk left_since (journal after) after.manifest
+  pub keeps : Keeps disk left_since (journal after) after.manifest after.failed
   pub since : IsSince disk left_since before after
 
 -- ---- draining
@@ -75,3 +81,4 @@ pub record DrainsAlone {D : Type 0} (before after : Stored D) (drained : Drained
   pub answers : AnswersDrained drained.end drained.jobs before after
   pub same_journal : journal after ≡ journal before
   pub same_manifest : after.manifest ≡ before.manifest
+  pub same_failed : after.failed ≡ before.failed

@@ -6,13 +6,14 @@ use Rattle.explorer_model.specs.declared.archive.Game.{Game}
 use Rattle.explorer_model.specs.declared.fault.Refusal.{Refusal}
 use Rattle.explorer_model.specs.Cuts.{Cut}
 use Rattle.explorer_model.specs.Labels.{no_label}
-use Rattle.explorer_model.specs.Imports.{AccountedBeside, Candidate, Examination, IsExaminationOf, Numbering, numbers_of, verdicts}
+use Rattle.explorer_model.specs.Imports.{AccountedBeside, Candidate, Examination, IsExaminationOf, Numbering, batch_of, numbers_of, verdicts}
 use Rattle.explorer_model.specs.Journal.{byte_count, game_count}
 use Rattle.explorer_model.specs.Visits.{AreGamesOf}
 use Rattle.tally_rows.specs.Tally.{Counted}
 use Rattle.batch_tally.specs.Tallying.{Counts}
 use Rattle.ingest_desk.specs.Causes.{has_no_room}
 use Rattle.ingest_desk.specs.Clashes.{clashes_of}
+use Rattle.ingest_desk.specs.Marked.{IsMark}
 use Rattle.ingest_desk.specs.Reporting.{AreReceipts, FindsNoRoom, IsJudged, IsReceipt, RepeatsBy}
 use Rattle.ingest_desk.specs.declared.fault.CommitFault.{CommitFault}
 use Rattle.ingest_desk.specs.declared.fault.CommitFault.TheVariants as faults
@@ -43,12 +44,14 @@ pub record IsReceiptOfBatch {J : Type 0} (receipt : Receipt J) (batch : Batch) :
   pub place : ℕ
   pub is : IsReceipt receipt place batch
 
--- What an answer tells by itself: where the batch stands, the kind of a mark, or which journal has
--- no room for it. What a clash tells is `IsClash`.
+-- What an answer tells by itself: where the batch stands, by its mark which counts it has and that
+-- this batch failed, or which journal has no room for it. What a clash tells is `IsClash`.
 abbrev pub AnswersTo : {J : Type 0} → Result (Receipt J) (CommitFault J) → Counted → Type 0
 AnswersTo (Ok receipt) tally = IsReceiptOfBatch receipt tally.batch
-AnswersTo (Err (faults.Closed before after mark)) tally = mark.kind ≡ kinds.Closed
-AnswersTo (Err (faults.DiskFault before after mark)) tally = mark.kind ≡ kinds.DiskFault
+AnswersTo (Err (faults.Closed before after mark)) tally =
+    IsMark kinds.Closed before after None mark
+AnswersTo (Err (faults.DiskFault before after mark)) tally =
+    IsMark kinds.DiskFault before after (Some tally.batch) mark
 AnswersTo (Err (faults.Full games bytes note)) tally = IsFullFor note games bytes tally
 AnswersTo (Err _) tally = ⊤
 
@@ -105,10 +108,12 @@ pub record ProgressBeside {J : Type 0} (groups : List (List Cut)) (import : Open
   pub repeats :
       AreRepeats (flat_map (λ group. group) groups) import.clashes.items import.refused.items
 
--- the mark has the kind of the end, or the note has no room for what is left
+-- the mark is that of the end, where what is left is the batch that failed, or the note has no room
+-- for what is left
 abbrev pub EndsBeside : {J : Type 0} → End J → List Candidate → Type 0
-EndsBeside (ends.DiskFault before after mark) left = mark.kind ≡ kinds.DiskFault
-EndsBeside (ends.Closed before after mark) left = mark.kind ≡ kinds.Closed
+EndsBeside (ends.DiskFault before after mark) left =
+    IsMark kinds.DiskFault before after (batch_of no_label left) mark
+EndsBeside (ends.Closed before after mark) left = IsMark kinds.Closed before after None mark
 EndsBeside (ends.Full games bytes note) left = FindsNoRoom note games bytes left
 EndsBeside _ left = ⊥
 

@@ -8,25 +8,29 @@ use Rattle.published_index.specs.Changes.{Change}
 use Rattle.tally_rows.specs.Tally.{Counted}
 use Rattle.ingest_desk.specs.Causes.{cause}
 use Rattle.ingest_desk.specs.Clashes.{clashes_of}
-use Rattle.ingest_desk.specs.Commits.{IsMarked, IsReceiptOf, Refuses, Stores}
+use Rattle.ingest_desk.specs.Commits.{Fails, IsMarked, IsReceiptOf, Refuses, Stores}
 use Rattle.ingest_desk.specs.declared.fault.CommitFault.{CommitFault}
 use Rattle.ingest_desk.specs.declared.fault.CommitFault.TheVariants as faults
 use Rattle.ingest_desk.specs.declared.receipt.Receipt.{Receipt}
 
--- the stored journal, and the counts of the disk fault that closed the store, if one did
+-- the stored journal, and the counts of the disk fault that closed the store, if one did, with the
+-- batch that failed
 pub record Store : Type 0 where
   pub journal : List Batch
   pub fault : Option (ℕ × ℕ)
+  pub failed : Option Batch
 
 -- the same with the games of the journal
 pub record Known : Type 0 where
   pub journal : List Batch
   pub fault : Option (ℕ × ℕ)
+  pub failed : Option Batch
   pub games : List Game
   pub are_games : AreGamesOf journal games
 
 abbrev pub store_of : Known → Store
-store_of known = record { journal = known.journal; fault = known.fault }
+store_of known =
+    record { journal = known.journal; fault = known.fault; failed = known.failed }
 
 -- a disk fault closes the store, and nothing else does
 abbrev pub FaultAfter : {J : Type 0} → Result (Receipt J) (CommitFault J)
@@ -52,7 +56,8 @@ pub record Commits {J : Type 0} (result : Result (Receipt J) (CommitFault J))
       Refuses result (cause known.fault known.games known.journal tally) tally held
   pub stores : Stores result tally.batch known.journal new.journal
   pub fault : FaultAfter result known.fault new.fault
-  pub marked : IsMarked result
+  pub fails : Fails result tally.batch known.failed new.failed
+  pub marked : IsMarked result tally.batch
   pub receives : Receives result known.journal tally.batch new.journal
 
 -- A clash hands the tally back, and some of its ids are stored: those that have a number by the

@@ -8,8 +8,9 @@ use Rattle.explorer_model.specs.declared.archive.Batch.{Batch}
 use Rattle.explorer_model.specs.declared.fault.Refusal.{Refusal}
 use Rattle.explorer_model.specs.Cuts.{Cut, cuts}
 use Rattle.explorer_model.specs.Labels.{no_label}
-use Rattle.explorer_model.specs.Imports.{Accounted, Candidate, Examination, IsExaminationOf, groups, verdicts}
+use Rattle.explorer_model.specs.Imports.{Accounted, Candidate, Examination, IsExaminationOf, batch_of, groups, verdicts}
 use Rattle.explorer_model.specs.Journal.{AreWithin, byte_count, game_count, input_limit}
+use Rattle.ingest_desk.specs.Marked.{IsMark}
 use Rattle.ingest_desk.specs.Reporting.{FindsNoRoom}
 use Rattle.ingest_desk.specs.declared.mark.MarkKind.TheVariants as kinds
 use Rattle.ingest_desk.specs.declared.report.End.{End}
@@ -107,7 +108,8 @@ pub record Lacks (start : Known) (stream : List ℕ) (left_over : Option (List �
 
 -- ---- the ends of an import
 
--- how an import stands with the bytes that it took and with the store afterwards, by its end
+-- How an import stands with the bytes that it took and with the store afterwards, by its end. After a
+-- disk fault the batch that failed is that of the texts that were left of the group.
 abbrev pub StandsAt : {J : Type 0} → End J → Known → List ℕ → Option (List ℕ) → List Batch
     → List Refusal → Store → Type 0
 StandsAt ends.Whole start stream left_over batches refused new =
@@ -118,11 +120,12 @@ StandsAt (ends.ReadFault before after) start stream left_over batches refused ne
 StandsAt (ends.TooMuch bytes) start stream left_over batches refused new =
     (bytes ≡ length stream) × IsTooMuch start stream batches refused
 StandsAt (ends.DiskFault before after mark) start stream left_over batches refused new =
-    (mark.kind ≡ kinds.DiskFault) × (start.fault ≡ None)
+    IsMark kinds.DiskFault before after new.failed mark × (start.fault ≡ None)
     × ((ends : EndsAt start stream left_over batches refused)
-    × HasRoomFor (start.journal ++ batches) ends.left)
+    × HasRoomFor (start.journal ++ batches) ends.left
+    × (new.failed ≡ batch_of no_label ends.left))
 StandsAt (ends.Closed before after mark) start stream left_over batches refused new =
-    (mark.kind ≡ kinds.Closed) × (start.fault ≡ Some (before, after))
+    IsMark kinds.Closed before after None mark × (start.fault ≡ Some (before, after))
     × EndsAt start stream left_over batches refused
 StandsAt (ends.Full games bytes note) start stream left_over batches refused new =
     (start.fault ≡ None) × (note ≡ start.journal ++ batches)

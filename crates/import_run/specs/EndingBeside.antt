@@ -6,7 +6,7 @@ use Rattle.explorer_model.specs.declared.archive.Batch.{Batch}
 use Rattle.explorer_model.specs.declared.fault.Refusal.{Refusal}
 use Rattle.explorer_model.specs.Cuts.{Cut, cuts}
 use Rattle.explorer_model.specs.Labels.{no_label}
-use Rattle.explorer_model.specs.Imports.{AccountedBeside, Candidate}
+use Rattle.explorer_model.specs.Imports.{AccountedBeside, Candidate, batch_of}
 use Rattle.explorer_model.specs.Journal.{input_limit}
 use Rattle.ingest_desk.specs.Reporting.{FindsNoRoom, IsJudged, Reports, games_of}
 use Rattle.ingest_desk.specs.declared.report.End.{End}
@@ -67,7 +67,8 @@ pub record LacksBeside (stream : List ℕ) (left_over : Option (List ℕ)) (batc
 
 -- ---- the ends of an import
 
--- how an import stands with the bytes that it took, by its end
+-- How an import stands with the bytes that it took, by its end. After a disk fault the batch that
+-- failed is that of the texts that were left of the group.
 abbrev pub StandsBeside : {J : Type 0} → End J → List ℕ → Option (List ℕ) → List Batch
     → List Refusal → Type 0
 StandsBeside ends.Whole stream left_over batches refused =
@@ -78,6 +79,7 @@ StandsBeside (ends.TooMuch bytes) stream left_over batches refused =
     (bytes ≡ length stream) × IsTooMuchBeside stream batches refused
 StandsBeside (ends.DiskFault before after mark) stream left_over batches refused =
     (left : List Candidate) × BreaksBeside stream left_over batches refused left
+    × (mark.failed ≡ batch_of no_label left)
 StandsBeside (ends.Closed before after mark) stream left_over batches refused =
     (left : List Candidate) × BreaksBeside stream left_over batches refused left
 StandsBeside (ends.Full games bytes note) stream left_over batches refused =

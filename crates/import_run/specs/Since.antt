@@ -25,9 +25,10 @@ pub record KeepsAll {D : Type 0} (disk : D → DiskState) (left_since : D → �
 -- The same where the disk failed under one batch more, which may be there: the journal is sound with
 -- it.
 pub record KeepsAllBut {D : Type 0} (disk : D → DiskState)
-    (left_since : D → ℕ → List ℕ → Type 0) (journal batches : List Batch) (old new : D)
-    : Type 0 where
+    (left_since : D → ℕ → List ℕ → Type 0) (journal batches : List Batch)
+    (failed : Option Batch) (old new : D) : Type 0 where
   pub last : Batch
+  pub is_failed : failed ≡ Some last
   pub sound : IsSound (journal ++ (batches ++ last ∷ []))
   pub now : EachImage disk left_since new (IsWithOrWithoutBatch (journal ++ batches) last)
   pub meanwhile : LeavesOnly disk left_since old new (HasFrontOf journal (batches ++ last ∷ []))
@@ -39,21 +40,25 @@ pub record StaysOpen {D : Type 0} (disk : D → DiskState) (left_since : D → �
   pub crash : EachImage disk left_since old (HasJournal journal)
       → KeepsAll disk left_since journal batches old new
 
--- a call of the disk failed, and the store is closed with these counts
+-- a call of the disk failed under a batch, and the store is closed with these counts
 pub record Closes {D : Type 0} (disk : D → DiskState) (left_since : D → ℕ → List ℕ → Type 0)
-    (counts : ℕ × ℕ) (journal batches : List Batch) (old new : D) : Type 0 where
+    (counts : ℕ × ℕ) (journal batches : List Batch) (failed : Option Batch) (old new : D)
+    : Type 0 where
   pub fault : IsFault counts.0 counts.1 (disk old) (disk new)
   pub crash : EachImage disk left_since old (HasJournal journal)
-      → KeepsAllBut disk left_since journal batches old new
+      → KeepsAllBut disk left_since journal batches failed old new
 
--- what becomes of a manifest, by the faults that closed it before and after; a closed one stays
+-- What becomes of a manifest, by the faults that closed it before and after, and of the batch that
+-- failed; a closed one stays, and so does its batch.
 abbrev pub Goes : {D : Type 0} → (D → DiskState) → (D → ℕ → List ℕ → Type 0)
-    → List Batch → List Batch → Option (ℕ × ℕ) → Option (ℕ × ℕ) → Log D → Log D → Type 0
-Goes disk left_since journal batches None None old new =
+    → List Batch → List Batch → Option (ℕ × ℕ) → Option (ℕ × ℕ) → Option Batch → Option Batch
+    → Log D → Log D → Type 0
+Goes disk left_since journal batches None None was failed old new =
     StaysOpen disk left_since journal batches old.disk new.disk
-Goes disk left_since journal batches None (Some counts) old new =
-    Closes disk left_since counts journal batches old.disk new.disk
-Goes disk left_since journal batches (Some counts) now old new = (new ≡ old) × (batches ≡ [])
+Goes disk left_since journal batches None (Some counts) was failed old new =
+    Closes disk left_since counts journal batches failed old.disk new.disk
+Goes disk left_since journal batches (Some counts) now was failed old new =
+    (new ≡ old) × (batches ≡ []) × (failed ≡ was)
 
 -- these batches were stored, one after another
 pub record IsSince {D : Type 0} (disk : D → DiskState) (left_since : D → ℕ → List ℕ → Type 0)
@@ -61,4 +66,4 @@ pub record IsSince {D : Type 0} (disk : D → DiskState) (left_since : D → ℕ
   pub batches : List Batch
   pub journal_is : journal new ≡ journal old ++ batches
   pub manifest : Goes disk left_since (journal old) batches
-      old.manifest.fault new.manifest.fault old.manifest new.manifest
+      old.manifest.fault new.manifest.fault old.failed new.failed old.manifest new.manifest

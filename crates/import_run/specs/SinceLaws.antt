@@ -73,9 +73,9 @@ module _ {D : Type 0} (disk : D → DiskState) (left_since : D → ℕ → List 
 
   -- ---- no call
 
-  goes_none : (j : List Batch) (f : Option (ℕ × ℕ)) (log : Log D)
-      → Goes disk left_since j [] f f log log
-  goes_none j None log = record {
+  goes_none : (j : List Batch) (f : Option (ℕ × ℕ)) (failed : Option Batch) (log : Log D)
+      → Goes disk left_since j [] f f failed failed log log
+  goes_none j None failed log = record {
     no_fault = refl;
     crash = λ each.
         let P : List Batch → Type 0 = λ l. EachImage disk left_since log.disk (HasJournal l) in
@@ -85,26 +85,30 @@ module _ {D : Type 0} (disk : D → DiskState) (left_since : D → ℕ → List 
               (λ image left. no_front j [] image (each image left));
         };
   }
-  goes_none j (Some counts) log = (refl, refl)
+  goes_none j (Some counts) failed log = (refl, refl, refl)
 
   pub since_then : (it : Stored D) → IsSince disk left_since it it
   since_then it = record {
     batches = [];
     journal_is = sym (append-nil (journal it));
-    manifest = goes_none (journal it) it.manifest.fault it.manifest;
+    manifest = goes_none (journal it) it.manifest.fault it.failed it.manifest;
   }
 
-  -- where the journal and the manifest are as they were
+  -- where the journal and the manifest are as they were, and the batch that failed
   pub since_same : (old new : Stored D) → journal new ≡ journal old → new.manifest ≡ old.manifest
-      → IsSince disk left_since old new
-  since_same old new same_journal same_manifest =
+      → new.failed ≡ old.failed → IsSince disk left_since old new
+  since_same old new same_journal same_manifest same_failed =
       let fault = old.manifest.fault in
+      let was = old.failed in
       let P : Log D → Type 0 =
-      λ log. Goes disk left_since (journal old) [] fault log.fault old.manifest log in
+      λ log. Goes disk left_since (journal old) [] fault log.fault was was old.manifest log in
+      let Q : Option Batch → Type 0 = λ failed. Goes disk left_since (journal old) [] fault
+      new.manifest.fault was failed old.manifest new.manifest in
       record {
         batches = [];
         journal_is = same_journal ∙ sym (append-nil (journal old));
-        manifest = subst P (sym same_manifest) (goes_none (journal old) fault old.manifest);
+        manifest = subst Q (sym same_failed)
+            (subst P (sym same_manifest) (goes_none (journal old) fault was old.manifest));
       }
 
   -- ---- one call after another
@@ -129,11 +133,11 @@ module _ {D : Type 0} (disk : D → DiskState) (left_since : D → ℕ → List 
             };
       }
 
-  open_closes : (counts : ℕ × ℕ) (j first more : List Batch) (a b c : D)
+  open_closes : (counts : ℕ × ℕ) (j first more : List Batch) (failed : Option Batch) (a b c : D)
       → StaysOpen disk left_since j first a b
-      → Closes disk left_since counts (j ++ first) more b c
-      → Closes disk left_since counts j (first ++ more) a c
-  open_closes counts j first more a b c one two = record {
+      → Closes disk left_since counts (j ++ first) more failed b c
+      → Closes disk left_since counts j (first ++ more) failed a c
+  open_closes counts j first more failed a b c one two = record {
     fault = record {
       before_is = two.fault.before_is ∙ one.no_fault;
       after_is = two.fault.after_is;
@@ -151,6 +155,7 @@ module _ {D : Type 0} (disk : D → DiskState) (left_since : D → ℕ → List 
         let S : List Batch → Type 0 = λ l. IsSound (j ++ l) in
         record {
           last = last;
+          is_failed = l.is_failed;
           sound = subst S (sym (append_assoc first more (last ∷ [])))
               (subst IsSound (append_assoc j first behind) l.sound);
           now = subst P (append_assoc j first more) l.now;
@@ -162,45 +167,49 @@ module _ {D : Type 0} (disk : D → DiskState) (left_since : D → ℕ → List 
         };
   }
 
-  goes_both : (j first more : List Batch) (a b c : Log D) (f g h : Option (ℕ × ℕ))
-      → a.fault ≡ f → b.fault ≡ g → c.fault ≡ h → Goes disk left_since j first f g a b
-      → Goes disk left_since (j ++ first) more g h b c
-      → Goes disk left_since j (first ++ more) f h a c
-  goes_both j first more a b c None None None fa fb fc one two =
+  goes_both : (j first more : List Batch) (p q r : Option Batch) (a b c : Log D)
+      (f g h : Option (ℕ × ℕ)) → a.fault ≡ f → b.fault ≡ g → c.fault ≡ h
+      → Goes disk left_since j first f g p q a b
+      → Goes disk left_since (j ++ first) more g h q r b c
+      → Goes disk left_since j (first ++ more) f h p r a c
+  goes_both j first more p q r a b c None None None fa fb fc one two =
       open_open j first more a.disk b.disk c.disk one two
-  goes_both j first more a b c None None (Some counts) fa fb fc one two =
-      open_closes counts j first more a.disk b.disk c.disk one two
-  goes_both j first more a b c None (Some counts) None fa fb fc one two =
+  goes_both j first more p q r a b c None None (Some counts) fa fb fc one two =
+      open_closes counts j first more r a.disk b.disk c.disk one two
+  goes_both j first more p q r a b c None (Some counts) None fa fb fc one two =
       absurd (none_some counts (sym fb ∙ ap (λ (l : Log D). l.fault) (sym two.0) ∙ fc))
-  goes_both j first more a b c None (Some counts) (Some later) fa fb fc one two =
+  goes_both j first more p q r a b c None (Some counts) (Some later) fa fb fc one two =
       let same : Some counts ≡ Some later = sym fb ∙ ap (λ (l : Log D). l.fault) (sym two.0) ∙ fc in
       let is : counts ≡ later = some_same counts later same in
       let none : first ++ more ≡ first =
       ap (λ (l : List Batch). first ++ l) two.1 ∙ append-nil first in
       let P : ℕ × ℕ → Type 0 =
-      λ k. Closes disk left_since k j (first ++ more) a.disk c.disk in
+      λ k. Closes disk left_since k j (first ++ more) r a.disk c.disk in
       let Q : Log D → Type 0 =
-      λ l. Closes disk left_since counts j (first ++ more) a.disk l.disk in
-      let R : List Batch → Type 0 = λ l. Closes disk left_since counts j l a.disk b.disk in
-      subst P is (subst Q (sym two.0) (subst R (sym none) one))
+      λ l. Closes disk left_since counts j (first ++ more) r a.disk l.disk in
+      let R : List Batch → Type 0 = λ l. Closes disk left_since counts j l r a.disk b.disk in
+      let S : Option Batch → Type 0 =
+      λ failed. Closes disk left_since counts j first failed a.disk b.disk in
+      subst P is (subst Q (sym two.0) (subst R (sym none) (subst S (sym two.2) one)))
     where
       some_same : (x y : ℕ × ℕ) → Some x ≡ Some y → x ≡ y
       some_same x y e = cc
-  goes_both j first more a b c (Some counts) None h fa fb fc one two =
+  goes_both j first more p q r a b c (Some counts) None h fa fb fc one two =
       absurd (none_some counts (sym fa ∙ ap (λ (l : Log D). l.fault) (sym one.0) ∙ fb))
-  goes_both j first more a b c (Some counts) (Some later) h fa fb fc one two =
-      (two.0 ∙ one.0, ap (λ (l : List Batch). l ++ more) one.1 ∙ two.1)
+  goes_both j first more p q r a b c (Some counts) (Some later) h fa fb fc one two =
+      (two.0 ∙ one.0, ap (λ (l : List Batch). l ++ more) one.1 ∙ two.1, two.2 ∙ one.2)
 
   pub since_before : (first second third : Stored D) → IsSince disk left_since first second
       → IsSince disk left_since second third → IsSince disk left_since first third
   since_before first second third a b =
       let now = second.manifest in
-      let P : List Batch → Type 0 =
-      λ j. Goes disk left_since j b.batches now.fault third.manifest.fault now third.manifest in
+      let P : List Batch → Type 0 = λ j. Goes disk left_since j b.batches now.fault
+      third.manifest.fault second.failed third.failed now third.manifest in
       record {
         batches = a.batches ++ b.batches;
         journal_is = b.journal_is ∙ ap (λ (l : List Batch). l ++ b.batches) a.journal_is
             ∙ append_assoc (journal first) a.batches b.batches;
-        manifest = goes_both (journal first) a.batches b.batches first.manifest now third.manifest
-            _ _ _ refl refl refl a.manifest (subst P a.journal_is b.manifest);
+        manifest = goes_both (journal first) a.batches b.batches first.failed second.failed
+            third.failed first.manifest now third.manifest _ _ _ refl refl refl a.manifest
+            (subst P a.journal_is b.manifest);
       }

@@ -1,5 +1,5 @@
 -- Statement: what becomes of a published list as neighbours become one, and as batches are stored.
-use Rattle.std.specs.Prelude.{◌≡◌, ◌⊎◌, ⊤, ℕ, Bool, false, List, [], ◌∷◌, ◌++◌, Option, None, Some, Result, Ok, Err, MatchOption, length}
+use Rattle.std.specs.Prelude.{◌≡◌, ◌⊎◌, ⊤, ℕ, Bool, false, List, [], ◌∷◌, ◌++◌, Option, None, Result, Ok, Err, MatchOption, length}
 use Rattle.disk_model.specs.Disk.{DiskState}
 use Rattle.explorer_model.specs.declared.archive.Batch.{Batch}
 use Rattle.segment_blocks.specs.Segment.{CountedSpan, IsSegment}
@@ -43,10 +43,11 @@ merging_by (Ok note) = Joined
 merging_by (Err (install.Gone spans)) = Left Gone
 merging_by (Err install.OutOfMemory) = Left OutOfMemory
 
--- the stored journal and the manifest are as they were
+-- the stored journal and the manifest are as they were, and the batch that failed
 pub record StoresSame {D : Type 0} (before after : Stored D) : Type 0 where
   pub same_journal : journal after ≡ journal before
   pub same_manifest : after.manifest ≡ before.manifest
+  pub same_failed : after.failed ≡ before.failed
 
 -- ---- behind batches
 

@@ -7,14 +7,7 @@ use Rattle.segment_blocks.specs.Segment.{CountedSpan}
 use Rattle.ingest_desk.specs.Installs.{list_by}
 use Rattle.ingest_desk.specs.Stored.{Stored, journal}
 use Rattle.import_run.specs.SinceLaws.{since_before, since_then}
-use Rattle.import_run.specs.Upkeep.{Follows, FollowsAll, IsSinceAlone, StoresSame}
-
-pub same_before : {D : Type 0} (first second third : Stored D) → StoresSame first second
-    → StoresSame second third → StoresSame first third
-same_before first second third a b = record {
-  same_journal = b.same_journal ∙ a.same_journal;
-  same_manifest = b.same_manifest ∙ a.same_manifest;
-}
+use Rattle.import_run.specs.Upkeep.{Follows, FollowsAll, IsSinceAlone}
 
 pub follows_both : (more rest : List Batch) (first second third : List CountedSpan)
     → FollowsAll more first second → FollowsAll rest second third

@@ -9,15 +9,15 @@ ghost use Rattle.explorer_model.specs.Journal.{IsSound, input_limit};
 ghost use Rattle.explorer_model.specs.Visits.{AreGamesOf};
 ghost use Rattle.record_log.specs.Log.{EachImage};
 ghost use Rattle.manifest.specs.Manifest.{HasJournal, IsWithOrWithoutBatch};
-ghost use Rattle.segment_blocks.specs.Segment.{CountedSpan};
+ghost use Rattle.segment_blocks.specs.Segment.{CountedSpan, IsSegment};
 ghost use Rattle.published_index.specs.Cover.{IsList, journal_of};
 ghost use Rattle.ingest_desk.specs.Alike.{StandAlike};
 ghost use Rattle.ingest_desk.specs.Importers.{call_of};
 ghost use Rattle.ingest_desk.specs.Installs.{list_by};
 ghost use Rattle.ingest_desk.specs.Kept.{Keeps};
+ghost use Rattle.ingest_desk.specs.Marked.{Marked};
 ghost use Rattle.outside.specs.Stream.{Stream};
 ghost use Rattle.ingest_desk.specs.Stored.{Stored, journal};
-ghost use Rattle.ingest_desk.specs.declared.mark.Mark.{Mark};
 ghost use Rattle.ingest_desk.specs.declared.report.Report.{Report};
 ghost use Rattle.ingest_desk.specs.declared.report.End.TheVariants as ends;
 ghost use Rattle.import_run.specs.Alone.{ImportsAlone};
@@ -91,7 +91,7 @@ pub fn imports_are_determined<D: Disk, J: Index>()
 
 /// Two imports of one told stream into one store have one end and come to the same, unless a call of
 /// the disk or a read fails, the bound is reached or memory is wanting. Where the disk fails, those come
-/// to the same that stored as many batches.
+/// to the same that stored as many batches, and one batch has failed.
 pub fn ends_are_determined<D: Disk, J: Index>()
     ensures plain { (bytes : List ℕ) (source source_after source_other : Stream)
         (before after other_after : Stored D) (report other : Report J)
@@ -102,12 +102,13 @@ pub fn ends_are_determined<D: Disk, J: Index>()
         → AreAlike first.batches second.batches report other × (report.end ≡ other.end) }
     ensures disk_fault { (bytes : List ℕ) (source source_after source_other : Stream)
         (before after other_after : Stored D) (report other : Report J) (a b a' b' : ℕ)
-        (mark mark' : Mark J) → source.left ≡ Some bytes
+        (mark mark' : Marked) → source.left ≡ Some bytes
         → (first : ImportsAlone D.disk D.left_since source before source_after after report)
         → (second : ImportsAlone D.disk D.left_since source before source_other other_after other)
         → report.end ≡ ends.DiskFault a b mark → other.end ≡ ends.DiskFault a' b' mark'
         → length first.batches ≡ length second.batches
-        → AreAlike first.batches second.batches report other }
+        → AreAlike first.batches second.batches report other
+        × (after.failed ≡ other_after.failed) }
 {
     game_is_determined();
     accounting_is_determined();
@@ -140,13 +141,13 @@ pub fn calls_are_determined<D: Disk, J: Index>()
 pub fn a_told_disk_has_the_journal<D: Disk>()
     ensures sound { (store : Stored D) (file : List ℕ)
         → (D.disk store.manifest.disk).content ≡ Some file
-        → Keeps D.disk D.left_since (journal store) store.manifest
+        → Keeps D.disk D.left_since (journal store) store.manifest store.failed
         → store.manifest.fault ≡ None → HasJournal (journal store) file }
     ensures closed { (store : Stored D) (file : List ℕ) (before after : ℕ)
         → (D.disk store.manifest.disk).content ≡ Some file
-        → Keeps D.disk D.left_since (journal store) store.manifest
+        → Keeps D.disk D.left_since (journal store) store.manifest store.failed
         → store.manifest.fault ≡ Some (before, after)
-        → (batch : Batch) × IsSound (journal store ++ batch ∷ [])
+        → (batch : Batch) × (store.failed ≡ Some batch) × IsSound (journal store ++ batch ∷ [])
         × IsWithOrWithoutBatch (journal store) batch file }
 {}
 
@@ -171,6 +172,7 @@ pub fn a_list_that_follows_has_the_journal()
         → FollowsAll batches list new → journal_of new ≡ journal_of list ++ batches }
     ensures list { (batches : List Batch) (list new : List CountedSpan) → IsList list
         → FollowsAll batches list new → IsList new }
+    ensures counts { (segment : CountedSpan) → IsSegment segment → CountsItsSpan segment }
     ensures segments { (batches : List Batch) (list new : List CountedSpan)
         → All CountsItsSpan list → FollowsAll batches list new → All CountsItsSpan new }
 {}

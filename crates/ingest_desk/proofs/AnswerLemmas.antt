@@ -12,7 +12,9 @@ use Rattle.ingest_desk.specs.Causes.{Cause, HasIds, HasNoRoom, IsClosed}
 use Rattle.ingest_desk.specs.declared.clashing.Clashing.{Clashing}
 use Rattle.ingest_desk.specs.declared.fault.CommitFault.{CommitFault}
 use Rattle.ingest_desk.specs.declared.fault.CommitFault.TheVariants as faults
-use Rattle.ingest_desk.specs.declared.mark.Mark.{Mark}
+use Rattle.ingest_desk.specs.declared.mark.MarkKind.{MarkKind}
+use Rattle.ingest_desk.specs.declared.mark.MarkKind.TheVariants as kinds
+use Rattle.ingest_desk.specs.Marked.{IsMark, Marked}
 use Rattle.ingest_desk.specs.declared.receipt.Receipt.{Receipt}
 
 -- ---- one cause
@@ -44,8 +46,15 @@ fault-counts b a b' a' is =
 same-ids : (pairs others : List Clashing) → Some (HasIds pairs) ≡ Some (HasIds others) → pairs ≡ others
 same-ids pairs others is = cc
 
-one-mark : {J : Type 0} (mark other : Mark J) → mark.kind ≡ other.kind → mark ≡ other
-one-mark mark other is = λ i. record { kind = is i; of = mark.of }
+one-mark : (kind : MarkKind) (b a b' a' : ℕ) (failed : Option Batch) (mark other : Marked)
+    → (b ≡ b') × (a ≡ a') → IsMark kind b a failed mark → IsMark kind b' a' failed other
+    → mark ≡ other
+one-mark kind b a b' a' failed mark other counts one second =
+    let kinds = one.kind_is ∙ sym second.kind_is in
+    let before = one.before_is ∙ counts.0 ∙ sym second.before_is in
+    let after = one.after_is ∙ counts.1 ∙ sym second.after_is in
+    let batch = one.failed_is ∙ sym second.failed_is in
+    λ i. record { kind = kinds i; before = before i; after = after i; failed = batch i }
 
 module _ {D J : Type 0} (disk : D → DiskState) (tally : Counted) (games : List Game) (journal : List Batch) (held : Option Change)
     (old new after : Log D) (same : new.fault ≡ after.fault) where
@@ -71,12 +80,12 @@ module _ {D J : Type 0} (disk : D → DiskState) (tally : Counted) (games : List
       absurd (cc (never))
   one-ok receipt (Err (faults.OutOfMemory stored)) a b had = absurd had
 
-  one-closed : (before later : ℕ) (mark : Mark J) (other : Result (Receipt J) (CommitFault J))
+  one-closed : (before later : ℕ) (mark : Marked) (other : Result (Receipt J) (CommitFault J))
       → First (Err (faults.Closed before later mark)) → Second other → HadMemory other → Err (faults.Closed before later mark) ≡ other
   one-closed before later mark (Ok r) a b had = absurd (cc (clash a.refused b.refused))
   one-closed before later mark (Err (faults.Closed before' later' mark')) a b had =
       let counts = closed-counts before later before' later' (clash a.refused b.refused) in
-      let marks = one-mark mark mark' (a.marked ∙ sym b.marked) in
+      let marks = one-mark kinds.Closed before later before' later' None mark mark' counts a.marked b.marked in
       λ i. Err (faults.Closed (counts.0 i) (counts.1 i) (marks i))
   one-closed before later mark (Err (faults.Clash handed pairs note)) a b had = absurd (cc (clash a.refused b.refused.0))
   one-closed before later mark (Err (faults.Full g bytes note)) a b had = absurd (cc (clash a.refused b.refused))
@@ -108,7 +117,7 @@ module _ {D J : Type 0} (disk : D → DiskState) (tally : Counted) (games : List
   one-full g bytes note (Err (faults.DiskFault before later mark)) a b had = absurd (cc (clash a.refused b.refused))
   one-full g bytes note (Err (faults.OutOfMemory stored)) a b had = absurd had
 
-  one-fault : (before later : ℕ) (mark : Mark J) (other : Result (Receipt J) (CommitFault J))
+  one-fault : (before later : ℕ) (mark : Marked) (other : Result (Receipt J) (CommitFault J))
       → First (Err (faults.DiskFault before later mark)) → Second other → HadMemory other → Err (faults.DiskFault before later mark) ≡ other
   one-fault before later mark (Ok r) a b had =
       let never : ◌≡◌ {A = Option (ℕ × ℕ)} None (Some (before, later)) = sym (stored-open disk old after _ b.leaves) ∙ sym same ∙ broken disk old new before later a.leaves in
@@ -119,7 +128,7 @@ module _ {D J : Type 0} (disk : D → DiskState) (tally : Counted) (games : List
   one-fault before later mark (Err (faults.DiskFault before' later' mark')) a b had =
       let counts = fault-counts before later before' later'
       (sym (broken disk old new before later a.leaves) ∙ same ∙ broken disk old after before' later' b.leaves) in
-      let marks = one-mark mark mark' (a.marked ∙ sym b.marked) in
+      let marks = one-mark kinds.DiskFault before later before' later' (Some tally.batch) mark mark' counts a.marked b.marked in
       λ i. Err (faults.DiskFault (counts.0 i) (counts.1 i) (marks i))
   one-fault before later mark (Err (faults.OutOfMemory stored)) a b had = absurd had
 

@@ -23,7 +23,7 @@ use Rattle.explorer_model.specs.Visits.{IsTextOf, texts_of}
 use Rattle.explorer_model.proofs.LabelLemmas.{label-short}
 use Rattle.manifest.proofs.PayloadLemmas.{length-texts}
 use Rattle.manifest.specs.Manifest.{IsManifestOf, IsWithOrWithoutBatch}
-use Rattle.record_log.specs.Log.{IsNotAdded, Log}
+use Rattle.record_log.specs.Log.{EachImage, IsNotAdded, Log}
 use Rattle.record_log.specs.declared.fault.AppendFault.{AppendFault}
 use Rattle.record_log.specs.declared.fault.AppendFault.TheVariants as appends
 use Rattle.published_index.specs.Calls.{Makes, Retries}
@@ -31,6 +31,9 @@ use Rattle.published_index.specs.Changes.{AddOf, Change, JoinAt, with_held, with
 use Rattle.published_index.specs.Cover.{journal_of}
 use Rattle.published_index.specs.States.{Publishing, journal_by}
 use Rattle.ingest_desk.specs.Installs.{caught_up, list_by}
+use Rattle.ingest_desk.specs.Commits.{Fails, IsFaultOf, failed_after}
+use Rattle.ingest_desk.specs.declared.fault.CommitFault.{CommitFault}
+use Rattle.ingest_desk.specs.declared.fault.CommitFault.TheVariants as commits
 use Rattle.ingest_desk.specs.Kept.{IsKept, Keeps, KeepsBy}
 use Rattle.ingest_desk.specs.Registers.{IsRegisterOf, IsSame, text_bytes}
 use Rattle.ingest_desk.specs.declared.register.Register.{Register}
@@ -39,6 +42,28 @@ use Rattle.ingest_desk.proofs.RegisterLemmas.{fewer_batches, register_same}
 
 pub fault_none : (counts : ℕ × ℕ) → Some counts ≡ None → ⊥
 fault_none counts e = cc
+
+-- ---- the batch that failed
+
+-- what is kept of it where the manifest has not taken a batch
+pub fails_by : {J : Type 0} (fault : AppendFault) (answer : CommitFault J) (batch : Batch)
+    (old new : Option Batch) → IsFaultOf fault answer → old ≡ None
+    → new ≡ failed_after fault batch → Fails (Err answer) batch old new
+fails_by (appends.Closed b a) (commits.Closed before after mark) batch old new is none kept = kept ∙ sym none
+fails_by (appends.Closed b a) (commits.Clash handed pairs note) batch old new is none kept = absurd is
+fails_by (appends.Closed b a) (commits.Full games bytes note) batch old new is none kept = absurd is
+fails_by (appends.Closed b a) (commits.DiskFault before after mark) batch old new is none kept = absurd is
+fails_by (appends.Closed b a) (commits.OutOfMemory stored) batch old new is none kept = absurd is
+fails_by (appends.DiskFault b a) (commits.Closed before after mark) batch old new is none kept = absurd is
+fails_by (appends.DiskFault b a) (commits.Clash handed pairs note) batch old new is none kept = absurd is
+fails_by (appends.DiskFault b a) (commits.Full games bytes note) batch old new is none kept = absurd is
+fails_by (appends.DiskFault b a) (commits.DiskFault before after mark) batch old new is none kept = kept
+fails_by (appends.DiskFault b a) (commits.OutOfMemory stored) batch old new is none kept = absurd is
+fails_by appends.OutOfMemory (commits.Closed before after mark) batch old new is none kept = absurd is
+fails_by appends.OutOfMemory (commits.Clash handed pairs note) batch old new is none kept = absurd is
+fails_by appends.OutOfMemory (commits.Full games bytes note) batch old new is none kept = absurd is
+fails_by appends.OutOfMemory (commits.DiskFault before after mark) batch old new is none kept = absurd is
+fails_by appends.OutOfMemory (commits.OutOfMemory stored) batch old new is none kept = kept ∙ sym none
 
 -- ---- the index
 
@@ -174,25 +199,56 @@ low journal batch gate sound place label few short =
 
 -- ---- the disk
 
+-- a crash leaves the journal with the batch that failed or without it, and it is sound with that
+pub record LeftBroken {D : Type 0} (disk : D → DiskState) (left_since : D → ℕ → List ℕ → Type 0)
+    (journal : List Batch) (manifest : Log D) (failed : Option Batch) : Type 0 where
+  pub batch : Batch
+  pub is_failed : failed ≡ Some batch
+  pub sound : IsSound (journal ++ batch ∷ [])
+  pub images : EachImage disk left_since manifest.disk (IsWithOrWithoutBatch journal batch)
+
 module _ {D : Type 0} (disk : D → DiskState) (left_since : D → ℕ → List ℕ → Type 0) where
   sound_by : (journal : List Batch) (manifest : Log D) (fault : Option (ℕ × ℕ))
-      → KeepsBy disk left_since journal manifest fault → fault ≡ None
-      → IsManifestOf disk left_since journal manifest
-  sound_by journal manifest None keeps none = keeps
-  sound_by journal manifest (Some counts) keeps none = absurd (fault_none counts none)
+      (failed : Option Batch) → KeepsBy disk left_since journal manifest fault failed → fault ≡ None
+      → IsManifestOf disk left_since journal manifest × (failed ≡ None)
+  sound_by journal manifest None None keeps none = (keeps, refl)
+  sound_by journal manifest None (Some batch) keeps none = absurd keeps
+  sound_by journal manifest (Some counts) failed keeps none = absurd (fault_none counts none)
 
-  pub sound_manifest : (journal : List Batch) (manifest : Log D)
-      → Keeps disk left_since journal manifest → manifest.fault ≡ None
+  pub sound_manifest : (failed : Option Batch) (journal : List Batch) (manifest : Log D)
+      → Keeps disk left_since journal manifest failed → manifest.fault ≡ None
       → IsManifestOf disk left_since journal manifest
-  sound_manifest journal manifest keeps none = sound_by journal manifest manifest.fault keeps none
+  sound_manifest failed journal manifest keeps none =
+      (sound_by journal manifest manifest.fault failed keeps none).0
+
+  pub none_failed : (failed : Option Batch) (journal : List Batch) (manifest : Log D)
+      → Keeps disk left_since journal manifest failed → manifest.fault ≡ None → failed ≡ None
+  none_failed failed journal manifest keeps none =
+      (sound_by journal manifest manifest.fault failed keeps none).1
+
+  closed_by : (counts : ℕ × ℕ) (journal : List Batch) (manifest : Log D) (fault : Option (ℕ × ℕ))
+      (failed : Option Batch) → KeepsBy disk left_since journal manifest fault failed
+      → fault ≡ Some counts → LeftBroken disk left_since journal manifest failed
+  closed_by counts journal manifest None failed keeps is = absurd (fault_none counts (sym is))
+  closed_by counts journal manifest (Some others) None keeps is = absurd keeps
+  closed_by counts journal manifest (Some others) (Some batch) keeps is =
+      record { batch = batch; is_failed = refl; sound = keeps.0; images = keeps.1 }
+
+  -- what is left where a disk fault closed the store
+  pub left_broken : (failed : Option Batch) (counts : ℕ × ℕ) (journal : List Batch)
+      (manifest : Log D) → Keeps disk left_since journal manifest failed
+      → manifest.fault ≡ Some counts → LeftBroken disk left_since journal manifest failed
+  left_broken failed counts journal manifest keeps is =
+      closed_by counts journal manifest manifest.fault failed keeps is
 
   keeps_by : (journal : List Batch) (manifest : Log D) (fault : Option (ℕ × ℕ)) → fault ≡ None
-      → IsManifestOf disk left_since journal manifest → KeepsBy disk left_since journal manifest fault
+      → IsManifestOf disk left_since journal manifest
+      → KeepsBy disk left_since journal manifest fault None
   keeps_by journal manifest None none is = is
   keeps_by journal manifest (Some counts) none is = absurd (fault_none counts none)
 
   pub keeps_sound : (journal : List Batch) (manifest : Log D)
-      → IsManifestOf disk left_since journal manifest → Keeps disk left_since journal manifest
+      → IsManifestOf disk left_since journal manifest → Keeps disk left_since journal manifest None
   keeps_sound journal manifest is = keeps_by journal manifest manifest.fault is.sound is
 
   -- a crash leaves nothing new where the disk is left alone
@@ -212,28 +268,31 @@ module _ {D : Type 0} (disk : D → DiskState) (left_since : D → ℕ → List 
       → (journal : List Batch) (batch : Batch) (fault : AppendFault) (old new : Log D)
       → IsManifestOf disk left_since journal old → IsSound (journal ++ batch ∷ [])
       → LeavesOnly disk left_since old.disk new.disk (IsWithOrWithoutBatch journal batch)
-      → IsNotAdded disk fault old new → Keeps disk left_since journal new
+      → IsNotAdded disk fault old new
+      → Keeps disk left_since journal new (failed_after fault batch)
   keeps_after counts journal batch (appends.Closed before after) old new is sound leaves refuses =
-      subst (Keeps disk left_since journal) (sym refuses.same) (keeps_sound journal old is)
+      subst (λ (m : Log D). Keeps disk left_since journal m None) (sym refuses.same)
+      (keeps_sound journal old is)
   keeps_after counts journal batch appends.OutOfMemory old new is sound leaves refuses =
-      subst (Keeps disk left_since journal) (sym refuses.same) (keeps_sound journal old is)
+      subst (λ (m : Log D). Keeps disk left_since journal m None) (sym refuses.same)
+      (keeps_sound journal old is)
   keeps_after counts journal batch (appends.DiskFault before after) old new is sound leaves breaks =
-      subst (Keeps disk left_since journal) (sym breaks.rest)
-      (batch, sound, λ image left. leaves.each image (counts new.disk (disk old.disk).moment image leaves.later left))
+      subst (λ (m : Log D). Keeps disk left_since journal m (Some batch)) (sym breaks.rest)
+      (sound, λ image left. leaves.each image (counts new.disk (disk old.disk).moment image leaves.later left))
 
   -- ---- the invariant
 
-  pub kept_index : (manifest : Log D) (old new : Publishing) (register : Register)
-      → IsKept disk left_since manifest old register → journal_by new ≡ journal_by old
-      → IsKept disk left_since manifest new register
-  kept_index manifest old new register kept same = record {
+  pub kept_index : {failed : Option Batch} (manifest : Log D) (old new : Publishing)
+      (register : Register) → IsKept disk left_since manifest old register failed
+      → journal_by new ≡ journal_by old → IsKept disk left_since manifest new register failed
+  kept_index {failed} manifest old new register kept same = record {
     knows = subst (λ journal. IsRegisterOf journal register) (sym same) kept.knows;
-    keeps = subst (λ journal. Keeps disk left_since journal manifest) (sym same) kept.keeps;
+    keeps = subst (λ journal. Keeps disk left_since journal manifest failed) (sym same) kept.keeps;
   }
 
-  pub kept_register : (manifest : Log D) (index : Publishing) (old new : Register)
-      → IsKept disk left_since manifest index old → IsSame old new
-      → IsKept disk left_since manifest index new
+  pub kept_register : {failed : Option Batch} (manifest : Log D) (index : Publishing)
+      (old new : Register) → IsKept disk left_since manifest index old failed → IsSame old new
+      → IsKept disk left_since manifest index new failed
   kept_register manifest index old new kept same = record {
     knows = register_same (journal_by index) old new kept.knows same;
     keeps = kept.keeps;

@@ -24,7 +24,7 @@ pub record IsAnswer {D J : Type 0} (disk : D → DiskState) (tally : Counted) (g
   pub held_then : Option Change
   pub told : Tells answer stored held_then
   pub holds : HoldsThen answer tally.batch held_then
-  pub marked : IsMarked answer
+  pub marked : IsMarked answer tally.batch
 
 -- memory was there
 abbrev pub HadMemory : {J : Type 0} → Result (Receipt J) (CommitFault J) → Type 0

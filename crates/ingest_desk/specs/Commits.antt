@@ -14,6 +14,7 @@ use Rattle.ingest_desk.specs.Causes.{Cause, HasIds, HasNoRoom, IsClosed}
 use Rattle.ingest_desk.specs.declared.fault.CommitFault.{CommitFault}
 use Rattle.ingest_desk.specs.declared.fault.CommitFault.TheVariants as faults
 use Rattle.ingest_desk.specs.declared.mark.MarkKind.TheVariants as kinds
+use Rattle.ingest_desk.specs.Marked.{IsMark}
 use Rattle.ingest_desk.specs.declared.receipt.Receipt.{Receipt}
 
 -- no earlier commit met a disk fault
@@ -58,6 +59,12 @@ Leaves disk (Err (faults.DiskFault before after mark)) batch old new =
     Breaks disk before after old new
 Leaves disk (Err _) batch old new = new ≡ old
 
+-- the batch that failed afterwards: that of a disk fault, and else the same as before
+abbrev pub Fails : {J : Type 0} → Result (Receipt J) (CommitFault J)
+    → Batch → Option Batch → Option Batch → Type 0
+Fails (Err (faults.DiskFault before after mark)) batch old new = new ≡ Some batch
+Fails _ batch old new = new ≡ old
+
 -- the receipt of a batch behind a journal
 pub record IsReceiptOf {J : Type 0} (receipt : Receipt J) (old : List Batch)
     (batch : Batch) : Type 0 where
@@ -88,12 +95,13 @@ HoldsThen (Err (faults.DiskFault before after mark)) batch held = held ≡ None
 HoldsThen (Err (faults.OutOfMemory true)) batch held = Waits batch held
 HoldsThen _ batch held = Unit {0}
 
--- a mark has the kind of its answer
+-- a mark has the kind and the counts of its answer, and after a disk fault the batch that failed
 abbrev pub IsMarked : {J : Type 0} → Result (Receipt J) (CommitFault J)
-    → Type 0
-IsMarked (Err (faults.Closed before after mark)) = mark.kind ≡ kinds.Closed
-IsMarked (Err (faults.DiskFault before after mark)) = mark.kind ≡ kinds.DiskFault
-IsMarked _ = Unit {0}
+    → Batch → Type 0
+IsMarked (Err (faults.Closed before after mark)) batch = IsMark kinds.Closed before after None mark
+IsMarked (Err (faults.DiskFault before after mark)) batch =
+    IsMark kinds.DiskFault before after (Some batch) mark
+IsMarked _ batch = Unit {0}
 
 -- ---- a batch that nothing is against
 
@@ -113,3 +121,8 @@ IsFaultOf (appends.DiskFault before after) (faults.DiskFault before' after' mark
     (before' ≡ before) × (after' ≡ after)
 IsFaultOf appends.OutOfMemory (faults.OutOfMemory stored) = stored ≡ false
 IsFaultOf _ _ = ⊥
+
+-- the batch that failed, where the manifest has not taken it
+abbrev pub failed_after : AppendFault → Batch → Option Batch
+failed_after (appends.DiskFault before after) batch = Some batch
+failed_after _ batch = None

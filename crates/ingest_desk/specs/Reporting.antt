@@ -9,9 +9,10 @@ use Rattle.explorer_model.specs.declared.fault.Why.TheVariants.{Repeated, TooLon
 use Rattle.explorer_model.specs.Cuts.{Cut, Text, cuts}
 use Rattle.explorer_model.specs.Cuts as pieces
 use Rattle.explorer_model.specs.Labels.{no_label}
-use Rattle.explorer_model.specs.Imports.{AccountedBeside, Candidate, Examination, IsExaminationOf, Numbering, candidates, group_limit, groups, is_text, numbers_of, refusals, verdicts_behind}
+use Rattle.explorer_model.specs.Imports.{AccountedBeside, Candidate, Examination, IsExaminationOf, Numbering, batch_of, candidates, group_limit, groups, is_text, numbers_of, refusals, verdicts_behind}
 use Rattle.explorer_model.specs.Journal.{AreWithin, byte_count, game_count}
 use Rattle.explorer_model.specs.Visits.{AreGamesOf, IsTextOf, texts_of}
+use Rattle.ingest_desk.specs.Marked.{IsMark}
 use Rattle.ingest_desk.specs.declared.mark.MarkKind.TheVariants as kinds
 use Rattle.ingest_desk.specs.declared.receipt.Receipt.{Receipt}
 use Rattle.ingest_desk.specs.declared.report.End.{End}
@@ -131,9 +132,11 @@ pub record FindsNoRoom (journal : List Batch) (games bytes : ℕ) (left : List C
 abbrev pub AccountsTo : {J : Type 0} → End J → List (List Cut) → List Batch → List Refusal → Type 0
 AccountsTo ends.Whole groups batches refused = AccountedBeside no_label groups batches refused
 AccountsTo (ends.DiskFault before after mark) groups batches refused =
-    (mark.kind ≡ kinds.DiskFault) × (left : List Candidate) × BreaksAt groups batches refused left
+    (left : List Candidate) × BreaksAt groups batches refused left
+    × IsMark kinds.DiskFault before after (batch_of no_label left) mark
 AccountsTo (ends.Closed before after mark) groups batches refused =
-    (mark.kind ≡ kinds.Closed) × (left : List Candidate) × BreaksAt groups batches refused left
+    (left : List Candidate) × BreaksAt groups batches refused left
+    × IsMark kinds.Closed before after None mark
 AccountsTo (ends.Full games bytes note) groups batches refused =
     (left : List Candidate) × BreaksAt groups batches refused left
     × FindsNoRoom note games bytes left

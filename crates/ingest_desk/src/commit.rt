@@ -1,6 +1,7 @@
 //! A batch is stored and published.
 ghost use Rattle.std.specs.Prelude.{◌≡◌, ◌<◌, ◌≤◌, ◌+◌, ◌^◌, ◌++◌, ◌∷◌, [], ℕ, List, Option, None, Some, IfOk, OnOk, length};
 ghost use Rattle.std.specs.Arc.{arc_value};
+ghost use Rattle.std.specs.Option.{option_map};
 ghost use Rattle.disk_model.specs.Disk.{LeavesOnly};
 ghost use Rattle.explorer_model.specs.declared.archive.Batch.{Batch as StoredBatch};
 ghost use Rattle.explorer_model.specs.declared.archive.Game.{Game};
@@ -11,7 +12,7 @@ ghost use Rattle.manifest.specs.Manifest.{HasJournal, IsWithOrWithoutBatch};
 ghost use Rattle.segment_blocks.specs.Segment.{IsSegment};
 ghost use Rattle.published_index.specs.Cover.{list_limit};
 ghost use Rattle.ingest_desk.specs.Causes.{Judges, cause, cause_of_new};
-ghost use Rattle.ingest_desk.specs.Commits.{HoldsThen, IsFaultOf, IsMarked, IsReceiptOf, IsStoring, Leaves, Refuses, Stores, Tells};
+ghost use Rattle.ingest_desk.specs.Commits.{Fails, HoldsThen, IsFaultOf, IsMarked, IsReceiptOf, IsStoring, Leaves, Refuses, Stores, Tells, failed_after};
 ghost use Rattle.ingest_desk.specs.Listing.{Lists, ListsStored};
 ghost use Rattle.ingest_desk.specs.Registers.{IsSegmentOf};
 ghost use Rattle.ingest_desk.specs.Stored.{journal};
@@ -23,11 +24,13 @@ use crate::mark::Mark;
 use crate::receipt::Receipt;
 use crate::register::Verdict;
 use disk_model::Disk;
+use explorer_model::archive::Batch;
 use game_replay::laws::game_is_determined;
 use published_index::{Index, SharedSegment};
 use record_log::AppendFault;
 use segment_blocks::Segment;
 use std::alloc::{AllocError, Global};
+use std::snapshot::Snapshot;
 use std::sync::{Arc, Wait};
 use std::thread::Threads;
 use tally_rows::Tally;
@@ -50,7 +53,8 @@ impl<D: Disk, J: Index> Ingest<D, J> {
             (λ receipt. IsReceiptOf receipt (journal self.old) tally.batch) }
         ensures told { Tells result (journal self.new) self.new.index.held }
         ensures holds { HoldsThen result tally.batch self.new.index.held }
-        ensures marked { IsMarked result }
+        ensures marked { IsMarked result tally.batch }
+        ensures failed { Fails result tally.batch self.old.failed self.new.failed }
         ensures list { Lists result tally.batch self.old.index self.new.index.list }
         ensures few { length self.new.index.list ≤ list_limit }
 
@@ -70,7 +74,7 @@ impl<D: Disk, J: Index> Ingest<D, J> {
             return Err(CommitFault::Closed {
                 before,
                 after,
-                mark: Mark::closed(),
+                mark: Mark::closed(before, after),
             });
         }
         if self.catch_up(rt).is_err() {
@@ -151,7 +155,8 @@ impl<D: Disk, J: Index> Ingest<D, J> {
             (λ receipt. IsReceiptOf receipt (journal self.old) tally.batch) }
         ensures told { Tells result (journal self.new) self.new.index.held }
         ensures holds { HoldsThen result tally.batch self.new.index.held }
-        ensures marked { IsMarked result }
+        ensures marked { IsMarked result tally.batch }
+        ensures failed { Fails result tally.batch self.old.failed self.new.failed }
         ensures list { ListsStored result tally.batch self.old.index.list self.new.index.list }
         ensures few { length self.new.index.list ≤ list_limit }
         ensures crash { LeavesOnly D.disk D.left_since
@@ -168,8 +173,10 @@ impl<D: Disk, J: Index> Ingest<D, J> {
         let Ok(segment) = share_of(alloc, place, tally) else {
             return Err(CommitFault::OutOfMemory { stored: false });
         };
-        if let Err(fault) = self.manifest.store(alloc, batch_of(&segment, 0)) {
-            return Err(fault_of(fault));
+        let batch = batch_of(&segment, 0);
+        if let Err(fault) = self.manifest.store(alloc, batch) {
+            self.failed = failed_by(&fault, batch);
+            return Err(fault_of(fault, batch));
         }
         let first = self.register.games() as u32;
         self.register.enter(&segment);
@@ -197,21 +204,31 @@ pub(crate) fn share_of(alloc: Global, place: u32, tally: Tally) -> Result<Shared
     Ok(Arc::new(alloc, segment)?)
 }
 
+/// The batch that failed where the manifest has not taken it: it is one of a disk fault alone.
+fn failed_by(fault: &AppendFault, batch: &Batch) -> Option<Snapshot<Batch>>
+    ensures { option_map (λ batch. batch.value) result ≡ failed_after fault.now batch.now }
+{
+    match fault {
+        AppendFault::DiskFault { .. } => Some(Snapshot::of(batch)),
+        AppendFault::Closed { .. } | AppendFault::OutOfMemory => None,
+    }
+}
+
 /// The answer where the manifest has not taken a batch.
-fn fault_of<J: Index>(fault: AppendFault) -> CommitFault<J>
+fn fault_of<J: Index>(fault: AppendFault, batch: &Batch) -> CommitFault<J>
     ensures fault { IsFaultOf fault result }
-    ensures marked { IsMarked (Err result) }
+    ensures marked { IsMarked (Err result) batch.now }
 {
     match fault {
         AppendFault::Closed { before, after } => CommitFault::Closed {
             before,
             after,
-            mark: Mark::closed(),
+            mark: Mark::closed(before, after),
         },
         AppendFault::DiskFault { before, after } => CommitFault::DiskFault {
             before,
             after,
-            mark: Mark::disk_fault(),
+            mark: Mark::disk_fault(before, after, batch),
         },
         AppendFault::OutOfMemory => CommitFault::OutOfMemory { stored: false },
     }

@@ -10,10 +10,12 @@ ghost use Rattle.ingest_desk.specs.Stored.{journal};
 
 use crate::register::Register;
 use disk_model::Disk;
+use explorer_model::archive::Batch;
 use manifest::Manifest;
 use published_index::{Index, Note, Pass, Publisher};
 use std::alloc::AllocError;
 use std::marker::Model;
+use std::snapshot::Snapshot;
 use std::sync::{Mutex, Wait};
 
 /// A store with its ids and its published list, as one value: what is published is what is stored,
@@ -23,6 +25,8 @@ pub struct Ingest<D: Disk, J: Index> {
     pub(crate) manifest: Manifest<D>,
     pub(crate) publisher: Publisher<J>,
     pub(crate) register: Register,
+    /// The batch that failed, if one did, for contracts alone.
+    pub(crate) failed: Option<Snapshot<Batch>>,
 }
 
 /// An ingest that threads share. What is true of each `Ingest` is known whenever the lock is taken.
@@ -33,11 +37,17 @@ impl<D: Disk, J: Index> Model for Ingest<D, J> {
 
     ghost Value = { Stored D };
 
+    ghost use Rattle.std.specs.Option.{option_map};
     ghost use Rattle.ingest_desk.specs.Kept.{IsKept};
 
-    ghost view = { λ i. record { manifest = i.manifest; index = i.publisher } };
+    ghost view = { λ i. record {
+      manifest = i.manifest;
+      index = i.publisher;
+      failed = option_map (λ batch. batch.value) i.failed;
+    } };
 
-    ghost invariant = { λ i. IsKept D.disk D.left_since i.manifest i.publisher i.register };
+    ghost invariant = { λ i. IsKept D.disk D.left_since i.manifest i.publisher i.register
+        (option_map (λ batch. batch.value) i.failed) };
 }
 
 impl<D: Disk, J: Index> Ingest<D, J> {
@@ -45,7 +55,8 @@ impl<D: Disk, J: Index> Ingest<D, J> {
     pub fn batches(&self) -> u32
         ensures batches { result ≡ length (journal self.now) }
         ensures sound { IsSound (journal self.now) }
-        ensures keeps { Keeps D.disk D.left_since (journal self.now) self.now.manifest }
+        ensures keeps { Keeps D.disk D.left_since (journal self.now) self.now.manifest
+            self.now.failed }
         ensures list { IsPublishing self.now.index }
     {
         let _list = self.publisher.list();
@@ -79,6 +90,7 @@ impl<D: Disk, J: Index> Ingest<D, J> {
     pub fn catch_up<R: Wait>(&mut self, rt: &R) -> Result<Option<Note<J>>, AllocError>
         ensures retries { Retries self.old.index self.new.index self.old.index.held result }
         ensures manifest { self.new.manifest ≡ self.old.manifest }
+        ensures failed { self.new.failed ≡ self.old.failed }
         ensures journal { journal self.new ≡ journal self.old }
         ensures none_held { OnOk result (self.new.index.held ≡ None) }
         ensures nothing { self.old.index.held ≡ None → IsOk result }
@@ -97,6 +109,7 @@ impl<D: Disk, J: Index> Ingest<D, J> {
             manifest,
             publisher,
             register: _register,
+            failed: _failed,
         } = self;
         publisher.close(rt);
         manifest.into_disk()

@@ -1,9 +1,11 @@
 //! Marks of the answers of commits.
-ghost use Rattle.std.specs.Prelude.{◌≡◌};
+ghost use Rattle.std.specs.Prelude.{◌≡◌, None, Some};
 ghost use Rattle.ingest_desk.specs.Marking.{counted};
 
+use explorer_model::archive::Batch;
 use published_index::Index;
-use std::marker::PhantomData;
+use std::marker::{Model, PhantomData};
+use std::snapshot::Snapshot;
 
 /// Which answer of a commit a mark tells of.
 #[derive(Clone, Copy, Debug, PartialEq, Eq)]
@@ -12,28 +14,65 @@ pub enum MarkKind {
     Closed,
 }
 
-/// That a commit on the desk of an index gave an answer of this kind. A commit alone gives one.
+/// That a commit on the desk of an index gave an answer of this kind, with these counts of the disk's
+/// faults. A commit alone gives one. Contracts see the batch that failed too.
 #[derive(Drop)]
 pub struct Mark<J: Index> {
-    pub(crate) kind: MarkKind,
-    pub(crate) of: PhantomData<J>,
+    kind: MarkKind,
+    before: u64,
+    after: u64,
+    failed: Option<Snapshot<Batch>>,
+    of: PhantomData<J>,
+}
+
+impl<J: Index> Model for Mark<J> {
+    ghost use Rattle.ingest_desk.specs.Marked.{Marked};
+
+    ghost Value = { Marked };
+
+    ghost use Rattle.std.specs.Option.{option_map};
+
+    ghost view = { λ mark. record {
+      kind = mark.kind;
+      before = mark.before;
+      after = mark.after;
+      failed = option_map (λ batch. batch.value) mark.failed;
+    } };
 }
 
 impl<J: Index> Mark<J> {
-    pub(crate) fn disk_fault() -> Mark<J>
-        ensures { result.kind ≡ MarkKind.DiskFault }
+    /// The mark of a disk fault, by which this batch failed.
+    pub(crate) fn disk_fault(before: u64, after: u64, batch: &Batch) -> Mark<J>
+        ensures { result ≡ record {
+          kind = MarkKind.DiskFault;
+          before = before;
+          after = after;
+          failed = Some batch.now;
+        } }
     {
         Mark {
             kind: MarkKind::DiskFault,
+            before,
+            after,
+            failed: Some(Snapshot::of(batch)),
             of: PhantomData,
         }
     }
 
-    pub(crate) fn closed() -> Mark<J>
-        ensures { result.kind ≡ MarkKind.Closed }
+    /// The mark of a closed store.
+    pub(crate) fn closed(before: u64, after: u64) -> Mark<J>
+        ensures { result ≡ record {
+          kind = MarkKind.Closed;
+          before = before;
+          after = after;
+          failed = None;
+        } }
     {
         Mark {
             kind: MarkKind::Closed,
+            before,
+            after,
+            failed: None,
             of: PhantomData,
         }
     }
@@ -42,6 +81,20 @@ impl<J: Index> Mark<J> {
         ensures { result ≡ self.now.kind }
     {
         self.kind
+    }
+
+    /// The count of the disk's faults before the call that failed.
+    pub fn before(&self) -> u64
+        ensures { result ≡ self.now.before }
+    {
+        self.before
+    }
+
+    /// The same count behind it.
+    pub fn after(&self) -> u64
+        ensures { result ≡ self.now.after }
+    {
+        self.after
     }
 }
 

@@ -56,6 +56,7 @@ impl<D: Disk, J: Index> Ingest<D, J> {
         ensures installs { Installs job.left.span job.right.span merged
             self.old.index self.new.index result }
         ensures manifest { self.new.manifest ≡ self.old.manifest }
+        ensures failed { self.new.failed ≡ self.old.failed }
         ensures journal { journal self.new ≡ journal self.old }
     {
         if self.catch_up(rt).is_err() {
@@ -77,6 +78,7 @@ impl<D: Disk, J: Index> Ingest<D, J> {
         ensures installs { Installs job.now.left.span job.now.right.span merged
             self.old.index self.new.index result }
         ensures manifest { self.new.manifest ≡ self.old.manifest }
+        ensures failed { self.new.failed ≡ self.old.failed }
         ensures journal { journal self.new ≡ journal self.old }
     {
         let Some(at) = self.find(job) else {
@@ -117,6 +119,7 @@ impl<D: Disk, J: Index> Ingest<D, J> {
         ensures room { OnOk result (length self.new.index.list < list_limit) }
         ensures none_held { OnOk result (self.new.index.held ≡ None) }
         ensures manifest { self.new.manifest ≡ self.old.manifest }
+        ensures failed { self.new.failed ≡ self.old.failed }
         ensures journal { journal self.new ≡ journal self.old }
         ensures few { length self.new.index.list ≤ list_limit }
     {

@@ -28,13 +28,14 @@ impl<D: Disk> Model for Unnamed<D> {
 
     ghost Value = { Nameless D };
 
+    ghost use Rattle.std.specs.Prelude.{None};
     ghost use Rattle.published_index.specs.States.{publishing};
     ghost use Rattle.ingest_desk.specs.Kept.{IsKept};
 
     ghost view = { λ u. record { manifest = u.manifest; index = u.index } };
 
     ghost invariant = { λ u. IsKept D.disk D.left_since u.manifest (publishing u.index.list)
-        u.register };
+        u.register None };
 }
 
 impl<D: Disk> Unnamed<D> {
@@ -58,6 +59,7 @@ impl<D: Disk> Unnamed<D> {
                     manifest,
                     publisher,
                     register,
+                    failed: None,
                 };
                 Ok((ingest, passes))
             }

@@ -93,8 +93,8 @@ accounts-by : {J : Type 0} (end : End J) (journal : List Batch) (groups : List (
     → AccountsBy (ending_of end) journal groups batches refused
 accounts-by ends.Whole journal groups batches refused in_memory told a = a
 accounts-by (ends.ReadFault before after) journal groups batches refused in_memory told a = absurd in_memory
-accounts-by (ends.DiskFault before after mark) journal groups batches refused in_memory told a = (a.1, a.2)
-accounts-by (ends.Closed before after mark) journal groups batches refused in_memory told a = (a.1, a.2)
+accounts-by (ends.DiskFault before after mark) journal groups batches refused in_memory told a = (a.0, a.1)
+accounts-by (ends.Closed before after mark) journal groups batches refused in_memory told a = (a.0, a.1)
 accounts-by (ends.Full games bytes note) journal groups batches refused in_memory told a =
     (a.0, a.1, record { front = note; is_front = told; no_room = a.2 })
 accounts-by (ends.TooMuch bytes) journal groups batches refused in_memory told a = absurd in_memory

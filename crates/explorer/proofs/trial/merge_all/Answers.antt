@@ -11,6 +11,7 @@ merging-preserved g c =
     record {
       same_journal = c.merge_due.ensures.same.same_journal ∙ c.merging.invariant.same_journal;
       same_manifest = c.merge_due.ensures.same.same_manifest ∙ c.merging.invariant.same_manifest;
+      same_failed = c.merge_due.ensures.same.same_failed ∙ c.merging.invariant.same_failed;
       joined = λ new later. c.merging.invariant.joined new (join_first c.merging.ingest.index after.list after.held new merges.0 merges.1 later);
     }
 

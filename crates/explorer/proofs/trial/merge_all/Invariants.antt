@@ -9,6 +9,7 @@ abbrev pub invariant-merging : goal.invariant-merging
 invariant-merging g l = record {
   same_journal : journal l.ingest ≡ journal l.fn.ingest;
   same_manifest : l.ingest.manifest ≡ l.fn.ingest.manifest;
+  same_failed : l.ingest.failed ≡ l.fn.ingest.failed;
   joined : (new : List ℕ) → AreJoined (segment_sizes (list_by l.ingest.index)) new
       → AreJoined (segment_sizes (list_by l.fn.ingest.index)) new;
 }

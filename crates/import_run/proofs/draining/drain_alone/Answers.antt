@@ -13,6 +13,7 @@ draining-preserved g c =
     record {
       same_journal = c.merge_due.ensures.same.same_journal ∙ c.draining.invariant.same_journal;
       same_manifest = c.merge_due.ensures.same.same_manifest ∙ c.draining.invariant.same_manifest;
+      same_failed = c.merge_due.ensures.same.same_failed ∙ c.draining.invariant.same_failed;
       counted = omega (arith, shorter, c.draining.invariant.counted);
     }
 
@@ -26,4 +27,5 @@ returns-in-Left g c = record {
   answers = drains_by c.in-Left.end c.draining.jobs c.args.ingest.now c.draining.ingest c.merge_due.new.ingest c.draining.invariant.counted c.in-Left.ensures.merges;
   same_journal = c.merge_due.ensures.same.same_journal ∙ c.draining.invariant.same_journal;
   same_manifest = c.merge_due.ensures.same.same_manifest ∙ c.draining.invariant.same_manifest;
+  same_failed = c.merge_due.ensures.same.same_failed ∙ c.draining.invariant.same_failed;
 }

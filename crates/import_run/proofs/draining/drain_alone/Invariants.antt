@@ -7,6 +7,7 @@ abbrev pub invariant-draining : goal.invariant-draining
 invariant-draining g l = record {
   same_journal : journal l.ingest ≡ journal l.fn.ingest;
   same_manifest : l.ingest.manifest ≡ l.fn.ingest.manifest;
+  same_failed : l.ingest.failed ≡ l.fn.ingest.failed;
   counted : l.jobs + length (list_by l.ingest.index) ≡ length (list_by l.fn.ingest.index);
 }
 

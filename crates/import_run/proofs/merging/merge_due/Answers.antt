@@ -1,4 +1,4 @@
-use Rattle.std.proofs.Common.{Option, Some, sym, subst}
+use Rattle.std.proofs.Common.{Option, sym, subst}
 use Rattle.published_index.specs.States.{Publishing}
 use Rattle.ingest_desk.specs.Jobs.{Neighbours}
 use Rattle.import_run.specs.declared.merging.Merging.{Merging}

@@ -25,7 +25,7 @@ pub returns-clause-alone : goal.returns-clause-alone
 returns-clause-alone g c =
     let since = c.import_bytes-report.ensures.since.1.since in
     imports_body g.D.Disk.disk g.D.Disk.left_since c.args.self.now.ingest c.import_bytes-report.new.committer.ingest.now since c.args.body.now c.import_bytes-report.result
-    c.batches-before.ensures.sound c.batches-after.ensures.sound c.batches-after.ensures.keeps c.import_bytes-report.ensures.told
+    c.batches-before.ensures.sound c.batches-before.ensures.keeps c.batches-after.ensures.sound c.batches-after.ensures.keeps c.import_bytes-report.ensures.told
     c.import_bytes-report.ensures.beside
 
 pub returns-clause-follows : goal.returns-clause-follows

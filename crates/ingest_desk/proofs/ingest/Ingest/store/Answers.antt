@@ -1,16 +1,20 @@
-use Rattle.std.proofs.Common.{◌≡◌, List, [], ◌∷◌, ◌++◌, None, length, sym, ap, ◌∙◌, subst, arith}
+use Rattle.std.proofs.Common.{◌≡◌, List, [], ◌∷◌, ◌++◌, None, Option, Err, length, sym, ap, ◌∙◌, subst, arith}
 use Rattle.std.specs.Arc.{arc_value}
+use Rattle.std.specs.Option.{option_map}
 use Rattle.explorer_model.specs.declared.archive.Batch.{Batch}
 use Rattle.explorer_model.specs.Journal.{IsSound}
+use Rattle.record_log.specs.Log.{EachImage}
 use Rattle.manifest.proofs.PayloadLemmas.{texts-fit}
+use Rattle.manifest.specs.Manifest.{HasJournal}
 use Rattle.segment_blocks.specs.Segment.{CountedSpan}
 use Rattle.tally_rows.specs.Tally.{IsCounted}
 use Rattle.published_index.specs.Changes.{AddOf}
 use Rattle.published_index.specs.Cover.{journal_of}
+use Rattle.ingest_desk.specs.Commits.{IsMarked, failed_after}
 use Rattle.ingest_desk.specs.Kept.{Keeps}
 use Rattle.ingest_desk.specs.Registers.{IsRegisterOf}
 use Rattle.published_index.specs.States.{journal_by}
-use Rattle.ingest_desk.proofs.KeptLemmas.{keeps_after, keeps_sound, kept_register, listed, low, made, sound_manifest, storable}
+use Rattle.ingest_desk.proofs.KeptLemmas.{fails_by, keeps_after, keeps_sound, kept_register, listed, low, made, none_failed, sound_manifest, storable}
 use Rattle.ingest_desk.proofs.RegisterLemmas.{fewer_batches, first_is, fits_of, fits_same, long, register_same, sound_behind}
 use Rattle.ingest_desk.proofs.ingest.Ingest.store.Goals as goal
 use Rattle.ingest_desk.proofs.ingest.Ingest.store.Goals.{in-Ok-put, in-Err-put}
@@ -44,7 +48,7 @@ store-requires-clause-storable g c =
     let tally = c.args.tally in
     let counted : IsCounted tally = subst IsCounted c.tally.view_is c.tally.invariant in
     let batches = ap (λ (s : CountedSpan). s.span.batches) c.deref.ensures ∙ c.in-Ok.ensures.tally.batches in
-    let batch = first_is _ tally.batch _ batches c.batch_of.ensures in
+    let batch = first_is _ tally.batch _ batches c.batch_of-batch.ensures in
     rw batch (storable tally.batch counted.batch)
 
 pub store-requires-clause-low : goal.store-requires-clause-low
@@ -56,9 +60,9 @@ store-requires-clause-low g c =
     let tally = c.args.tally in
     let counted : IsCounted tally = subst IsCounted c.tally.view_is c.tally.invariant in
     let batches = ap (λ (s : CountedSpan). s.span.batches) c.deref.ensures ∙ c.in-Ok.ensures.tally.batches in
-    let batch = first_is _ tally.batch _ batches c.batch_of.ensures in
+    let batch = first_is _ tally.batch _ batches c.batch_of-batch.ensures in
     let open_is = rw (← s.view_is) at c.requires.open in
-    let is = sound_manifest d.disk d.left_since j m s.invariant.keeps open_is in
+    let is = sound_manifest d.disk d.left_since _ j m s.invariant.keeps open_is in
     rw batch (low j tally.batch m.gate s.invariant.knows.sound is.place counted.batch.label counted.batch.few
     (texts-fit tally.batch (storable tally.batch counted.batch)))
 
@@ -69,20 +73,42 @@ invariant_of-self-in-Err g c =
     let m = s.inside.manifest in
     let j = journal_by s.inside.publisher in
     let open_is = rw (← s.view_is) at c.requires.open in
-    let is = sound_manifest d.disk d.left_since j m s.invariant.keeps open_is in
+    let is = sound_manifest d.disk d.left_since _ j m s.invariant.keeps open_is in
     let tally = c.args.tally in
     let counted : IsCounted tally = subst IsCounted c.tally.view_is c.tally.invariant in
     let batches = ap (λ (s : CountedSpan). s.span.batches) c.deref.ensures ∙ c.in-Ok.ensures.tally.batches in
-    let batch = first_is _ tally.batch _ batches c.batch_of.ensures in
+    let batch = first_is _ tally.batch _ batches c.batch_of-batch.ensures in
     let fits_are = rw (← s.view_is) at c.requires.fits in
     let sound = s.invariant.knows.sound in
     let P : Batch → Type 0 = λ b. IsSound (j ++ b ∷ []) in
     let behind = sound_behind j tally sound counted (fits_are sound.games sound.are_games) in
     record {
       knows = register_same j s.inside.register c.reserve.new.self s.invariant.knows c.reserve.ensures.same;
-      keeps = keeps_after d.disk d.left_since g.met.D.Disk.counts_now j c.batch_of.result.now c.in-Err.fault
-          m c.store.new.self is (subst P (sym batch) behind) (c.in-Err.ensures.any_moment j is) c.in-Err.ensures.cases;
+      keeps = rw c.failed_by.ensures (keeps_after d.disk d.left_since g.met.D.Disk.counts_now j
+          c.batch_of-batch.result.now c.in-Err.fault m c.store.new.self is (subst P (sym batch) behind)
+          (c.in-Err.ensures.any_moment j is) c.in-Err.ensures.cases);
     }
+
+pub returns-in-Err-clause-marked : goal.returns-in-Err-clause-marked
+returns-in-Err-clause-marked g c =
+    let tally = c.args.tally in
+    let batches = ap (λ (s : CountedSpan). s.span.batches) c.deref.ensures ∙ c.in-Ok.ensures.tally.batches in
+    let batch = first_is _ tally.batch _ batches c.batch_of-batch.ensures in
+    subst (λ (b : Batch). IsMarked (Err c.fault_of.result) b) batch c.fault_of.ensures.marked
+
+pub returns-in-Err-clause-failed : goal.returns-in-Err-clause-failed
+returns-in-Err-clause-failed g c =
+    let s = c.self in
+    let d = g.D.Disk in
+    let m = s.inside.manifest in
+    let j = journal_by s.inside.publisher in
+    let open_is = rw (← s.view_is) at c.requires.open in
+    let tally = c.args.tally in
+    let batches = ap (λ (s : CountedSpan). s.span.batches) c.deref.ensures ∙ c.in-Ok.ensures.tally.batches in
+    let batch = first_is _ tally.batch _ batches c.batch_of-batch.ensures in
+    let none = none_failed d.disk d.left_since _ j m s.invariant.keeps open_is in
+    rw (← s.view_is) (fails_by c.in-Err.fault c.fault_of.result tally.batch _ _ c.fault_of.ensures.fault none
+    (c.failed_by.ensures ∙ ap (failed_after c.in-Err.fault) batch))
 
 pub enter-requires-clause-fits : goal.enter-requires-clause-fits
 enter-requires-clause-fits g c =
@@ -123,24 +149,54 @@ invariant_of-self-2 g c =
     let shared = c.in-Ok.segment in
     let none : index.held ≡ None = rw (← s.view_is) at c.requires.none_held in
     let open_is = rw (← s.view_is) at c.requires.open in
-    let is = sound_manifest d.disk d.left_since j m s.invariant.keeps open_is in
+    let is = sound_manifest d.disk d.left_since _ j m s.invariant.keeps open_is in
     let made_of = c.in-Ok.ensures.tally in
     let batches = ap (λ (s : CountedSpan). s.span.batches) c.deref.ensures ∙ made_of.batches in
-    let batch = first_is _ tally.batch _ batches c.batch_of.ensures in
+    let batch = first_is _ tally.batch _ batches c.batch_of-batch.ensures in
     let all : journal_by c.put.new.self ≡ j ++ tally.batch ∷ [] =
     made index c.put.new.self (AddOf (arc_value shared)) c.put.result none c.put.ensures
     ∙ ap (λ bs. j ++ bs) made_of.batches in
     let knows = register_same j s.inside.register c.reserve.new.self s.invariant.knows c.reserve.ensures.same in
     let R : List Batch → Type 0 = λ l. IsRegisterOf l c.enter.new.self in
-    let K : List Batch → Type 0 = λ l. Keeps d.disk d.left_since l c.store.new.self in
+    let failed = option_map (λ b. b.value) s.inside.failed in
+    let still = sym (none_failed d.disk d.left_since _ j m s.invariant.keeps open_is) in
+    let K : List Batch → Type 0 = λ l. Keeps d.disk d.left_since l c.store.new.self failed in
+    let F : Option Batch → Type 0 = λ f.
+    Keeps d.disk d.left_since (j ++ c.batch_of-batch.result.now ∷ []) c.store.new.self f in
     let entered = ap (λ (s : CountedSpan). j ++ s.span.batches) c.deref-2.ensures ∙ ap (λ bs. j ++ bs) made_of.batches in
     record {
       knows = subst R (sym all) (subst R entered (c.enter.ensures j knows));
       keeps = subst K (sym all)
           (subst K (ap (λ (b : Batch). j ++ b ∷ []) batch)
-          (keeps_sound d.disk d.left_since (j ++ c.batch_of.result.now ∷ []) c.store.new.self
-          (c.in_default-store.ensures.stored j is)));
+          (subst F still (keeps_sound d.disk d.left_since (j ++ c.batch_of-batch.result.now ∷ [])
+          c.store.new.self (c.in_default-store.ensures.stored j is))));
     }
+
+pub returns-clause-kept : goal.returns-clause-kept
+returns-clause-kept g c =
+    let s = c.self in
+    let d = g.D.Disk in
+    let m = s.inside.manifest in
+    let index = s.inside.publisher in
+    let j = journal_by index in
+    let tally = c.args.tally in
+    let none : index.held ≡ None = rw (← s.view_is) at c.requires.none_held in
+    let open_is = rw (← s.view_is) at c.requires.open in
+    let is = sound_manifest d.disk d.left_since _ j m s.invariant.keeps open_is in
+    let made_of = c.in-Ok.ensures.tally in
+    let batches = ap (λ (s : CountedSpan). s.span.batches) c.deref.ensures ∙ made_of.batches in
+    let batch = first_is _ tally.batch _ batches c.batch_of-batch.ensures in
+    let all : journal_by c.put.new.self ≡ j ++ tally.batch ∷ [] =
+    made index c.put.new.self (AddOf (arc_value c.in-Ok.segment)) c.put.result none c.put.ensures
+    ∙ ap (λ bs. j ++ bs) made_of.batches in
+    let I : List Batch → Type 0 = λ l. EachImage d.disk d.left_since c.store.new.self.disk (HasJournal l) in
+    let stored = c.in_default-store.ensures.stored j is in
+    let kept : I (journal_by c.put.new.self) =
+    subst I (sym all) (subst I (ap (λ (b : Batch). j ++ b ∷ []) batch) stored.images) in
+    elim c.match-put.branch [
+      | in-Ok-put w ↦ rw w.result-is kept
+      | in-Err-put w ↦ rw w.result-is tt
+    ]
 
 pub returns-clause-receipt : goal.returns-clause-receipt
 returns-clause-receipt g c =
