@@ -6,15 +6,15 @@ ghost use Rattle.explorer.specs.Served.{fault_of_import};
 ghost use Rattle.explorer.specs.Workers.{Works, fault_in, fault_of, lines_in, lines_of};
 ghost use Rattle.ingest_desk.specs.Importers.{ending_of};
 
+use crate::access::Access;
 use crate::fault::Fault;
 use crate::listening::Told;
 use crate::report::push_file_lines;
 use disk_model::Disk;
-use import_run::{DeskHandle, drain, import};
-use ingest_desk::{Desk, End, Ingest, MergeDesk, Report};
-use outside::{Door, FreeGate, Source};
+use ingest_desk::{End, Ingest, Report};
+use outside::{Door, Source};
 use published_index::{Index, Pass};
-use session::{DoorEnd, serve_door};
+use session::DoorEnd;
 use std::alloc::{AllocError, Global};
 use std::sync::{Mutex, Wait};
 use std::thread;
@@ -50,31 +50,14 @@ impl<F: Source, G: Door, J: Index> Worker<F, G, J> {
         &mut self,
         rt: &R,
         alloc: Global,
-        desk: &Desk<D, J>,
-        workers: usize,
+        access: &Access<'_, D, J>,
     )
-        requires some_workers { 1 ≤ workers }
-        requires few_workers { workers ≤ 16 }
         ensures { Works F.source G.door self.old self.new }
     {
         match self {
-            Worker::File(file) => {
-                let report = import(rt, alloc, &mut file.source, desk, workers, &FreeGate);
-                file.report = Some(report);
-            }
-            Worker::Reader(reader) => {
-                let mut importer = DeskHandle::new(desk, workers);
-                let ReaderWork {
-                    door,
-                    pass,
-                    end,
-                    told: _,
-                } = reader;
-                *end = serve_door(rt, alloc, door, pass, &mut importer);
-            }
-            Worker::Merger => {
-                let _ = drain(rt, alloc, &MergeDesk::of(desk), workers);
-            }
+            Worker::File(file) => access.import_file(rt, alloc, file),
+            Worker::Reader(reader) => access.serve_reader(rt, alloc, reader),
+            Worker::Merger => access.merge(rt, alloc),
         }
     }
 }
@@ -182,7 +165,7 @@ pub fn work_all<
 {
     let mut list = list;
     let desk = Mutex::new(ingest);
-    work_each(rt, alloc, &desk, list.as_mut_slice(), workers);
+    work_each(rt, alloc, &Access::new(&desk, workers), list.as_mut_slice());
     (desk.into_inner(), list)
 }
 
@@ -193,9 +176,7 @@ fn work_each<
     G: Door + Send,
     D: Disk + Send,
     J: Index + Send + Sync,
->(rt: &R, alloc: Global, desk: &Desk<D, J>, list: &mut [Worker<F, G, J>], workers: usize)
-    requires some_workers { 1 ≤ workers }
-    requires few_workers { workers ≤ 16 }
+>(rt: &R, alloc: Global, access: &Access<'_, D, J>, list: &mut [Worker<F, G, J>])
     ensures { AllZip (Works F.source G.door) list.old list.new }
 {
     let threads = list.len().max(1);
@@ -204,8 +185,7 @@ fn work_each<
         list,
         threads,
         &|_, worker: &mut Worker<F, G, J>|
-            requires { (1 ≤ workers) × (workers ≤ 16) }
             ensures { Works F.source G.door worker.old worker.new }
-        { worker.work(rt, alloc, desk, workers) },
+        { worker.work(rt, alloc, access) },
     );
 }

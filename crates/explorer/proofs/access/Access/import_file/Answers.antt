@@ -1,0 +1,5 @@
+use Rattle.std.proofs.Common.{refl}
+use Rattle.explorer.proofs.access.Access.import_file.Goals as goal
+
+pub returns : goal.returns
+returns g c = record { report = c.import-report.result; report_is = refl; imports = c.import-report.ensures }
