@@ -178,7 +178,7 @@ split_games (text ∷ before) behind (game ∷ games) zip =
 
 -- the batches of the groups have all the texts, and none is refused
 pub record AreAllStored (label : List ℕ) (stored : List Game) (texts : List Placed) (examinations : List (List Examination)) : Type 0 where
-  pub texts_are : texts_of (batches_behind stored examinations) ≡ bytes_of texts
+  pub texts_are : texts_of (batches_behind label stored examinations) ≡ bytes_of texts
   pub none_refused : refused_behind stored examinations ≡ []
 
 texts_first : (label : List ℕ) (cs : List Candidate) (batches : List Batch) → texts_of (cons_option (batch_of label cs) batches) ≡ map (λ (c : Candidate). c.text) cs ++ texts_of batches
@@ -219,7 +219,7 @@ all_stored label one stored (cuts ∷ groups) (group ∷ examinations) texts gam
     let later = all_stored label one (and_games stored group) groups examinations s.behind g.more each.1 s.back_is g.more_are (subst I (sym after) (subst H (sym (append_assoc stored g.first g.more)) apart)) in
     record {
       texts_are =
-          texts_first label (candidates (verdicts_behind (numbers_of stored) group)) (batches_behind (and_games stored group) examinations)
+          texts_first label (candidates (verdicts_behind (numbers_of stored) group)) (batches_behind label (and_games stored group) examinations)
           ∙ (λ i. map (λ (c : Candidate). c.text) (here.candidates_are i) ++ later.texts_are i)
           ∙ ap (λ (l : List (List ℕ)). l ++ bytes_of s.behind) (cands_texts s.before g.first g.first_are)
           ∙ sym (ap bytes_of s.is ∙ map-append (λ (text : Placed). text.bytes) s.before s.behind);
