@@ -1,5 +1,5 @@
 -- Statement: what happens to a store, one thing after another.
-use Rattle.std.specs.Prelude.{◌≡◌, ℕ, List, [], ◌∷◌, Result, Ok}
+use Rattle.std.specs.Prelude.{◌≡◌, ◌⊎◌, ℕ, List, [], ◌∷◌, Result, Ok}
 use Rattle.std.specs.List.{flat_map}
 use Rattle.disk_model.specs.Disk.{DiskState, MayLeave}
 use Rattle.explorer_model.specs.declared.archive.Batch.{Batch}
@@ -27,6 +27,13 @@ pub record IsCutOff {D : Type 0} (J : Type 0) (disk : D → DiskState)
   pub answer : Result (Receipt J) (CommitFault J)
   pub committed : IsCommit disk left_since tally old middle answer
   pub left : left_since middle.manifest.disk (disk old.manifest.disk).moment file
+
+-- a crash leaves the file now, or at some moment of one more commit
+abbrev pub MayBeLeft : {D : Type 0} → (J : Type 0) → (D → DiskState)
+    → (D → ℕ → List ℕ → Type 0) → Stored D → List ℕ → Type 0
+MayBeLeft J disk left_since store file =
+    MayLeave disk left_since store.manifest.disk file
+    ⊎ ((tally : Counted) × IsCutOff J disk left_since tally store file)
 
 abbrev pub IsStep : {D J : Type 0} → (D → DiskState) → (D → ℕ → List ℕ → Type 0) → Stored D
     → Step J → Stored D → Type 0

@@ -2,8 +2,8 @@
 use Rattle.std.specs.Prelude.{◌≡◌, ⊤, ℕ, ◌+◌, ◌≤◌, Bool, if◌then◌else◌, List, [], ◌∷◌, ◌++◌, Option, None, Some, slice_get}
 use Rattle.explorer_model.specs.declared.archive.Batch.{Batch}
 
--- The journal of a store, the batches that were acknowledged since it was first opened, and the one
--- that may stand behind the journal on its disk, since a call of the disk failed while it was stored.
+-- The journal of a store, the batches that were acknowledged since this life began, and the one that
+-- may stand behind the journal on its disk, since a call of the disk failed while it was stored.
 pub record Life : Type 0 where
   pub journal : List Batch
   pub acknowledged : List Batch

@@ -3,6 +3,7 @@ use Rattle.std.specs.Prelude.{◌≡◌, ⊤, ℕ, Bool, true, List, [], ◌∷�
 use Rattle.disk_model.specs.Disk.{DiskState, LeavesOnly}
 use Rattle.explorer_model.specs.declared.archive.Batch.{Batch}
 use Rattle.explorer_model.specs.declared.archive.Game.{Game}
+use Rattle.explorer_model.specs.declared.store.LogFault.{LogFault}
 use Rattle.explorer_model.specs.Journal.{IsSound}
 use Rattle.explorer_model.specs.Timeline.{IsPrefix}
 use Rattle.explorer_model.specs.Visits.{AreGamesOf}
@@ -14,6 +15,7 @@ use Rattle.ingest_desk.specs.Commits.{Fails, Leaves, Refuses, Stores}
 use Rattle.ingest_desk.specs.Kept.{Keeps}
 use Rattle.ingest_desk.specs.Lives.{Life, LifeEvent, Reopened, IsAllowed, after}
 use Rattle.ingest_desk.specs.Lives as lives
+use Rattle.ingest_desk.specs.Openings.{IsWrong}
 use Rattle.ingest_desk.specs.Stored.{Stored, journal}
 use Rattle.ingest_desk.specs.declared.fault.CommitFault.{CommitFault}
 use Rattle.ingest_desk.specs.declared.fault.CommitFault.TheVariants as faults
@@ -21,8 +23,7 @@ use Rattle.ingest_desk.specs.declared.receipt.Receipt.{Receipt}
 
 -- ---- files and stores
 
--- A file has the journal of the life once that is opened again. It is sound, so that nothing is wrong
--- with the file.
+-- a file has the journal of the life once that is opened again, and it is sound
 pub record ReopensTo (life : Life) (file : List ℕ) : Type 0 where
   pub stands : Bool
   pub has : HasJournal (after life (Reopened stands)).journal file
@@ -35,8 +36,8 @@ IsPending (Some batch) (Some counts) = ⊤
 IsPending _ _ = ⊥
 
 -- The store has lived so: its journal is the life's, the batch that failed is pending, and each file
--- that a crash leaves is opened as the life may go on. The journal is sound with the pending batch
--- and without.
+-- that a crash leaves has the journal that the life has once it is opened again. That is sound with
+-- the pending batch and without.
 pub record HasLived {D : Type 0} (disk : D → DiskState) (left_since : D → ℕ → List ℕ → Type 0)
     (life : Life) (store : Stored D) : Type 0 where
   pub journal_is : journal store ≡ life.journal
@@ -60,6 +61,7 @@ pub record IsCommit {D J : Type 0} (disk : D → DiskState) (left_since : D → 
     : Type 0 where
   pub refused : (games : List Game) → AreGamesOf (journal old) games
       → Refuses answer (cause old.manifest.fault games (journal old) tally) tally old.index.held
+  pub was_sound : IsSound (journal old)
   pub stores : Stores answer tally.batch (journal old) (journal new)
   pub manifest : Leaves disk answer tally.batch old.manifest new.manifest
   pub failed : Fails answer tally.batch old.failed new.failed
@@ -77,6 +79,11 @@ abbrev pub LivesOn : {D : Type 0} → (D → DiskState) → (D → ℕ → List 
 LivesOn disk left_since life None store = HasLived disk left_since life store
 LivesOn disk left_since life (Some event) store =
     IsAllowed life event × HasLived disk left_since (after life event) store
+
+-- a call of the disk failed, with these counts of its faults
+abbrev pub HasFailedBy : {J : Type 0} → ℕ → ℕ → Result (Receipt J) (CommitFault J) → Type 0
+HasFailedBy before later (Err (faults.DiskFault b l mark)) = (b ≡ before) × (l ≡ later)
+HasFailedBy before later _ = ⊥
 
 -- the store is closed, with these counts
 abbrev pub IsClosedBy : {J : Type 0} → ℕ → ℕ → Result (Receipt J) (CommitFault J) → Type 0
@@ -106,6 +113,10 @@ pub record IsOpening {D : Type 0} (disk : D → DiskState) (left_since : D → �
   pub none_failed : store.failed ≡ None
   pub recounted : IsSound (journal store)
   pub images : EachImage disk left_since store.manifest.disk (HasJournal (journal store))
+
+-- nothing is wrong with a file: it is a store, of this format and not damaged
+abbrev pub IsRight : List ℕ → Type 0
+IsRight file = (fault : LogFault) → ¬ IsWrong fault file
 
 -- the life goes on by an opening
 abbrev pub IsReopened : {D : Type 0} → (D → DiskState) → (D → ℕ → List ℕ → Type 0) → Life
