@@ -16,6 +16,7 @@ use Rattle.explorer_model.specs.Timeline.{IsPrefix}
 use Rattle.manifest.specs.Manifest.{HasJournal}
 use Rattle.published_index.specs.States.{watching}
 use Rattle.ingest_desk.specs.Importers.{ImporterState}
+use Rattle.ingest_desk.specs.Lives.{StandFrom}
 use Rattle.ingest_desk.specs.Reporting.{BreaksAt, FindsNoRoom}
 use Rattle.ingest_desk.specs.declared.report.ImportEnding.{ImportEnding}
 use Rattle.ingest_desk.specs.declared.report.ImportEnding.TheVariants as endings
@@ -24,7 +25,7 @@ use Rattle.session.specs.declared.doors.DoorEnd.{DoorEnd}
 use Rattle.session.specs.declared.doors.DoorEnd.TheVariants as ends
 use Rattle.session.specs.Doors.{DoorServed, EndsDoor}
 use Rattle.session.specs.Exchanges.{Backend, backend}
-use Rattle.session.specs.Imports.{HasNoRoom, HasStoredBody, IsRepeatOf, StandFrom}
+use Rattle.session.specs.Imports.{HasNoRoom, HasStoredBody, IsRepeatOf}
 use Rattle.explorer.specs.declared.fault.Fault.{Fault}
 use Rattle.explorer.specs.declared.fault.Fault.TheVariants.{CannotAccept, Full, OutOfMemory, ReadFault, TooMuchInput}
 use Rattle.explorer.specs.Report.{report_line}
