@@ -258,6 +258,7 @@ broken {E} text query input input' output errors errors' host refused fault made
     by_fault faults.DiskFault rises = absurd (no_rise rises)
     by_fault faults.Usage counted = absurd counted
     by_fault (faults.BadParameter parameter) counted = absurd counted
+    by_fault faults.BadLabel counted = absurd counted
     by_fault faults.WriteFault counted = absurd counted
     by_fault (faults.NotEmpty size) counted = absurd counted
     by_fault faults.NotAStore counted = absurd counted

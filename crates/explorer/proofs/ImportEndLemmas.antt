@@ -151,6 +151,7 @@ module _ (store file : List ℕ) (before after : World) where
   imports_by endings.Whole (Stopped faults.WriteFault) to outcome = (to, outcome)
   imports_by endings.Whole (Stopped faults.Usage) to outcome = absurd outcome
   imports_by endings.Whole (Stopped (faults.BadParameter parameter)) to outcome = absurd outcome
+  imports_by endings.Whole (Stopped faults.BadLabel) to outcome = absurd outcome
   imports_by endings.Whole (Stopped faults.ReadFault) to outcome = absurd outcome
   imports_by endings.Whole (Stopped faults.DiskFault) to outcome = absurd outcome
   imports_by endings.Whole (Stopped (faults.NotEmpty size)) to outcome = absurd outcome

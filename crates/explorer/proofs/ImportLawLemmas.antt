@@ -237,6 +237,7 @@ module _ (store image file stream : List ℕ) (all : List (List Cut)) (groups_ar
   comes (Stopped faults.OutOfMemory) fed by = absurd (fed.0 refl)
   comes (Stopped faults.Usage) fed by = absurd by
   comes (Stopped (faults.BadParameter name)) fed by = absurd by
+  comes (Stopped faults.BadLabel) fed by = absurd by
   comes (Stopped (faults.NotEmpty size)) fed by = absurd by
   comes (Stopped faults.CannotAccept) fed by = absurd by
 

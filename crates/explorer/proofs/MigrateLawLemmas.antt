@@ -205,6 +205,7 @@ module _ (old file new image : List ℕ) (before after : World) (told : IsToldSt
   comes (Stopped faults.OutOfMemory) fed by = absurd (fed refl)
   comes (Stopped faults.Usage) fed by = absurd by
   comes (Stopped (faults.BadParameter name)) fed by = absurd by
+  comes (Stopped faults.BadLabel) fed by = absurd by
   comes (Stopped faults.ReadFault) fed by = absurd by
   comes (Stopped faults.TooMuchInput) fed by = absurd by
   comes (Stopped (faults.Full games bytes)) fed by = absurd by

@@ -239,6 +239,7 @@ comes stream all query before after (Stopped (faults.Full games bytes)) told gro
     )
 comes stream all query before after (Stopped faults.Usage) told groups_are faultless counts = absurd counts
 comes stream all query before after (Stopped (faults.BadParameter name)) told groups_are faultless counts = absurd counts
+comes stream all query before after (Stopped faults.BadLabel) told groups_are faultless counts = absurd counts
 comes stream all query before after (Stopped faults.DiskFault) told groups_are faultless counts = absurd counts
 comes stream all query before after (Stopped (faults.NotEmpty size)) told groups_are faultless counts = absurd counts
 comes stream all query before after (Stopped faults.NotAStore) told groups_are faultless counts = absurd counts
