@@ -281,7 +281,7 @@ fn label_arg<'a>(alloc: Global) -> Arg<'a>
     Arg::new(alloc, "label")
         .long("label")
         .value_name("TEXT")
-        .help("What the batches are called that are stored, at most 64 bytes")
+        .help("The label of the batches that are stored, at most 64 bytes")
 }
 
 fn readers_arg<'a>(alloc: Global) -> Arg<'a>
