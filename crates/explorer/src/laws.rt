@@ -263,7 +263,7 @@ pub fn a_run_of_a_command_is_determined()
         → status ≢ 9 → status' ≢ 9
         → Runs words before after status → Runs words' before other status'
         → (status ≡ status') × (after ≡ other) }
-    ensures imports { (words words' : List (List ℕ)) (store file label image stream : List ℕ)
+    ensures imports { (words words' : List (List ℕ)) (store file image stream label : List ℕ)
         (workers workers' : ℕ) (before after other : World) (status status' : ℕ)
         → task_of words ≡ Some (Import store file workers label)
         → task_of words' ≡ Some (Import store file workers' label)
