@@ -2,6 +2,7 @@
 ghost use Rattle.std.specs.Prelude.{◌≡◌, ◌<◌, ◌≤◌, ◌^◌, ◌∷◌, [], None, Some, false, length, option_map};
 ghost use Rattle.std.specs.Thread.{IsSync};
 ghost use Rattle.explorer_model.specs.Cuts.{cuts};
+ghost use Rattle.explorer_model.specs.Labels.{no_label};
 ghost use Rattle.explorer_model.specs.Wire.{body_limit};
 ghost use Rattle.ingest_desk.specs.Importers.{CountsRose, EndsInMemory, TellsAll, call_of, ending_of as ending_by};
 ghost use Rattle.ingest_desk.specs.Reporting.{Reports, games_of};
@@ -15,6 +16,7 @@ use crate::ends::{EndCounts, ending_of};
 use crate::stream::import_bytes;
 use disk_model::Disk;
 use explorer_model::archive::Bytes;
+use explorer_model::label::Label;
 use ingest_desk::{Desk, ImportCall, Importer, Ingest, Receipt, Report};
 use outside::FreeGate;
 use published_index::Index;
@@ -57,7 +59,15 @@ impl<'a, D: Disk, J: Index> Importer<J> for DeskHandle<'a, D, J> {
         body: &[u8],
     ) -> Report<J> {
         let mut seat = Seat::new(self.desk);
-        let report = import_bytes(rt, alloc, body, &mut seat, self.workers, &FreeGate);
+        let report = import_bytes(
+            rt,
+            alloc,
+            body,
+            &mut seat,
+            Label::none(),
+            self.workers,
+            &FreeGate,
+        );
         self.counts.add(&report.end);
         report
     }
@@ -136,7 +146,7 @@ impl<D: Disk, J: Index> Importer<J> for OwnIngest<D, J> {
     fn import<R: Wait + Threads + Sync>(&mut self, rt: &R, alloc: Global, body: &[u8]) -> Report<J>
         requires shares { IsSync R.row }
         requires few { length body.now ≤ body_limit }
-        ensures reports { Reports (cuts body.now) result }
+        ensures reports { Reports no_label (cuts body.now) result }
         ensures in_memory { EndsInMemory (ending_by result.end) }
         ensures few { games_of result.receipts.items < 2 ^ 32 }
         ensures counts { CountsRose (ending_by result.end)
@@ -154,7 +164,15 @@ impl<D: Disk, J: Index> Importer<J> for OwnIngest<D, J> {
             ingest: &mut self.ingest,
             lacked: self.lacked,
         };
-        let report = import_bytes(rt, alloc, body, &mut seat, self.workers, &FreeGate);
+        let report = import_bytes(
+            rt,
+            alloc,
+            body,
+            &mut seat,
+            Label::none(),
+            self.workers,
+            &FreeGate,
+        );
         let _after = seat.ingest.batches();
         self.lacked = seat.lacked;
         self.counts.add(&report.end);
