@@ -229,7 +229,7 @@ one_run words stream before after other status status' counts_only game one answ
     by_task (Some (Count text workers)) only (inr counts) (inl starves) = absurd (no_memory status' second.ending fed' second.status_is starves.ending_is)
     by_task (Some (Count text workers)) only (inr counts) (inr counts') = by_counts text counts counts'
     by_task (Some (Create store)) only meets meets' = absurd only
-    by_task (Some (Import store file workers)) only meets meets' = absurd only
+    by_task (Some (Import store file workers label)) only meets meets' = absurd only
     by_task (Some (Migrate old new)) only meets meets' = absurd only
     by_task (Some (Query store query workers)) only meets meets' = absurd only
     by_task (Some (Serve store address files workers readers connections)) only meets meets' = absurd only
