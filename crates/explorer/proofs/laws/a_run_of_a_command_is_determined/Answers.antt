@@ -12,9 +12,9 @@ returns-clause-asks c = λ words words' store text image workers workers' before
     (record { opened = once.opened; refused = once.refused; either = once.either }) c.query_is_determined.ensures asks asks' told well well' fed fed'
 
 pub returns-clause-imports : goal.returns-clause-imports
-returns-clause-imports c = λ words words' store file image stream workers workers' before after other status status' asks asks' told told_file errors well reads reports well' reads' reports' fed fed' first second.
+returns-clause-imports c = λ words words' store file image stream label workers workers' before after other status status' asks asks' told told_file errors well reads reports well' reads' reports' fed fed' first second.
     let once = c.opening_is_determined.ensures in
-    one_importing words words' before after other status status' first second errors reports reports' store file image stream workers workers' c.game_is_determined.ensures
+    one_importing words words' before after other status status' first second errors reports reports' store file image stream label workers workers' c.game_is_determined.ensures
     (record { batches = c.accounting_is_determined.ensures.batches; refused = c.accounting_is_determined.ensures.refused })
     (record { opened = once.opened; refused = once.refused; either = once.either }) asks asks' told told_file well reads well' reads' fed fed'
 
