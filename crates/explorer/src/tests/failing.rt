@@ -41,7 +41,7 @@ impl Fault {
 
     /// The calls of this device that fail.
     fn of(self, alloc: Global, device: Device) -> Result<Vec<u64>, AllocError> {
-        Vec::from_slice(alloc, &[self.number(device)])
+        Ok(Vec::from_slice(alloc, &[self.number(device)])?)
     }
 }
 
@@ -163,7 +163,7 @@ const ROWS: [Row; 15] = [
 #[test]
 fn each_call_fails_in_turn(rt: HostRuntime) -> Result<(), Fail> {
     for (words, device, first, last, status, printed, reported, size) in ROWS {
-        for call in first..last + 1 {
+        for call in first..=last {
             let seen = ended(&rt, words, Fault { device, call }, (printed, reported))?;
             assert_eq!(rt; seen, (status, true, size), "{words:?}, {device:?} {call}");
         }
