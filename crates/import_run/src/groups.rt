@@ -90,7 +90,7 @@ impl<J: Index> OpenImport<J> {
             → LacksBehind start closed (hand ∷ []) self.new (C.told committer.new))) }
         ensures since { C.since committer.old committer.new }
     {
-        let next = TextGroup::new(alloc, self.group.label.clone());
+        let next = TextGroup::new(alloc, self.group.label.clone()?);
         let group = mem::replace(&mut self.group, next);
         self.receipts.reserve(1)?;
         self.refused

@@ -28,7 +28,6 @@ ghost use Rattle.import_run.specs.Since.{HasSoundBehind};
 ghost use Rattle.import_run.specs.SoFar.{ended_cuts};
 ghost use Rattle.import_run.specs.Upkeep.{CountsItsSpan, Follows, FollowsAll};
 
-use batch_tally::laws::accounting_is_determined;
 use disk_model::Disk;
 use game_replay::laws::game_is_determined;
 use ingest_desk::laws::{fronts_are_sound, listing_is_determined};
@@ -91,7 +90,6 @@ pub fn imports_are_determined<D: Disk, J: Index>()
         → (first.batches ≡ second.batches) × (report.refused.items ≡ other.refused.items) }
 {
     game_is_determined();
-    accounting_is_determined();
 }
 
 /// Two imports of one told stream into one store under one label have one end and come to the same,
@@ -118,7 +116,6 @@ pub fn ends_are_determined<D: Disk, J: Index>()
         × (after.failed ≡ other_after.failed) }
 {
     game_is_determined();
-    accounting_is_determined();
 }
 
 /// Beside others too, nothing is stored of a text that has not ended, nor of a group that is not whole:
@@ -140,7 +137,6 @@ pub fn calls_are_determined<D: Disk, J: Index>()
         → call_of body report ≡ call_of body other }
 {
     game_is_determined();
-    accounting_is_determined();
 }
 
 /// What is read of a disk that tells its content is the stored journal. After a disk fault the batch

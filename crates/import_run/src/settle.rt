@@ -13,6 +13,7 @@ ghost use Rattle.import_run.specs.Rounds.{AnswerDecided, IsAgain, IsEnded, MayHa
 use crate::committer::Committer;
 use crate::naming::name;
 use crate::text_group::{TalliedGroup, TextGroup, labelled, merge};
+use explorer_model::archive::Batch;
 use explorer_model::fault::Refusal;
 use game_replay::laws::game_is_determined;
 use ingest_desk::{CommitFault, Receipt};
@@ -149,8 +150,8 @@ fn commit_once<C: Committer<J>, J: Index, R: Wait + Threads + Sync, G: Gate>(
         CommitFault::Clash { tally, pairs, note } => {
             clashes.push_reserved(note);
             let (batch, _classes, _rows) = tally.into_parts();
-            let label = batch.label.clone();
-            let named = name(alloc, batch, places.as_slice(), pairs.as_slice())?;
+            let Batch { label, texts } = batch;
+            let named = name(alloc, texts, places.as_slice(), pairs.as_slice())?;
             let refused = merge(alloc, refused.as_slice(), named.refused.as_slice())?;
             let again = batch_tally::tally(rt, alloc, named.rest, workers, gate)?;
             Ok(Round::Again(TalliedGroup {
