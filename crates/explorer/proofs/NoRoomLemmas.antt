@@ -24,6 +24,7 @@ use Rattle.import_run.specs.SoFar.{IsWhole}
 use Rattle.import_run.proofs.AccountLemmas.{alike, batches_behind, refused_behind}
 use Rattle.import_run.proofs.AloneLemmas.{same_games}
 use Rattle.import_run.proofs.GroupLemmas.{all_cuts, texts_in}
+use Rattle.import_run.proofs.LawLemmas.{SameBatches, SameRefused}
 use Rattle.import_run.proofs.NextLemmas.{by_batch}
 use Rattle.import_run.proofs.TurnLemmas.{batch_in}
 use Rattle.import_run.proofs.VerdictLemmas.{OneGame}
@@ -32,8 +33,8 @@ use Rattle.import_run.proofs.VerdictLemmas.{OneGame}
 
 -- groups behind stored games have one account
 pub record OneAccount : Type 0 where
-  pub batches : (label : List ℕ) (stored : List Game) (groups : List (List Cut)) (batches others : List Batch) (refused other : List Refusal) → Accounted label stored groups batches refused → Accounted label stored groups others other → batches ≡ others
-  pub refused : (label : List ℕ) (stored : List Game) (groups : List (List Cut)) (batches others : List Batch) (refused other : List Refusal) → Accounted label stored groups batches refused → Accounted label stored groups others other → refused ≡ other
+  pub batches : (label : List ℕ) → SameBatches label
+  pub refused : (label : List ℕ) → SameRefused label
 
 -- a batch under this label
 abbrev labelled : List ℕ → Batch → Batch
@@ -55,10 +56,8 @@ unlabelled : (label : List ℕ) (stored : List Game) (groups : List (List Cut)) 
     → Accounted no_label stored groups (batches_behind no_label stored a.examinations) refused
 unlabelled label stored groups batches refused a = record { examinations = a.examinations; are_examinations = a.are_examinations; yields = record { batches_are = refl; refused_are = a.yields.refused_are } }
 
--- where they have one without a label
-pub accounts_from : ((stored : List Game) (groups : List (List Cut)) (batches others : List Batch) (refused other : List Refusal) → Accounted no_label stored groups batches refused → Accounted no_label stored groups others other → batches ≡ others)
-    → ((stored : List Game) (groups : List (List Cut)) (batches others : List Batch) (refused other : List Refusal) → Accounted no_label stored groups batches refused → Accounted no_label stored groups others other → refused ≡ other)
-    → OneAccount
+-- they have one under each label, where they have one under none
+pub accounts_from : SameBatches no_label → SameRefused no_label → OneAccount
 accounts_from one_batches one_refused = record {
   batches = λ label stored groups batches others refused other a b.
       a.yields.batches_are ∙ batches_labelled label (verdicts_in_turn stored a.examinations)
