@@ -2,6 +2,7 @@
 mod answers;
 mod formats;
 mod imports;
+mod listing;
 mod migrating;
 mod serving;
 mod set_ups;

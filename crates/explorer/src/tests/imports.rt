@@ -40,7 +40,7 @@ fn imports_a_file_once_under_its_label(rt: HostRuntime) -> Result<(), Fail> {
     let longest = longest_label(rt.alloc())?;
     let label = longest.as_str();
     let all = format!(in rt.alloc(); "1 512 a\n2 1 a\n3 2 b\n4 1 \n5 1 \n6 1 {label}\n")?;
-    let table: [Row; 13] = [
+    let table: [Row; 12] = [
         (&["create", "t"], "created\n", ""),
         (
             &["import", "--label", "jan", "t", "x"],
@@ -81,7 +81,6 @@ fn imports_a_file_once_under_its_label(rt: HostRuntime) -> Result<(), Fail> {
             "",
         ),
         (&["batches", "s"], all.as_str(), ""),
-        (&["batches", "s", "--workers", "1"], all.as_str(), ""),
     ];
     let mut host = host_with_files(rt.alloc())?;
     for (words, printed, reported) in table {
