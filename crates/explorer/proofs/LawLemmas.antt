@@ -32,14 +32,14 @@ use Rattle.explorer.proofs.NoRoomLemmas.{OneAccount, accounted_by, lost_is, not_
 pub one_cut_off : (label stream : List ℕ) (batches others : List Batch) (refused other : List Refusal) → OneAccount → IsCutOff label new_store stream batches refused → IsCutOff label new_store stream others other
     → (batches ≡ others) × (refused ≡ other)
 one_cut_off label stream batches others refused other one first second =
-    same_settled label (one.batches label) (one.refused label) new_store new_store stream first.whole second.whole first.hand second.hand batches others refused other refl first.in_groups second.in_groups first.settled second.settled
+    same_settled {label = label} (one.batches label) (one.refused label) new_store new_store stream first.whole second.whole first.hand second.hand batches others refused other refl first.in_groups second.in_groups first.settled second.settled
 
 pub one_too_much : (label stream : List ℕ) (batches others : List Batch) (refused other : List Refusal) → OneAccount → IsTooMuch label new_store stream batches refused → IsTooMuch label new_store stream others other
     → (batches ≡ others) × (refused ≡ other)
 one_too_much label stream batches others refused other one first second =
     let fronts = same_front first.front second.front first.last second.last (sym first.front_is ∙ second.front_is) in
     let S : List ℕ → Type 0 = λ s. AreInGroups (ended_cuts s) second.whole second.hand in
-    same_settled label (one.batches label) (one.refused label) new_store new_store first.front first.whole second.whole first.hand second.hand batches others refused other refl first.in_groups (subst S (sym fronts) second.in_groups) first.settled second.settled
+    same_settled {label = label} (one.batches label) (one.refused label) new_store new_store first.front first.whole second.whole first.hand second.hand batches others refused other refl first.in_groups (subst S (sym fronts) second.in_groups) first.settled second.settled
 
 -- ---- groups that find no room
 

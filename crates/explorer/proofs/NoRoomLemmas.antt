@@ -9,6 +9,7 @@ use Rattle.explorer_model.specs.declared.archive.Batch.{Batch}
 use Rattle.explorer_model.specs.declared.archive.Game.{Game}
 use Rattle.explorer_model.specs.declared.fault.Refusal.{Refusal}
 use Rattle.explorer_model.specs.Cuts.{Cut}
+use Rattle.explorer_model.specs.Labels.{no_label}
 use Rattle.explorer_model.specs.Imports.{Accounted, AreExaminations, Candidate, Examination, IsExaminationOf, Verdict, batch_of, candidates, groups, numbers_of, refusals, verdicts, verdicts_behind, verdicts_in_turn}
 use Rattle.explorer_model.specs.Journal.{IsWithin, byte_count, game_count}
 use Rattle.explorer_model.specs.Visits.{AreGamesOf, texts_of}
@@ -23,6 +24,7 @@ use Rattle.import_run.specs.SoFar.{IsWhole}
 use Rattle.import_run.proofs.AccountLemmas.{alike, batches_behind, refused_behind}
 use Rattle.import_run.proofs.AloneLemmas.{same_games}
 use Rattle.import_run.proofs.GroupLemmas.{all_cuts, texts_in}
+use Rattle.import_run.proofs.LawLemmas.{SameBatches, SameRefused}
 use Rattle.import_run.proofs.NextLemmas.{by_batch}
 use Rattle.import_run.proofs.TurnLemmas.{batch_in}
 use Rattle.import_run.proofs.VerdictLemmas.{OneGame}
@@ -31,8 +33,41 @@ use Rattle.import_run.proofs.VerdictLemmas.{OneGame}
 
 -- groups behind stored games have one account
 pub record OneAccount : Type 0 where
-  pub batches : (label : List ℕ) (stored : List Game) (groups : List (List Cut)) (batches others : List Batch) (refused other : List Refusal) → Accounted label stored groups batches refused → Accounted label stored groups others other → batches ≡ others
-  pub refused : (label : List ℕ) (stored : List Game) (groups : List (List Cut)) (batches others : List Batch) (refused other : List Refusal) → Accounted label stored groups batches refused → Accounted label stored groups others other → refused ≡ other
+  pub batches : (label : List ℕ) → SameBatches label
+  pub refused : (label : List ℕ) → SameRefused label
+
+-- a batch under this label
+abbrev labelled : List ℕ → Batch → Batch
+labelled label batch = record batch { label = label }
+
+-- batches under a label are those under none, with the label
+batches_labelled : (label : List ℕ) (groups : List (List Verdict)) → filter_map (batch_in label) groups ≡ map (labelled label) (filter_map (batch_in no_label) groups)
+batches_labelled label [] = refl
+batches_labelled label (group ∷ groups) = by (candidates group) (batches_labelled label groups)
+  where
+    by : (cs : List Candidate) → filter_map (batch_in label) groups ≡ map (labelled label) (filter_map (batch_in no_label) groups)
+        → cons_option (batch_of label cs) (filter_map (batch_in label) groups) ≡ map (labelled label) (cons_option (batch_of no_label cs) (filter_map (batch_in no_label) groups))
+    by [] rest = rest
+    by (first ∷ more) rest =
+        let batch : Batch = record { label = label; texts = map (λ (candidate : Candidate). candidate.text) (first ∷ more) } in
+        ap (λ (l : List Batch). batch ∷ l) rest
+
+unlabelled : (label : List ℕ) (stored : List Game) (groups : List (List Cut)) (batches : List Batch) (refused : List Refusal) → (a : Accounted label stored groups batches refused)
+    → Accounted no_label stored groups (batches_behind no_label stored a.examinations) refused
+unlabelled label stored groups batches refused a = record { examinations = a.examinations; are_examinations = a.are_examinations; yields = record { batches_are = refl; refused_are = a.yields.refused_are } }
+
+-- they have one under each label, where they have one under none
+pub accounts_from : SameBatches no_label → SameRefused no_label → OneAccount
+accounts_from one_batches one_refused = record {
+  batches = λ label stored groups batches others refused other a b.
+      a.yields.batches_are ∙ batches_labelled label (verdicts_in_turn stored a.examinations)
+      ∙ ap (map (labelled label)) (one_batches stored groups (batches_behind no_label stored a.examinations) (batches_behind no_label stored b.examinations) refused other
+      (unlabelled label stored groups batches refused a) (unlabelled label stored groups others other b))
+      ∙ sym (batches_labelled label (verdicts_in_turn stored b.examinations)) ∙ sym b.yields.batches_are;
+  refused = λ label stored groups batches others refused other a b.
+      one_refused stored groups (batches_behind no_label stored a.examinations) (batches_behind no_label stored b.examinations) refused other
+      (unlabelled label stored groups batches refused a) (unlabelled label stored groups others other b);
+}
 
 module _ (label : List ℕ) where
   pub accounted_by : (stored : List Game) (groups : List (List Cut)) (examinations : List (List Examination)) → AreExaminations groups examinations
@@ -77,7 +112,7 @@ module _ (label : List ℕ) where
   games_are journal games (cuts ∷ groups) (group ∷ examinations) are each =
       let batch = batch_of label (candidates (verdicts_behind (numbers_of games) group)) in
       let rest = batches_behind label (and_games games group) examinations in
-      let later = games_are (journal ++ cons_option batch []) (and_games games group) groups examinations (by_batch label journal games cuts group are each.0 batch refl) each.1 in
+      let later = games_are (journal ++ cons_option batch []) (and_games games group) groups examinations (by_batch {label = label} journal games cuts group are each.0 batch refl) each.1 in
       let P : List Batch → Type 0 = λ j. AreGamesOf j (games_after (and_games games group) examinations) in
       subst P (append_assoc journal (cons_option batch []) rest ∙ ap (λ (l : List Batch). journal ++ l) (sym (cons_more batch rest))) later
 

@@ -45,7 +45,7 @@ answered_in store file before found = record before {
   host = left_by store (Some file) before.host;
 }
 
-abbrev refusal : LogFault → Ending
+abbrev pub refusal : LogFault → Ending
 refusal fault = Stopped (fault_of_opening (opening.Log fault))
 
 record IsAnswered (store file : List ℕ) (query : Query) (before after : World) : Type 0 where

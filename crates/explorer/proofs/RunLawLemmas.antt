@@ -13,7 +13,7 @@ use Rattle.explorer.specs.Laws.{CountsAtMost, IsTold, WroteAlike, WroteAlikeButR
 use Rattle.explorer.specs.Lines.{AreLinesOf, Ending, Done, Stopped, Tells, full_line, status_of}
 use Rattle.explorer.specs.Report.{MayReport, report}
 use Rattle.explorer.specs.Run.{Meets, Runs, StartsWithout}
-use Rattle.command_line.specs.Task.{Task, Count, Create, Import, Migrate, Query, Serve, Trial, task_of}
+use Rattle.command_line.specs.Task.{Task, Batches, Count, Create, Import, Migrate, Query, Serve, Trial, task_of}
 use Rattle.explorer.specs.World.{World, IsFaultless}
 use Rattle.import_run.proofs.VerdictLemmas.{OneGame}
 use Rattle.explorer.proofs.LawLemmas.{OneAnswer}
@@ -228,6 +228,7 @@ one_run words stream before after other status status' counts_only game one answ
     by_task (Some (Count text workers)) only (inl starves) meets' = absurd (no_memory status first.ending fed first.status_is starves.ending_is)
     by_task (Some (Count text workers)) only (inr counts) (inl starves) = absurd (no_memory status' second.ending fed' second.status_is starves.ending_is)
     by_task (Some (Count text workers)) only (inr counts) (inr counts') = by_counts text counts counts'
+    by_task (Some (Batches store workers)) only meets meets' = absurd only
     by_task (Some (Create store)) only meets meets' = absurd only
     by_task (Some (Import store file workers label)) only meets meets' = absurd only
     by_task (Some (Migrate old new)) only meets meets' = absurd only

@@ -1,4 +1,4 @@
--- A run that creates, asks, imports, migrates, tries or serves comes to what the laws of these say, where no call fails and memory is there.
+-- A run that creates, asks, lists, imports, migrates, tries or serves comes to what the laws of these say, where no call fails and memory is there.
 use Rattle.std.proofs.Common.{◌≡◌, ℕ, ◌-◌, ◌^◌, ◌<◌, ◌≤◌, ◌⊎◌, inl, inr, List, [], ◌∷◌, Option, None, Some, Result, Ok, Err, refl, sym, ap, subst, ◌∙◌, arith}
 use Rattle.std.specs.Prelude.{◌≢◌, IsSome}
 use Rattle.std.specs.Io.KnownBytes.{Appends, append_known}
@@ -17,6 +17,7 @@ use Rattle.explorer.specs.Create.{CreatesBy}
 use Rattle.explorer.specs.ImportStore.{ImportsBy, ImportsLabelled, ImportsSo, ImportsTo}
 use Rattle.explorer.specs.Laws.{GoesWell, HasMemory, HoldAlike, ImportAlike, IsToldErrors, IsToldFile, IsToldOutput, IsToldStore, MigratedAlike, ReadsWell, RefusedAlike, ReportsWell, ServedAlike, ServesDoors, WritesWell, serving, with_workers}
 use Rattle.explorer.specs.Lines.{AreLinesOf, Ending, Done, Stopped, Tells, status_of}
+use Rattle.explorer.specs.ListBatches.{ListsBy}
 use Rattle.explorer.specs.Migrate.{MigratesBy}
 use Rattle.explorer.specs.QueryStore.{AsksBy, QueriesBy}
 use Rattle.explorer.specs.Report.{report}
@@ -26,11 +27,12 @@ use Rattle.explorer.specs.Served.{Service}
 use Rattle.explorer.specs.Stores.{OnlyHost}
 use Rattle.explorer.specs.Trial.{TriesBy}
 use Rattle.explorer.specs.World.{World}
-use Rattle.command_line.specs.Task.{Task, Create, Import, Migrate, Query, Trial, task_of}
+use Rattle.command_line.specs.Task.{Task, Batches, Create, Import, Migrate, Query, Trial, task_of}
 use Rattle.import_run.proofs.VerdictLemmas.{OneGame}
 use Rattle.explorer.proofs.CreationLemmas.{one_creation}
 use Rattle.explorer.proofs.ImportLawLemmas.{one_import}
 use Rattle.explorer.proofs.LawLemmas.{OneAnswer}
+use Rattle.explorer.proofs.ListLawLemmas.{one_listing}
 use Rattle.explorer.proofs.MigrateLawLemmas.{one_migration}
 use Rattle.explorer.proofs.NoRoomLemmas.{OneAccount}
 use Rattle.explorer.proofs.OneEndingLemmas.{OneQuery, wrote_stream}
@@ -157,6 +159,24 @@ queried_errors : (store text : List ℕ) (before after : World) (ending : Ending
 queried_errors store text before after ending (inl (is, inl same)) = ap (λ (w : World). w.errors) same
 queried_errors store text before after ending (inl (is, inr kept)) = by_host before after kept.1
 queried_errors store text before after ending (inr (r, reads, by)) = asked_errors store r before after ending by
+
+listed_errors : (store : List ℕ) (before after : World) (ending : Ending) → ListsBy store before after ending → after.errors ≡ before.errors
+listed_errors store before after Done by = ap (λ (w : World). w.errors) by.rest
+listed_errors store before after (Stopped faults.WriteFault) by = ap (λ (w : World). w.errors) by.rest
+listed_errors store before after (Stopped faults.NotAStore) by = by_host before after by.1
+listed_errors store before after (Stopped (faults.OtherFormat number)) by = by_host before after by.1
+listed_errors store before after (Stopped (faults.Damaged gate)) by = by_host before after by.1
+listed_errors store before after (Stopped faults.DiskFault) by = by_host before after by.2
+listed_errors store before after (Stopped (faults.CannotOpen name)) by = by_host before after by.2
+listed_errors store before after (Stopped faults.OutOfMemory) by = by_host before after by.1
+listed_errors store before after (Stopped faults.Usage) by = absurd by
+listed_errors store before after (Stopped (faults.BadParameter name)) by = absurd by
+listed_errors store before after (Stopped faults.BadLabel) by = absurd by
+listed_errors store before after (Stopped faults.ReadFault) by = absurd by
+listed_errors store before after (Stopped faults.TooMuchInput) by = absurd by
+listed_errors store before after (Stopped (faults.Full games bytes)) by = absurd by
+listed_errors store before after (Stopped (faults.NotEmpty size)) by = absurd by
+listed_errors store before after (Stopped faults.CannotAccept) by = absurd by
 
 tried_errors : (games seed : ℕ) (before after : World) (ending : Ending) → TriesBy games seed before after ending → after.errors ≡ before.errors
 tried_errors games seed before after Done by = ap (λ (w : World). w.errors) by.rest
@@ -329,6 +349,18 @@ module _ (words words' : List (List ℕ)) (before after other : World) (status s
       ([], no_more before.errors second.ended.errors (queried_errors store text before second.ended second.ending meets'))
       (no_usage_asked store text before first.ended first.ending meets)
       (one_question store image text before first.ended second.ended first.ending second.ending found once query told (goes_before first.ending before first.ended after first.tells well)
+      (goes_before second.ending before second.ended other second.tells well') (fed_by status first.ending first.status_is fed) (fed_by status' second.ending second.status_is fed') meets meets')
+
+  -- of a listing
+  pub one_listed : (store image : List ℕ) (workers workers' : ℕ) → OneOpening → task_of words ≡ Some (Batches store workers) → task_of words' ≡ Some (Batches store workers') → IsToldStore store image before → GoesWell before after → GoesWell before other
+      → status ≢ 9 → status' ≢ 9 → (status ≡ status') × (after ≡ other)
+  one_listed store image workers workers' once asks asks' told well well' fed fed' =
+      let meets = meets_task (Batches store workers) words before first.ended first.ending status asks fed first.status_is first.meets in
+      let meets' = meets_task (Batches store workers') words' before second.ended second.ending status' asks' fed' second.status_is second.meets in
+      one_run_of ([], no_more before.errors first.ended.errors (listed_errors store before first.ended first.ending meets))
+      ([], no_more before.errors second.ended.errors (listed_errors store before second.ended second.ending meets'))
+      (λ usage. subst (λ (e : Ending). ListsBy store before first.ended e) usage meets)
+      (one_listing store image before first.ended second.ended first.ending second.ending once told (goes_before first.ending before first.ended after first.tells well)
       (goes_before second.ending before second.ended other second.tells well') (fed_by status first.ending first.status_is fed) (fed_by status' second.ending second.status_is fed') meets meets')
 
   -- of a migration

@@ -18,9 +18,10 @@ ghost use Rattle.explorer.specs.Count.{Answers};
 ghost use Rattle.explorer.specs.Create.{CreatesBy};
 ghost use Rattle.explorer.specs.Imported.{new_store};
 ghost use Rattle.explorer.specs.ImportStore.{ImportsBy};
-ghost use Rattle.command_line.specs.Task.{Create, Import, Migrate, Query as Ask, Trial, task_of};
+ghost use Rattle.command_line.specs.Task.{Batches, Create, Import, Migrate, Query as Ask, Trial, task_of};
 ghost use Rattle.explorer.specs.Laws.{CountsAtMost, GoesWell, HasMemory, ImportAlike, IsAnswered, IsFullIn, IsNoRepeat, IsTold, IsToldErrors, IsToldFile, IsToldOutput, IsToldStore, MigratedAlike, ReadsWell, RefusedAlike, ReportsWell, ServedAlike, WritesWell, WroteAlike, WroteAlikeButReport, serving, with_workers};
 ghost use Rattle.explorer.specs.Lines.{Ending, status_of};
+ghost use Rattle.explorer.specs.ListBatches.{ListsBy};
 ghost use Rattle.explorer.specs.Migrate.{MigratesBy};
 ghost use Rattle.explorer.specs.QueryStore.{QueriesBy};
 ghost use Rattle.explorer.specs.Run.{Runs};
@@ -129,6 +130,18 @@ pub fn a_question_is_determined()
     answers_are_determined();
     opening_is_determined();
     query_is_determined();
+}
+
+/// Runs of `batches` over one told store have one ending, and come to the same, where no call fails
+/// and memory is there.
+pub fn a_listing_is_determined()
+    ensures { (store file : List ℕ) (before after other : World) (ending ending' : Ending)
+        → IsToldStore store file before → GoesWell before after → GoesWell before other
+        → status_of ending ≢ 9 → status_of ending' ≢ 9
+        → ListsBy store before after ending → ListsBy store before other ending'
+        → (ending ≡ ending') × (after ≡ other) }
+{
+    opening_is_determined();
 }
 
 /// Runs of `import` with one text for a label over one told store and one told file below the bound
@@ -257,6 +270,16 @@ pub fn a_run_of_a_command_is_determined()
         (workers workers' : ℕ) (before after other : World) (status status' : ℕ)
         → task_of words ≡ Some (Ask store text workers)
         → task_of words' ≡ Some (Ask store text workers')
+        → IsToldStore store image before → IsToldErrors before
+        → GoesWell before after → ReportsWell before after
+        → GoesWell before other → ReportsWell before other
+        → status ≢ 9 → status' ≢ 9
+        → Runs words before after status → Runs words' before other status'
+        → (status ≡ status') × (after ≡ other) }
+    ensures lists { (words words' : List (List ℕ)) (store image : List ℕ)
+        (workers workers' : ℕ) (before after other : World) (status status' : ℕ)
+        → task_of words ≡ Some (Batches store workers)
+        → task_of words' ≡ Some (Batches store workers')
         → IsToldStore store image before → IsToldErrors before
         → GoesWell before after → ReportsWell before after
         → GoesWell before other → ReportsWell before other

@@ -11,6 +11,7 @@ use crate::count::count;
 use crate::create::create;
 use crate::fault::Fault;
 use crate::import_store::import_store;
+use crate::list_batches::list_batches;
 use crate::migrate::migrate;
 use crate::order::{ImportOrder, Order};
 use crate::query_store::query_store;
@@ -93,6 +94,9 @@ fn run_command<R: AllocGlobal + Wait + Threads + Sync, I: Source, O: Sink, E: Si
         Ends (task_in command) before after (ending_of result) }
 {
     match command {
+        Command::Batches { store, workers } => {
+            list_batches(rt, store, usize::from(workers), output, host)
+        }
         Command::Count { query, workers } => count(
             rt,
             query.as_bytes(),
