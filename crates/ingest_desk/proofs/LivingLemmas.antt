@@ -157,9 +157,9 @@ module _ {D : Type 0} (disk : D → DiskState) (left_since : D → ℕ → List 
       let sound = life_sound life old lived in
       let S : List Batch → Type 0 = λ j. IsSound (j ++ batch ∷ []) in
       let step : (file : List ℕ) → IsWithOrWithoutBatch (journal old) batch file
-          → ReopensTo (after life (Failed batch)) file =
+      → ReopensTo (after life (Failed batch)) file =
       λ file has. maybe_behind life batch file sound (subst S lived.journal_is behind)
-          (subst (λ (j : List Batch). IsWithOrWithoutBatch j batch file) lived.journal_is has) in
+      (subst (λ (j : List Batch). IsWithOrWithoutBatch j batch file) lived.journal_is has) in
       record {
         later = leaves.later;
         each = λ file left. step file (leaves.each file left);
