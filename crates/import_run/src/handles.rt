@@ -16,7 +16,6 @@ use crate::ends::{EndCounts, ending_of};
 use crate::stream::import_bytes;
 use disk_model::Disk;
 use explorer_model::archive::Bytes;
-use explorer_model::label::Label;
 use ingest_desk::{Desk, ImportCall, Importer, Ingest, Receipt, Report};
 use outside::FreeGate;
 use published_index::Index;
@@ -59,15 +58,7 @@ impl<'a, D: Disk, J: Index> Importer<J> for DeskHandle<'a, D, J> {
         body: &[u8],
     ) -> Report<J> {
         let mut seat = Seat::new(self.desk);
-        let report = import_bytes(
-            rt,
-            alloc,
-            body,
-            &mut seat,
-            Label::none(),
-            self.workers,
-            &FreeGate,
-        );
+        let report = import_bytes(rt, alloc, body, &mut seat, self.workers, &FreeGate);
         self.counts.add(&report.end);
         report
     }
@@ -164,15 +155,7 @@ impl<D: Disk, J: Index> Importer<J> for OwnIngest<D, J> {
             ingest: &mut self.ingest,
             lacked: self.lacked,
         };
-        let report = import_bytes(
-            rt,
-            alloc,
-            body,
-            &mut seat,
-            Label::none(),
-            self.workers,
-            &FreeGate,
-        );
+        let report = import_bytes(rt, alloc, body, &mut seat, self.workers, &FreeGate);
         let _after = seat.ingest.batches();
         self.lacked = seat.lacked;
         self.counts.add(&report.end);

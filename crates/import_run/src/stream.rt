@@ -3,6 +3,7 @@ ghost use Rattle.std.specs.Prelude.{◌≡◌, ◌+◌, ◌<◌, ◌≤◌, ◌^
 ghost use Rattle.std.specs.Io.KnownBytes.{IsAtEnd};
 ghost use Rattle.explorer_model.specs.Cuts.{Cut as ACut, cuts};
 ghost use Rattle.explorer_model.specs.Journal.{input_limit};
+ghost use Rattle.explorer_model.specs.Labels.{no_label};
 ghost use Rattle.explorer_model.specs.Wire.{body_limit};
 ghost use Rattle.pgn_cut.specs.Cut.{meaning, cuts_in};
 ghost use Rattle.pgn_cut.specs.Cutter.{came, cuts_of_rest};
@@ -77,13 +78,12 @@ pub fn import_stream<S: Source, C: Committer<J>, J: Index, G: Gate, R: Wait + Th
     }
 }
 
-/// Stores or refuses each text of bytes that are all at hand. What is stored has the label.
+/// Stores or refuses each text of bytes that are all at hand. What is stored has the empty label.
 pub fn import_bytes<C: Committer<J>, J: Index, G: Gate, R: Wait + Threads + Sync>(
     rt: &R,
     alloc: Global,
     bytes: &[u8],
     committer: &mut C,
-    label: Label,
     workers: usize,
     gate: &G,
 ) -> Report<J>
@@ -91,12 +91,12 @@ pub fn import_bytes<C: Committer<J>, J: Index, G: Gate, R: Wait + Threads + Sync
     requires few_workers { workers ≤ 16 }
     requires few { length bytes.now ≤ body_limit }
     ensures told { (start : Known) → C.told committer.old ≡ Some (store_of start)
-        → ComesQuietly label start bytes.now (Some []) result (C.told committer.new) }
-    ensures beside { ComesQuietlyBeside label bytes.now (Some []) result }
+        → ComesQuietly no_label start bytes.now (Some []) result (C.told committer.new) }
+    ensures beside { ComesQuietlyBeside no_label bytes.now (Some []) result }
     ensures since { C.since committer.old committer.new }
 {
     let mut cutter = Cutter::new();
-    let mut import = OpenImport::new(alloc, label);
+    let mut import = OpenImport::new(alloc, Label::none());
     match import.feed(rt, alloc, committer, &mut cutter, bytes, workers, gate) {
         Ok(()) => import.end(rt, alloc, committer, cutter, workers, gate),
         Err(Stop::Fault(stopped)) => import.stopped(stopped),
