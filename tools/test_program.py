@@ -1,6 +1,6 @@
 #!/usr/bin/env python3
 """Tests of the program over pipes, files and sockets, beside those of the crates over a host in memory: groups of texts, stores that
-answer as a count does, and batches that are merged beside answers."""
+answer as a count does, and batches that are listed, and merged beside answers."""
 import http.client
 import pathlib
 import shutil
@@ -84,6 +84,14 @@ class Stores(unittest.TestCase):
             wanted = [played(1, san, uci, listed(numbers[uci], uci)) for san, uci in moves]
             by_number = sorted((listed(numbers[uci], uci) for _, uci in moves), key=lambda told: told["id"])
             self.assertEqual(answer.encode(), counted(len(games), moves=wanted, top=by_number, recent=by_number[::-1]) + b"\n")
+
+    def test_batches_are_listed(self):
+        self.assertEqual(self.run_program("create", self.store)[0], 0)
+        self.assertEqual(self.run_program("batches", self.store), (0, "", ""))
+        for numbers in (range(513), (513, 514)):
+            (self.folder / "games").write_bytes(b"".join(map(game, numbers)))
+            self.assertEqual(self.run_program("import", self.store, str(self.folder / "games"))[0], 0)
+        self.assertEqual(self.run_program("batches", self.store), (0, "1 512 \n2 1 \n3 2 \n", ""))
 
     def first_store(self, batches):
         """Writes a store of format 1 with batches of so many texts of one byte, and gives the bytes of one of format 2 with them, and
