@@ -148,6 +148,42 @@ module _ {D : Type 0} (disk : D → DiskState) (left_since : D → ℕ → List 
         images = λ file left. maybe_behind life batch file sound behind (images file left);
       }
 
+  -- ---- a crash while a batch is committed to an open store
+
+  -- where nothing is against the batch
+  leaves_either : (life : Life) (batch : Batch) (old new : Stored D) → HasLived disk left_since life old
+      → IsSound (journal old ++ batch ∷ [])
+      → LeavesOnly disk left_since old.manifest.disk new.manifest.disk (IsWithOrWithoutBatch (journal old) batch)
+      → LeavesOnly disk left_since old.manifest.disk new.manifest.disk (ReopensTo (after life (Failed batch)))
+  leaves_either life batch old new lived behind leaves =
+      let sound = life_sound life old lived in
+      let S : List Batch → Type 0 = λ j. IsSound (j ++ batch ∷ []) in
+      let step : (file : List ℕ) → IsWithOrWithoutBatch (journal old) batch file
+          → ReopensTo (after life (Failed batch)) file =
+      λ file has. maybe_behind life batch file sound (subst S lived.journal_is behind)
+          (subst (λ (j : List Batch). IsWithOrWithoutBatch j batch file) lived.journal_is has) in
+      record {
+        later = leaves.later;
+        each = λ file left. step file (leaves.each file left);
+        before = λ t file earlier left.
+            ⊎_elim (λ l. inl l) (λ has. inr (step file has)) (leaves.before t file earlier left);
+      }
+
+  -- where the disk was left alone
+  leaves_old : (life : Life) (batch : Batch) (old new : Stored D) → HasLived disk left_since life old
+      → life.pending ≡ None → new.manifest ≡ old.manifest
+      → LeavesOnly disk left_since old.manifest.disk new.manifest.disk (ReopensTo (after life (Failed batch)))
+  leaves_old life batch old new lived none same =
+      let R = ReopensTo (after life (Failed batch)) in
+      let P : Log D → Type 0 = λ l. LeavesOnly disk left_since old.manifest.disk l.disk R in
+      subst P (sym same) (record {
+        later = omega arith;
+        each = λ file left. not_behind life batch file none (lived.images file left);
+        before = λ t file earlier left. inl left;
+      })
+
+  -- ---- answers
+
   module _ {J : Type 0} where
     -- a batch stands behind the journal, and the store is open
     stores_lives : (life next : Life) (tally : Counted) (old new : Stored D)
@@ -187,40 +223,6 @@ module _ {D : Type 0} (disk : D → DiskState) (left_since : D → ℕ → List 
         same_life life old new (record { journal_is = is.stores; manifest_is = is.manifest; failed_is = is.failed }) lived
     commit_lives life tally old new (Err (faults.Full games bytes note)) is lived =
         same_life life old new (record { journal_is = is.stores; manifest_is = is.manifest; failed_is = is.failed }) lived
-
-    -- ---- a crash meanwhile
-
-    -- where nothing is against the batch
-    leaves_either : (life : Life) (batch : Batch) (old new : Stored D) → HasLived disk left_since life old
-        → IsSound (journal old ++ batch ∷ [])
-        → LeavesOnly disk left_since old.manifest.disk new.manifest.disk (IsWithOrWithoutBatch (journal old) batch)
-        → LeavesOnly disk left_since old.manifest.disk new.manifest.disk (ReopensTo (after life (Failed batch)))
-    leaves_either life batch old new lived behind leaves =
-        let sound = life_sound life old lived in
-        let S : List Batch → Type 0 = λ j. IsSound (j ++ batch ∷ []) in
-        let step : (file : List ℕ) → IsWithOrWithoutBatch (journal old) batch file
-            → ReopensTo (after life (Failed batch)) file =
-        λ file has. maybe_behind life batch file sound (subst S lived.journal_is behind)
-            (subst (λ (j : List Batch). IsWithOrWithoutBatch j batch file) lived.journal_is has) in
-        record {
-          later = leaves.later;
-          each = λ file left. step file (leaves.each file left);
-          before = λ t file earlier left.
-              ⊎_elim (λ l. inl l) (λ has. inr (step file has)) (leaves.before t file earlier left);
-        }
-
-    -- where the disk was left alone
-    leaves_old : (life : Life) (batch : Batch) (old new : Stored D) → HasLived disk left_since life old
-        → life.pending ≡ None → new.manifest ≡ old.manifest
-        → LeavesOnly disk left_since old.manifest.disk new.manifest.disk (ReopensTo (after life (Failed batch)))
-    leaves_old life batch old new lived none same =
-        let R = ReopensTo (after life (Failed batch)) in
-        let P : Log D → Type 0 = λ l. LeavesOnly disk left_since old.manifest.disk l.disk R in
-        subst P (sym same) (record {
-          later = omega arith;
-          each = λ file left. not_behind life batch file none (lived.images file left);
-          before = λ t file earlier left. inl left;
-        })
 
     -- what a crash leaves while a batch is committed to an open store
     pub crash_lives : (life : Life) (tally : Counted) (old new : Stored D) (answer : Result (Receipt J) (CommitFault J))
