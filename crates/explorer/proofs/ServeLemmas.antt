@@ -556,6 +556,7 @@ module _ (service : Service) (before after : World) (worked : IsWorked service b
   by-worker faults.OutOfMemory is first disk counted sees reports = inr (inl (by-first faults.OutOfMemory first sees.goes_on disk reports))
   by-worker faults.Usage is first disk counted sees reports = absurd is
   by-worker (faults.BadParameter p) is first disk counted sees reports = absurd is
+  by-worker faults.BadLabel is first disk counted sees reports = absurd is
   by-worker faults.WriteFault is first disk counted sees reports = absurd is
   by-worker faults.DiskFault is first disk counted sees reports = absurd is
   by-worker (faults.NotEmpty n) is first disk counted sees reports = absurd is

@@ -3,6 +3,7 @@ mod answers;
 mod failing;
 mod formats;
 mod imports;
+mod listing;
 mod migrating;
 mod serving;
 mod set_ups;

@@ -1,7 +1,7 @@
 -- A store in its life: which event each answer is.
-use Rattle.std.proofs.Common.{◌≡◌, ◌⊎◌, inl, inr, ⊎_elim, ℕ, Bool, true, false, List, [], ◌∷◌, ◌++◌, length, Option, None, Some, Result, Ok, Err, refl, sym, ap, ◌∙◌, subst, arith, append_assoc}
+use Rattle.std.proofs.Common.{◌≡◌, inl, inr, ⊎_elim, ℕ, Bool, true, false, List, [], ◌∷◌, ◌++◌, length, Option, None, Some, Result, Ok, Err, refl, sym, ap, ◌∙◌, subst, arith, append_assoc}
 use Rattle.std.proofs.lemmas.List.Elements.{All-from_recursion}
-use Rattle.disk_model.specs.Disk.{DiskState, IsQuiet, LeavesOnly, MayLeave}
+use Rattle.disk_model.specs.Disk.{DiskState, IsQuiet, LeavesOnly}
 use Rattle.explorer_model.specs.declared.archive.Batch.{Batch}
 use Rattle.explorer_model.specs.declared.archive.Game.{Game}
 use Rattle.explorer_model.specs.Journal.{IsBatch, IsSound}
@@ -148,8 +148,6 @@ module _ {D : Type 0} (disk : D → DiskState) (left_since : D → ℕ → List 
         images = λ file left. maybe_behind life batch file sound behind (images file left);
       }
 
-  -- ---- a crash while a batch is committed to an open store
-
   -- where nothing is against the batch
   leaves_either : (life : Life) (batch : Batch) (old new : Stored D) → HasLived disk left_since life old
       → IsSound (journal old ++ batch ∷ [])
@@ -159,9 +157,9 @@ module _ {D : Type 0} (disk : D → DiskState) (left_since : D → ℕ → List 
       let sound = life_sound life old lived in
       let S : List Batch → Type 0 = λ j. IsSound (j ++ batch ∷ []) in
       let step : (file : List ℕ) → IsWithOrWithoutBatch (journal old) batch file
-          → ReopensTo (after life (Failed batch)) file =
+      → ReopensTo (after life (Failed batch)) file =
       λ file has. maybe_behind life batch file sound (subst S lived.journal_is behind)
-          (subst (λ (j : List Batch). IsWithOrWithoutBatch j batch file) lived.journal_is has) in
+      (subst (λ (j : List Batch). IsWithOrWithoutBatch j batch file) lived.journal_is has) in
       record {
         later = leaves.later;
         each = λ file left. step file (leaves.each file left);
@@ -181,8 +179,6 @@ module _ {D : Type 0} (disk : D → DiskState) (left_since : D → ℕ → List 
         each = λ file left. not_behind life batch file none (lived.images file left);
         before = λ t file earlier left. inl left;
       })
-
-  -- ---- answers
 
   module _ {J : Type 0} where
     -- a batch stands behind the journal, and the store is open
@@ -223,6 +219,8 @@ module _ {D : Type 0} (disk : D → DiskState) (left_since : D → ℕ → List 
         same_life life old new (record { journal_is = is.stores; manifest_is = is.manifest; failed_is = is.failed }) lived
     commit_lives life tally old new (Err (faults.Full games bytes note)) is lived =
         same_life life old new (record { journal_is = is.stores; manifest_is = is.manifest; failed_is = is.failed }) lived
+
+    -- ---- a crash meanwhile
 
     -- what a crash leaves while a batch is committed to an open store
     pub crash_lives : (life : Life) (tally : Counted) (old new : Stored D) (answer : Result (Receipt J) (CommitFault J))

@@ -37,17 +37,18 @@ pub record HasNoRoom (journal : List Batch) (games bytes : ℕ) (left : List Can
 -- those before the one at which it broke off. Where that found no room, the journal has none for it.
 abbrev pub AccountsBy : ImportEnding → List Batch → List (List Cut) → List Batch → List Refusal
     → Type 0
-AccountsBy endings.Whole journal groups batches refused = AccountedBeside no_label groups batches refused
+AccountsBy endings.Whole journal groups batches refused =
+    AccountedBeside no_label groups batches refused
 AccountsBy (endings.DiskFault before after) journal groups batches refused =
-    (left : List Candidate) × BreaksAt groups batches refused left
+    (left : List Candidate) × BreaksAt no_label groups batches refused left
 AccountsBy (endings.Closed before after) journal groups batches refused =
-    (left : List Candidate) × BreaksAt groups batches refused left
+    (left : List Candidate) × BreaksAt no_label groups batches refused left
 AccountsBy (endings.Full games bytes) journal groups batches refused =
-    (left : List Candidate) × BreaksAt groups batches refused left
+    (left : List Candidate) × BreaksAt no_label groups batches refused left
     × HasNoRoom journal games bytes left
 AccountsBy endings.OutOfMemory journal groups batches refused =
     (finished : ℕ) × ((unread : List Refusal) × LeftUnreadIn (take finished groups) unread
-    × AccountsUpTo finished groups batches (refused ++ unread))
+    × AccountsUpTo no_label finished groups batches (refused ++ unread))
 AccountsBy _ journal groups batches refused = ⊥
 
 -- An import of the body ended so. The batches that it stored have so many games and stand in the

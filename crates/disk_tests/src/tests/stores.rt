@@ -293,3 +293,22 @@ fn store_that_failed_takes_a_shorter_batch_once_it_is_opened_again(
     }
     Ok(())
 }
+
+#[test]
+fn store_is_cut_at_each_byte(rt: HostRuntime) -> Result<(), Fail> {
+    // Two batches, whose gates stand at 12 and 25.
+    let bytes = bytes_behind_one(rt.alloc(), b"\x00\x01\x00\x01\x00\x00\x00y")?;
+    for size in 0..bytes.len() + 1 {
+        let answer = if size < 13 {
+            Err(OpenFault::Log(LogFault::NotALog))
+        } else if size == bytes.len() {
+            Ok(2)
+        } else {
+            let at = if size < 26 { 12 } else { 25 };
+            Err(OpenFault::Log(LogFault::Damaged { at }))
+        };
+        let disk = disk_with(rt.alloc(), ROOM, &bytes[..size], &[])?;
+        assert_eq!(rt; count_of(rt.alloc(), disk), answer, "at {size}");
+    }
+    Ok(())
+}

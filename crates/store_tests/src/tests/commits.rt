@@ -233,6 +233,44 @@ fn fault_of<J: Index>(
     }
 }
 
+// ---- a full list
+
+#[test]
+fn sixty_fifth_batch_finds_room_by_a_join(rt: HostRuntime) -> Result<(), Fail> {
+    let unnamed = new_store(&rt, rt.alloc(), Vec::new(rt.alloc()))?;
+    fills_the_list::<Brand, _>(&rt, rt.alloc(), unnamed)
+}
+
+fn fills_the_list<J: Index, R: Threads + Wait + Abort + Sync>(
+    rt: &R,
+    alloc: Global,
+    unnamed: Unnamed<MemDisk>,
+) -> Result<(), Fail>
+    requires { unnamed.index.name ≡ J.name }
+{
+    let (mut ingest, _passes) = named::<J, _, R>(rt, alloc, unnamed)?;
+    let outcome = fill_the_list(rt, alloc, &mut ingest);
+    let _disk = ingest.into_disk(rt);
+    outcome
+}
+
+/// Commits alone join nothing until 64 segments stand, and the 65th joins two.
+fn fill_the_list<J: Index, R: Threads + Wait + Abort + Sync>(
+    rt: &R,
+    alloc: Global,
+    ingest: &mut Ingest<MemDisk, J>,
+) -> Result<(), Fail> {
+    for number in 0..65u32 {
+        if commit_games(rt, alloc, ingest, number, 1)?.is_none() {
+            return Err(Fail::from("not stored"));
+        }
+        let list = ingest.publisher().list();
+        let stands = (list.batches(), list.segments().len());
+        assert_eq!(rt; stands, (number + 1, (number as usize + 1).min(64)));
+    }
+    Ok(())
+}
+
 // ---- damaged stores
 
 /// A disk with a store of two batches, of one text each.
