@@ -86,7 +86,7 @@ after_groups label journal games (cuts ∷ groups) (group ∷ examinations) are 
     let o = batch_of label (candidates (verdicts_behind (numbers_of games) group)) in
     let more = batches_behind label (and_games games group) examinations in
     let last = games_after (and_games games group) examinations in
-    let here = by_batch journal games cuts group are each.0 o refl in
+    let here = by_batch label journal games cuts group are each.0 o refl in
     subst (λ (j : List Batch). AreGamesOf j last) (one_before journal more o)
     (after_groups label (journal ++ cons_option o []) (and_games games group) groups examinations here each.1)
 
@@ -234,7 +234,7 @@ module _ {label : List ℕ} (one : OneGame) (same_batches : SameBatches label) (
           is = accounted.yields.batches_are ∙ ap (batches_behind label start.games) parts.is ∙ batches-append label start.games parts.front (parts.at ∷ parts.rest)
               ∙ ap (λ (l : List Batch). l ++ batches_behind label (games_after start.games parts.front) (parts.at ∷ parts.rest)) (ap (batches_behind label start.games) (sym front) ∙ behind)
               ∙ ap (λ (o : Option Batch). batches ++ cons_option o last) made;
-          texts = batch_texts left some.0 some.1;
+          texts = batch_texts label left some.0 some.1;
         }
 
     -- a closed store has no such group
