@@ -21,7 +21,7 @@ use Rattle.import_run.specs.Ending.{EndsIn}
 use Rattle.import_run.specs.Progress.{HasNoCandidate, and_games, games_after}
 use Rattle.import_run.specs.Rounds.{stored_by}
 use Rattle.import_run.specs.Settling.{kept, lost}
-use Rattle.import_run.proofs.AccountLemmas.{alone_refused, batches_behind, behind_refused, candidates_more, no_candidates, unread, with_refused}
+use Rattle.import_run.proofs.AccountLemmas.{alone_refused, batches_behind, behind_refused, candidates_more, no_candidates, refused_behind, unread, with_refused}
 use Rattle.import_run.proofs.AloneLemmas.{same_games}
 use Rattle.import_run.proofs.GroupLemmas.{texts_in}
 use Rattle.import_run.proofs.HandLemmas.{batch_texts}
