@@ -11,6 +11,7 @@ An opening explorer for chess: what was played in a position, and how those game
   $name import STORE GAMES            add the games of a file to it
   $name migrate OLD NEW               make a store of one of format 1
   $name query STORE [QUERY]           answer a query over it
+  $name batches STORE                 list its batches and their labels
   $name serve STORE ADDRESS [GAMES..] answer over HTTP, and import meanwhile
   $name trial NUMBER SEED             try it on games that are drawn
 

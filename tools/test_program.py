@@ -1,6 +1,6 @@
 #!/usr/bin/env python3
 """Tests of the program over pipes, files and sockets, beside those of the crates over a host in memory: groups of texts, stores that
-answer as a count does, and batches that are merged beside answers."""
+answer as a count does, and batches that are listed, and merged beside answers."""
 import http.client
 import pathlib
 import shutil
@@ -85,6 +85,14 @@ class Stores(unittest.TestCase):
             by_number = sorted((listed(numbers[uci], uci) for _, uci in moves), key=lambda told: told["id"])
             self.assertEqual(answer.encode(), counted(len(games), moves=wanted, top=by_number, recent=by_number[::-1]) + b"\n")
 
+    def test_batches_are_listed(self):
+        self.assertEqual(self.run_program("create", self.store)[0], 0)
+        self.assertEqual(self.run_program("batches", self.store), (0, "", ""))
+        for numbers in (range(513), (513, 514)):
+            (self.folder / "games").write_bytes(b"".join(map(game, numbers)))
+            self.assertEqual(self.run_program("import", self.store, str(self.folder / "games"))[0], 0)
+        self.assertEqual(self.run_program("batches", self.store), (0, "1 512 \n2 1 \n3 2 \n", ""))
+
     def first_store(self, batches):
         """Writes a store of format 1 with batches of so many texts of one byte, and gives the bytes of one of format 2 with them, and
         the gate of the last batch."""
@@ -107,6 +115,21 @@ class Stores(unittest.TestCase):
         other = self.folder / "other"
         _, gate = self.first_store([512] * 256 + [1])
         self.assertEqual(self.run_program("migrate", str(self.old), str(other)), (7, "", f"damaged at {gate}\n"))
+        self.assertFalse(other.exists())
+
+    def test_batches_keep_their_labels(self):
+        games, lines = self.folder / "games", ""
+        self.assertEqual(self.run_program("create", self.store), (0, "created\n", ""))
+        for number, label in enumerate(("a", "", "März", "a b", "x" * 64), 1):
+            games.write_bytes(game(number))
+            told = f"stored 1\nbatches 1\njournal {number}\n"
+            self.assertEqual(self.run_program("import", self.store, str(games), "--label", label), (0, told, ""))
+            lines += f"{number} 1 {label}\n"
+            self.assertEqual(self.run_program("batches", self.store), (0, lines, ""))
+        other = self.folder / "other"
+        for label in ("x" * 65, "a\tb"):
+            refused = (3, "", "bad parameter label\n")
+            self.assertEqual(self.run_program("import", str(other), str(games), "--label", label), refused)
         self.assertFalse(other.exists())
 
     def test_batches_are_merged_beside_answers(self):

@@ -33,7 +33,7 @@ abbrev explorer_built : App
 explorer_built = built explorer_app
 
 subcommands_known : AllByRecursion IsKnown explorer_built.subs
-subcommands_known = ((λ rows e. cc), ((λ rows e. cc), ((λ rows e. cc), ((λ rows e. cc), ((λ rows e. cc), ((λ rows e. cc), ((λ rows e. cc), tt)))))))
+subcommands_known = ((λ rows e. cc), ((λ rows e. cc), ((λ rows e. cc), ((λ rows e. cc), ((λ rows e. cc), ((λ rows e. cc), ((λ rows e. cc), ((λ rows e. cc), tt))))))))
 
 found-taken : (found : Option Shape) (words : List Text) (rows : List Row) → IfSome found IsKnown
     → check_fault explorer_built.top rows (is_some (option_map (λ s. rows_at s words) found)) ≡ []

@@ -51,6 +51,10 @@ option_rule name bounds default = record (new_rule name) {
   defaults = default ∷ [];
 }
 
+-- `--NAME TEXT`, which is any text
+abbrev pub text_rule : Text → Rule
+text_rule name = record (optional_rule name) { long = Some name }
+
 -- `NAME`, which is a number within bounds
 abbrev pub number_rule : Text → Bounds → Rule
 number_rule name bounds = record (required_rule name) {
@@ -73,6 +77,11 @@ abbrev pub with_rules : App → List Rule → App
 with_rules app [] = app
 with_rules app (rule ∷ rules) = with_rules (with_rule app rule) rules
 
+-- `batches STORE [--workers N]`
+abbrev pub batches_shape : Shape
+batches_shape = (with_rules (new_app (codes "batches"))
+    (required_rule (codes "store") ∷ workers_rule ∷ [])).top
+
 -- `count [QUERY] [--workers N]`
 abbrev pub count_shape : Shape
 count_shape = (with_rules (new_app (codes "count"))
@@ -82,10 +91,11 @@ count_shape = (with_rules (new_app (codes "count"))
 abbrev pub create_shape : Shape
 create_shape = (with_rules (new_app (codes "create")) (required_rule (codes "store") ∷ [])).top
 
--- `import STORE FILE [--workers N]`
+-- `import STORE FILE [--workers N] [--label TEXT]`
 abbrev pub import_shape : Shape
 import_shape = (with_rules (new_app (codes "import"))
-    (required_rule (codes "store") ∷ required_rule (codes "file") ∷ workers_rule ∷ [])).top
+    (required_rule (codes "store") ∷ required_rule (codes "file") ∷ workers_rule
+    ∷ text_rule (codes "label") ∷ [])).top
 
 -- `migrate OLD NEW`
 abbrev pub migrate_shape : Shape
@@ -122,18 +132,20 @@ with_shapes app (shape ∷ shapes) = with_shapes (with_subcommand app shape) sha
 
 abbrev pub explorer_app : App
 explorer_app = with_shapes bare_app
-    (count_shape ∷ create_shape ∷ import_shape ∷ migrate_shape ∷ query_shape ∷ serve_shape
-    ∷ trial_shape ∷ [])
+    (batches_shape ∷ count_shape ∷ create_shape ∷ import_shape ∷ migrate_shape ∷ query_shape
+    ∷ serve_shape ∷ trial_shape ∷ [])
 
 -- ---- what words ask for
 
 pub data Task : Type 0 where
+  -- list the batches of a store
+  Batches : (store : List ℕ) (workers : ℕ) → Task
   -- count the games of the input, and answer the query
   Count : (query : List ℕ) (workers : ℕ) → Task
   -- make a store without a game
   Create : (store : List ℕ) → Task
-  -- import a file into a store
-  Import : (store file : List ℕ) (workers : ℕ) → Task
+  -- import a file into a store under a label, which is empty where none is given
+  Import : (store file : List ℕ) (workers : ℕ) (label : List ℕ) → Task
   -- make a store of the batches of a store in the first format
   Migrate : (old new : List ℕ) → Task
   -- answer a query over a store
@@ -163,6 +175,10 @@ number_in name bounds default rows = number_of bounds default (one_of name rows)
 abbrev pub workers_in : List Row → ℕ
 workers_in = number_in (codes "workers") workers_bounds 4
 
+abbrev pub import_task : List Row → Task
+import_task rows = Import (word_in (codes "store") rows) (word_in (codes "file") rows)
+    (workers_in rows) (word_in (codes "label") rows)
+
 abbrev pub serve_task : List Row → Task
 serve_task rows = Serve (word_in (codes "store") rows) (word_in (codes "address") rows)
     (words_in (codes "file") rows) (workers_in rows)
@@ -176,11 +192,12 @@ trial_task rows = Trial (number_in (codes "games") games_bounds 1 rows)
 -- what a subcommand asks for, with what is given for its arguments
 abbrev pub task_named : Text → List Row → Option Task
 task_named name rows =
-    if bytes_eq name (codes "count") then
+    if bytes_eq name (codes "batches") then
+    Some (Batches (word_in (codes "store") rows) (workers_in rows))
+    else if bytes_eq name (codes "count") then
     Some (Count (word_in (codes "query") rows) (workers_in rows))
     else if bytes_eq name (codes "create") then Some (Create (word_in (codes "store") rows))
-    else if bytes_eq name (codes "import") then
-    Some (Import (word_in (codes "store") rows) (word_in (codes "file") rows) (workers_in rows))
+    else if bytes_eq name (codes "import") then Some (import_task rows)
     else if bytes_eq name (codes "migrate") then
     Some (Migrate (word_in (codes "old") rows) (word_in (codes "new") rows))
     else if bytes_eq name (codes "query") then

@@ -6,13 +6,14 @@ use Rattle.explorer_model.specs.declared.fault.Stop.TheVariants as stops
 use Rattle.command_line.specs.declared.command.Command.{Command}
 use Rattle.command_line.specs.declared.command.Command.TheVariants as commands
 use Rattle.command_line.specs.declared.words.UsageError.{UsageError}
-use Rattle.command_line.specs.Task.{Bounds, Count, Create, Import, Migrate, Query, Serve, Task, Trial, connections_bounds, games_bounds, readers_bounds, seed_bounds, task_named, task_of, workers_bounds}
+use Rattle.command_line.specs.Task.{Batches, Bounds, Count, Create, Import, Migrate, Query, Serve, Task, Trial, connections_bounds, games_bounds, readers_bounds, seed_bounds, task_named, task_of, workers_bounds}
 
 abbrev pub task_in : Command → Task
+task_in (commands.Batches store workers) = Batches (string_bytes store) workers
 task_in (commands.Count query workers) = Count (string_bytes query) workers
 task_in (commands.Create store) = Create (string_bytes store)
-task_in (commands.Import store file workers) =
-    Import (string_bytes store) (string_bytes file) workers
+task_in (commands.Import store file workers label) =
+    Import (string_bytes store) (string_bytes file) workers (string_bytes label)
 task_in (commands.Migrate old new) = Migrate (string_bytes old) (string_bytes new)
 task_in (commands.Query store query workers) =
     Query (string_bytes store) (string_bytes query) workers
@@ -28,9 +29,10 @@ IsIn bounds number = (bounds.least ≤ number) × (number ≤ bounds.most)
 
 -- all numbers that are asked for stand within their bounds
 abbrev pub IsInBounds : Task → Type 0
+IsInBounds (Batches store workers) = IsIn workers_bounds workers
 IsInBounds (Count query workers) = IsIn workers_bounds workers
 IsInBounds (Create store) = Unit {0}
-IsInBounds (Import store file workers) = IsIn workers_bounds workers
+IsInBounds (Import store file workers label) = IsIn workers_bounds workers
 IsInBounds (Migrate old new) = Unit {0}
 IsInBounds (Query store query workers) = IsIn workers_bounds workers
 IsInBounds (Serve store address files workers readers connections) =

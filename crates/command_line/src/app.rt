@@ -4,6 +4,7 @@ ghost use Rattle.clap.specs.Words.{app_of, new_app, rule_of, shape_of, with_rule
 ghost use Rattle.clap.specs.declared.builder.command.Command.TheViews.{out-Command as fields_of};
 ghost use Rattle.command_line.specs.Task.{
   bare_app,
+  batches_shape,
   connections_bounds,
   count_shape,
   create_shape,
@@ -20,6 +21,7 @@ ghost use Rattle.command_line.specs.Task.{
   required_rule,
   seed_bounds,
   serve_shape,
+  text_rule,
   trial_shape,
   with_rules,
   with_shapes,
@@ -38,26 +40,36 @@ pub fn explorer_command<'a>(alloc: Global) -> Result<Command<'a>, AllocError>
     with_command(command, trial_command(alloc)?)
 }
 
-/// The command line with the first five of its subcommands.
+/// The command line with the first six of its subcommands.
 fn command_without_service<'a>(alloc: Global) -> Result<Command<'a>, AllocError>
     ensures { IfOk result (λ command.
         app_of command ≡ with_shapes bare_app
-        (count_shape ∷ create_shape ∷ import_shape ∷ migrate_shape ∷ query_shape ∷ [])) }
+        (batches_shape ∷ count_shape ∷ create_shape ∷ import_shape ∷ migrate_shape ∷ query_shape
+        ∷ [])) }
 {
     let command = command_without_answers(alloc)?;
     let command = with_command(command, migrate_command(alloc)?)?;
     with_command(command, query_command(alloc)?)
 }
 
-/// The command line with the first three of its subcommands.
+/// The command line with the first four of its subcommands.
 fn command_without_answers<'a>(alloc: Global) -> Result<Command<'a>, AllocError>
     ensures { IfOk result (λ command.
-        app_of command
-        ≡ with_shapes bare_app (count_shape ∷ create_shape ∷ import_shape ∷ [])) }
+        app_of command ≡ with_shapes bare_app
+        (batches_shape ∷ count_shape ∷ create_shape ∷ import_shape ∷ [])) }
 {
-    let command = with_command(bare_command(alloc), count_command(alloc)?)?;
+    let command = command_without_imports(alloc)?;
     let command = with_command(command, create_command(alloc)?)?;
     with_command(command, import_command(alloc)?)
+}
+
+/// The command line with the first two of its subcommands.
+fn command_without_imports<'a>(alloc: Global) -> Result<Command<'a>, AllocError>
+    ensures { IfOk result (λ command.
+        app_of command ≡ with_shapes bare_app (batches_shape ∷ count_shape ∷ [])) }
+{
+    let command = with_command(bare_command(alloc), batches_command(alloc)?)?;
+    with_command(command, count_command(alloc)?)
 }
 
 /// The command line without its subcommands.
@@ -68,6 +80,14 @@ fn bare_command<'a>(alloc: Global) -> Command<'a>
         .about("An opening explorer for games of chess")
         .disable_help_subcommand(true)
         .subcommand_required(true)
+}
+
+fn batches_command<'a>(alloc: Global) -> Result<Command<'a>, AllocError>
+    ensures shape { IfOk result (λ command. shape_of command ≡ batches_shape) }
+    ensures globals { IfOk result (λ command. (fields_of command).has_globals ≡ false) }
+{
+    let command = Command::new(alloc, "batches").about("List the batches of a store");
+    with_args(command, store_arg(alloc), workers_arg(alloc))
 }
 
 fn count_command<'a>(alloc: Global) -> Result<Command<'a>, AllocError>
@@ -95,7 +115,7 @@ fn import_command<'a>(alloc: Global) -> Result<Command<'a>, AllocError>
 {
     let command = Command::new(alloc, "import").about("Import the games of a file into a store");
     let command = with_args(command, store_arg(alloc), file_arg(alloc))?;
-    with_arg(command, workers_arg(alloc))
+    with_args(command, workers_arg(alloc), label_arg(alloc))
 }
 
 fn migrate_command<'a>(alloc: Global) -> Result<Command<'a>, AllocError>
@@ -252,6 +272,16 @@ fn workers_arg<'a>(alloc: Global) -> Arg<'a>
         .value_parser(value_parser!(u64).range(1..=16))
         .default_value("4")
         .help("How many threads work at once, 1 to 16")
+}
+
+fn label_arg<'a>(alloc: Global) -> Arg<'a>
+    ensures rule { rule_of result ≡ text_rule (codes "label") }
+    ensures local { result.global ≡ false }
+{
+    Arg::new(alloc, "label")
+        .long("label")
+        .value_name("TEXT")
+        .help("The label of the batches that are stored, at most 64 bytes")
 }
 
 fn readers_arg<'a>(alloc: Global) -> Arg<'a>

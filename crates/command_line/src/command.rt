@@ -10,6 +10,11 @@ use std::alloc::{AllocError, Global};
 /// What a run is asked to do. Each command that counts games does it by 1 to 16 workers.
 #[derive(Debug, Drop)]
 pub enum Command {
+    /// List the batches of a store.
+    Batches {
+        store: String,
+        workers: u8,
+    },
     /// Count the games of the input, and answer the query, which is empty where none is given.
     Count {
         query: String,
@@ -19,11 +24,12 @@ pub enum Command {
     Create {
         store: String,
     },
-    /// Import a file into a store.
+    /// Import a file into a store under a label, which is empty where none is given.
     Import {
         store: String,
         file: String,
         workers: u8,
+        label: String,
     },
     /// Make a store of the batches of a store in the first format.
     Migrate {
@@ -61,6 +67,9 @@ pub fn command_of(alloc: Global, matches: &ArgMatches<'_>) -> Result<Command, Al
         task_said (subcommand_rows_of matches.now) ≡ Some (task_in command)) }
     ensures bounds { IfOk result (λ command. IsInBounds (task_in command)) }
 {
+    if let Some(given) = matches.subcommand_matches("batches") {
+        return batches_of(alloc, given);
+    }
     if let Some(given) = matches.subcommand_matches("count") {
         return count_of(alloc, given);
     }
@@ -83,6 +92,17 @@ pub fn command_of(alloc: Global, matches: &ArgMatches<'_>) -> Result<Command, Al
         unreachable!();
     };
     Ok(trial_of(given))
+}
+
+fn batches_of(alloc: Global, given: &ArgMatches<'_>) -> Result<Command, AllocError>
+    ensures task { IfOk result (λ command.
+        task_named (codes "batches") (rows_of (found_of given.now)) ≡ Some (task_in command)) }
+    ensures bounds { IfOk result (λ command. IsInBounds (task_in command)) }
+{
+    Ok(Command::Batches {
+        store: word_of(alloc, given, "store")?,
+        workers: workers_of(given),
+    })
 }
 
 fn count_of(alloc: Global, given: &ArgMatches<'_>) -> Result<Command, AllocError>
@@ -115,6 +135,7 @@ fn import_of(alloc: Global, given: &ArgMatches<'_>) -> Result<Command, AllocErro
         store: word_of(alloc, given, "store")?,
         file: word_of(alloc, given, "file")?,
         workers: workers_of(given),
+        label: word_of(alloc, given, "label")?,
     })
 }
 

@@ -29,6 +29,8 @@ mod MigrateLemmas
 mod MigrateLawLemmas
 mod KeptStoreLemmas
 mod QuestionLemmas
+mod ListLemmas
+mod ListLawLemmas
 mod ImportHostLemmas
 mod ImportLawLemmas
 mod SegmentLemmas

@@ -45,7 +45,7 @@ answered_in store file before found = record before {
   host = left_by store (Some file) before.host;
 }
 
-abbrev refusal : LogFault → Ending
+abbrev pub refusal : LogFault → Ending
 refusal fault = Stopped (fault_of_opening (opening.Log fault))
 
 record IsAnswered (store file : List ℕ) (query : Query) (before after : World) : Type 0 where
@@ -119,6 +119,7 @@ module _ (store file : List ℕ) (query : Query) (before after : World)
       absurd (no_rise before.host.own_faults after.host.own_faults well.refusals told.refusals by.1.rises)
   comes (Stopped faults.Usage) by = absurd by
   comes (Stopped (faults.BadParameter name)) by = absurd by
+  comes (Stopped faults.BadLabel) by = absurd by
   comes (Stopped faults.ReadFault) by = absurd by
   comes (Stopped faults.TooMuchInput) by = absurd by
   comes (Stopped (faults.Full games bytes)) by = absurd by

@@ -21,4 +21,5 @@ pub mod Serve
 pub mod Serving
 pub mod Workers
 pub mod QueryStore
+pub mod ListBatches
 pub mod Concluding

@@ -8,11 +8,12 @@ use Rattle.explorer.specs.Count.{Counts}
 use Rattle.explorer.specs.Create.{CreatesBy}
 use Rattle.explorer.specs.ImportStore.{ImportsBy}
 use Rattle.explorer.specs.Lines.{Ending, Stopped, Tells, status_of}
+use Rattle.explorer.specs.ListBatches.{ListsBy}
 use Rattle.explorer.specs.Migrate.{MigratesBy}
 use Rattle.explorer.specs.QueryStore.{QueriesBy}
 use Rattle.explorer.specs.Serve.{Serves}
 use Rattle.explorer.specs.Trial.{TriesBy}
-use Rattle.command_line.specs.Task.{Task, Count, Create, Import, Migrate, Query, Serve, Trial, task_of}
+use Rattle.command_line.specs.Task.{Task, Batches, Count, Create, Import, Migrate, Query, Serve, Trial, task_of}
 use Rattle.explorer.specs.World.{World, AllReadsCame}
 
 -- Memory was refused, which may come at any moment: some of the input may be read, of which no read
@@ -27,11 +28,12 @@ pub record Starves (before after : World) (ending : Ending) : Type 0 where
 
 -- a run of a task, by its ending
 abbrev pub Ends : Task → World → World → Ending → Type 0
+Ends (Batches store workers) before after ending = ListsBy store before after ending
 Ends (Count query workers) before after ending =
     Starves before after ending ⊎ Counts query before after ending
 Ends (Create store) before after ending = CreatesBy store before after ending
-Ends (Import store file workers) before after ending =
-    ImportsBy store file before after ending
+Ends (Import store file workers label) before after ending =
+    ImportsBy store file label before after ending
 Ends (Migrate old new) before after ending = MigratesBy old new before after ending
 Ends (Query store query workers) before after ending =
     QueriesBy store query before after ending

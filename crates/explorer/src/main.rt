@@ -13,6 +13,7 @@ mod fault;
 mod import_store;
 mod importing;
 mod laws;
+mod list_batches;
 mod listening;
 mod migrate;
 mod opening;

@@ -11,8 +11,9 @@ use crate::count::count;
 use crate::create::create;
 use crate::fault::Fault;
 use crate::import_store::import_store;
+use crate::list_batches::list_batches;
 use crate::migrate::migrate;
-use crate::order::Order;
+use crate::order::{ImportOrder, Order};
 use crate::query_store::query_store;
 use crate::serve::serve;
 use crate::status::Status;
@@ -93,6 +94,9 @@ fn run_command<R: AllocGlobal + Wait + Threads + Sync, I: Source, O: Sink, E: Si
         Ends (task_in command) before after (ending_of result) }
 {
     match command {
+        Command::Batches { store, workers } => {
+            list_batches(rt, store, usize::from(workers), output, host)
+        }
         Command::Count { query, workers } => count(
             rt,
             query.as_bytes(),
@@ -106,7 +110,19 @@ fn run_command<R: AllocGlobal + Wait + Threads + Sync, I: Source, O: Sink, E: Si
             store,
             file,
             workers,
-        } => import_store(rt, store, file, usize::from(workers), output, errors, host),
+            label,
+        } => import_store(
+            rt,
+            ImportOrder {
+                store,
+                file,
+                label,
+                workers: usize::from(workers),
+            },
+            output,
+            errors,
+            host,
+        ),
         Command::Migrate { old, new } => migrate(rt.alloc(), old, new, output, host),
         Command::Query {
             store,

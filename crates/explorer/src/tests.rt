@@ -1,7 +1,9 @@
 //! Runs of the program over inputs in memory, against what its rules say of them.
 mod answers;
+mod failing;
 mod formats;
 mod imports;
+mod listing;
 mod migrating;
 mod serving;
 mod set_ups;

@@ -20,8 +20,9 @@ use Rattle.ingest_desk.specs.declared.report.End.{End}
 use Rattle.ingest_desk.specs.declared.report.End.TheVariants as ends
 use Rattle.ingest_desk.specs.declared.report.Report.{Report}
 use Rattle.ingest_desk.specs.Importers.{EndsInMemory, ending_of}
+use Rattle.ingest_desk.specs.Lives.{StandFrom}
 use Rattle.ingest_desk.specs.Reporting.{AccountsTo, AreReceipts, RepeatsBy, RepeatsGame, Reports, games_of}
-use Rattle.session.specs.Imports.{AccountsBy, AreNew, HasImported, HasStoredBody, IsRepeatOf, RepliesTo, StandFrom, TellsEnding}
+use Rattle.session.specs.Imports.{AccountsBy, AreNew, HasImported, HasStoredBody, IsRepeatOf, RepliesTo, TellsEnding}
 use Rattle.session.specs.Steps.{AreBehind, KnowsEnd, KnowsNotes, KnowsReceipts}
 use Rattle.session.proofs.FrontLemmas.{get-prefix}
 

@@ -1,5 +1,5 @@
 -- Statement: what is replied to the import of a body.
-use Rattle.std.specs.Prelude.{◌≡◌, ◌⊎◌, ⊤, ℕ, ◌+◌, ◌≤◌, List, [], ◌∷◌, ◌++◌, length, slice_get, take, Some}
+use Rattle.std.specs.Prelude.{◌≡◌, ◌⊎◌, ⊤, ℕ, List, ◌++◌, length, take}
 use Rattle.std.specs.List.{All}
 use Rattle.explorer_model.specs.declared.archive.Batch.{Batch}
 use Rattle.explorer_model.specs.declared.fault.Refusal.{Refusal}
@@ -13,18 +13,12 @@ use Rattle.explorer_model.specs.Imports.{AccountedBeside, Candidate, groups}
 use Rattle.explorer_model.specs.Journal.{game_count}
 use Rattle.explorer_model.specs.Replies.{stored_body}
 use Rattle.explorer_model.specs.Timeline.{IsPrefix}
+use Rattle.ingest_desk.specs.Lives.{StandFrom}
 use Rattle.ingest_desk.specs.declared.report.ImportEnding.{ImportEnding}
 use Rattle.ingest_desk.specs.declared.report.ImportEnding.TheVariants as endings
 use Rattle.ingest_desk.specs.Reporting.{AccountsUpTo, BreaksAt, FindsNoRoom, LeftUnreadIn, RepeatsGame}
 
 -- ---- what is stored
-
--- the batches stand in the journal in their order, none before this place of it, from 0
-abbrev pub StandFrom : ℕ → List Batch → List Batch → Type 0
-StandFrom least journal [] = ⊤
-StandFrom least journal (batch ∷ batches) =
-    (place : ℕ) × (least ≤ place) × (slice_get journal place ≡ Some batch)
-    × StandFrom (place + 1) journal batches
 
 -- a text that is refused so is a repeat of a game of the journal
 abbrev pub IsRepeatOf : List Cut → List Batch → ℕ → Why → Type 0

@@ -26,7 +26,12 @@ fn shown(alloc: Global, words: &[&str]) -> Result<String, AllocError> {
 #[test]
 fn each_command_is_read(rt: HostRuntime) -> Result<(), Fail> {
     let alloc = rt.alloc();
-    let table: [(&[&str], &str); 14] = [
+    let table: [(&[&str], &str); 19] = [
+        (&["batches", "s"], "Batches { store: \"s\", workers: 4 }"),
+        (
+            &["batches", "--workers", "16", "s"],
+            "Batches { store: \"s\", workers: 16 }",
+        ),
         (&["count"], "Count { query: \"\", workers: 4 }"),
         (
             &["count", "play=e2e4"],
@@ -47,7 +52,19 @@ fn each_command_is_read(rt: HostRuntime) -> Result<(), Fail> {
         (&["create", "s"], "Create { store: \"s\" }"),
         (
             &["import", "s", "f"],
-            "Import { store: \"s\", file: \"f\", workers: 4 }",
+            "Import { store: \"s\", file: \"f\", workers: 4, label: \"\" }",
+        ),
+        (
+            &["import", "s", "f", "--label", ""],
+            "Import { store: \"s\", file: \"f\", workers: 4, label: \"\" }",
+        ),
+        (
+            &["import", "--label", "jan 7", "s", "--workers", "2", "f"],
+            "Import { store: \"s\", file: \"f\", workers: 2, label: \"jan 7\" }",
+        ),
+        (
+            &["import", "s", "f", "--label=-\t"],
+            "Import { store: \"s\", file: \"f\", workers: 4, label: \"-\\t\" }",
         ),
         (&["migrate", "s", "t"], "Migrate { old: \"s\", new: \"t\" }"),
         (
@@ -94,7 +111,7 @@ fn each_command_is_read(rt: HostRuntime) -> Result<(), Fail> {
 #[test]
 fn other_words_are_refused(rt: HostRuntime) -> Result<(), Fail> {
     let alloc = rt.alloc();
-    let table: [(&[&str], &str); 19] = [
+    let table: [(&[&str], &str); 29] = [
         (
             &[],
             "error: 'explorer' requires a subcommand but one was not provided\n",
@@ -103,6 +120,18 @@ fn other_words_are_refused(rt: HostRuntime) -> Result<(), Fail> {
         (
             &["--help"],
             "An opening explorer for games of chess\n\nUsage: explorer <COMMAND>\n",
+        ),
+        (
+            &["batches"],
+            "error: the following required arguments were not provided:\n  <STORE>\n",
+        ),
+        (
+            &["batches", "s", "t"],
+            "error: unexpected argument 't' found\n",
+        ),
+        (
+            &["batches", "--help"],
+            "List the batches of a store\n\nUsage: explorer batches [OPTIONS] <STORE>\n",
         ),
         (
             &["count", "a", "b"],
@@ -129,6 +158,22 @@ fn other_words_are_refused(rt: HostRuntime) -> Result<(), Fail> {
             "error: the following required arguments were not provided:\n  <FILE>\n",
         ),
         (
+            &["import", "s", "f", "--label"],
+            "error: a value is required for '--label <TEXT>' but none was supplied\n",
+        ),
+        (
+            &["import", "s", "f", "--label", "a", "--label", "a"],
+            "error: the argument '--label <TEXT>' cannot be used multiple times\n",
+        ),
+        (
+            &["import", "--help"],
+            "Import the games of a file into a store\n\nUsage: explorer import [OPTIONS] <STORE> <FILE>\n\nArguments:\n  <STORE>  The file of the store\n  <FILE>   A file of games in PGN\n\nOptions:\n      --workers <N>   How many threads work at once, 1 to 16 [default: 4]\n      --label <TEXT>  The label of the batches that are stored, at most 64 bytes\n  -h, --help          Print help\n",
+        ),
+        (
+            &["import", "s", "f", "g", "--label", "a"],
+            "error: unexpected argument 'g' found\n",
+        ),
+        (
             &["migrate", "s"],
             "error: the following required arguments were not provided:\n  <NEW>\n",
         ),
@@ -151,6 +196,18 @@ fn other_words_are_refused(rt: HostRuntime) -> Result<(), Fail> {
         (
             &["serve", "s", "a", "--readers", "65"],
             "error: invalid value '65' for '--readers <N>': 65 is not in 1..=64\n",
+        ),
+        (
+            &["serve", "s", "a", "--readers", "0"],
+            "error: invalid value '0' for '--readers <N>': 0 is not in 1..=64\n",
+        ),
+        (
+            &["serve", "s", "a", "--connections", "0"],
+            "error: invalid value '0' for '--connections <N>': 0 is not in 1..=1000000\n",
+        ),
+        (
+            &["serve", "s", "a", "--connections", "1000001"],
+            "error: invalid value '1000001' for '--connections <N>': 1000001 is not in 1..=1000000\n",
         ),
         (
             &["trial", "5"],

@@ -7,6 +7,9 @@ use Rattle.explorer.specs.World.{world}
 use Rattle.explorer.proofs.RunLemmas.{same_service}
 use Rattle.explorer.proofs.program.run_command.Goals as goal
 
+pub returns-in-Batches : goal.returns-in-Batches
+returns-in-Batches g c = rw c.in-Batches.is (c.list_batches.ensures (g.I.Source.source c.args.input.now) (g.E.Sink.sink c.args.errors.now))
+
 pub returns-in-Create : goal.returns-in-Create
 returns-in-Create g c = rw c.in-Create.is (c.create.ensures (g.I.Source.source c.args.input.now) (g.E.Sink.sink c.args.errors.now))
 

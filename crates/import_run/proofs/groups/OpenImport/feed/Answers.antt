@@ -74,6 +74,15 @@ returns-in-Err-clause-lacks g c = where_lacking c.in-Err.stop _ _ (λ lacks star
     (opens_more c.in_ok-fed.fed.cut c.feed.new.self so_far.taken (cuts_of_rest c.feeding.cutter) _ c.in_ok-fed.ensures.cuts c.in_ok-fed.ensures.stops so_far.begun)
     (lacks start so_far.taken (cut_ascends _ (cuts_of_rest c.feed.new.self) _ cut) so_far.so_far)) c.in-Err.ensures.lacks
 
+pub returns-in_err-fed-clause-label : goal.returns-in_err-fed-clause-label
+returns-in_err-fed-clause-label g c = c.feeding.invariant.label
+
+pub returns-in-Err-clause-label : goal.returns-in-Err-clause-label
+returns-in-Err-clause-label g c = c.take.ensures.label ∙ c.feeding.invariant.label
+
+pub returns-clause-label : goal.returns-clause-label
+returns-clause-label g c = c.feeding.invariant.label
+
 pub returns-in_err-fed-clause-since : goal.returns-in_err-fed-clause-since
 returns-in_err-fed-clause-since g c = c.feeding.invariant.since
 
