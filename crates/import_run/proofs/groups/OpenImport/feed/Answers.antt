@@ -88,12 +88,3 @@ returns-in_err-fed-clause-since g c = c.feeding.invariant.since
 
 pub returns-in-Err-clause-since : goal.returns-in-Err-clause-since
 returns-in-Err-clause-since g c = g.met.C.Committer.since_before c.args.committer.now c.feeding.committer c.take.new.committer c.feeding.invariant.since c.take.ensures.since
-
-pub returns-in_err-fed-clause-label : goal.returns-in_err-fed-clause-label
-returns-in_err-fed-clause-label g c = c.feeding.invariant.label
-
-pub returns-in-Err-clause-label : goal.returns-in-Err-clause-label
-returns-in-Err-clause-label g c = c.take.ensures.label ∙ c.feeding.invariant.label
-
-pub returns-clause-label : goal.returns-clause-label
-returns-clause-label g c = c.feeding.invariant.label
