@@ -1,4 +1,4 @@
-use Rattle.std.proofs.Common.{◌<◌, ℕ, List, [], ◌∙◌, Option, Some, length, refl, sym, subst, arith}
+use Rattle.std.proofs.Common.{◌<◌, [], ◌∙◌, Option, Some, length, refl, sym, subst, arith}
 use Rattle.pgn_cut.specs.Cutter.{cuts_of_rest}
 use Rattle.explorer_model.specs.Journal.{input_limit}
 use Rattle.import_run.specs.Committing.{Store, store_of}

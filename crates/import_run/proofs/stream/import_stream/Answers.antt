@@ -1,5 +1,5 @@
 use Rattle.std.proofs.lemmas.List.{append-nil}
-use Rattle.std.proofs.Common.{◌≡◌, ◌+◌, ◌<◌, ℕ, List, [], ◌++◌, ◌∙◌, Option, take, length, length-take, refl, sym, subst, Some, arith}
+use Rattle.std.proofs.Common.{◌≡◌, ◌+◌, ◌<◌, [], ◌++◌, ◌∙◌, Option, take, length, length-take, refl, sym, subst, Some, arith}
 use Rattle.pgn_cut.specs.Cutter.{cuts_of_rest}
 use Rattle.explorer_model.specs.Journal.{input_limit}
 use Rattle.import_run.specs.Committing.{Store, store_of}

@@ -1,4 +1,4 @@
-use Rattle.std.proofs.Common.{[], ◌++◌, ◌∙◌, ℕ, List, Some, subst}
+use Rattle.std.proofs.Common.{[], ◌++◌, ◌∙◌, List, Some, subst}
 use Rattle.std.proofs.lemmas.List.{append-nil}
 use Rattle.explorer_model.specs.Cuts.{Cut}
 use Rattle.pgn_cut.specs.Cut.{cuts_in}
