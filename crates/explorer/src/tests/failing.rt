@@ -108,7 +108,11 @@ fn ended<R: AllocGlobal + Wait + Threads + Sync>(
     let mut streams = streams_of(alloc, "", 1, [NEVER, write, NEVER])?;
     let status = status_of(rt, all.as_slice(), &mut streams, &mut host);
     let store = words.get(1).ok_or("a store")?;
-    Ok((status, streams.have(told.0, told.1), size_under(&mut host, store)))
+    Ok((
+        status,
+        streams.have(told.0, told.1),
+        size_under(&mut host, store),
+    ))
 }
 
 const CREATE: &[&str] = &["create", "e"];
@@ -117,7 +121,16 @@ const IMPORT: &[&str] = &["import", "s", "f"];
 
 const QUERY: &[&str] = &["query", "s"];
 
-const SERVE: &[&str] = &["serve", "s", "a", "f", "--readers", "1", "--connections", "1"];
+const SERVE: &[&str] = &[
+    "serve",
+    "s",
+    "a",
+    "f",
+    "--readers",
+    "1",
+    "--connections",
+    "1",
+];
 
 const NOTHING_STORED: &str = "stored 0\nbatches 0\njournal 0\n";
 
@@ -147,14 +160,59 @@ const ROWS: [Row; 15] = [
     (QUERY, Device::Disk, 3, 7, 6, "", "disk fault\n", None),
     (QUERY, Device::Output, 0, 0, 5, "", "write fault\n", EMPTY),
     (IMPORT, Device::Disk, 3, 7, 6, "", "disk fault\n", None),
-    (IMPORT, Device::Disk, 8, 11, 6, NOTHING_STORED, "disk fault\n", None),
-    (IMPORT, Device::File, 0, 1, 4, NOTHING_STORED, "read fault\n", EMPTY),
+    (
+        IMPORT,
+        Device::Disk,
+        8,
+        11,
+        6,
+        NOTHING_STORED,
+        "disk fault\n",
+        None,
+    ),
+    (
+        IMPORT,
+        Device::File,
+        0,
+        1,
+        4,
+        NOTHING_STORED,
+        "read fault\n",
+        EMPTY,
+    ),
     (IMPORT, Device::Output, 0, 0, 5, "", "write fault\n", FULL),
     (SERVE, Device::Disk, 3, 7, 6, "", "disk fault\n", None),
-    (SERVE, Device::Disk, 8, 11, 6, "listening a\n", "disk fault\n", None),
-    (SERVE, Device::File, 0, 1, 4, "listening a\n", "read fault\n", EMPTY),
+    (
+        SERVE,
+        Device::Disk,
+        8,
+        11,
+        6,
+        "listening a\n",
+        "disk fault\n",
+        None,
+    ),
+    (
+        SERVE,
+        Device::File,
+        0,
+        1,
+        4,
+        "listening a\n",
+        "read fault\n",
+        EMPTY,
+    ),
     (SERVE, Device::Output, 0, 0, 5, "", "write fault\n", FULL),
-    (SERVE, Device::Door, 0, 0, 10, "listening a\n", "cannot accept\n", FULL),
+    (
+        SERVE,
+        Device::Door,
+        0,
+        0,
+        10,
+        "listening a\n",
+        "cannot accept\n",
+        FULL,
+    ),
     // Faults of links do not change the status.
     (SERVE, Device::Link, 0, 0, 0, "listening a\n", "", FULL),
     (SERVE, Device::Reply, 0, 0, 0, "listening a\n", "", FULL),

@@ -109,7 +109,10 @@ fn what_is_no_store_is_not_listed(rt: HostRuntime) -> Result<(), Fail> {
     for (bytes, line) in table {
         let mut host = host_with(rt.alloc(), bytes, NEVER)?;
         for command in ["batches", "query"] {
-            assert!(rt; ends(&rt, &mut host, &[command, "s"], (7, "", line))?, "{line}");
+            assert!(rt;
+                ends(&rt, &mut host, &[command, "s"], (7, "", line))?,
+                "{line}"
+            );
         }
     }
     Ok(())
@@ -121,7 +124,14 @@ fn calls_that_fail_end_a_listing(rt: HostRuntime) -> Result<(), Fail> {
     let words = ["batches", "s"];
     let mut host = host_with(rt.alloc(), file.as_slice(), 1)?;
     assert!(rt; ends(&rt, &mut host, &words, (6, "", "disk fault\n"))?);
-    assert!(rt; ends(&rt, &mut host, &["batches", "t"], (10, "", "cannot open t\n"))?);
+    assert!(rt;
+        ends(
+            &rt,
+            &mut host,
+            &["batches", "t"],
+            (10, "", "cannot open t\n")
+        )?
+    );
     Ok(())
 }
 
