@@ -117,6 +117,21 @@ class Stores(unittest.TestCase):
         self.assertEqual(self.run_program("migrate", str(self.old), str(other)), (7, "", f"damaged at {gate}\n"))
         self.assertFalse(other.exists())
 
+    def test_batches_keep_their_labels(self):
+        games, lines = self.folder / "games", ""
+        self.assertEqual(self.run_program("create", self.store), (0, "created\n", ""))
+        for number, label in enumerate(("a", "", "März", "a b", "x" * 64), 1):
+            games.write_bytes(game(number))
+            told = f"stored 1\nbatches 1\njournal {number}\n"
+            self.assertEqual(self.run_program("import", self.store, str(games), "--label", label), (0, told, ""))
+            lines += f"{number} 1 {label}\n"
+            self.assertEqual(self.run_program("batches", self.store), (0, lines, ""))
+        other = self.folder / "other"
+        for label in ("x" * 65, "a\tb"):
+            refused = (3, "", "bad parameter label\n")
+            self.assertEqual(self.run_program("import", str(other), str(games), "--label", label), refused)
+        self.assertFalse(other.exists())
+
     def test_batches_are_merged_beside_answers(self):
         self.assertEqual(self.run_program("create", self.store)[0], 0)
         numbers = range(1, 6)

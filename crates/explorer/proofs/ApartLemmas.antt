@@ -5,7 +5,6 @@ use Rattle.explorer_model.specs.declared.archive.Batch.{Batch}
 use Rattle.explorer_model.specs.declared.archive.Game.{Game}
 use Rattle.explorer_model.specs.declared.fault.Refusal.{Refusal}
 use Rattle.explorer_model.specs.Cuts.{Cut}
-use Rattle.explorer_model.specs.Labels.{no_label}
 use Rattle.explorer_model.specs.Imports.{Accepted, Accounted, AccountedApart, Examination, Numbering, Refused, Verdict, numbers_of, refusals, verdict_behind, verdict_if_stored, verdicts, verdicts_behind, verdicts_in_turn, Yields}
 use Rattle.import_run.specs.Progress.{and_games}
 use Rattle.explorer.specs.Laws.{IsNoRepeat}
@@ -37,9 +36,9 @@ none_in_turn stored (group ∷ groups) none =
     let parts = front (refusals done) (flat_map refusals (verdicts_in_turn (and_games stored group) groups)) none in
     ap₂ (λ (v : List Verdict) (l : List (List Verdict)). v ∷ l) (none_behind (numbers_of stored) (verdicts group) parts.0) (none_in_turn (and_games stored group) groups parts.1)
 
-pub stand_apart : (stored : List Game) (groups : List (List Cut)) (batches : List Batch) (refused : List Refusal) → Accounted no_label stored groups batches refused → NoRepeats refused → AccountedApart no_label groups batches refused
-stand_apart stored groups batches refused done none =
+pub stand_apart : (label : List ℕ) (stored : List Game) (groups : List (List Cut)) (batches : List Batch) (refused : List Refusal) → Accounted label stored groups batches refused → NoRepeats refused → AccountedApart label groups batches refused
+stand_apart label stored groups batches refused done none =
     let P : List Refusal → Type 0 = λ l. NoRepeats l in
     let same = none_in_turn stored done.examinations (subst P done.yields.refused_are none) in
-    let Y : List (List Verdict) → Type 0 = λ l. Yields no_label l batches refused in
+    let Y : List (List Verdict) → Type 0 = λ l. Yields label l batches refused in
     record { examinations = done.examinations; are_examinations = done.are_examinations; yields = subst Y same done.yields }

@@ -14,6 +14,7 @@ use Rattle.explorer_model.specs.declared.fault.Stop.TheVariants as stops
 use Rattle.explorer_model.specs.declared.query.BadParameter.{BadParameter}
 use Rattle.explorer_model.specs.declared.query.Query.{Query}
 use Rattle.explorer_model.specs.Journal.{IsSound, input_limit}
+use Rattle.explorer_model.specs.Labels.{no_label}
 use Rattle.explorer_model.specs.Query.{QueryReads}
 use Rattle.explorer_model.specs.Stop as model
 use Rattle.ingest_desk.specs.declared.report.ImportEnding.{ImportEnding}
@@ -51,34 +52,34 @@ pub below_nothing : (input : Stream) → ReadsBelow input input
 below_nothing input = record { stream = []; reads = reads-none input; below = omega arith; came = refl }
 
 -- an import that came to its end, or for which memory was wanting, read below the bound, and no read failed
-below_by : (ending : ImportEnding) (start : Known) (stream : List ℕ) (left : Option (List ℕ)) (batches : List Batch) (refused : List Refusal) (stored : List Batch) (failed : Option Batch) (disk disk_after : DiskState) (source source_after : Stream)
-    → (fault_by ending ≡ None) ⊎ (fault_by ending ≡ Some faults.OutOfMemory) → StandsBy ending start stream left batches refused stored failed → FaultsBy ending disk disk_after source source_after
+below_by : (label : List ℕ) (ending : ImportEnding) (start : Known) (stream : List ℕ) (left : Option (List ℕ)) (batches : List Batch) (refused : List Refusal) (stored : List Batch) (failed : Option Batch) (disk disk_after : DiskState) (source source_after : Stream)
+    → (fault_by ending ≡ None) ⊎ (fault_by ending ≡ Some faults.OutOfMemory) → StandsBy label ending start stream left batches refused stored failed → FaultsBy ending disk disk_after source source_after
     → (length stream < input_limit) × (source_after.read_faults ≡ source.read_faults)
-below_by endings.Whole start stream left batches refused stored failed disk disk_after source source_after ends stands faults_are = (stands.below, faults_are.reads)
-below_by endings.OutOfMemory start stream left batches refused stored failed disk disk_after source source_after ends stands faults_are = (stands.below, faults_are.reads)
-below_by (endings.ReadFault first last) start stream left batches refused stored failed disk disk_after source source_after (inl none) stands faults_are = absurd (cc)
-below_by (endings.ReadFault first last) start stream left batches refused stored failed disk disk_after source source_after (inr memory) stands faults_are = absurd (cc)
-below_by (endings.TooMuch bytes) start stream left batches refused stored failed disk disk_after source source_after (inl none) stands faults_are = absurd (cc)
-below_by (endings.TooMuch bytes) start stream left batches refused stored failed disk disk_after source source_after (inr memory) stands faults_are = absurd (cc)
-below_by (endings.DiskFault first last) start stream left batches refused stored failed disk disk_after source source_after (inl none) stands faults_are = absurd (cc)
-below_by (endings.DiskFault first last) start stream left batches refused stored failed disk disk_after source source_after (inr memory) stands faults_are = absurd (cc)
-below_by (endings.Closed first last) start stream left batches refused stored failed disk disk_after source source_after ends stands faults_are = absurd stands
-below_by (endings.Full games bytes) start stream left batches refused stored failed disk disk_after source source_after (inl none) stands faults_are = absurd (cc)
-below_by (endings.Full games bytes) start stream left batches refused stored failed disk disk_after source source_after (inr memory) stands faults_are = absurd (cc)
+below_by label endings.Whole start stream left batches refused stored failed disk disk_after source source_after ends stands faults_are = (stands.below, faults_are.reads)
+below_by label endings.OutOfMemory start stream left batches refused stored failed disk disk_after source source_after ends stands faults_are = (stands.below, faults_are.reads)
+below_by label (endings.ReadFault first last) start stream left batches refused stored failed disk disk_after source source_after (inl none) stands faults_are = absurd (cc)
+below_by label (endings.ReadFault first last) start stream left batches refused stored failed disk disk_after source source_after (inr memory) stands faults_are = absurd (cc)
+below_by label (endings.TooMuch bytes) start stream left batches refused stored failed disk disk_after source source_after (inl none) stands faults_are = absurd (cc)
+below_by label (endings.TooMuch bytes) start stream left batches refused stored failed disk disk_after source source_after (inr memory) stands faults_are = absurd (cc)
+below_by label (endings.DiskFault first last) start stream left batches refused stored failed disk disk_after source source_after (inl none) stands faults_are = absurd (cc)
+below_by label (endings.DiskFault first last) start stream left batches refused stored failed disk disk_after source source_after (inr memory) stands faults_are = absurd (cc)
+below_by label (endings.Closed first last) start stream left batches refused stored failed disk disk_after source source_after ends stands faults_are = absurd stands
+below_by label (endings.Full games bytes) start stream left batches refused stored failed disk disk_after source source_after (inl none) stands faults_are = absurd (cc)
+below_by label (endings.Full games bytes) start stream left batches refused stored failed disk disk_after source source_after (inr memory) stands faults_are = absurd (cc)
 
-below_of : (journal stored : List Batch) (disk disk_after : DiskState) (source source_after : Stream) (came : Came) → ImportedIn journal stored disk disk_after source source_after came
+below_of : (label : List ℕ) (journal stored : List Batch) (disk disk_after : DiskState) (source source_after : Stream) (came : Came) → ImportedIn label journal stored disk disk_after source source_after came
     → (fault_by came.ending ≡ None) ⊎ (fault_by came.ending ≡ Some faults.OutOfMemory) → ReadsBelow source source_after
-below_of journal stored disk disk_after source source_after came is ends =
-    let both = below_by came.ending is.start is.stream source_after.left is.batches came.refused.items stored is.failed disk disk_after source source_after ends is.stands is.faults in
+below_of label journal stored disk disk_after source source_after came is ends =
+    let both = below_by label came.ending is.start is.stream source_after.left is.batches came.refused.items stored is.failed disk disk_after source source_after ends is.stands is.faults in
     record { stream = is.stream; reads = is.reads; below = both.0; came = both.1 }
 
-pub below_whole : (journal stored : List Batch) (disk disk_after : DiskState) (source source_after : Stream) (came : Came) → ImportedIn journal stored disk disk_after source source_after came → fault_by came.ending ≡ None
+pub below_whole : (label : List ℕ) (journal stored : List Batch) (disk disk_after : DiskState) (source source_after : Stream) (came : Came) → ImportedIn label journal stored disk disk_after source source_after came → fault_by came.ending ≡ None
     → ReadsBelow source source_after
-below_whole journal stored disk disk_after source source_after came is none = below_of journal stored disk disk_after source source_after came is (inl none)
+below_whole label journal stored disk disk_after source source_after came is none = below_of label journal stored disk disk_after source source_after came is (inl none)
 
-pub below_lacking : (journal stored : List Batch) (disk disk_after : DiskState) (source source_after : Stream) (came : Came) → ImportedIn journal stored disk disk_after source source_after came → fault_by came.ending ≡ Some faults.OutOfMemory
+pub below_lacking : (label : List ℕ) (journal stored : List Batch) (disk disk_after : DiskState) (source source_after : Stream) (came : Came) → ImportedIn label journal stored disk disk_after source source_after came → fault_by came.ending ≡ Some faults.OutOfMemory
     → ReadsBelow source source_after
-below_lacking journal stored disk disk_after source source_after came is memory = below_of journal stored disk disk_after source source_after came is (inr memory)
+below_lacking label journal stored disk disk_after source source_after came is memory = below_of label journal stored disk disk_after source source_after came is (inr memory)
 
 -- where memory is wanting for the report of an input that was read to its end
 pub below_counted : (query : Query) (faults faults_after : ℕ) (before after : Stream) (refused : List Refusal) (line : Vec ℕ Global) → CountedTo query faults faults_after before after refused (Ok line) → ReadsBelow before after
@@ -87,14 +88,15 @@ below_counted query faults faults_after before after refused line (batches, (imp
 
 -- ---- an import into a new store
 
-module _ (query : Query) (journal stored : List Batch) (empty : journal ≡ []) (disk disk_after : DiskState) (source source_after : Stream) (came : Came) (is : ImportedIn journal stored disk disk_after source source_after came) where
+module _ (query : Query) (label : List ℕ) (unlabelled : label ≡ no_label) (journal stored : List Batch) (empty : journal ≡ []) (disk disk_after : DiskState) (source source_after : Stream) (came : Came) (is : ImportedIn label journal stored disk disk_after source source_after came) where
   started : is.start ≡ new_store
   started = known_is_new is.start (is.journal_is ∙ empty) is.sound is.none_failed
 
-  stands_new : StandsBy came.ending new_store is.stream source_after.left is.batches came.refused.items stored is.failed
+  stands_new : StandsBy no_label came.ending new_store is.stream source_after.left is.batches came.refused.items stored is.failed
   stands_new =
-      let P : Known → Type 0 = λ k. StandsBy came.ending k is.stream source_after.left is.batches came.refused.items stored is.failed in
-      subst P started is.stands
+      let P : Known → Type 0 = λ k. StandsBy label came.ending k is.stream source_after.left is.batches came.refused.items stored is.failed in
+      let Q : List ℕ → Type 0 = λ l. StandsBy l came.ending new_store is.stream source_after.left is.batches came.refused.items stored is.failed in
+      subst Q unlabelled (subst P started is.stands)
 
   stored_by_ending : (ending : ImportEnding) → came.ending ≡ ending → StoredBy ending is.batches stored
   stored_by_ending ending e =
@@ -102,9 +104,9 @@ module _ (query : Query) (journal stored : List Batch) (empty : journal ≡ []) 
       let Q : Known → Type 0 = λ k. StoredBy ending (k.journal ++ is.batches) stored in
       subst Q started (subst P e is.stored_are)
 
-  stands_at : (ending : ImportEnding) → came.ending ≡ ending → StandsBy ending new_store is.stream source_after.left is.batches came.refused.items stored is.failed
+  stands_at : (ending : ImportEnding) → came.ending ≡ ending → StandsBy no_label ending new_store is.stream source_after.left is.batches came.refused.items stored is.failed
   stands_at ending e =
-      let P : ImportEnding → Type 0 = λ f. StandsBy f new_store is.stream source_after.left is.batches came.refused.items stored is.failed in
+      let P : ImportEnding → Type 0 = λ f. StandsBy no_label f new_store is.stream source_after.left is.batches came.refused.items stored is.failed in
       subst P e stands_new
 
   faults_at : (ending : ImportEnding) → came.ending ≡ ending → FaultsBy ending disk disk_after source source_after
@@ -129,7 +131,7 @@ module _ (query : Query) (journal stored : List Batch) (empty : journal ≡ []) 
           let A : List Batch → Type 0 = λ j. IsAnswer query j line in (
             is.batches,
             (
-              new_by (λ stream. IsAllSettled new_store stream source_after.left) (stands_at endings.Whole e) stored_is,
+              new_by (λ stream. IsAllSettled no_label new_store stream source_after.left) (stands_at endings.Whole e) stored_is,
               subst A (told ∙ same ∙ stored_is) answer,
               (faults_at endings.Whole e).reads,
             ),
@@ -159,7 +161,7 @@ module _ (query : Query) (journal stored : List Batch) (empty : journal ≡ []) 
       by_ending (endings.ReadFault first last) e ends =
           so faults.ReadFault ends (
             is.batches,
-            (new_by (IsCutOff new_store) (stands_at (endings.ReadFault first last) e) (stored_by_ending (endings.ReadFault first last) e), (faults_at (endings.ReadFault first last) e).1),
+            (new_by (IsCutOff no_label new_store) (stands_at (endings.ReadFault first last) e) (stored_by_ending (endings.ReadFault first last) e), (faults_at (endings.ReadFault first last) e).1),
           )
       by_ending (endings.DiskFault first last) e ends = so faults.DiskFault ends (is.batches, (faults_at (endings.DiskFault first last) e).0)
       by_ending (endings.Closed first last) e ends = absurd (stands_at (endings.Closed first last) e)
@@ -167,14 +169,14 @@ module _ (query : Query) (journal stored : List Batch) (empty : journal ≡ []) 
           so (faults.Full games bytes) ends (
             is.batches,
             (
-              new_by (λ stream. IsFullAt games bytes new_store stream source_after.left) (stands_at (endings.Full games bytes) e) (stored_by_ending (endings.Full games bytes) e),
+              new_by (λ stream. IsFullAt no_label games bytes new_store stream source_after.left) (stands_at (endings.Full games bytes) e) (stored_by_ending (endings.Full games bytes) e),
               (faults_at (endings.Full games bytes) e).reads,
             ),
           )
       by_ending (endings.TooMuch bytes) e ends =
           so faults.TooMuchInput ends (
             is.batches,
-            (new_by (IsTooMuch new_store) (stands_at (endings.TooMuch bytes) e) (stored_by_ending (endings.TooMuch bytes) e), (faults_at (endings.TooMuch bytes) e).reads),
+            (new_by (IsTooMuch no_label new_store) (stands_at (endings.TooMuch bytes) e) (stored_by_ending (endings.TooMuch bytes) e), (faults_at (endings.TooMuch bytes) e).reads),
           )
       by_ending endings.OutOfMemory e ends = let same : faults.OutOfMemory ≡ fault = cc in absurd (differs (sym same))
 
@@ -252,12 +254,13 @@ broken {E} text query input input' output errors errors' host refused fault made
     off Stands imports = record { batches = batches; refused = refused; imports = imports; output = refl; errors = told; host = refl }
 
     by_fault : (fault : Fault) → CountedBy query 0 0 input input' batches refused (Err fault) → CountsBy (Ok query) before after (Stopped fault)
-    by_fault faults.ReadFault (imports, rises) = (off (IsCutOff new_store) imports, rises)
-    by_fault faults.TooMuchInput (imports, came) = (off (IsTooMuch new_store) imports, came)
-    by_fault (faults.Full games bytes) (imports, came) = (off (λ stream. IsFullAt games bytes new_store stream input'.left) imports, came)
+    by_fault faults.ReadFault (imports, rises) = (off (IsCutOff no_label new_store) imports, rises)
+    by_fault faults.TooMuchInput (imports, came) = (off (IsTooMuch no_label new_store) imports, came)
+    by_fault (faults.Full games bytes) (imports, came) = (off (λ stream. IsFullAt no_label games bytes new_store stream input'.left) imports, came)
     by_fault faults.DiskFault rises = absurd (no_rise rises)
     by_fault faults.Usage counted = absurd counted
     by_fault (faults.BadParameter parameter) counted = absurd counted
+    by_fault faults.BadLabel counted = absurd counted
     by_fault faults.WriteFault counted = absurd counted
     by_fault (faults.NotEmpty size) counted = absurd counted
     by_fault faults.NotAStore counted = absurd counted

@@ -95,6 +95,7 @@ module _ (store file : List ℕ) (before after : World) (told : IsToldStore stor
       absurd (no_rise before.host.own_faults after.host.own_faults well.refusals told.refusals by.1.rises)
   comes (Stopped faults.Usage) by = absurd by
   comes (Stopped (faults.BadParameter name)) by = absurd by
+  comes (Stopped faults.BadLabel) by = absurd by
   comes (Stopped faults.ReadFault) by = absurd by
   comes (Stopped faults.TooMuchInput) by = absurd by
   comes (Stopped (faults.Full games bytes)) by = absurd by

@@ -17,7 +17,7 @@ use Rattle.explorer.specs.declared.fault.Fault.TheVariants as faults
 use Rattle.explorer.specs.declared.importing.Came.{Came}
 use Rattle.explorer.specs.Faults.{fault_by, fault_of_opening}
 use Rattle.explorer.specs.Imported.{FaultsBy, ImportedTo}
-use Rattle.explorer.specs.ImportStore.{ImportsBy, ImportsInto, ImportsTo, IsTold, LacksMemory, OutcomeBy, UsesBoth, totals}
+use Rattle.explorer.specs.ImportStore.{ImportsInto, ImportsLabelled, ImportsTo, IsTold, LacksMemory, OutcomeBy, UsesBoth, totals}
 use Rattle.explorer.specs.Lines.{Ending, Done, Stopped}
 use Rattle.ingest_desk.specs.Openings.{IsNotOpened}
 use Rattle.explorer.specs.Opened.{NotOpened, OpensTo}
@@ -26,13 +26,13 @@ use Rattle.explorer.specs.World.{World}
 
 -- ---- a store that is not opened
 
-pub not_opened : (fault : OpenFault) (store file : List ℕ) (before after : World) → UsesDisk store (NotOpened fault) before.host after.host → OnlyHost before after
-    → ImportsBy store file before after (Stopped (fault_of_opening fault))
-not_opened (opening.Log log.NotALog) store file before after uses only = (uses, only)
-not_opened (opening.Log (log.OtherFormat number)) store file before after uses only = (uses, only)
-not_opened (opening.Log (log.Damaged at)) store file before after uses only = (uses, only)
-not_opened (opening.DiskFault first last) store file before after uses only = inl (uses, only)
-not_opened opening.OutOfMemory store file before after uses only = inl (inl uses, only)
+pub not_opened : (fault : OpenFault) (store file label : List ℕ) (before after : World) → UsesDisk store (NotOpened fault) before.host after.host → OnlyHost before after
+    → ImportsLabelled store file label before after (Stopped (fault_of_opening fault))
+not_opened (opening.Log log.NotALog) store file label before after uses only = (uses, only)
+not_opened (opening.Log (log.OtherFormat number)) store file label before after uses only = (uses, only)
+not_opened (opening.Log (log.Damaged at)) store file label before after uses only = (uses, only)
+not_opened (opening.DiskFault first last) store file label before after uses only = inl (uses, only)
+not_opened opening.OutOfMemory store file label before after uses only = inl (inl uses, only)
 
 module _ {D : Type 0} (disk : D → DiskState) (left_since : D → ℕ → List ℕ → Type 0) (old new : D) (quiet : IsQuiet disk left_since old new) where
   kept : (disk new).content ≡ (disk old).content
@@ -62,10 +62,10 @@ from_opening (endings.TooMuch bytes) disk opened disk_after source source_after 
 from_opening endings.OutOfMemory disk opened disk_after source source_after same f = record { calls = f.calls ∙ same; reads = f.reads }
 
 -- what the import came to, over the host
-pub imports_into : (store file : List ℕ) (before after : HostState) (journal : List Batch) (disk opened disk_after : DiskState) (source source_after : Stream) (came : Came)
-    → UsesBoth store file disk disk_after source source_after before after → OpensTo journal disk opened → ImportedTo journal opened disk_after source source_after came
-    → ImportsInto came.ending store file before after
-imports_into store file before after journal disk opened disk_after source source_after came uses opens (stored, is) =
+pub imports_into : (store file label : List ℕ) (before after : HostState) (journal : List Batch) (disk opened disk_after : DiskState) (source source_after : Stream) (came : Came)
+    → UsesBoth store file disk disk_after source source_after before after → OpensTo journal disk opened → ImportedTo label journal opened disk_after source source_after came
+    → ImportsInto came.ending store file label before after
+imports_into store file label before after journal disk opened disk_after source source_after came uses opens (stored, is) =
     let J : List Batch → Type 0 = λ j. IfSome disk.content (HasJournal j) in
     record {
       disk = disk;
@@ -103,22 +103,22 @@ uses_both store file disk disk_after source source_after before opened given tak
 }
 
 -- memory was wanting before the import began
-pub in_vain : (store file : List ℕ) (disk disk_after : DiskState) (source source_after : Stream) (before after : World) → UsesBoth store file disk disk_after source source_after before.host after.host
-    → disk_after.content ≡ disk.content → source_after ≡ source → OnlyHost before after → LacksMemory store file before after
-in_vain store file disk disk_after source source_after before after uses kept same only =
+pub in_vain : (store file label : List ℕ) (disk disk_after : DiskState) (source source_after : Stream) (before after : World) → UsesBoth store file disk disk_after source source_after before.host after.host
+    → disk_after.content ≡ disk.content → source_after ≡ source → OnlyHost before after → LacksMemory store file label before after
+in_vain store file label disk disk_after source source_after before after uses kept same only =
     let U : Stream → Type 0 = λ s. UsesBoth store file disk disk_after source s before.host after.host in
     inl (inr (record { disk = disk; disk_after = disk_after; source = source; uses = subst U same uses; kept = kept }), only)
 
 -- memory was wanting for what the import came to
-pub untold : (store file : List ℕ) (before after : World) (ending : ImportEnding) → ImportsInto ending store file before.host after.host → OnlyHost before after
-    → ImportsBy store file before after (Stopped (unwrap_or (fault_by ending) faults.OutOfMemory))
-untold store file before after endings.Whole imports only = inr (inr (record { imports = imports; only = only }))
-untold store file before after (endings.ReadFault first last) imports only = (first, last, inr (record { imports = imports; only = only }))
-untold store file before after (endings.DiskFault first last) imports only = inr (first, last, inr (record { imports = imports; only = only }))
-untold store file before after (endings.Closed first last) imports only = absurd imports.stands
-untold store file before after (endings.Full games bytes) imports only = inr (record { imports = imports; only = only })
-untold store file before after (endings.TooMuch bytes) imports only = (bytes, inr (record { imports = imports; only = only }))
-untold store file before after endings.OutOfMemory imports only = inr (inl (inr (record { imports = imports; only = only })))
+pub untold : (store file label : List ℕ) (before after : World) (ending : ImportEnding) → ImportsInto ending store file label before.host after.host → OnlyHost before after
+    → ImportsLabelled store file label before after (Stopped (unwrap_or (fault_by ending) faults.OutOfMemory))
+untold store file label before after endings.Whole imports only = inr (inr (record { imports = imports; only = only }))
+untold store file label before after (endings.ReadFault first last) imports only = (first, last, inr (record { imports = imports; only = only }))
+untold store file label before after (endings.DiskFault first last) imports only = inr (first, last, inr (record { imports = imports; only = only }))
+untold store file label before after (endings.Closed first last) imports only = absurd imports.stands
+untold store file label before after (endings.Full games bytes) imports only = inr (record { imports = imports; only = only })
+untold store file label before after (endings.TooMuch bytes) imports only = (bytes, inr (record { imports = imports; only = only }))
+untold store file label before after endings.OutOfMemory imports only = inr (inl (inr (record { imports = imports; only = only })))
 
 -- streams that are as they were leave the host alone
 pub only_host : (before after : World) (output errors : Stream) (host : HostState) → after ≡ record before { output = output; errors = errors; host = host } → output ≡ before.output → errors ≡ before.errors
@@ -127,30 +127,31 @@ only_host before after output errors host is o e =
     let host_is : after.host ≡ host = ap (λ (w : World). w.host) is in
     is ∙ (λ i. record before { output = o i; errors = e i; host = sym host_is i })
 
-module _ (store file : List ℕ) (before after : World) where
+module _ (store file label : List ℕ) (before after : World) where
   pub imports_to : (journal : List Batch) (disk opened disk_after : DiskState) (source source_after : Stream) (came : Came) (ending : Ending) → UsesBoth store file disk disk_after source source_after before.host after.host
-      → OpensTo journal disk opened → ImportedTo journal opened disk_after source source_after came
+      → OpensTo journal disk opened → ImportedTo label journal opened disk_after source source_after came
       → IsTold came before.output after.output before.errors after.errors ending → after ≡ record before { output = after.output; errors = after.errors; host = after.host }
-      → ImportsTo came.ending store file before after
+      → ImportsTo came.ending store file label before after
   unfolding imports_into
   imports_to journal disk opened disk_after source source_after came ending uses opens (stored, is) told rest =
       let line : totals came.games came.batches came.journal ≡ totals (game_count is.batches) (length is.batches) (length stored) = λ i. totals (is.games_are i) (is.batches_are i) (is.stored_is i) in
       let W : List ℕ → Type 0 = λ l. Writes (l ∷ []) before.output after.output in
       record {
-        imports = imports_into store file before.host after.host journal disk opened disk_after source source_after came uses opens (stored, is);
+        imports = imports_into store file label before.host after.host journal disk opened disk_after source source_after came uses opens (stored, is);
         errors = told.errors_are;
         output = subst W line told.output_is;
         rest = rest;
       }
 
-  stopped : (ending : Ending) (fault : Fault) → ending ≡ Stopped fault → ImportsBy store file before after (Stopped fault) → ImportsBy store file before after ending
-  stopped ending fault is by = subst (ImportsBy store file before after) (sym is) by
+  stopped : (ending : Ending) (fault : Fault) → ending ≡ Stopped fault → ImportsLabelled store file label before after (Stopped fault) → ImportsLabelled store file label before after ending
+  stopped ending fault is by = subst (ImportsLabelled store file label before after) (sym is) by
 
-  pub imports_by : (e : ImportEnding) (ending : Ending) → ImportsTo e store file before after → OutcomeBy (fault_by e) before.output after.output before.errors after.errors ending → ImportsBy store file before after ending
+  pub imports_by : (e : ImportEnding) (ending : Ending) → ImportsTo e store file label before after → OutcomeBy (fault_by e) before.output after.output before.errors after.errors ending → ImportsLabelled store file label before after ending
   imports_by endings.Whole Done to outcome = (to, record { output = outcome.0; errors = outcome.1 })
   imports_by endings.Whole (Stopped faults.WriteFault) to outcome = (to, outcome)
   imports_by endings.Whole (Stopped faults.Usage) to outcome = absurd outcome
   imports_by endings.Whole (Stopped (faults.BadParameter parameter)) to outcome = absurd outcome
+  imports_by endings.Whole (Stopped faults.BadLabel) to outcome = absurd outcome
   imports_by endings.Whole (Stopped faults.ReadFault) to outcome = absurd outcome
   imports_by endings.Whole (Stopped faults.DiskFault) to outcome = absurd outcome
   imports_by endings.Whole (Stopped (faults.NotEmpty size)) to outcome = absurd outcome

@@ -6,7 +6,7 @@ use Rattle.disk_model.specs.Disk.{DiskState}
 use Rattle.outside.specs.Stream.{Rises, Stream, source_alone}
 use Rattle.host.specs.Hosts.{DiskBack, DiskOut, FileBack, FileOut, HostCall, HostState, noted, put}
 use Rattle.explorer.specs.ImportStore.{LacksFile, UsesBoth}
-use Rattle.explorer.proofs.HostCalls.{same_bytes}
+use Rattle.explorer.proofs.HostCalls.{bytes_same, same_bytes}
 use Rattle.explorer.proofs.OneEndingLemmas.{no_rise}
 use Rattle.explorer.proofs.StoreLemmas.{above}
 use Rattle.explorer.proofs.ToldStoreLemmas.{left_by}
@@ -22,6 +22,14 @@ put_twice name first second disks = λ i other. once (bytes_eq other name) (disk
         → (if b then second else (if b then first else stands)) ≡ (if b then second else stands)
     once true stands = refl
     once false stands = refl
+
+-- what is put under a name where it stood is no other
+pub put_same : {A : Type 0} (name : List ℕ) (stood : List ℕ → A) → put name (stood name) stood ≡ stood
+put_same {A} name stood = λ i other. same other (bytes_eq other name) refl i
+  where
+    same : (other : List ℕ) (b : Bool) → bytes_eq other name ≡ b → (if b then stood name else stood other) ≡ stood other
+    same other true is = ap stood (sym (bytes_same other name is))
+    same other false is = refl
 
 -- these are the calls, and this is the content under the name; nothing else is another
 abbrev pub with_disk : List ℕ → Option (List HostCall) → Option (List ℕ) → HostState → HostState

@@ -1,6 +1,6 @@
 -- An import of a told file into a told store comes to one thing, where no call fails and memory is
 -- there.
-use Rattle.std.proofs.Common.{◌≡◌, ◌⊎◌, inl, inr, ℕ, ◌+◌, ◌<◌, ◌-◌, ◌^◌, List, [], ◌∷◌, ◌++◌, length, Option, None, Some, refl, sym, ap, ap₂, subst, ◌∙◌, length-append, arith}
+use Rattle.std.proofs.Common.{◌≡◌, ◌⊎◌, inl, inr, ℕ, ◌+◌, ◌<◌, ◌-◌, ◌^◌, Bool, true, false, List, [], ◌∷◌, ◌++◌, length, Option, None, Some, refl, sym, ap, ap₂, subst, ◌∙◌, length-append, arith}
 use Rattle.std.specs.Prelude.{◌≢◌, IfSome, IsSome}
 use Rattle.std.specs.Io.KnownBytes.{append_known}
 use Rattle.std.proofs.lemmas.List.{append-nil}
@@ -11,7 +11,7 @@ use Rattle.explorer_model.specs.declared.fault.Refusal.{Refusal}
 use Rattle.explorer_model.specs.declared.store.LogFault.{LogFault}
 use Rattle.explorer_model.specs.declared.store.LogFault.TheVariants as log
 use Rattle.explorer_model.specs.Cuts.{Cut, cuts}
-use Rattle.explorer_model.specs.Labels.{no_label}
+use Rattle.explorer_model.specs.Labels.{is_label}
 use Rattle.explorer_model.specs.Imports.{Accounted, groups}
 use Rattle.explorer_model.specs.Journal.{IsSound, game_count}
 use Rattle.explorer_model.specs.Visits.{AreGamesOf, texts_of}
@@ -31,14 +31,14 @@ use Rattle.import_run.proofs.SoFarLemmas.{in_groups}
 use Rattle.import_run.proofs.VerdictLemmas.{OneGame}
 use Rattle.explorer.specs.declared.fault.Fault.TheVariants as faults
 use Rattle.explorer.specs.Faults.{fault_of_opening}
-use Rattle.explorer.specs.ImportStore.{ImportsBy, ImportsInto, ImportsSo, ImportsTo, SomeWriteFails, totals}
+use Rattle.explorer.specs.ImportStore.{ImportsBy, ImportsInto, ImportsLabelled, ImportsSo, ImportsTo, SomeWriteFails, totals}
 use Rattle.explorer.specs.Laws.{GoesWell, HasMemory, ImportAlike, IsToldErrors, IsToldFile, IsToldStore, ReadsWell, ReportsWell}
 use Rattle.explorer.specs.Lines.{Ending, Done, Stopped, status_of}
 use Rattle.explorer.specs.Opened.{FailsUnread, IsRefusedBy, RefusesStore}
 use Rattle.explorer.specs.Report.{report}
 use Rattle.explorer.specs.Stores.{UsesDisk}
 use Rattle.explorer.specs.World.{World}
-use Rattle.explorer.proofs.ImportHostLemmas.{OnlyDisk, calls_behind, content_is, left_only, no_call_fails, no_file_refused, no_read_fails, only_disk, rest_alike, source_is, used_both, with_disk}
+use Rattle.explorer.proofs.ImportHostLemmas.{OnlyDisk, calls_behind, content_is, left_only, no_call_fails, no_file_refused, no_read_fails, only_disk, put_same, rest_alike, source_is, used_both, with_disk}
 use Rattle.explorer.proofs.LawLemmas.{IsFullBehind, one_full_behind}
 use Rattle.explorer.proofs.NoRoomLemmas.{OneAccount}
 use Rattle.explorer.proofs.OneEndingLemmas.{appended, done_or_full, end_is, full_in_all, no_rise, told_rest, wrote_stream}
@@ -72,21 +72,21 @@ abbrev read_through : List ℕ → Stream
 read_through stream = source_alone (Some []) (0 + length stream) 0
 
 -- all of the stream is settled
-record IsDone (store image file stream : List ℕ) (before after : World) : Type 0 where
+record IsDone (store image file stream label : List ℕ) (before after : World) : Type 0 where
   start : Known
   batches : List Batch
   refused : List Refusal
   goes : Goes store image start batches refused before after
-  accounted : Accounted no_label start.games (groups (cuts stream)) batches refused
+  accounted : Accounted label start.games (groups (cuts stream)) batches refused
   calls : after.host.calls ≡ calls_behind store file (read_through stream) before.host
 
 -- a group of the stream finds no room
-record IsFull (games bytes : ℕ) (store image : List ℕ) (all : List (List Cut)) (before after : World) : Type 0 where
+record IsFull (games bytes : ℕ) (store image label : List ℕ) (all : List (List Cut)) (before after : World) : Type 0 where
   start : Known
   batches : List Batch
   refused : List Refusal
   goes : Goes store image start batches refused before after
-  full : IsFullBehind start games bytes all batches refused
+  full : IsFullBehind label start games bytes all batches refused
 
 abbrev refusal : LogFault → Ending
 refusal fault = Stopped (fault_of_opening (opening.Log fault))
@@ -96,13 +96,13 @@ record IsRefused (fault : LogFault) (store image : List ℕ) (before after : Wor
   wrong : IsWrong fault image
   after_is : after ≡ refused_in store image before
 
-abbrev Comes : List ℕ → List ℕ → List ℕ → List ℕ → List (List Cut) → World → World → Ending → Type 0
-Comes store image file stream all before after ending =
-    ((ending ≡ Done) × IsDone store image file stream before after)
-    ⊎ ((games : ℕ) × (bytes : ℕ) × (ending ≡ Stopped (faults.Full games bytes)) × IsFull games bytes store image all before after)
+abbrev Comes : (store image file stream label : List ℕ) → List (List Cut) → World → World → Ending → Type 0
+Comes store image file stream label all before after ending =
+    ((ending ≡ Done) × IsDone store image file stream label before after)
+    ⊎ ((games : ℕ) × (bytes : ℕ) × (ending ≡ Stopped (faults.Full games bytes)) × IsFull games bytes store image label all before after)
     ⊎ ((fault : LogFault) × (ending ≡ refusal fault) × IsRefused fault store image before after)
 
-module _ (store image file stream : List ℕ) (all : List (List Cut)) (groups_are : AreAllGroups (cuts stream) all) (before after : World) (told : IsToldStore store image before) (told_file : IsToldFile file stream before)
+module _ (store image file stream label : List ℕ) (all : List (List Cut)) (groups_are : AreAllGroups (cuts stream) all) (before after : World) (told : IsToldStore store image before) (told_file : IsToldFile file stream before)
     (told_errors : IsToldErrors before) (well : GoesWell before after) (reads : ReadsWell before after) (reports : ReportsWell before after) where
   no_write_fails : SomeWriteFails before after → ⊥
   no_write_fails (inl rises) = no_rise before.output.write_faults after.output.write_faults well.writes told.writes rises
@@ -115,7 +115,7 @@ module _ (store image file stream : List ℕ) (all : List (List Cut)) (groups_ar
 
   -- ---- an import
 
-  module _ (end : ImportEnding) (into : ImportsInto end store file before.host after.host) where
+  module _ (end : ImportEnding) (into : ImportsInto end store file label before.host after.host) where
     host_is : after.host ≡ with_disk store (calls_behind store file into.source_after before.host) into.disk_after.content before.host
     host_is =
         used_both store file into.disk into.disk_after into.source into.source_after before.host after.host into.uses well.faults reads
@@ -138,7 +138,7 @@ module _ (store image file stream : List ℕ) (all : List (List Cut)) (groups_ar
         no_call_fails store file into.disk into.disk_after into.source into.source_after before.host after.host into.uses well.faults reads
         told.faults
 
-  goes : (end : ImportEnding) (to : ImportsTo end store file before after) → to.imports.stored ≡ to.imports.start.journal ++ to.imports.batches → IfSome to.imports.disk_after.content (HasJournal to.imports.stored)
+  goes : (end : ImportEnding) (to : ImportsTo end store file label before after) → to.imports.stored ≡ to.imports.start.journal ++ to.imports.batches → IfSome to.imports.disk_after.content (HasJournal to.imports.stored)
       → Goes store image to.imports.start to.imports.batches to.imports.refused before after
   goes end to stored holds =
       let journal = to.imports.start.journal ++ to.imports.batches in
@@ -159,7 +159,7 @@ module _ (store image file stream : List ℕ) (all : List (List Cut)) (groups_ar
         host = only_disk store calls to.imports.disk_after.content before.host after.host (host_is end to.imports);
       }
 
-  done : ImportsTo endings.Whole store file before after → IsDone store image file stream before after
+  done : ImportsTo endings.Whole store file label before after → IsDone store image file stream label before after
   done to =
       let more = rest endings.Whole to.imports in
       let from = source endings.Whole to.imports in
@@ -175,11 +175,11 @@ module _ (store image file stream : List ℕ) (all : List (List Cut)) (groups_ar
         batches = to.imports.batches;
         refused = to.imports.refused;
         goes = goes endings.Whole to to.imports.stored_are to.imports.holds;
-        accounted = subst (λ (l : List ℕ). Accounted no_label to.imports.start.games (groups (cuts l)) to.imports.batches to.imports.refused) same to.imports.stands.settled.accounted;
+        accounted = subst (λ (l : List ℕ). Accounted label to.imports.start.games (groups (cuts l)) to.imports.batches to.imports.refused) same to.imports.stands.settled.accounted;
         calls = ap (λ (h : HostState). h.calls) (host_is endings.Whole to.imports) ∙ ap (λ (s : Stream). calls_behind store file s before.host) back;
       }
 
-  full : (games bytes : ℕ) → ImportsTo (endings.Full games bytes) store file before after → IsFull games bytes store image all before after
+  full : (games bytes : ℕ) → ImportsTo (endings.Full games bytes) store file label before after → IsFull games bytes store image label all before after
   full games bytes to =
       let more = rest (endings.Full games bytes) to.imports in
       record {
@@ -187,20 +187,20 @@ module _ (store image file stream : List ℕ) (all : List (List Cut)) (groups_ar
         batches = to.imports.batches;
         refused = to.imports.refused;
         goes = goes (endings.Full games bytes) to to.imports.stored_are to.imports.holds;
-        full = full_in_all to.imports.start games bytes stream to.imports.stream more.0 to.imports.source_after.left to.imports.batches to.imports.refused all more.1 more.2 to.imports.stands groups_are;
+        full = full_in_all label to.imports.start games bytes stream to.imports.stream more.0 to.imports.source_after.left to.imports.batches to.imports.refused all more.1 more.2 to.imports.stands groups_are;
       }
 
-  not_too_much : (bytes : ℕ) → ImportsInto (endings.TooMuch bytes) store file before.host after.host → ⊥
+  not_too_much : (bytes : ℕ) → ImportsInto (endings.TooMuch bytes) store file label before.host after.host → ⊥
   not_too_much bytes into =
       let more = rest (endings.TooMuch bytes) into in
       let long = ap (λ (l : List ℕ). length l) more.1 in
       omega (arith, told_file.below, into.stands.at, long, length-append into.stream more.0)
 
-  so_into : (end : ImportEnding) → ImportsSo end store file before after → ImportsInto end store file before.host after.host
+  so_into : (end : ImportEnding) → ImportsSo end store file label before after → ImportsInto end store file label before.host after.host
   so_into end (inl to) = to.imports
   so_into end (inr untold) = untold.imports
 
-  refused_by : (fault : LogFault) → RefusesStore fault store before after → Comes store image file stream all before after (refusal fault)
+  refused_by : (fault : LogFault) → RefusesStore fault store before after → Comes store image file stream label all before after (refusal fault)
   refused_by fault by =
       let uses = by.0 in
       let handed = uses.hands.content ∙ told.disk in
@@ -216,7 +216,7 @@ module _ (store image file stream : List ℕ) (all : List (List Cut)) (groups_ar
         },
       ))
 
-  comes : (ending : Ending) → HasMemory (status_of ending) before after → ImportsBy store file before after ending → Comes store image file stream all before after ending
+  comes : (ending : Ending) → HasMemory (status_of ending) before after → ImportsLabelled store file label before after ending → Comes store image file stream label all before after ending
   comes Done fed by = inl (refl, done by.0)
   comes (Stopped (faults.Full games bytes)) fed (inl to) = inr (inl (games, bytes, refl, full games bytes to))
   comes (Stopped (faults.Full games bytes)) fed (inr untold) = absurd (fed.1 refl (ap (λ (w : World). w.output) untold.only))
@@ -237,6 +237,7 @@ module _ (store image file stream : List ℕ) (all : List (List Cut)) (groups_ar
   comes (Stopped faults.OutOfMemory) fed by = absurd (fed.0 refl)
   comes (Stopped faults.Usage) fed by = absurd by
   comes (Stopped (faults.BadParameter name)) fed by = absurd by
+  comes (Stopped faults.BadLabel) fed by = absurd by
   comes (Stopped (faults.NotEmpty size)) fed by = absurd by
   comes (Stopped faults.CannotAccept) fed by = absurd by
 
@@ -246,14 +247,14 @@ no_counts : (counts : Option (ℕ × ℕ)) → counts ≡ None → IsSome counts
 no_counts None is some = cc
 no_counts (Some counts) is some = cc
 
-module _ (start other : Known) (is_open : start.fault ≡ None) (also_open : other.fault ≡ None) (journals : start.journal ≡ other.journal) (games_are : start.games ≡ other.games) where
-  settled_in : (done : List (List Cut)) (batches : List Batch) (refused : List Refusal) → AreSettled other done batches refused → AreSettled start done batches refused
+module _ (label : List ℕ) (start other : Known) (is_open : start.fault ≡ None) (also_open : other.fault ≡ None) (journals : start.journal ≡ other.journal) (games_are : start.games ≡ other.games) where
+  settled_in : (done : List (List Cut)) (batches : List Batch) (refused : List Refusal) → AreSettled label other done batches refused → AreSettled label start done batches refused
   settled_in done batches refused settled = record {
-    accounted = subst (λ (g : List Game). Accounted no_label g done batches refused) (sym games_are) settled.accounted;
+    accounted = subst (λ (g : List Game). Accounted label g done batches refused) (sym games_are) settled.accounted;
     closed = λ some. absurd (no_counts start.fault is_open some);
   }
 
-  full_in : (games bytes : ℕ) (all : List (List Cut)) (batches : List Batch) (refused : List Refusal) → IsFullBehind other games bytes all batches refused → IsFullBehind start games bytes all batches refused
+  full_in : (games bytes : ℕ) (all : List (List Cut)) (batches : List Batch) (refused : List Refusal) → IsFullBehind label other games bytes all batches refused → IsFullBehind label start games bytes all batches refused
   full_in games bytes all batches refused (left, ends, full) = (
     left,
     record {
@@ -280,7 +281,7 @@ module _ (start other : Known) (is_open : start.fault ≡ None) (also_open : oth
 abbrev Alike : List ℕ → World → World → Ending → Ending → Type 0
 Alike store after other ending ending' = (ending ≡ ending') × ImportAlike store (status_of ending) after other
 
-module _ (store image file stream : List ℕ) (all : List (List Cut)) (groups_are : AreAllGroups (cuts stream) all) (before after other : World) (ending ending' : Ending) (one : OneGame) (accounts : OneAccount) (once : OneOpening) where
+module _ (store image file stream label : List ℕ) (all : List (List Cut)) (groups_are : AreAllGroups (cuts stream) all) (before after other : World) (ending ending' : Ending) (one : OneGame) (accounts : OneAccount) (once : OneOpening) where
   module _ (start start' : Known) (batches batches' : List Batch) (refused refused' : List Refusal) (x : Goes store image start batches refused before after) (y : Goes store image start' batches' refused' before other) where
     journals : start.journal ≡ start'.journal
     journals = once.opened image start.journal start'.journal x.read y.read
@@ -329,66 +330,87 @@ module _ (store image file stream : List ℕ) (all : List (List Cut)) (groups_ar
         rest = rest_alike store before.host after.host other.host only only';
       }
 
-  both_done : IsDone store image file stream before after → IsDone store image file stream before other → ImportAlike store (status_of ending) after other
+  both_done : IsDone store image file stream label before after → IsDone store image file stream label before other → ImportAlike store (status_of ending) after other
   both_done x y =
       let same_start = games_are x.start y.start x.batches y.batches x.refused y.refused x.goes y.goes in
-      let there = subst (λ (g : List Game). Accounted no_label g (groups (cuts stream)) y.batches y.refused) (sym same_start) y.accounted in
+      let there = subst (λ (g : List Game). Accounted label g (groups (cuts stream)) y.batches y.refused) (sym same_start) y.accounted in
       alike x.start y.start x.batches y.batches x.refused y.refused x.goes y.goes
-      (accounts.batches x.start.games (groups (cuts stream)) x.batches y.batches x.refused y.refused x.accounted there)
-      (accounts.refused x.start.games (groups (cuts stream)) x.batches y.batches x.refused y.refused x.accounted there)
+      (accounts.batches label x.start.games (groups (cuts stream)) x.batches y.batches x.refused y.refused x.accounted there)
+      (accounts.refused label x.start.games (groups (cuts stream)) x.batches y.batches x.refused y.refused x.accounted there)
       (λ differs. y.calls ∙ sym x.calls)
 
-  both_full : (games bytes games' bytes' : ℕ) → ending ≡ Stopped (faults.Full games bytes) → ending' ≡ Stopped (faults.Full games' bytes') → IsFull games bytes store image all before after → IsFull games' bytes' store image all before other
+  both_full : (games bytes games' bytes' : ℕ) → ending ≡ Stopped (faults.Full games bytes) → ending' ≡ Stopped (faults.Full games' bytes') → IsFull games bytes store image label all before after → IsFull games' bytes' store image label all before other
       → Alike store after other ending ending'
   both_full games bytes games' bytes' is is' x y =
       let journal = journals x.start y.start x.batches y.batches x.refused y.refused x.goes y.goes in
       let same_start = games_are x.start y.start x.batches y.batches x.refused y.refused x.goes y.goes in
-      let there = full_in x.start y.start x.goes.is_open y.goes.is_open journal same_start games' bytes' all y.batches y.refused y.full in
+      let there = full_in label x.start y.start x.goes.is_open y.goes.is_open journal same_start games' bytes' all y.batches y.refused y.full in
       let sound = subst (λ (j : List Batch). IsSound (j ++ y.batches)) (sym journal) y.goes.sound in
-      let same = one_full_behind x.start x.goes.is_open games bytes games' bytes' all x.batches y.batches x.refused y.refused one accounts x.full there x.goes.sound sound in (
+      let same = one_full_behind label x.start x.goes.is_open games bytes games' bytes' all x.batches y.batches x.refused y.refused one accounts x.full there x.goes.sound sound in (
         is ∙ ap₂ (λ (g : ℕ) (b : ℕ). Stopped (faults.Full g b)) same.0 same.1 ∙ sym is',
         alike x.start y.start x.batches y.batches x.refused y.refused x.goes y.goes same.2 same.3 (λ differs. absurd (differs (ap status_of is))),
       )
 
-done_and_full : (store image file stream : List ℕ) (all : List (List Cut)) (before after other : World) (games bytes : ℕ) → AreAllGroups (cuts stream) all → OneGame → OneAccount → OneOpening → IsDone store image file stream before after
-    → IsFull games bytes store image all before other → ⊥
-done_and_full store image file stream all before after other games bytes groups_are one accounts once x y =
+done_and_full : (store image file stream label : List ℕ) (all : List (List Cut)) (before after other : World) (games bytes : ℕ) → AreAllGroups (cuts stream) all → OneGame → OneAccount → OneOpening → IsDone store image file stream label before after
+    → IsFull games bytes store image label all before other → ⊥
+done_and_full store image file stream label all before after other games bytes groups_are one accounts once x y =
     let journal = once.opened image x.start.journal y.start.journal x.goes.read y.goes.read in
     let G : List Batch → Type 0 = λ j. AreGamesOf j x.start.games in
     let same_start = same_games one (texts_of y.start.journal) x.start.games y.start.games (subst G journal x.start.are_games) y.start.are_games in
-    let there = full_in x.start y.start x.goes.is_open y.goes.is_open journal same_start games bytes all y.batches y.refused y.full in
-    done_or_full x.start x.goes.is_open stream all games bytes y.batches x.batches y.refused x.refused one accounts x.accounted x.goes.sound.within groups_are there
+    let there = full_in label x.start y.start x.goes.is_open y.goes.is_open journal same_start games bytes all y.batches y.refused y.full in
+    done_or_full label x.start x.goes.is_open stream all games bytes y.batches x.batches y.refused x.refused one accounts x.accounted x.goes.sound.within groups_are there
 
-module _ (store image file stream : List ℕ) (all : List (List Cut)) (groups_are : AreAllGroups (cuts stream) all) (before after other : World) (ending ending' : Ending) (one : OneGame) (accounts : OneAccount) (once : OneOpening) where
-  same_coming : Comes store image file stream all before after ending → Comes store image file stream all before other ending' → Alike store after other ending ending'
+module _ (store image file stream label : List ℕ) (all : List (List Cut)) (groups_are : AreAllGroups (cuts stream) all) (before after other : World) (ending ending' : Ending) (one : OneGame) (accounts : OneAccount) (once : OneOpening) where
+  same_coming : Comes store image file stream label all before after ending → Comes store image file stream label all before other ending' → Alike store after other ending ending'
   same_coming (inl (is, x)) (inl (is', y)) =
-      (is ∙ sym is', both_done store image file stream all groups_are before after other ending ending' one accounts once x y)
+      (is ∙ sym is', both_done store image file stream label all groups_are before after other ending ending' one accounts once x y)
   same_coming (inl (is, x)) (inr (inl (games, bytes, is', y))) =
-      absurd (done_and_full store image file stream all before after other games bytes groups_are one accounts once x y)
+      absurd (done_and_full store image file stream label all before after other games bytes groups_are one accounts once x y)
   same_coming (inl (is, x)) (inr (inr (fault, is', y))) =
-      absurd (not_refused store image file stream all groups_are before after other ending ending' one accounts once x.start x.batches x.refused after fault x.goes y.wrong)
+      absurd (not_refused store image file stream label all groups_are before after other ending ending' one accounts once x.start x.batches x.refused after fault x.goes y.wrong)
   same_coming (inr (inl (games, bytes, is, x))) (inl (is', y)) =
-      absurd (done_and_full store image file stream all before other after games bytes groups_are one accounts once y x)
+      absurd (done_and_full store image file stream label all before other after games bytes groups_are one accounts once y x)
   same_coming (inr (inl (games, bytes, is, x))) (inr (inl (games', bytes', is', y))) =
-      both_full store image file stream all groups_are before after other ending ending' one accounts once games bytes games' bytes' is is' x y
+      both_full store image file stream label all groups_are before after other ending ending' one accounts once games bytes games' bytes' is is' x y
   same_coming (inr (inl (games, bytes, is, x))) (inr (inr (fault, is', y))) =
-      absurd (not_refused store image file stream all groups_are before after other ending ending' one accounts once x.start x.batches x.refused after fault x.goes y.wrong)
+      absurd (not_refused store image file stream label all groups_are before after other ending ending' one accounts once x.start x.batches x.refused after fault x.goes y.wrong)
   same_coming (inr (inr (fault, is, x))) (inl (is', y)) =
-      absurd (not_refused store image file stream all groups_are before after other ending ending' one accounts once y.start y.batches y.refused other fault y.goes x.wrong)
+      absurd (not_refused store image file stream label all groups_are before after other ending ending' one accounts once y.start y.batches y.refused other fault y.goes x.wrong)
   same_coming (inr (inr (fault, is, x))) (inr (inl (games, bytes, is', y))) =
-      absurd (not_refused store image file stream all groups_are before after other ending ending' one accounts once y.start y.batches y.refused other fault y.goes x.wrong)
+      absurd (not_refused store image file stream label all groups_are before after other ending ending' one accounts once y.start y.batches y.refused other fault y.goes x.wrong)
   same_coming (inr (inr (fault, is, x))) (inr (inr (fault', is', y))) = (
     is ∙ ap refusal (once.refused image fault fault' x.wrong y.wrong) ∙ sym is',
-    refused_alike store image file stream all groups_are before after other ending ending' one accounts once x.after_is (x.after_is ∙ sym y.after_is),
+    refused_alike store image file stream label all groups_are before after other ending ending' one accounts once x.after_is (x.after_is ∙ sym y.after_is),
   )
 
-pub one_import : (store image file stream : List ℕ) (before after other : World) (ending ending' : Ending) → OneGame → OneAccount → OneOpening → IsToldStore store image before → IsToldFile file stream before → IsToldErrors before
+-- both left all as it was
+unchanged : (store : List ℕ) (status : ℕ) (after other : World) → after ≡ other → ImportAlike store status after other
+unchanged store status after other is = subst (λ (w : World). ImportAlike store status after w) is (record {
+  streams = record { input = refl; output = refl; errors = refl };
+  disk = inl refl;
+  calls = λ differs. refl;
+  rest = λ i. record after.host { disks = sym (put_same store after.host.disks) i };
+})
+
+never_both : (b : Bool) → b ≡ false → b ≡ true → ⊥
+never_both b no yes = cc
+
+pub one_import : (store image file stream label : List ℕ) (before after other : World) (ending ending' : Ending) → OneGame → OneAccount → OneOpening → IsToldStore store image before → IsToldFile file stream before → IsToldErrors before
     → GoesWell before after → ReadsWell before after → ReportsWell before after → GoesWell before other → ReadsWell before other → ReportsWell before other → HasMemory (status_of ending) before after → HasMemory (status_of ending') before other
-    → ImportsBy store file before after ending → ImportsBy store file before other ending' → (ending ≡ ending') × ImportAlike store (status_of ending) after other
-one_import store image file stream before after other ending ending' one accounts once told told_file told_errors well reads reports well' reads' reports' fed fed' by by' =
-    let parts = in_groups (cuts stream) in
-    let all = parts.whole ++ parts.hand ∷ [] in
-    let groups_are : AreAllGroups (cuts stream) all = record { whole = parts.whole; hand = parts.hand; in_groups = parts.are; all_are = refl } in
-    same_coming store image file stream all groups_are before after other ending ending' one accounts once
-    (comes store image file stream all groups_are before after told told_file told_errors well reads reports ending fed by)
-    (comes store image file stream all groups_are before other told told_file told_errors well' reads' reports' ending' fed' by')
+    → ImportsBy store file label before after ending → ImportsBy store file label before other ending' → Alike store after other ending ending'
+one_import store image file stream label before after other ending ending' one accounts once told told_file told_errors well reads reports well' reads' reports' fed fed' = by_label
+  where
+    both : ImportsLabelled store file label before after ending → ImportsLabelled store file label before other ending' → Alike store after other ending ending'
+    both by by' =
+        let parts = in_groups (cuts stream) in
+        let all = parts.whole ++ parts.hand ∷ [] in
+        let groups_are : AreAllGroups (cuts stream) all = record { whole = parts.whole; hand = parts.hand; in_groups = parts.are; all_are = refl } in
+        same_coming store image file stream label all groups_are before after other ending ending' one accounts once
+        (comes store image file stream label all groups_are before after told told_file told_errors well reads reports ending fed by)
+        (comes store image file stream label all groups_are before other told told_file told_errors well' reads' reports' ending' fed' by')
+
+    by_label : ImportsBy store file label before after ending → ImportsBy store file label before other ending' → Alike store after other ending ending'
+    by_label (inl (no, is, same)) (inl (no', is', same')) = (is ∙ sym is', unchanged store (status_of ending) after other (same ∙ sym same'))
+    by_label (inl (no, is, same)) (inr (yes, by)) = absurd (never_both (is_label label) no yes)
+    by_label (inr (yes, by)) (inl (no, is, same)) = absurd (never_both (is_label label) no yes)
+    by_label (inr (yes, by)) (inr (yes', by')) = both by by'

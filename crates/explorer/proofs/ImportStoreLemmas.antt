@@ -65,17 +65,17 @@ holds_open {D} disk left_since told after keeps none =
 -- ---- by the end
 
 module _ {J : Type 0} (start : Known) (open_is : start.fault ≡ None) where
-  stands_by : (end : End J) (stream : List ℕ) (left : Option (List ℕ)) (batches : List Batch) (refused : List Refusal) (new : Store) → StandsAt end start stream left batches refused new
-      → StandsBy (ending_of end) start stream left batches refused new.journal new.failed
-  stands_by ends.Whole stream left batches refused new s = record { at_end = s.0; below = s.1; settled = s.2 }
-  stands_by (ends.ReadFault first last) stream left batches refused new s = s
-  stands_by (ends.TooMuch bytes) stream left batches refused new s = s.1
-  stands_by (ends.DiskFault first last mark) stream left batches refused new s = s.2
-  stands_by (ends.Closed first last mark) stream left batches refused new s = none_some (first, last) (sym open_is ∙ s.1)
-  stands_by (ends.Full games bytes note) stream left batches refused new s =
+  stands_by : (label : List ℕ) (end : End J) (stream : List ℕ) (left : Option (List ℕ)) (batches : List Batch) (refused : List Refusal) (new : Store) → StandsAt label end start stream left batches refused new
+      → StandsBy label (ending_of end) start stream left batches refused new.journal new.failed
+  stands_by label ends.Whole stream left batches refused new s = record { at_end = s.0; below = s.1; settled = s.2 }
+  stands_by label (ends.ReadFault first last) stream left batches refused new s = s
+  stands_by label (ends.TooMuch bytes) stream left batches refused new s = s.1
+  stands_by label (ends.DiskFault first last mark) stream left batches refused new s = s.2
+  stands_by label (ends.Closed first last mark) stream left batches refused new s = none_some (first, last) (sym open_is ∙ s.1)
+  stands_by label (ends.Full games bytes note) stream left batches refused new s =
       let P : List Batch → Type 0 = λ j. FindsNoRoom j games bytes s.2.0.left in
       (s.2.0, subst P s.1 s.2.1)
-  stands_by ends.OutOfMemory stream left batches refused new s = s
+  stands_by label ends.OutOfMemory stream left batches refused new s = s
 
   stored_by_end : (end : End J) (j : List Batch) (new : Store) → StoresBy end j start.fault new → StoredBy (ending_of end) j new.journal
   stored_by_end ends.Whole j new s = s.0
@@ -134,8 +134,8 @@ faults_by {J} ends.OutOfMemory disk disk_after source source_after r d = record 
 
 -- ---- an import
 
-module _ {D J : Type 0} (disk : D → DiskState) (left_since : D → ℕ → List ℕ → Type 0) (told : (it : D) (file : List ℕ) → (disk it).content ≡ Some file → MayLeave disk left_since it file)
-    (source source_after : Stream) (before after : Stored D) (report : Report J) (is : ImportsAlone disk left_since source before source_after after report)
+module _ {D J : Type 0} (label : List ℕ) (disk : D → DiskState) (left_since : D → ℕ → List ℕ → Type 0) (told : (it : D) (file : List ℕ) → (disk it).content ≡ Some file → MayLeave disk left_since it file)
+    (source source_after : Stream) (before after : Stored D) (report : Report J) (is : ImportsAlone label disk left_since source before source_after after report)
     (open_is : before.manifest.fault ≡ None) where
   started : is.start.fault ≡ None
   started = ap (λ (s : Store). s.fault) is.start_is ∙ open_is
@@ -146,11 +146,11 @@ module _ {D J : Type 0} (disk : D → DiskState) (left_since : D → ℕ → Lis
 
   pub imported_in : (came : Came) → came.ending ≡ ending_of report.end → came.refused.items ≡ report.refused.items → came.games ≡ games_of report.receipts.items
       → came.batches ≡ length report.receipts.items → came.journal ≡ length (journal after)
-      → ImportedIn (journal before) (journal after) (disk before.manifest.disk) (disk after.manifest.disk) source source_after came
+      → ImportedIn label (journal before) (journal after) (disk before.manifest.disk) (disk after.manifest.disk) source source_after came
   imported_in came ending refused games batches stored =
       let e : ending_of report.end ≡ came.ending = sym ending in
-      let S : List Refusal → Type 0 = λ l. StandsBy (ending_of report.end) is.start is.stream source_after.left is.batches l (journal after) after.failed in
-      let T : ImportEnding → Type 0 = λ f. StandsBy f is.start is.stream source_after.left is.batches came.refused.items (journal after) after.failed in
+      let S : List Refusal → Type 0 = λ l. StandsBy label (ending_of report.end) is.start is.stream source_after.left is.batches l (journal after) after.failed in
+      let T : ImportEnding → Type 0 = λ f. StandsBy label f is.start is.stream source_after.left is.batches came.refused.items (journal after) after.failed in
       let M : ImportEnding → Type 0 = λ f. StoredBy f (is.start.journal ++ is.batches) (journal after) in
       let H : ImportEnding → Type 0 = λ f. IfSome (disk after.manifest.disk).content (HoldsBy f (journal after) after.failed) in
       let F : ImportEnding → Type 0 = λ f. FaultsBy f (disk before.manifest.disk) (disk after.manifest.disk) source source_after in
@@ -163,7 +163,7 @@ module _ {D J : Type 0} (disk : D → DiskState) (left_since : D → ℕ → Lis
         stream = is.stream;
         reads = is.reads;
         batches = is.batches;
-        stands = subst T e (subst S (sym refused) (stands_by is.start started report.end is.stream source_after.left is.batches report.refused.items (stored_in after) is.stands));
+        stands = subst T e (subst S (sym refused) (stands_by is.start started label report.end is.stream source_after.left is.batches report.refused.items (stored_in after) is.stands));
         stored_are = subst M e (stored_by_end is.start started report.end (is.start.journal ++ is.batches) (stored_in after) is.stores);
         is_sound = is.sound;
         holds = subst H e (holds_by is.start started disk left_since told after is.keeps report.end (is.start.journal ++ is.batches) is.stores);

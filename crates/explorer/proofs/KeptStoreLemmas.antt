@@ -133,6 +133,7 @@ module _ (old : List ℕ) (file : List ℕ) where
         of_ending (Stopped faults.OutOfMemory) by = by_memory by.0
         of_ending (Stopped faults.Usage) by = absurd by
         of_ending (Stopped (faults.BadParameter name)) by = absurd by
+        of_ending (Stopped faults.BadLabel) by = absurd by
         of_ending (Stopped faults.ReadFault) by = absurd by
         of_ending (Stopped faults.TooMuchInput) by = absurd by
         of_ending (Stopped (faults.Full games bytes)) by = absurd by

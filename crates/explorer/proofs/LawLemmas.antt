@@ -29,17 +29,17 @@ use Rattle.explorer.proofs.NoRoomLemmas.{OneAccount, accounted_by, lost_is, not_
 
 -- ---- imports that break off
 
-pub one_cut_off : (stream : List ℕ) (batches others : List Batch) (refused other : List Refusal) → OneAccount → IsCutOff new_store stream batches refused → IsCutOff new_store stream others other
+pub one_cut_off : (label stream : List ℕ) (batches others : List Batch) (refused other : List Refusal) → OneAccount → IsCutOff label new_store stream batches refused → IsCutOff label new_store stream others other
     → (batches ≡ others) × (refused ≡ other)
-one_cut_off stream batches others refused other one first second =
-    same_settled one.batches one.refused new_store new_store stream first.whole second.whole first.hand second.hand batches others refused other refl first.in_groups second.in_groups first.settled second.settled
+one_cut_off label stream batches others refused other one first second =
+    same_settled {label = label} (one.batches label) (one.refused label) new_store new_store stream first.whole second.whole first.hand second.hand batches others refused other refl first.in_groups second.in_groups first.settled second.settled
 
-pub one_too_much : (stream : List ℕ) (batches others : List Batch) (refused other : List Refusal) → OneAccount → IsTooMuch new_store stream batches refused → IsTooMuch new_store stream others other
+pub one_too_much : (label stream : List ℕ) (batches others : List Batch) (refused other : List Refusal) → OneAccount → IsTooMuch label new_store stream batches refused → IsTooMuch label new_store stream others other
     → (batches ≡ others) × (refused ≡ other)
-one_too_much stream batches others refused other one first second =
+one_too_much label stream batches others refused other one first second =
     let fronts = same_front first.front second.front first.last second.last (sym first.front_is ∙ second.front_is) in
     let S : List ℕ → Type 0 = λ s. AreInGroups (ended_cuts s) second.whole second.hand in
-    same_settled one.batches one.refused new_store new_store first.front first.whole second.whole first.hand second.hand batches others refused other refl first.in_groups (subst S (sym fronts) second.in_groups) first.settled second.settled
+    same_settled {label = label} (one.batches label) (one.refused label) new_store new_store first.front first.whole second.whole first.hand second.hand batches others refused other refl first.in_groups (subst S (sym fronts) second.in_groups) first.settled second.settled
 
 -- ---- groups that find no room
 
@@ -66,11 +66,11 @@ fronts (group ∷ done) rest (other ∷ others) behind all = by_tail (fronts don
         inr (inr (longer.0, longer.1, longer.2, ap (λ (l : List (List Cut)). group ∷ l) longer.3 ∙ ap (λ (g : List Cut). g ∷ (others ++ longer.0 ∷ longer.1)) head, longer.4))
 
 -- a group of a list finds no room behind an open store, by so many games and bytes that are stored
-abbrev pub IsFullBehind : Known → ℕ → ℕ → List (List Cut) → List Batch → List Refusal → Type 0
-IsFullBehind start games bytes so_far batches refused = (left : List Candidate) × EndsIn start so_far batches refused left × FindsNoRoom (start.journal ++ batches) games bytes left
+abbrev pub IsFullBehind : List ℕ → Known → ℕ → ℕ → List (List Cut) → List Batch → List Refusal → Type 0
+IsFullBehind label start games bytes so_far batches refused = (left : List Candidate) × EndsIn label start so_far batches refused left × FindsNoRoom (start.journal ++ batches) games bytes left
 
-module _ (start : Known) (is_open : start.fault ≡ None) (games bytes games' bytes' : ℕ) (so_far : List (List Cut)) (batches others : List Batch) (refused other : List Refusal) (one : OneGame) (accounts : OneAccount) where
-  pub one_full_behind : IsFullBehind start games bytes so_far batches refused → IsFullBehind start games' bytes' so_far others other → IsSound (start.journal ++ batches) → IsSound (start.journal ++ others)
+module _ (label : List ℕ) (start : Known) (is_open : start.fault ≡ None) (games bytes games' bytes' : ℕ) (so_far : List (List Cut)) (batches others : List Batch) (refused other : List Refusal) (one : OneGame) (accounts : OneAccount) where
+  pub one_full_behind : IsFullBehind label start games bytes so_far batches refused → IsFullBehind label start games' bytes' so_far others other → IsSound (start.journal ++ batches) → IsSound (start.journal ++ others)
       → (games ≡ games') × (bytes ≡ bytes') × (batches ≡ others) × (refused ≡ other)
   one_full_behind (left, ends, full) (left', ends', full') sound sound' =
       by_fronts (fronts ends.done (ends.next ∷ ends.rest) ends'.done (ends'.next ∷ ends'.rest) (sym ends.so_far_is ∙ ends'.so_far_is))
@@ -78,37 +78,37 @@ module _ (start : Known) (is_open : start.fault ≡ None) (games bytes games' by
       by_fronts : Fronts ends.done (ends.next ∷ ends.rest) ends'.done (ends'.next ∷ ends'.rest) → (games ≡ games') × (bytes ≡ bytes') × (batches ≡ others) × (refused ≡ other)
       by_fronts (inl (done, rest)) =
           let next : ends.next ≡ ends'.next = cc in
-          let A : List (List Cut) → Type 0 = λ l. Accounted no_label start.games l batches ends.earlier in
+          let A : List (List Cut) → Type 0 = λ l. Accounted label start.games l batches ends.earlier in
           let moved = subst A done ends.settled.accounted in
-          let same = accounts.batches start.games ends'.done batches others ends.earlier ends'.earlier moved ends'.settled.accounted in
-          let earlier = accounts.refused start.games ends'.done batches others ends.earlier ends'.earlier moved ends'.settled.accounted in
+          let same = accounts.batches label start.games ends'.done batches others ends.earlier ends'.earlier moved ends'.settled.accounted in
+          let earlier = accounts.refused label start.games ends'.done batches others ends.earlier ends'.earlier moved ends'.settled.accounted in
           let journals : start.journal ++ batches ≡ start.journal ++ others = ap (λ (l : List Batch). start.journal ++ l) same in
           let G : List Batch → Type 0 = λ j. AreGamesOf j ends.known.games in
           let H : List Batch → Type 0 = λ j. AreGamesOf j ends'.known.games in
           let games_are =
           same_games one (texts_of (start.journal ++ others)) ends.known.games ends'.known.games (subst G (ends.journal_is ∙ journals) ends.known.are_games) (subst H ends'.journal_is ends'.known.are_games) in
-          let P : List Cut → Type 0 = λ g. Accounted no_label ends.known.games (g ∷ []) (batches_behind ends.known.games (ends.examinations ∷ [])) (refused_behind ends.known.games (ends.examinations ∷ [])) in
-          let Q : List Game → Type 0 = λ gs. Accounted no_label gs (ends'.next ∷ []) (batches_behind ends.known.games (ends.examinations ∷ [])) (refused_behind ends.known.games (ends.examinations ∷ [])) in
-          let here = subst Q games_are (subst P next (accounted_by ends.known.games (ends.next ∷ []) (ends.examinations ∷ []) (ends.are_examinations, tt))) in
-          let last = accounts.refused ends'.known.games (ends'.next ∷ []) (batches_behind ends.known.games (ends.examinations ∷ [])) (batches_behind ends'.known.games (ends'.examinations ∷ []))
+          let P : List Cut → Type 0 = λ g. Accounted label ends.known.games (g ∷ []) (batches_behind label ends.known.games (ends.examinations ∷ [])) (refused_behind ends.known.games (ends.examinations ∷ [])) in
+          let Q : List Game → Type 0 = λ gs. Accounted label gs (ends'.next ∷ []) (batches_behind label ends.known.games (ends.examinations ∷ [])) (refused_behind ends.known.games (ends.examinations ∷ [])) in
+          let here = subst Q games_are (subst P next (accounted_by label ends.known.games (ends.next ∷ []) (ends.examinations ∷ []) (ends.are_examinations, tt))) in
+          let last = accounts.refused label ends'.known.games (ends'.next ∷ []) (batches_behind label ends.known.games (ends.examinations ∷ [])) (batches_behind label ends'.known.games (ends'.examinations ∷ []))
           (refused_behind ends.known.games (ends.examinations ∷ [])) (refused_behind ends'.known.games (ends'.examinations ∷ [])) here
-          (accounted_by ends'.known.games (ends'.next ∷ []) (ends'.examinations ∷ []) (ends'.are_examinations, tt)) in (
+          (accounted_by label ends'.known.games (ends'.next ∷ []) (ends'.examinations ∷ []) (ends'.are_examinations, tt)) in (
             full.games_are ∙ ap game_count journals ∙ sym full'.games_are,
             full.bytes_are ∙ ap byte_count journals ∙ sym full'.bytes_are,
             same,
             ends.refused_are
                 ∙ ap₂ (λ (a : List Refusal) (b : List Refusal). a ++ b) earlier
-                (lost_is one accounts start is_open so_far batches refused left ends ∙ last ∙ sym (lost_is one accounts start is_open so_far others other left' ends')) ∙ sym ends'.refused_are,
+                (lost_is label one accounts start is_open so_far batches refused left ends ∙ last ∙ sym (lost_is label one accounts start is_open so_far others other left' ends')) ∙ sym ends'.refused_are,
           )
       by_fronts (inr (inl (next, more, later, is, rest))) =
           let same : ends.next ≡ next = cc in
-          let A : List (List Cut) → Type 0 = λ l. Accounted no_label start.games l others ends'.earlier in
-          absurd (not_stored one accounts start is_open so_far batches refused left ends games bytes full more others ends'.earlier
+          let A : List (List Cut) → Type 0 = λ l. Accounted label start.games l others ends'.earlier in
+          absurd (not_stored label one accounts start is_open so_far batches refused left ends games bytes full more others ends'.earlier
           (subst A (is ∙ ap (λ (g : List Cut). ends.done ++ g ∷ more) (sym same)) ends'.settled.accounted) sound'.within)
       by_fronts (inr (inr (next, more, later, is, rest))) =
           let same : ends'.next ≡ next = cc in
-          let A : List (List Cut) → Type 0 = λ l. Accounted no_label start.games l batches ends.earlier in
-          absurd (not_stored one accounts start is_open so_far others other left' ends' games' bytes' full' more batches ends.earlier
+          let A : List (List Cut) → Type 0 = λ l. Accounted label start.games l batches ends.earlier in
+          absurd (not_stored label one accounts start is_open so_far others other left' ends' games' bytes' full' more batches ends.earlier
           (subst A (is ∙ ap (λ (g : List Cut). ends'.done ++ g ∷ more) (sym same)) ends.settled.accounted) sound.within)
 
 -- ---- answers
@@ -131,6 +131,6 @@ one_answer query before after other one_account one told first second =
     let A : List ℕ → Type 0 = λ l. Accounted no_label [] (groups (cuts l)) first.batches first.refused in
     let moved = subst A streams first.imports.stands.settled.accounted in
     let all = groups (cuts second.imports.stream) in
-    let batches = one_account.batches [] all first.batches second.batches first.refused second.refused moved second.imports.stands.settled.accounted in
-    let refused = one_account.refused [] all first.batches second.batches first.refused second.refused moved second.imports.stands.settled.accounted in
+    let batches = one_account.batches no_label [] all first.batches second.batches first.refused second.refused moved second.imports.stands.settled.accounted in
+    let refused = one_account.refused no_label [] all first.batches second.batches first.refused second.refused moved second.imports.stands.settled.accounted in
     (one second.batches query first.found second.found (subst (λ (l : List Batch). IsFound l query first.found) batches first.is_found) second.is_found, refused)

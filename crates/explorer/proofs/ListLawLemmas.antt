@@ -95,6 +95,7 @@ module _ (store file : List ℕ) (before after : World)
   comes (Stopped faults.OutOfMemory) fed by = absurd (fed refl)
   comes (Stopped faults.Usage) fed by = absurd by
   comes (Stopped (faults.BadParameter name)) fed by = absurd by
+  comes (Stopped faults.BadLabel) fed by = absurd by
   comes (Stopped faults.ReadFault) fed by = absurd by
   comes (Stopped faults.TooMuchInput) fed by = absurd by
   comes (Stopped (faults.Full games bytes)) fed by = absurd by

@@ -12,7 +12,7 @@ use Rattle.record_log.specs.declared.fault.OpenFault.TheVariants as opening
 use Rattle.manifest.specs.First.{HasFirstJournal, IsWithinFirst, IsWrongFirst}
 use Rattle.manifest.specs.Manifest.{HasJournal}
 use Rattle.manifest.proofs.FirstDetermined.{one-fault, one-journal, read-or-wrong}
-use Rattle.host.specs.Hosts.{HostState, RefusesDisk, put}
+use Rattle.host.specs.Hosts.{HostState, RefusesDisk}
 use Rattle.explorer.specs.declared.fault.Fault.TheVariants as faults
 use Rattle.explorer.specs.Create.{IsNotEmpty}
 use Rattle.explorer.specs.Faults.{fault_of_opening}
@@ -22,20 +22,12 @@ use Rattle.explorer.specs.Migrate.{IsNoFirst, MakesOf, Migrates, MigratesBy, Rea
 use Rattle.explorer.specs.Stores.{OnlyHost, UsesDisk}
 use Rattle.explorer.specs.World.{World}
 use Rattle.explorer.proofs.HostCalls.{bytes_same}
-use Rattle.explorer.proofs.ImportHostLemmas.{left_only, only_disk, rest_alike}
+use Rattle.explorer.proofs.ImportHostLemmas.{left_only, only_disk, put_same, rest_alike}
 use Rattle.explorer.proofs.MigrateLemmas.{same_faults}
 use Rattle.explorer.proofs.OneEndingLemmas.{appended, no_rise}
 use Rattle.explorer.proofs.ToldStoreLemmas.{left_by, refused_in, size_is, stands, told_is, used}
 
 -- ---- what stands under a name
-
--- what is put under a name where it stood is no other
-put_same : {A : Type 0} (name : List ℕ) (stood : List ℕ → A) → put name (stood name) stood ≡ stood
-put_same {A} name stood = λ i other. same other (bytes_eq other name) refl i
-  where
-    same : (other : List ℕ) (b : Bool) → bytes_eq other name ≡ b → (if b then stood name else stood other) ≡ stood other
-    same other true is = ap stood (sym (bytes_same other name is))
-    same other false is = refl
 
 -- what is told under one name is so still, where a told disk of another was used and kept its bytes
 told_still : (old new file image : List ℕ) (before : HostState) → before.disks old ≡ Some file → before.disks new ≡ Some image
@@ -205,6 +197,7 @@ module _ (old file new image : List ℕ) (before after : World) (told : IsToldSt
   comes (Stopped faults.OutOfMemory) fed by = absurd (fed refl)
   comes (Stopped faults.Usage) fed by = absurd by
   comes (Stopped (faults.BadParameter name)) fed by = absurd by
+  comes (Stopped faults.BadLabel) fed by = absurd by
   comes (Stopped faults.ReadFault) fed by = absurd by
   comes (Stopped faults.TooMuchInput) fed by = absurd by
   comes (Stopped (faults.Full games bytes)) fed by = absurd by

@@ -140,6 +140,7 @@ module _ {D : Type 0} (disk : D → DiskState) (left_since : D → ℕ → List 
       of_ending (Stopped faults.DiskFault) by = inr safe
       of_ending (Stopped faults.Usage) by = safe
       of_ending (Stopped (faults.BadParameter name)) by = safe
+      of_ending (Stopped faults.BadLabel) by = safe
       of_ending (Stopped faults.ReadFault) by = safe
       of_ending (Stopped faults.WriteFault) by = safe
       of_ending (Stopped faults.NotAStore) by = safe
@@ -203,6 +204,7 @@ module _ (old new : List ℕ) (before after : World) (only : OnlyHost before aft
     by_disk faults.OutOfMemory uses = (inr (then_so (λ j. UsesDisk new (LacksRest j)) uses), only)
     by_disk faults.Usage uses = absurd uses.does
     by_disk (faults.BadParameter name) uses = absurd uses.does
+    by_disk faults.BadLabel uses = absurd uses.does
     by_disk faults.ReadFault uses = absurd uses.does
     by_disk faults.WriteFault uses = absurd uses.does
     by_disk faults.NotAStore uses = absurd uses.does

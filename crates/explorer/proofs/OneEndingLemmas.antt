@@ -65,9 +65,9 @@ more_groups front more whole others hand other first second =
     } in
     (later.whole, (same_groups (front ++ more) others (whole ++ later.whole) other later.hand second all).0)
 
-full_more : (start : Known) (games bytes : ℕ) (so_far more all : List (List Cut)) (batches : List Batch) (refused : List Refusal) → all ≡ so_far ++ more → IsFullBehind start games bytes so_far batches refused
-    → IsFullBehind start games bytes all batches refused
-full_more start games bytes so_far more all batches refused is (left, ends, full) = (
+full_more : (label : List ℕ) (start : Known) (games bytes : ℕ) (so_far more all : List (List Cut)) (batches : List Batch) (refused : List Refusal) → all ≡ so_far ++ more → IsFullBehind label start games bytes so_far batches refused
+    → IsFullBehind label start games bytes all batches refused
+full_more label start games bytes so_far more all batches refused is (left, ends, full) = (
   left,
   record {
     done = ends.done;
@@ -94,18 +94,18 @@ same_all ended all others first second =
     first.all_are ∙ ap₂ (λ (w : List (List Cut)) (h : List Cut). w ++ h ∷ []) same.0 same.1 ∙ sym second.all_are
 
 -- a group that finds no room in a front of a stream is the one of the whole stream
-pub full_in_all : (start : Known) (games bytes : ℕ) (stream read rest : List ℕ) (left : Option (List ℕ)) (batches : List Batch) (refused : List Refusal) (all : List (List Cut)) → stream ≡ read ++ rest → left ≡ Some rest
-    → IsFullAt games bytes start read left batches refused → AreAllGroups (cuts stream) all → IsFullBehind start games bytes all batches refused
-full_in_all start games bytes stream read rest left batches refused all stream_is left_is (at, full) groups_are = by_so_far at.are_so_far
+pub full_in_all : (label : List ℕ) (start : Known) (games bytes : ℕ) (stream read rest : List ℕ) (left : Option (List ℕ)) (batches : List Batch) (refused : List Refusal) (all : List (List Cut)) → stream ≡ read ++ rest → left ≡ Some rest
+    → IsFullAt label games bytes start read left batches refused → AreAllGroups (cuts stream) all → IsFullBehind label start games bytes all batches refused
+full_in_all label start games bytes stream read rest left batches refused all stream_is left_is (at, full) groups_are = by_so_far at.are_so_far
   where
-    here : IsFullBehind start games bytes at.so_far batches refused
+    here : IsFullBehind label start games bytes at.so_far batches refused
     here = (at.left, at.ends, full)
 
-    by_so_far : AreGroupsSoFar read left at.so_far → IsFullBehind start games bytes all batches refused
+    by_so_far : AreGroupsSoFar read left at.so_far → IsFullBehind label start games bytes all batches refused
     by_so_far (inr (at_end, so_far)) =
         let none = end_is left rest left_is at_end in
         let same : read ≡ stream = sym (stream_is ∙ ap (λ (l : List ℕ). read ++ l) none ∙ append-nil read) in
-        full_more start games bytes at.so_far [] all batches refused (same_all (cuts stream) all at.so_far groups_are (subst (λ (l : List ℕ). AreAllGroups (cuts l) at.so_far) same so_far) ∙ sym (append-nil at.so_far)) here
+        full_more label start games bytes at.so_far [] all batches refused (same_all (cuts stream) all at.so_far groups_are (subst (λ (l : List ℕ). AreAllGroups (cuts l) at.so_far) same so_far) ∙ sym (append-nil at.so_far)) here
     by_so_far (inl (hand, so_far)) =
         let stay = ended_stay read rest in
         let last = drop (length (cuts stream) - 1) (cuts stream) in
@@ -113,7 +113,7 @@ full_in_all start games bytes stream read rest left batches refused all stream_i
         sym (take-append-drop (length (cuts stream) - 1) (cuts stream)) ∙ ap (λ (l : List Cut). l ++ drop (length (cuts stream) - 1) (cuts stream)) (ap ended_cuts stream_is ∙ stay.1)
         ∙ append_assoc (ended_cuts read) stay.0 (drop (length (cuts stream) - 1) (cuts stream)) in
         let later = more_groups (ended_cuts read) (stay.0 ++ last) at.so_far groups_are.whole hand groups_are.hand so_far (subst (λ (l : List Cut). AreInGroups l groups_are.whole groups_are.hand) split groups_are.in_groups) in
-        full_more start games bytes at.so_far (later.0 ++ groups_are.hand ∷ []) all batches refused
+        full_more label start games bytes at.so_far (later.0 ++ groups_are.hand ∷ []) all batches refused
         (groups_are.all_are ∙ ap (λ (l : List (List Cut)). l ++ groups_are.hand ∷ []) later.1 ∙ append_assoc at.so_far later.0 (groups_are.hand ∷ [])) here
 
 -- ---- a stream that is stored whole has no group that finds no room
@@ -149,15 +149,15 @@ each_front : (done more : List (List Cut)) (next : List Cut) → AllByRecursion 
 each_front [] more next each = (each.0, tt)
 each_front (group ∷ done) more next each = (each.0, each_front done more next each.1)
 
-pub done_or_full : (start : Known) → start.fault ≡ None → (stream : List ℕ) (all : List (List Cut)) (games bytes : ℕ) (batches others : List Batch) (refused other : List Refusal) → OneGame → OneAccount
-    → Accounted no_label start.games (groups (cuts stream)) others other → IsWithin (start.journal ++ others) → AreAllGroups (cuts stream) all → IsFullBehind start games bytes all batches refused → ⊥
-done_or_full start is_open stream all games bytes batches others refused other one accounts stored within groups_are (left, ends, full) =
+pub done_or_full : (label : List ℕ) (start : Known) → start.fault ≡ None → (stream : List ℕ) (all : List (List Cut)) (games bytes : ℕ) (batches others : List Batch) (refused other : List Refusal) → OneGame → OneAccount
+    → Accounted label start.games (groups (cuts stream)) others other → IsWithin (start.journal ++ others) → AreAllGroups (cuts stream) all → IsFullBehind label start games bytes all batches refused → ⊥
+done_or_full label start is_open stream all games bytes batches others refused other one accounts stored within groups_are (left, ends, full) =
     by_place (last_or_within ends.done ends.rest groups_are.whole ends.next groups_are.hand (sym ends.so_far_is ∙ groups_are.all_are))
   where
     by_place : LastOrWithin ends.done ends.next ends.rest groups_are.whole groups_are.hand → ⊥
     by_place (inl (same, last)) =
-        let A : List Cut → Type 0 = λ l. Accounted no_label start.games (groups l) others other in
-        not_ended one accounts start is_open all batches refused left ends games bytes full groups_are.whole groups_are.hand [] [] others other
+        let A : List Cut → Type 0 = λ l. Accounted label start.games (groups l) others other in
+        not_ended label one accounts start is_open all batches refused left ends games bytes full groups_are.whole groups_are.hand [] [] others other
         (sym (ap₂ (λ (w : List (List Cut)) (h : List Cut). w ++ h ∷ []) same last)) groups_are.in_groups.each (omega (arith, groups_are.in_groups.few)) tt (subst A groups_are.in_groups.all stored) within
     by_place (inr (more, is)) =
         let rest = all_cuts more ++ groups_are.hand in
@@ -170,13 +170,13 @@ done_or_full start is_open stream all games bytes batches others refused other o
         by_texts : (rest : List Cut) → cuts stream ≡ all_cuts (ends.done ++ ends.next ∷ []) ++ rest → AllByRecursion IsWhole (ends.done ++ ends.next ∷ []) → (texts_in rest ≡ 0) ⊎ (0 < texts_in rest) → ⊥
         by_texts rest cuts_are each (inl none) =
             let examined = unread_examinations rest none in
-            let A : List Cut → Type 0 = λ l. Accounted no_label start.games (groups l) others other in
-            not_ended one accounts start is_open all batches refused left ends games bytes full (ends.done ++ ends.next ∷ []) rest (rest ∷ []) (examined.0 ∷ []) others other
+            let A : List Cut → Type 0 = λ l. Accounted label start.games (groups l) others other in
+            not_ended label one accounts start is_open all batches refused left ends games bytes full (ends.done ++ ends.next ∷ []) rest (rest ∷ []) (examined.0 ∷ []) others other
             (append_assoc ends.done (ends.next ∷ []) (rest ∷ [])) each (omega (arith, none)) (examined.1, tt) (subst A cuts_are stored) within
         by_texts rest cuts_are each (inr some) =
             let split : groups (cuts stream) ≡ ends.done ++ ends.next ∷ groups rest = ap groups cuts_are ∙ groups_closed (ends.done ++ ends.next ∷ []) rest each some ∙ append_assoc ends.done (ends.next ∷ []) (groups rest) in
-            let A : List (List Cut) → Type 0 = λ l. Accounted no_label start.games l others other in
-            not_stored one accounts start is_open all batches refused left ends games bytes full (groups rest) others other (subst A split stored) within
+            let A : List (List Cut) → Type 0 = λ l. Accounted label start.games l others other in
+            not_stored label one accounts start is_open all batches refused left ends games bytes full (groups rest) others other (subst A split stored) within
 
 -- ---- what is written
 
@@ -206,7 +206,7 @@ wrote chunk old new told low same writes = ap (λ (s : Stream). s.written) (wrot
 -- a count that ends as an answer, or at a group that finds no room
 abbrev Comes : List ℕ → List (List Cut) → Query → World → World → Ending → Type 0
 Comes stream all query before after ending = ((ending ≡ Done) × Answers query before after)
-    ⊎ ((games : ℕ) × (bytes : ℕ) × (batches : List Batch) × (refused : List Refusal) × (ending ≡ Stopped (faults.Full games bytes)) × IsFullBehind new_store games bytes all batches refused × IsSound batches
+    ⊎ ((games : ℕ) × (bytes : ℕ) × (batches : List Batch) × (refused : List Refusal) × (ending ≡ Stopped (faults.Full games bytes)) × IsFullBehind no_label new_store games bytes all batches refused × IsSound batches
     × (after.output ≡ before.output) × MayReport (report refused) before.errors after.errors)
 
 comes : (stream : List ℕ) (all : List (List Cut)) (query : Query) (before after : World) (ending : Ending) → IsTold stream before → AreAllGroups (cuts stream) all → IsFaultless before after
@@ -232,13 +232,14 @@ comes stream all query before after (Stopped (faults.Full games bytes)) told gro
       counts.0.batches,
       counts.0.refused,
       refl,
-      full_in_all new_store games bytes stream imports.stream rest.0 after.input.left counts.0.batches counts.0.refused all rest.1 rest.2 imports.stands groups_are,
+      full_in_all no_label new_store games bytes stream imports.stream rest.0 after.input.left counts.0.batches counts.0.refused all rest.1 rest.2 imports.stands groups_are,
       imports.sound,
       counts.0.output,
       counts.0.errors,
     )
 comes stream all query before after (Stopped faults.Usage) told groups_are faultless counts = absurd counts
 comes stream all query before after (Stopped (faults.BadParameter name)) told groups_are faultless counts = absurd counts
+comes stream all query before after (Stopped faults.BadLabel) told groups_are faultless counts = absurd counts
 comes stream all query before after (Stopped faults.DiskFault) told groups_are faultless counts = absurd counts
 comes stream all query before after (Stopped (faults.NotEmpty size)) told groups_are faultless counts = absurd counts
 comes stream all query before after (Stopped faults.NotAStore) told groups_are faultless counts = absurd counts
@@ -294,11 +295,11 @@ one_of_two stream all query before after other ending ending' game one answer to
       }),
     )
 one_of_two stream all query before after other ending ending' game one answer told groups_are fine fine' (inl (is, first)) (inr (games, bytes, batches, refused, is', full, sound, output, errors)) =
-    absurd (done_or_full new_store refl stream all games bytes batches first.batches refused first.refused game one (whole_stored stream query before after told first) first.imports.sound.within groups_are full)
+    absurd (done_or_full no_label new_store refl stream all games bytes batches first.batches refused first.refused game one (whole_stored stream query before after told first) first.imports.sound.within groups_are full)
 one_of_two stream all query before after other ending ending' game one answer told groups_are fine fine' (inr (games, bytes, batches, refused, is, full, sound, output, errors)) (inl (is', second)) =
-    absurd (done_or_full new_store refl stream all games bytes batches second.batches refused second.refused game one (whole_stored stream query before other told second) second.imports.sound.within groups_are full)
+    absurd (done_or_full no_label new_store refl stream all games bytes batches second.batches refused second.refused game one (whole_stored stream query before other told second) second.imports.sound.within groups_are full)
 one_of_two stream all query before after other ending ending' game one answer told groups_are fine fine' (inr (games, bytes, batches, refused, is, full, sound, output, errors)) (inr (games', bytes', batches', refused', is', full', sound', output', errors')) =
-    let same = one_full_behind new_store refl games bytes games' bytes' all batches batches' refused refused' game one full full' sound sound' in (
+    let same = one_full_behind no_label new_store refl games bytes games' bytes' all batches batches' refused refused' game one full full' sound sound' in (
       is ∙ ap₂ (λ (g : ℕ) (b : ℕ). Stopped (faults.Full g b)) same.0 same.1 ∙ sym is',
       subst (λ (e : Ending). WroteBy before after other e) (sym is) (record {
         output = ap (λ (s : Stream). s.written) (output ∙ sym output');

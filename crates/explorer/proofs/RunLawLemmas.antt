@@ -35,6 +35,7 @@ grew_by (Ok query) before after (Stopped faults.TooMuchInput) counts = grew_may 
 grew_by (Ok query) before after (Stopped (faults.Full games bytes)) counts = grew_may (report counts.0.refused) before.errors after.errors counts.0.errors
 grew_by (Ok query) before after (Stopped faults.Usage) counts = absurd counts
 grew_by (Ok query) before after (Stopped (faults.BadParameter name)) counts = absurd counts
+grew_by (Ok query) before after (Stopped faults.BadLabel) counts = absurd counts
 grew_by (Ok query) before after (Stopped faults.DiskFault) counts = absurd counts
 grew_by (Ok query) before after (Stopped (faults.NotEmpty size)) counts = absurd counts
 grew_by (Ok query) before after (Stopped faults.NotAStore) counts = absurd counts
@@ -54,6 +55,7 @@ still_told (Some x) (Some y) bytes told appends = refl
 pub same_lines : (fault : Fault) (lines others : List (List ℕ)) → (fault ≡ faults.Usage → ⊥) → AreLinesOf fault lines → AreLinesOf fault others → lines ≡ others
 same_lines faults.Usage lines others differs are are' = absurd (differs refl)
 same_lines (faults.BadParameter name) lines others differs are are' = are ∙ sym are'
+same_lines faults.BadLabel lines others differs are are' = are ∙ sym are'
 same_lines faults.ReadFault lines others differs are are' = are ∙ sym are'
 same_lines faults.WriteFault lines others differs are are' = are ∙ sym are'
 same_lines faults.DiskFault lines others differs are are' = are ∙ sym are'
@@ -133,6 +135,7 @@ alike_by : (ending : Ending) (before after other : World) → (status_of ending 
 alike_by Done before after other differs alike = alike
 alike_by (Stopped faults.Usage) before after other differs alike = alike
 alike_by (Stopped (faults.BadParameter name)) before after other differs alike = alike
+alike_by (Stopped faults.BadLabel) before after other differs alike = alike
 alike_by (Stopped faults.ReadFault) before after other differs alike = alike
 alike_by (Stopped faults.WriteFault) before after other differs alike = alike
 alike_by (Stopped faults.DiskFault) before after other differs alike = alike
@@ -156,6 +159,7 @@ full_by (Stopped (faults.Full games bytes)) eight = record { games = games; byte
 full_by Done eight = absurd (omega (arith, eight))
 full_by (Stopped faults.Usage) eight = absurd (omega (arith, eight))
 full_by (Stopped (faults.BadParameter name)) eight = absurd (omega (arith, eight))
+full_by (Stopped faults.BadLabel) eight = absurd (omega (arith, eight))
 full_by (Stopped faults.ReadFault) eight = absurd (omega (arith, eight))
 full_by (Stopped faults.WriteFault) eight = absurd (omega (arith, eight))
 full_by (Stopped faults.DiskFault) eight = absurd (omega (arith, eight))

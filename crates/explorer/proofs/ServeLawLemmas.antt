@@ -48,6 +48,7 @@ refused_by service before after (Stopped (faults.Damaged gate)) seven by =
 refused_by service before after Done seven by = absurd (omega (arith, seven))
 refused_by service before after (Stopped faults.Usage) seven by = absurd by
 refused_by service before after (Stopped (faults.BadParameter name)) seven by = absurd by
+refused_by service before after (Stopped faults.BadLabel) seven by = absurd by
 refused_by service before after (Stopped faults.ReadFault) seven by = absurd (omega (arith, seven))
 refused_by service before after (Stopped faults.WriteFault) seven by = absurd (omega (arith, seven))
 refused_by service before after (Stopped faults.DiskFault) seven by = absurd (omega (arith, seven))
@@ -116,6 +117,7 @@ module _ (service : Service) (image : List ℕ) (before after : World)
   comes (Stopped faults.OutOfMemory) fed by = absurd (fed refl)
   comes (Stopped faults.Usage) fed by = absurd by
   comes (Stopped (faults.BadParameter name)) fed by = absurd by
+  comes (Stopped faults.BadLabel) fed by = absurd by
   comes (Stopped (faults.NotEmpty size)) fed by = absurd by
 
 -- ---- the calls of the host

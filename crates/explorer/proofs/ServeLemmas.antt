@@ -38,11 +38,12 @@ use Rattle.explorer.specs.Faults.{fault_of_opening}
 use Rattle.record_log.specs.Log.{Log}
 use Rattle.manifest.specs.Manifest.{HasJournal, IsWithOrWithoutBatch}
 use Rattle.ingest_desk.specs.Kept.{Keeps, KeepsBy}
+use Rattle.ingest_desk.specs.Lives.{StandFrom}
 use Rattle.ingest_desk.specs.declared.report.ImportEnding.{ImportEnding}
 use Rattle.ingest_desk.specs.declared.report.ImportEnding.TheVariants as endings
 use Rattle.session.specs.declared.doors.DoorEnd.{DoorEnd}
 use Rattle.session.specs.declared.doors.DoorEnd.TheVariants as door_ends
-use Rattle.session.specs.Imports.{HasStoredBody, IsRepeatOf, StandFrom}
+use Rattle.session.specs.Imports.{HasStoredBody, IsRepeatOf}
 use Rattle.session.proofs.FrontLemmas.{get-prefix}
 use Rattle.explorer.specs.declared.fault.Fault.{Fault}
 use Rattle.explorer.specs.declared.fault.Fault.TheVariants as faults
@@ -555,6 +556,7 @@ module _ (service : Service) (before after : World) (worked : IsWorked service b
   by-worker faults.OutOfMemory is first disk counted sees reports = inr (inl (by-first faults.OutOfMemory first sees.goes_on disk reports))
   by-worker faults.Usage is first disk counted sees reports = absurd is
   by-worker (faults.BadParameter p) is first disk counted sees reports = absurd is
+  by-worker faults.BadLabel is first disk counted sees reports = absurd is
   by-worker faults.WriteFault is first disk counted sees reports = absurd is
   by-worker faults.DiskFault is first disk counted sees reports = absurd is
   by-worker (faults.NotEmpty n) is first disk counted sees reports = absurd is

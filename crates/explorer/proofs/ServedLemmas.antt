@@ -14,6 +14,7 @@ use Rattle.explorer_model.specs.declared.archive.Batch.{Batch}
 use Rattle.explorer_model.specs.declared.fault.Refusal.{Refusal}
 use Rattle.explorer_model.specs.Cuts.{Cut, cuts}
 use Rattle.explorer_model.specs.Imports.{groups}
+use Rattle.explorer_model.specs.Labels.{no_label}
 use Rattle.explorer_model.specs.Timeline.{IsPrefix}
 use Rattle.explorer_model.proofs.Timelines.{prefix-self, prefix-trans}
 use Rattle.published_index.specs.States.{Watching, watching}
@@ -47,7 +48,7 @@ use Rattle.explorer.specs.Workers.{AreNamed, CanReturn, GivenBack, HasReader, Ha
 -- ---- one file
 
 accounts-so : {J : Type 0} (end : End J) (stream : List ℕ) (left : Option (List ℕ)) (batches : List Batch) (refused : List Refusal)
-    → AccountsTo end (groups (cuts stream)) batches refused → StandsBeside end stream left batches refused
+    → AccountsTo no_label end (groups (cuts stream)) batches refused → StandsBeside no_label end stream left batches refused
     → AccountsSo (ending_of end) stream left batches refused
 accounts-so ends.Whole stream left batches refused a stands = a
 accounts-so (ends.ReadFault before after) stream left batches refused a stands = stands.1
@@ -58,7 +59,7 @@ accounts-so (ends.TooMuch bytes) stream left batches refused a stands = stands.1
 accounts-so ends.OutOfMemory stream left batches refused a stands = stands
 
 reads-so : {J : Type 0} (end : End J) (stream : List ℕ) (before after : Stream) (batches : List Batch) (refused : List Refusal)
-    → ReadFaultsAre end before after → StandsBeside end stream after.left batches refused
+    → ReadFaultsAre end before after → StandsBeside no_label end stream after.left batches refused
     → ReadsSo (ending_of end) stream before after
 reads-so ends.Whole stream before after batches refused f s = (s.0, s.1, f)
 reads-so (ends.ReadFault from to) stream before after batches refused f s = (s.0, rw (sym f.0, sym f.1) f.2)
@@ -72,7 +73,7 @@ reads-so ends.OutOfMemory stream before after batches refused f s = (s.below, f)
 abbrev run_of : {J : Type 0} → Stream → Report J → FileRun
 run_of file report = record { file = file; ending = ending_of report.end; refused = report.refused.items }
 
-imported : {J : Type 0} (before after : Stream) (report : Report J) → ImportsBeside before after report
+imported : {J : Type 0} (before after : Stream) (report : Report J) → ImportsBeside no_label before after report
     → IsImported before (run_of after report)
 imported before after report i = record {
   stream = i.stream;
@@ -100,14 +101,14 @@ whole-end (ends.Full games bytes note) is = absurd (cc)
 whole-end (ends.TooMuch bytes) is = absurd (cc)
 whole-end ends.OutOfMemory is = absurd (cc)
 
-stored-in : {J : Type 0} (journal : List Batch) (before after : Stream) (report : Report J) → ImportsBeside before after report
+stored-in : {J : Type 0} (journal : List Batch) (before after : Stream) (report : Report J) → ImportsBeside no_label before after report
     → HasReport journal (Some report) → fault_of_import (ending_of report.end) ≡ None
     → IsStoredIn journal before (run_of after report)
 stored-in {J} journal before after report i has none =
     let ending = whole-ending (ending_of report.end) none in
     let whole = whole-end report.end ending in
-    let accounts = subst (λ (end : End J). AccountsTo end (groups (cuts i.stream)) i.comes.reports.batches report.refused.items) whole i.comes.reports.accounts in
-    let stands = subst (λ (end : End J). StandsBeside end i.stream after.left i.comes.reports.batches report.refused.items) whole i.comes.stands in
+    let accounts = subst (λ (end : End J). AccountsTo no_label end (groups (cuts i.stream)) i.comes.reports.batches report.refused.items) whole i.comes.reports.accounts in
+    let stands = subst (λ (end : End J). StandsBeside no_label end i.stream after.left i.comes.reports.batches report.refused.items) whole i.comes.stands in
     record {
       whole = ending;
       stream = i.stream;
@@ -119,7 +120,7 @@ stored-in {J} journal before after report i has none =
     }
 
 -- what an import stored stands in a journal that has all that was told
-kept-in : {J : Type 0} (journal : List Batch) (before after : Stream) (report : Report J) → ImportsBeside before after report
+kept-in : {J : Type 0} (journal : List Batch) (before after : Stream) (report : Report J) → ImportsBeside no_label before after report
     → HasReport journal (Some report) → IsKeptIn journal before (run_of after report)
 unfolding imported
 kept-in journal before after report i has = record {
@@ -130,7 +131,7 @@ kept-in journal before after report i has = record {
 
 -- where an import found no room, a journal that has all that was told has none
 full-by : {J : Type 0} (end : End J) (journal : List Batch) (file : Stream) (run : FileRun) (stream : List ℕ) (batches : List Batch)
-    → Reads stream file run.file → KnowsEnd end journal → AccountsTo end (groups (cuts stream)) batches run.refused
+    → Reads stream file run.file → KnowsEnd end journal → AccountsTo no_label end (groups (cuts stream)) batches run.refused
     → IsFullBy (ending_of end) journal file run
 full-by ends.Whole journal file run stream batches reads knows a = tt
 full-by (ends.ReadFault before after) journal file run stream batches reads knows a = tt
@@ -147,7 +148,7 @@ full-by (ends.Full games bytes note) journal file run stream batches reads knows
 full-by (ends.TooMuch bytes) journal file run stream batches reads knows a = tt
 full-by ends.OutOfMemory journal file run stream batches reads knows a = tt
 
-full-in : {J : Type 0} (journal : List Batch) (before after : Stream) (report : Report J) → ImportsBeside before after report
+full-in : {J : Type 0} (journal : List Batch) (before after : Stream) (report : Report J) → ImportsBeside no_label before after report
     → HasReport journal (Some report) → FindsFull journal before (run_of after report)
 full-in journal before after report i has =
     full-by report.end journal before (run_of after report) i.stream i.comes.reports.batches i.reads has.2 i.comes.reports.accounts
@@ -204,7 +205,7 @@ module _ {F G J : Type 0} (source : F → Stream) (door : G → Connections) (al
       → FileRuns names (at + 1) files others → FileRuns (name ∷ names) at (File file' ∷ files) others
   one-file name names at file file' files others name_is stood i rest =
       let run = run_of (source file'.source) i.report in
-      let imports = subst (λ (s : Stream). ImportsBeside s (source file'.source) i.report) stood i.imports in
+      let imports = subst (λ (s : Stream). ImportsBeside no_label s (source file'.source) i.report) stood i.imports in
       let fault : fault_of {F = F} {G = G} {J = J} (File file') ≡ fault_of_import run.ending = ap (λ (r : Option (Report J)). fault_of {F = F} {G = G} {J = J} (File (record { source = file'.source; report = r }))) i.report_is in
       let place : at + 1 + length names ≡ at + length (name ∷ names) = omega arith in
       record {

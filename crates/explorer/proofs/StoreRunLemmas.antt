@@ -14,7 +14,7 @@ use Rattle.ingest_desk.specs.declared.report.ImportEnding.TheVariants as endings
 use Rattle.explorer.specs.declared.fault.Fault.{Fault}
 use Rattle.explorer.specs.declared.fault.Fault.TheVariants as faults
 use Rattle.explorer.specs.Create.{CreatesBy}
-use Rattle.explorer.specs.ImportStore.{ImportsBy, ImportsSo, ImportsTo}
+use Rattle.explorer.specs.ImportStore.{ImportsBy, ImportsLabelled, ImportsSo, ImportsTo}
 use Rattle.explorer.specs.Laws.{GoesWell, HasMemory, HoldAlike, ImportAlike, IsToldErrors, IsToldFile, IsToldOutput, IsToldStore, MigratedAlike, ReadsWell, RefusedAlike, ReportsWell, ServedAlike, ServesDoors, WritesWell, serving, with_workers}
 use Rattle.explorer.specs.Lines.{AreLinesOf, Ending, Done, Stopped, Tells, status_of}
 use Rattle.explorer.specs.ListBatches.{ListsBy}
@@ -108,6 +108,7 @@ created_errors store before after (Stopped faults.DiskFault) by = by_host before
 created_errors store before after (Stopped (faults.CannotOpen name)) by = by_host before after by.2
 created_errors store before after (Stopped faults.Usage) by = absurd by
 created_errors store before after (Stopped (faults.BadParameter name)) by = absurd by
+created_errors store before after (Stopped faults.BadLabel) by = absurd by
 created_errors store before after (Stopped faults.ReadFault) by = absurd by
 created_errors store before after (Stopped faults.TooMuchInput) by = absurd by
 created_errors store before after (Stopped (faults.Full games bytes)) by = absurd by
@@ -129,6 +130,7 @@ migrated_errors old new before after (Stopped (faults.CannotOpen name)) by = by_
 migrated_errors old new before after (Stopped faults.OutOfMemory) by = by_host before after by.1
 migrated_errors old new before after (Stopped faults.Usage) by = absurd by
 migrated_errors old new before after (Stopped (faults.BadParameter name)) by = absurd by
+migrated_errors old new before after (Stopped faults.BadLabel) by = absurd by
 migrated_errors old new before after (Stopped faults.ReadFault) by = absurd by
 migrated_errors old new before after (Stopped faults.TooMuchInput) by = absurd by
 migrated_errors old new before after (Stopped (faults.Full games bytes)) by = absurd by
@@ -145,6 +147,7 @@ asked_errors store (Ok query) before after (Stopped faults.DiskFault) by = by_ho
 asked_errors store (Ok query) before after (Stopped (faults.CannotOpen name)) by = by_host before after by.2
 asked_errors store (Ok query) before after (Stopped faults.Usage) by = absurd by
 asked_errors store (Ok query) before after (Stopped (faults.BadParameter name)) by = absurd by
+asked_errors store (Ok query) before after (Stopped faults.BadLabel) by = absurd by
 asked_errors store (Ok query) before after (Stopped faults.ReadFault) by = absurd by
 asked_errors store (Ok query) before after (Stopped faults.TooMuchInput) by = absurd by
 asked_errors store (Ok query) before after (Stopped (faults.Full games bytes)) by = absurd by
@@ -168,6 +171,7 @@ listed_errors store before after (Stopped (faults.CannotOpen name)) by = by_host
 listed_errors store before after (Stopped faults.OutOfMemory) by = by_host before after by.1
 listed_errors store before after (Stopped faults.Usage) by = absurd by
 listed_errors store before after (Stopped (faults.BadParameter name)) by = absurd by
+listed_errors store before after (Stopped faults.BadLabel) by = absurd by
 listed_errors store before after (Stopped faults.ReadFault) by = absurd by
 listed_errors store before after (Stopped faults.TooMuchInput) by = absurd by
 listed_errors store before after (Stopped (faults.Full games bytes)) by = absurd by
@@ -180,6 +184,7 @@ tried_errors games seed before after (Stopped faults.WriteFault) by = ap (λ (w 
 tried_errors games seed before after (Stopped faults.OutOfMemory) by = ap (λ (w : World). w.errors) by
 tried_errors games seed before after (Stopped faults.Usage) by = absurd by
 tried_errors games seed before after (Stopped (faults.BadParameter name)) by = absurd by
+tried_errors games seed before after (Stopped faults.BadLabel) by = absurd by
 tried_errors games seed before after (Stopped faults.ReadFault) by = absurd by
 tried_errors games seed before after (Stopped faults.DiskFault) by = absurd by
 tried_errors games seed before after (Stopped (faults.NotEmpty size)) by = absurd by
@@ -194,36 +199,41 @@ tried_errors games seed before after (Stopped faults.TooMuchInput) by = absurd b
 abbrev Grew : World → World → Type 0
 Grew before after = (bytes : List ℕ) × Grows bytes before.errors after.errors
 
-by_import : (end : ImportEnding) (store file : List ℕ) (before after : World) → ImportsTo end store file before after → Grew before after
-by_import end store file before after to = writes-grows (report to.imports.refused ∷ []) before.errors after.errors to.errors
+by_import : (end : ImportEnding) (store file label : List ℕ) (before after : World) → ImportsTo end store file label before after → Grew before after
+by_import end store file label before after to = writes-grows (report to.imports.refused ∷ []) before.errors after.errors to.errors
 
 by_none : (before after : World) → OnlyHost before after → Grew before after
 by_none before after only = ([], no_more before.errors after.errors (by_host before after only))
 
-by_so : (end : ImportEnding) (store file : List ℕ) (before after : World) → ImportsSo end store file before after → Grew before after
-by_so end store file before after (inl to) = by_import end store file before after to
-by_so end store file before after (inr untold) = by_none before after untold.only
+by_so : (end : ImportEnding) (store file label : List ℕ) (before after : World) → ImportsSo end store file label before after → Grew before after
+by_so end store file label before after (inl to) = by_import end store file label before after to
+by_so end store file label before after (inr untold) = by_none before after untold.only
 
-imported_errors : (store file : List ℕ) (before after : World) (ending : Ending) → ImportsBy store file before after ending → Grew before after
-imported_errors store file before after Done by = by_import endings.Whole store file before after by.0
-imported_errors store file before after (Stopped faults.WriteFault) by = by_import endings.Whole store file before after by.0
-imported_errors store file before after (Stopped faults.ReadFault) (first, last, so) = by_so (endings.ReadFault first last) store file before after so
-imported_errors store file before after (Stopped faults.TooMuchInput) (bytes, so) = by_so (endings.TooMuch bytes) store file before after so
-imported_errors store file before after (Stopped (faults.Full games bytes)) so = by_so (endings.Full games bytes) store file before after so
-imported_errors store file before after (Stopped faults.DiskFault) (inl by) = by_none before after by.1
-imported_errors store file before after (Stopped faults.DiskFault) (inr (first, last, so)) = by_so (endings.DiskFault first last) store file before after so
-imported_errors store file before after (Stopped faults.NotAStore) by = by_none before after by.1
-imported_errors store file before after (Stopped (faults.OtherFormat number)) by = by_none before after by.1
-imported_errors store file before after (Stopped (faults.Damaged gate)) by = by_none before after by.1
-imported_errors store file before after (Stopped (faults.CannotOpen name)) (inl by) = by_none before after by.2
-imported_errors store file before after (Stopped (faults.CannotOpen name)) (inr by) = by_none before after by.2
-imported_errors store file before after (Stopped faults.OutOfMemory) (inl by) = by_none before after by.1
-imported_errors store file before after (Stopped faults.OutOfMemory) (inr (inl so)) = by_so endings.OutOfMemory store file before after so
-imported_errors store file before after (Stopped faults.OutOfMemory) (inr (inr untold)) = by_none before after untold.only
-imported_errors store file before after (Stopped faults.Usage) by = absurd by
-imported_errors store file before after (Stopped (faults.BadParameter name)) by = absurd by
-imported_errors store file before after (Stopped (faults.NotEmpty size)) by = absurd by
-imported_errors store file before after (Stopped faults.CannotAccept) by = absurd by
+labelled_errors : (store file label : List ℕ) (before after : World) (ending : Ending) → ImportsLabelled store file label before after ending → Grew before after
+labelled_errors store file label before after Done by = by_import endings.Whole store file label before after by.0
+labelled_errors store file label before after (Stopped faults.WriteFault) by = by_import endings.Whole store file label before after by.0
+labelled_errors store file label before after (Stopped faults.ReadFault) (first, last, so) = by_so (endings.ReadFault first last) store file label before after so
+labelled_errors store file label before after (Stopped faults.TooMuchInput) (bytes, so) = by_so (endings.TooMuch bytes) store file label before after so
+labelled_errors store file label before after (Stopped (faults.Full games bytes)) so = by_so (endings.Full games bytes) store file label before after so
+labelled_errors store file label before after (Stopped faults.DiskFault) (inl by) = by_none before after by.1
+labelled_errors store file label before after (Stopped faults.DiskFault) (inr (first, last, so)) = by_so (endings.DiskFault first last) store file label before after so
+labelled_errors store file label before after (Stopped faults.NotAStore) by = by_none before after by.1
+labelled_errors store file label before after (Stopped (faults.OtherFormat number)) by = by_none before after by.1
+labelled_errors store file label before after (Stopped (faults.Damaged gate)) by = by_none before after by.1
+labelled_errors store file label before after (Stopped (faults.CannotOpen name)) (inl by) = by_none before after by.2
+labelled_errors store file label before after (Stopped (faults.CannotOpen name)) (inr by) = by_none before after by.2
+labelled_errors store file label before after (Stopped faults.OutOfMemory) (inl by) = by_none before after by.1
+labelled_errors store file label before after (Stopped faults.OutOfMemory) (inr (inl so)) = by_so endings.OutOfMemory store file label before after so
+labelled_errors store file label before after (Stopped faults.OutOfMemory) (inr (inr untold)) = by_none before after untold.only
+labelled_errors store file label before after (Stopped faults.Usage) by = absurd by
+labelled_errors store file label before after (Stopped (faults.BadParameter name)) by = absurd by
+labelled_errors store file label before after (Stopped faults.BadLabel) by = absurd by
+labelled_errors store file label before after (Stopped (faults.NotEmpty size)) by = absurd by
+labelled_errors store file label before after (Stopped faults.CannotAccept) by = absurd by
+
+imported_errors : (store file label : List ℕ) (before after : World) (ending : Ending) → ImportsBy store file label before after ending → Grew before after
+imported_errors store file label before after ending (inl (no, is, same)) = ([], no_more before.errors after.errors (ap (λ (w : World). w.errors) same))
+imported_errors store file label before after ending (inr (yes, by)) = labelled_errors store file label before after ending by
 
 -- no report failed before the ending was told
 reports_before : (ending : Ending) (before ended after : World) (bytes : List ℕ) → ReportsWell before after → Grows bytes before.errors ended.errors → Tells ending ended after → ReportsWell before ended
@@ -239,6 +249,11 @@ no_usage_by store (Ok query) before after ending by usage = subst (λ (e : Endin
 no_usage_asked : (store text : List ℕ) (before after : World) (ending : Ending) → QueriesBy store text before after ending → ending ≡ Stopped faults.Usage → ⊥
 no_usage_asked store text before after ending (inl (is, starves)) usage = let same : Stopped faults.OutOfMemory ≡ Stopped faults.Usage = sym is ∙ usage in cc
 no_usage_asked store text before after ending (inr (r, reads, by)) usage = no_usage_by store r before after ending by usage
+
+-- nor does an import
+no_usage_imported : (store file label : List ℕ) (before after : World) (ending : Ending) → ImportsBy store file label before after ending → ending ≡ Stopped faults.Usage → ⊥
+no_usage_imported store file label before after ending (inl (no, is, same)) usage = let other : Stopped faults.BadLabel ≡ Stopped faults.Usage = sym is ∙ usage in cc
+no_usage_imported store file label before after ending (inr (yes, by)) usage = subst (λ (e : Ending). ImportsLabelled store file label before after e) usage by
 
 -- ---- runs
 
@@ -398,13 +413,13 @@ module _ (words words' : List (List ℕ)) (before after other : World) (status s
       (fed_by status first.ending first.status_is fed) (fed_by status' second.ending second.status_is fed') meets meets')
 
   -- of an import
-  pub one_importing : (store file label image stream : List ℕ) (workers workers' : ℕ) → OneGame → OneAccount → OneOpening → task_of words ≡ Some (Import store file workers label) → task_of words' ≡ Some (Import store file workers' label) → IsToldStore store image before → IsToldFile file stream before
+  pub one_importing : (store file image stream label : List ℕ) (workers workers' : ℕ) → OneGame → OneAccount → OneOpening → task_of words ≡ Some (Import store file workers label) → task_of words' ≡ Some (Import store file workers' label) → IsToldStore store image before → IsToldFile file stream before
       → GoesWell before after → ReadsWell before after → GoesWell before other → ReadsWell before other → HasMemory status before after → HasMemory status' before other → (status ≡ status') × ImportAlike store status after other
-  one_importing store file label image stream workers workers' one accounts once asks asks' told told_file well reads well' reads' fed fed' =
+  one_importing store file image stream label workers workers' one accounts once asks asks' told told_file well reads well' reads' fed fed' =
       let meets = meets_task (Import store file workers label) words before first.ended first.ending status asks fed.0 first.status_is first.meets in
       let meets' = meets_task (Import store file workers' label) words' before second.ended second.ending status' asks' fed'.0 second.status_is second.meets in
-      let grew = imported_errors store file before first.ended first.ending meets in
-      let grew' = imported_errors store file before second.ended second.ending meets' in
+      let grew = imported_errors store file label before first.ended first.ending meets in
+      let grew' = imported_errors store file label before second.ended second.ending meets' in
       let fine = calm first.ending before first.ended after grew.0 errors reports grew.1 first.tells in
       let fine' = calm second.ending before second.ended other grew'.0 errors reports' grew'.1 second.tells in
       let still = reports_before first.ending before first.ended after grew.0 reports grew.1 first.tells in
@@ -413,7 +428,7 @@ module _ (words words' : List (List ℕ)) (before after other : World) (status s
       let rest' = told_rest second.ending second.ended other second.tells in
       let host : after.host ≡ first.ended.host = ap (λ (w : World). w.host) rest in
       let host' : other.host ≡ second.ended.host = ap (λ (w : World). w.host) rest' in
-      let both = one_import store image file stream before first.ended second.ended first.ending second.ending one accounts once told told_file errors
+      let both = one_import store image file stream label before first.ended second.ended first.ending second.ending one accounts once told told_file errors
       (goes_before first.ending before first.ended after first.tells well) (sym (ap (λ (h : HostState). h.file_faults) host) ∙ reads) still
       (goes_before second.ending before second.ended other second.tells well') (sym (ap (λ (h : HostState). h.file_faults) host') ∙ reads') still'
       (memory_before status first.ending before first.ended after first.status_is first.tells fed) (memory_before status' second.ending before second.ended other second.status_is second.tells fed') meets meets' in
@@ -427,7 +442,7 @@ module _ (words words' : List (List ℕ)) (before after other : World) (status s
             input = ap (λ (w : World). w.input) rest' ∙ alike.streams.input ∙ sym (ap (λ (w : World). w.input) rest);
             output = ap (λ (w : World). w.output) rest' ∙ alike.streams.output ∙ sym (ap (λ (w : World). w.output) rest);
             errors = sym (told_alike first.ending before first.ended after second.ended other
-                (λ usage. subst (λ (e : Ending). ImportsBy store file before first.ended e) usage meets) fine fine' (sym alike.streams.errors) first.tells moved);
+                (no_usage_imported store file label before first.ended first.ending meets) fine fine' (sym alike.streams.errors) first.tells moved);
           };
           disk = subst (λ (h : HostState). Q h other.host) (sym host) (subst (λ (k : HostState). Q first.ended.host k) (sym host') alike.disk);
           calls = λ differs.

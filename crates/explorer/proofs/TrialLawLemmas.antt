@@ -13,6 +13,7 @@ use Rattle.explorer_model.specs.declared.query.Query.{Query}
 use Rattle.explorer_model.specs.Cuts.{cuts}
 use Rattle.explorer_model.specs.Fen.{fen_text}
 use Rattle.explorer_model.specs.Finds.{IsFound}
+use Rattle.explorer_model.specs.Labels.{no_label}
 use Rattle.explorer_model.specs.Imports.{Accounted, groups}
 use Rattle.explorer_model.specs.Visits.{IsTextOf}
 use Rattle.rand_pcg.specs.Lcg.{Lcg}
@@ -65,7 +66,7 @@ same_fen one texts fen fen' a b =
 -- ---- what is stored and found
 
 same_stored : OneAccount → (texts : List (List ℕ)) (batches batches' : List Batch) → StoresTexts texts batches → StoresTexts texts batches' → batches ≡ batches'
-same_stored one texts batches batches' a b = one.batches [] (groups (cuts (joined texts))) batches batches' [] [] a.accounted b.accounted
+same_stored one texts batches batches' a b = one.batches no_label [] (groups (cuts (joined texts))) batches batches' [] [] a.accounted b.accounted
 
 same_count : (batches : List Batch) (segments segments' : List CountedSpan) → AreDrained (batch_sizes batches) (segment_sizes segments) → AreDrained (batch_sizes batches) (segment_sizes segments') → length segments ≡ length segments'
 same_count batches segments segments' a b =
@@ -109,6 +110,7 @@ module _ (games seed : ℕ) (one : OneGame) (accounts : OneAccount) (sample : On
   comes before after (Stopped faults.OutOfMemory) told well fed by = absurd (fed refl)
   comes before after (Stopped faults.Usage) told well fed by = absurd by
   comes before after (Stopped (faults.BadParameter name)) told well fed by = absurd by
+  comes before after (Stopped faults.BadLabel) told well fed by = absurd by
   comes before after (Stopped faults.ReadFault) told well fed by = absurd by
   comes before after (Stopped faults.DiskFault) told well fed by = absurd by
   comes before after (Stopped (faults.NotEmpty size)) told well fed by = absurd by

@@ -101,7 +101,7 @@ all_taken (Some xs) (Some rest) bytes stream told next at_end =
     sym (append-nil stream) ∙ ap (λ (l : List ℕ). stream ++ l) (sym at_end) ∙ sym next ∙ same
 
 module _ {D J : Type 0} (disk : D → DiskState) (left_since : D → ℕ → List ℕ → Type 0) (source source_after : Stream) (before after : Stored D) (report : Report J)
-    (is : ImportsAlone disk left_since source before source_after after report) (stream : List ℕ) (told : source.left ≡ Some stream) (open_is : before.manifest.fault ≡ None) (empty : journal before ≡ [])
+    (is : ImportsAlone no_label disk left_since source before source_after after report) (stream : List ℕ) (told : source.left ≡ Some stream) (open_is : before.manifest.fault ≡ None) (empty : journal before ≡ [])
     (ending : ImportEnding) (ended : ending ≡ ending_of report.end) (whole : ending ≡ endings.Whole) (texts : List (List ℕ)) (of_texts : stream ≡ joined texts)
     (all : StoresAll report.end (journal before) (placed_at 0 texts) report.refused.items (journal after)) where
   end_is : report.end ≡ ends.Whole
@@ -124,7 +124,7 @@ module _ {D J : Type 0} (disk : D → DiskState) (left_since : D → ℕ → Lis
   -- the texts are stored
   pub stores_texts : StoresTexts texts (journal after)
   stores_texts =
-      let stands = subst (λ (e : End J). StandsAt e is.start is.stream source_after.left is.batches report.refused.items (stored_in after)) end_is is.stands in
+      let stands = subst (λ (e : End J). StandsAt no_label e is.start is.stream source_after.left is.batches report.refused.items (stored_in after)) end_is is.stands in
       let stores = subst (λ (e : End J). StoresBy e (is.start.journal ++ is.batches) is.start.fault (stored_in after)) end_is is.stores in
       let whole_all = subst (λ (e : End J). StoresAll e (journal before) (placed_at 0 texts) report.refused.items (journal after)) end_is all in
       let games_are : is.start.games ≡ [] = ap (λ (k : Known). k.games) start_is in

@@ -9,6 +9,7 @@ use Rattle.explorer_model.specs.declared.query.BadParameter as query_fault
 use Rattle.explorer_model.specs.declared.query.Query.{Query}
 use Rattle.explorer_model.specs.Finds.{IsFound}
 use Rattle.explorer_model.specs.Journal.{IsSound, input_limit}
+use Rattle.explorer_model.specs.Labels.{no_label}
 use Rattle.explorer_model.specs.Query.{QueryReads}
 use Rattle.import_run.specs.Ending.{IsCutOff, IsTooMuch}
 use Rattle.explorer.specs.declared.fault.Fault.{Fault}
@@ -31,7 +32,7 @@ pub record ImportsNew (Stands : List ℕ → List Batch → List Refusal → Typ
 -- the same, where the input was read to its end
 abbrev pub ImportsAll : Stream → Stream → List Batch → List Refusal → Type 0
 ImportsAll before after =
-    ImportsNew (λ stream. IsAllSettled new_store stream after.left) before after
+    ImportsNew (λ stream. IsAllSettled no_label new_store stream after.left) before after
 
 -- The input was read to its end. The games of its groups are stored, the query is answered over
 -- them, and what is refused is reported; nothing else was written.
@@ -64,12 +65,12 @@ CountsBy (Ok query) before after Done = Answers query before after × IsFaultles
 CountsBy (Ok query) before after (Stopped WriteFault) =
     Answers query before after × WriteFails before after
 CountsBy (Ok query) before after (Stopped ReadFault) =
-    BreaksOff (IsCutOff new_store) before after × ReadFails before after
+    BreaksOff (IsCutOff no_label new_store) before after × ReadFails before after
 CountsBy (Ok query) before after (Stopped TooMuchInput) =
-    BreaksOff (IsTooMuch new_store) before after × AllReadsCame before after
+    BreaksOff (IsTooMuch no_label new_store) before after × AllReadsCame before after
 CountsBy (Ok query) before after (Stopped (Full games bytes)) =
-    BreaksOff (λ stream. IsFullAt games bytes new_store stream after.input.left) before after
-    × AllReadsCame before after
+    BreaksOff (λ stream. IsFullAt no_label games bytes new_store stream after.input.left)
+    before after × AllReadsCame before after
 CountsBy (Ok query) before after (Stopped _) = ⊥
 
 -- a run of `count` with this query string
@@ -95,14 +96,14 @@ CountedBy query faults faults_after before after batches refused (Ok line) =
     ImportsAll before after batches refused × IsAnswer query batches line
     × (after.read_faults ≡ before.read_faults)
 CountedBy query faults faults_after before after batches refused (Err ReadFault) =
-    ImportsNew (IsCutOff new_store) before after batches refused
+    ImportsNew (IsCutOff no_label new_store) before after batches refused
     × Rises before.read_faults after.read_faults
 CountedBy query faults faults_after before after batches refused (Err TooMuchInput) =
-    ImportsNew (IsTooMuch new_store) before after batches refused
+    ImportsNew (IsTooMuch no_label new_store) before after batches refused
     × (after.read_faults ≡ before.read_faults)
 CountedBy query faults faults_after before after batches refused (Err (Full games bytes)) =
-    ImportsNew (λ stream. IsFullAt games bytes new_store stream after.left) before after batches
-    refused × (after.read_faults ≡ before.read_faults)
+    ImportsNew (λ stream. IsFullAt no_label games bytes new_store stream after.left)
+    before after batches refused × (after.read_faults ≡ before.read_faults)
 CountedBy query faults faults_after before after batches refused (Err DiskFault) =
     Rises faults faults_after
 CountedBy query faults faults_after before after batches refused (Err _) = ⊥

@@ -1,5 +1,5 @@
 -- Statement: how a run of the command `import` ends.
-use Rattle.std.specs.Prelude.{◌≡◌, ◌⊎◌, ◌++◌, ℕ, List, [], ◌∷◌, length, IfSome, Option, None, Some, Result, Err, codes, string_bytes, unwrap_or}
+use Rattle.std.specs.Prelude.{◌≡◌, ◌⊎◌, ◌++◌, ℕ, true, false, List, [], ◌∷◌, length, IfSome, Option, None, Some, Result, Err, codes, string_bytes, unwrap_or}
 use Rattle.std.specs.Fmt.{decimal}
 use Rattle.disk_model.specs.Disk.{DiskState}
 use Rattle.outside.specs.Stream.{Stream, Reads, Rises, Writes}
@@ -7,6 +7,7 @@ use Rattle.explorer_model.specs.declared.archive.Batch.{Batch}
 use Rattle.explorer_model.specs.declared.fault.Refusal.{Refusal}
 use Rattle.explorer_model.specs.declared.store.LogFault.TheVariants as log
 use Rattle.explorer_model.specs.Journal.{IsSound, game_count}
+use Rattle.explorer_model.specs.Labels.{is_label}
 use Rattle.manifest.specs.Manifest.{HasJournal}
 use Rattle.host.specs.Hosts.{HandsDisk, HandsFile, HostState, RefusesDisk, RefusesFile, TakesDisk, TakesFile}
 use Rattle.ingest_desk.specs.declared.report.ImportEnding.{ImportEnding}
@@ -14,7 +15,7 @@ use Rattle.ingest_desk.specs.declared.report.ImportEnding.TheVariants as endings
 use Rattle.import_run.specs.Committing.{Known}
 use Rattle.explorer.specs.declared.fault.Fault.{Fault}
 use Rattle.explorer.specs.declared.importing.Came.{Came}
-use Rattle.explorer.specs.declared.fault.Fault.TheVariants.{CannotOpen, Damaged, DiskFault, Full, NotAStore, OtherFormat, OutOfMemory, ReadFault, TooMuchInput, WriteFault}
+use Rattle.explorer.specs.declared.fault.Fault.TheVariants.{BadLabel, CannotOpen, Damaged, DiskFault, Full, NotAStore, OtherFormat, OutOfMemory, ReadFault, TooMuchInput, WriteFault}
 use Rattle.explorer.specs.Faults.{fault_by}
 use Rattle.explorer.specs.Imported.{FaultsBy, HoldsBy, StandsBy, StoredBy}
 use Rattle.explorer.specs.Lines.{Ending, Done, Stopped, ending_of}
@@ -70,10 +71,10 @@ pub record UsesInVain (store file : List ℕ) (before after : HostState) : Type 
 
 -- ---- what the import comes to
 
--- An import of the file into the store ended so: some bytes of the file were taken, and the batches
--- that were stored of them stand behind the journal that the store had.
-pub record ImportsInto (ending : ImportEnding) (store file : List ℕ) (before after : HostState)
-    : Type 0 where
+-- An import of the file into the store under a label ended so: some bytes of the file were taken,
+-- and the batches that were stored of them stand behind the journal that the store had.
+pub record ImportsInto (ending : ImportEnding) (store file label : List ℕ)
+    (before after : HostState) : Type 0 where
   pub disk : DiskState
   pub disk_after : DiskState
   pub source : Stream
@@ -89,16 +90,16 @@ pub record ImportsInto (ending : ImportEnding) (store file : List ℕ) (before a
   pub stored : List Batch
   -- the batch that failed, where the ending is a disk fault
   pub failed : Option Batch
-  pub stands : StandsBy ending start stream source_after.left batches refused stored failed
+  pub stands : StandsBy label ending start stream source_after.left batches refused stored failed
   pub stored_are : StoredBy ending (start.journal ++ batches) stored
   pub is_sound : IsSound stored
   pub holds : IfSome disk_after.content (HoldsBy ending stored failed)
   pub faults : FaultsBy ending disk disk_after source source_after
 
 -- and what it refused and stored was told
-pub record ImportsTo (ending : ImportEnding) (store file : List ℕ) (before after : World)
+pub record ImportsTo (ending : ImportEnding) (store file label : List ℕ) (before after : World)
     : Type 0 where
-  pub imports : ImportsInto ending store file before.host after.host
+  pub imports : ImportsInto ending store file label before.host after.host
   pub errors : Writes (report imports.refused ∷ []) before.errors after.errors
   pub output : Writes (totals (game_count imports.batches) (length imports.batches)
       (length imports.stored) ∷ []) before.output after.output
@@ -106,15 +107,16 @@ pub record ImportsTo (ending : ImportEnding) (store file : List ℕ) (before aft
       { output = after.output; errors = after.errors; host = after.host }
 
 -- or, where memory was wanting for that, nothing was
-pub record ImportsUntold (ending : ImportEnding) (store file : List ℕ) (before after : World)
+pub record ImportsUntold (ending : ImportEnding) (store file label : List ℕ) (before after : World)
     : Type 0 where
-  pub imports : ImportsInto ending store file before.host after.host
+  pub imports : ImportsInto ending store file label before.host after.host
   pub only : OnlyHost before after
 
 -- the import ended so, and was told or was not
-abbrev pub ImportsSo : ImportEnding → List ℕ → List ℕ → World → World → Type 0
-ImportsSo ending store file before after =
-    ImportsTo ending store file before after ⊎ ImportsUntold ending store file before after
+abbrev pub ImportsSo : ImportEnding → (store file label : List ℕ) → World → World → Type 0
+ImportsSo ending store file label before after =
+    ImportsTo ending store file label before after
+    ⊎ ImportsUntold ending store file label before after
 
 -- memory was wanting when the store was opened, or before the import began
 abbrev pub LacksBy : List ℕ → List ℕ → HostState → HostState → Type 0
@@ -122,11 +124,11 @@ LacksBy store file before after = UsesDisk store KeepsBytes before after
     ⊎ UsesInVain store file before after
 
 -- memory was wanting: before the import began, in it, or to tell of one that came to its end
-abbrev pub LacksMemory : List ℕ → List ℕ → World → World → Type 0
-LacksMemory store file before after =
+abbrev pub LacksMemory : (store file label : List ℕ) → World → World → Type 0
+LacksMemory store file label before after =
     (LacksBy store file before.host after.host × OnlyHost before after)
-    ⊎ ImportsSo endings.OutOfMemory store file before after
-    ⊎ ImportsUntold endings.Whole store file before after
+    ⊎ ImportsSo endings.OutOfMemory store file label before after
+    ⊎ ImportsUntold endings.Whole store file label before after
 
 -- no write failed
 pub record WroteAll (before after : World) : Type 0 where
@@ -138,34 +140,43 @@ abbrev pub SomeWriteFails : World → World → Type 0
 SomeWriteFails before after = Rises before.output.write_faults after.output.write_faults
     ⊎ Rises before.errors.write_faults after.errors.write_faults
 
--- a run of `import` by its ending; no other can be
-abbrev pub ImportsBy : List ℕ → List ℕ → World → World → Ending → Type 0
-ImportsBy store file before after Done =
-    ImportsTo endings.Whole store file before after × WroteAll before after
-ImportsBy store file before after (Stopped WriteFault) =
-    ImportsTo endings.Whole store file before after × SomeWriteFails before after
-ImportsBy store file before after (Stopped ReadFault) =
-    (first : ℕ) × (last : ℕ) × ImportsSo (endings.ReadFault first last) store file before after
-ImportsBy store file before after (Stopped TooMuchInput) =
-    (bytes : ℕ) × ImportsSo (endings.TooMuch bytes) store file before after
-ImportsBy store file before after (Stopped (Full games bytes)) =
-    ImportsSo (endings.Full games bytes) store file before after
-ImportsBy store file before after (Stopped DiskFault) =
+-- a run of `import` under a label, by its ending; no other can be
+abbrev pub ImportsLabelled : (store file label : List ℕ) → World → World → Ending → Type 0
+ImportsLabelled store file label before after Done =
+    ImportsTo endings.Whole store file label before after × WroteAll before after
+ImportsLabelled store file label before after (Stopped WriteFault) =
+    ImportsTo endings.Whole store file label before after × SomeWriteFails before after
+ImportsLabelled store file label before after (Stopped ReadFault) =
+    (first : ℕ) × (last : ℕ)
+    × ImportsSo (endings.ReadFault first last) store file label before after
+ImportsLabelled store file label before after (Stopped TooMuchInput) =
+    (bytes : ℕ) × ImportsSo (endings.TooMuch bytes) store file label before after
+ImportsLabelled store file label before after (Stopped (Full games bytes)) =
+    ImportsSo (endings.Full games bytes) store file label before after
+ImportsLabelled store file label before after (Stopped DiskFault) =
     (UsesDisk store FailsUnread before.host after.host × OnlyHost before after)
-    ⊎ ((first : ℕ) × (last : ℕ) × ImportsSo (endings.DiskFault first last) store file before after)
-ImportsBy store file before after (Stopped NotAStore) = RefusesStore log.NotALog store before after
-ImportsBy store file before after (Stopped (OtherFormat number)) =
+    ⊎ ((first : ℕ) × (last : ℕ)
+    × ImportsSo (endings.DiskFault first last) store file label before after)
+ImportsLabelled store file label before after (Stopped NotAStore) =
+    RefusesStore log.NotALog store before after
+ImportsLabelled store file label before after (Stopped (OtherFormat number)) =
     RefusesStore (log.OtherFormat number) store before after
-ImportsBy store file before after (Stopped (Damaged gate)) =
+ImportsLabelled store file label before after (Stopped (Damaged gate)) =
     RefusesStore (log.Damaged gate) store before after
-ImportsBy store file before after (Stopped (CannotOpen name)) =
+ImportsLabelled store file label before after (Stopped (CannotOpen name)) =
     ((string_bytes name ≡ store) × RefusesDisk store before.host after.host
     × OnlyHost before after)
     ⊎ ((string_bytes name ≡ file) × LacksFile store file before.host after.host
     × OnlyHost before after)
-ImportsBy store file before after (Stopped OutOfMemory) =
-    LacksMemory store file before after
-ImportsBy store file before after (Stopped _) = ⊥
+ImportsLabelled store file label before after (Stopped OutOfMemory) =
+    LacksMemory store file label before after
+ImportsLabelled store file label before after (Stopped _) = ⊥
+
+-- a run of `import`: a text that is no label stops it before anything is asked of the host
+abbrev pub ImportsBy : (store file label : List ℕ) → World → World → Ending → Type 0
+ImportsBy store file label before after ending =
+    ((is_label label ≡ false) × (ending ≡ Stopped BadLabel) × (after ≡ before))
+    ⊎ ((is_label label ≡ true) × ImportsLabelled store file label before after ending)
 
 -- ---- bridge: what the code comes to on the way
 

@@ -8,7 +8,6 @@ use Rattle.explorer_model.specs.declared.fault.Refusal.{Refusal}
 use Rattle.explorer_model.specs.Cuts.{cuts}
 use Rattle.explorer_model.specs.Imports.{batch_of, groups}
 use Rattle.explorer_model.specs.Journal.{IsSound, game_count, input_limit}
-use Rattle.explorer_model.specs.Labels.{no_label}
 use Rattle.manifest.specs.Manifest.{HasJournal, IsWithOrWithoutBatch}
 use Rattle.ingest_desk.specs.Reporting.{FindsNoRoom}
 use Rattle.ingest_desk.specs.declared.report.ImportEnding.{ImportEnding}
@@ -22,38 +21,38 @@ abbrev pub new_store : Known
 new_store = record { journal = []; fault = None; failed = None; games = []; are_games = tt }
 
 -- a group of the stream finds no room, by so many games and bytes that are stored
-abbrev pub IsFullAt : ℕ → ℕ → Known → List ℕ → Option (List ℕ) → List Batch → List Refusal
-    → Type 0
-IsFullAt games bytes start stream left_over batches refused =
-    (ends : EndsAt start stream left_over batches refused)
+abbrev pub IsFullAt : List ℕ → ℕ → ℕ → Known → List ℕ → Option (List ℕ) → List Batch
+    → List Refusal → Type 0
+IsFullAt label games bytes start stream left_over batches refused =
+    (ends : EndsAt label start stream left_over batches refused)
     × FindsNoRoom (start.journal ++ batches) games bytes ends.left
 
 -- the stream was read to its end, below the bound, and all its groups are settled
-pub record IsAllSettled (start : Known) (stream : List ℕ) (left_over : Option (List ℕ))
-    (batches : List Batch) (refused : List Refusal) : Type 0 where
+pub record IsAllSettled (label : List ℕ) (start : Known) (stream : List ℕ)
+    (left_over : Option (List ℕ)) (batches : List Batch) (refused : List Refusal) : Type 0 where
   pub at_end : IsAtEnd left_over
   pub below : length stream < input_limit
-  pub settled : AreSettled start (groups (cuts stream)) batches refused
+  pub settled : AreSettled label start (groups (cuts stream)) batches refused
 
--- How an import stands with the bytes that it took and with the stored journal, by its ending; the
--- store was open before. After a disk fault the batch that failed is that of the texts that were left
--- of the group.
-abbrev pub StandsBy : ImportEnding → Known → List ℕ → Option (List ℕ) → List Batch
+-- How an import under a label stands with the bytes that it took and with the stored journal, by
+-- its ending; the store was open before. After a disk fault the batch that failed is that of the
+-- texts that were left of the group.
+abbrev pub StandsBy : List ℕ → ImportEnding → Known → List ℕ → Option (List ℕ) → List Batch
     → List Refusal → List Batch → Option Batch → Type 0
-StandsBy endings.Whole start stream left_over batches refused stored failed =
-    IsAllSettled start stream left_over batches refused
-StandsBy (endings.ReadFault before after) start stream left_over batches refused stored failed =
-    IsCutOff start stream batches refused
-StandsBy (endings.TooMuch bytes) start stream left_over batches refused stored failed =
-    IsTooMuch start stream batches refused
-StandsBy (endings.DiskFault before after) start stream left_over batches refused stored failed =
-    (ends : EndsAt start stream left_over batches refused)
-    × HasRoomFor (start.journal ++ batches) ends.left × (failed ≡ batch_of no_label ends.left)
-StandsBy (endings.Closed before after) start stream left_over batches refused stored failed = ⊥
-StandsBy (endings.Full games bytes) start stream left_over batches refused stored failed =
-    IsFullAt games bytes start stream left_over batches refused
-StandsBy endings.OutOfMemory start stream left_over batches refused stored failed =
-    Lacks start stream left_over batches refused stored
+StandsBy label endings.Whole start stream left_over batches refused stored failed =
+    IsAllSettled label start stream left_over batches refused
+StandsBy label (endings.ReadFault _ _) start stream left_over batches refused stored failed =
+    IsCutOff label start stream batches refused
+StandsBy label (endings.TooMuch bytes) start stream left_over batches refused stored failed =
+    IsTooMuch label start stream batches refused
+StandsBy label (endings.DiskFault _ _) start stream left_over batches refused stored failed =
+    (ends : EndsAt label start stream left_over batches refused)
+    × HasRoomFor (start.journal ++ batches) ends.left × (failed ≡ batch_of label ends.left)
+StandsBy label (endings.Closed _ _) start stream left_over batches refused stored failed = ⊥
+StandsBy label (endings.Full games bytes) start stream left_over batches refused stored failed =
+    IsFullAt label games bytes start stream left_over batches refused
+StandsBy label endings.OutOfMemory start stream left_over batches refused stored failed =
+    Lacks label start stream left_over batches refused stored
 
 -- the stored journal: the batches stand behind the one before; where memory was wanting, there may
 -- be one more, and `Lacks` says which
@@ -83,8 +82,8 @@ FaultsBy (endings.DiskFault before after) disk disk_after source source_after =
 FaultsBy _ disk disk_after source source_after =
     NoFault disk disk_after source source_after
 
--- an import into an open store of this journal came to this, and left that one
-pub record ImportedIn (journal stored : List Batch) (disk disk_after : DiskState)
+-- an import under a label into an open store of this journal came to this, and left that one
+pub record ImportedIn (label : List ℕ) (journal stored : List Batch) (disk disk_after : DiskState)
     (source source_after : Stream) (came : Came) : Type 0 where
   pub start : Known
   pub sound : start.fault ≡ None
@@ -95,8 +94,8 @@ pub record ImportedIn (journal stored : List Batch) (disk disk_after : DiskState
   pub batches : List Batch
   -- the batch that failed, where the ending is a disk fault
   pub failed : Option Batch
-  pub stands : StandsBy came.ending start stream source_after.left batches came.refused.items stored
-      failed
+  pub stands : StandsBy label came.ending start stream source_after.left batches came.refused.items
+      stored failed
   pub stored_are : StoredBy came.ending (start.journal ++ batches) stored
   pub is_sound : IsSound stored
   pub holds : IfSome disk_after.content (HoldsBy came.ending stored failed)
@@ -106,6 +105,7 @@ pub record ImportedIn (journal stored : List Batch) (disk disk_after : DiskState
   pub stored_is : came.journal ≡ length stored
 
 -- it left some journal
-abbrev pub ImportedTo : List Batch → DiskState → DiskState → Stream → Stream → Came → Type 0
-ImportedTo journal disk disk_after source source_after came =
-    (stored : List Batch) × ImportedIn journal stored disk disk_after source source_after came
+abbrev pub ImportedTo : List ℕ → List Batch → DiskState → DiskState → Stream → Stream → Came
+    → Type 0
+ImportedTo label journal disk disk_after source source_after came = (stored : List Batch)
+    × ImportedIn label journal stored disk disk_after source source_after came

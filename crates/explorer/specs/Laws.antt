@@ -61,11 +61,11 @@ CountsAtMost None = ⊤
 CountsAtMost (Some (Count query workers)) = ⊤
 CountsAtMost (Some _) = ⊥
 
--- an import into a new store finds no room for one of these groups, by so many games and bytes that
--- are stored
-abbrev pub IsFullIn : ℕ → ℕ → List (List Cut) → List Batch → List Refusal → Type 0
-IsFullIn games bytes so_far batches refused = (left : List Candidate)
-    × EndsIn new_store so_far batches refused left × FindsNoRoom batches games bytes left
+-- an import under a label into a new store finds no room for one of these groups, by so many games
+-- and bytes that are stored
+abbrev pub IsFullIn : List ℕ → ℕ → ℕ → List (List Cut) → List Batch → List Refusal → Type 0
+IsFullIn label games bytes so_far batches refused = (left : List Candidate)
+    × EndsIn label new_store so_far batches refused left × FindsNoRoom batches games bytes left
 
 abbrev pub IsOther : Why → Type 0
 IsOther (Repeated number) = ⊥

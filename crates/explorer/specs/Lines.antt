@@ -6,7 +6,7 @@ use Rattle.command_line.specs.Words.{EndsLine}
 use Rattle.explorer_model.specs.Query.{parameter_text}
 use Rattle.explorer.specs.World.{World}
 use Rattle.explorer.specs.declared.fault.Fault.{Fault}
-use Rattle.explorer.specs.declared.fault.Fault.TheVariants.{BadParameter, CannotAccept, CannotOpen, Damaged, DiskFault, Full, NotAStore, NotEmpty, OtherFormat, OutOfMemory, ReadFault, TooMuchInput, Usage, WriteFault}
+use Rattle.explorer.specs.declared.fault.Fault.TheVariants.{BadLabel, BadParameter, CannotAccept, CannotOpen, Damaged, DiskFault, Full, NotAStore, NotEmpty, OtherFormat, OutOfMemory, ReadFault, TooMuchInput, Usage, WriteFault}
 
 -- all that the words ask for was done, or a fault stopped it
 pub data Ending : Type 0 where
@@ -17,6 +17,7 @@ abbrev pub status_of : Ending → ℕ
 status_of Done = 0
 status_of (Stopped Usage) = 2
 status_of (Stopped (BadParameter parameter)) = 3
+status_of (Stopped BadLabel) = 3
 status_of (Stopped ReadFault) = 4
 status_of (Stopped WriteFault) = 5
 status_of (Stopped DiskFault) = 6
@@ -41,6 +42,7 @@ abbrev pub AreLinesOf : Fault → List (List ℕ) → Type 0
 AreLinesOf Usage lines = (line : List ℕ) × EndsLine line × (lines ≡ line ∷ [])
 AreLinesOf (BadParameter parameter) lines =
     lines ≡ (codes "bad parameter " ++ parameter_text parameter ++ codes "\n") ∷ []
+AreLinesOf BadLabel lines = lines ≡ codes "bad parameter label\n" ∷ []
 AreLinesOf ReadFault lines = lines ≡ codes "read fault\n" ∷ []
 AreLinesOf WriteFault lines = lines ≡ codes "write fault\n" ∷ []
 AreLinesOf DiskFault lines = lines ≡ codes "disk fault\n" ∷ []

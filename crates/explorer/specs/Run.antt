@@ -33,7 +33,7 @@ Ends (Count query workers) before after ending =
     Starves before after ending ⊎ Counts query before after ending
 Ends (Create store) before after ending = CreatesBy store before after ending
 Ends (Import store file workers label) before after ending =
-    ImportsBy store file before after ending
+    ImportsBy store file label before after ending
 Ends (Migrate old new) before after ending = MigratesBy old new before after ending
 Ends (Query store query workers) before after ending =
     QueriesBy store query before after ending

@@ -16,6 +16,7 @@ use Rattle.explorer_model.specs.Timeline.{IsPrefix}
 use Rattle.manifest.specs.Manifest.{HasJournal}
 use Rattle.published_index.specs.States.{watching}
 use Rattle.ingest_desk.specs.Importers.{ImporterState}
+use Rattle.ingest_desk.specs.Lives.{StandFrom}
 use Rattle.ingest_desk.specs.Reporting.{BreaksAt, FindsNoRoom}
 use Rattle.ingest_desk.specs.declared.report.ImportEnding.{ImportEnding}
 use Rattle.ingest_desk.specs.declared.report.ImportEnding.TheVariants as endings
@@ -24,7 +25,7 @@ use Rattle.session.specs.declared.doors.DoorEnd.{DoorEnd}
 use Rattle.session.specs.declared.doors.DoorEnd.TheVariants as ends
 use Rattle.session.specs.Doors.{DoorServed, EndsDoor}
 use Rattle.session.specs.Exchanges.{Backend, backend}
-use Rattle.session.specs.Imports.{HasNoRoom, HasStoredBody, IsRepeatOf, StandFrom}
+use Rattle.session.specs.Imports.{HasNoRoom, HasStoredBody, IsRepeatOf}
 use Rattle.explorer.specs.declared.fault.Fault.{Fault}
 use Rattle.explorer.specs.declared.fault.Fault.TheVariants.{CannotAccept, Full, OutOfMemory, ReadFault, TooMuchInput}
 use Rattle.explorer.specs.Report.{report_line}
@@ -56,18 +57,18 @@ abbrev pub AccountsSo : ImportEnding → List ℕ → Option (List ℕ) → List
 AccountsSo endings.Whole stream left_over batches refused =
     AccountedBeside no_label (groups (cuts stream)) batches refused
 AccountsSo (endings.ReadFault before after) stream left_over batches refused =
-    IsCutBeside stream batches refused
+    IsCutBeside no_label stream batches refused
 AccountsSo (endings.TooMuch bytes) stream left_over batches refused =
-    IsTooMuchBeside stream batches refused
+    IsTooMuchBeside no_label stream batches refused
 AccountsSo (endings.DiskFault before after) stream left_over batches refused =
-    (left : List Candidate) × BreaksBeside stream left_over batches refused left
+    (left : List Candidate) × BreaksBeside no_label stream left_over batches refused left
 AccountsSo (endings.Closed before after) stream left_over batches refused =
-    (left : List Candidate) × BreaksBeside stream left_over batches refused left
+    (left : List Candidate) × BreaksBeside no_label stream left_over batches refused left
 AccountsSo (endings.Full games bytes) stream left_over batches refused =
-    (left : List Candidate) × BreaksBeside stream left_over batches refused left
+    (left : List Candidate) × BreaksBeside no_label stream left_over batches refused left
     × (journal : List Batch) × FindsNoRoom journal games bytes left
 AccountsSo endings.OutOfMemory stream left_over batches refused =
-    LacksBeside stream left_over batches refused
+    LacksBeside no_label stream left_over batches refused
 
 -- how far the file was read, and whether a read failed
 abbrev pub ReadsSo : ImportEnding → List ℕ → Stream → Stream → Type 0
@@ -117,7 +118,7 @@ pub record IsFullIn (journal : List Batch) (games bytes : ℕ) (file : Stream) (
   pub reads : Reads stream file run.file
   pub batches : List Batch
   pub left : List Candidate
-  pub breaks : BreaksAt (groups (cuts stream)) batches run.refused left
+  pub breaks : BreaksAt no_label (groups (cuts stream)) batches run.refused left
   pub no_room : HasNoRoom journal games bytes left
 
 abbrev pub IsFullBy : ImportEnding → List Batch → Stream → FileRun → Type 0

@@ -6,6 +6,7 @@ use Rattle.outside.specs.Doors.{Connections}
 use Rattle.outside.specs.Stream.{Stream}
 use Rattle.host.specs.Hosts.{DoorBack, FileBack, HostCall, HostState, RefusesFile, TakesDoor, TakesFile, Thing, added, out, returned}
 use Rattle.explorer_model.specs.declared.archive.Batch.{Batch}
+use Rattle.explorer_model.specs.Labels.{no_label}
 use Rattle.explorer_model.specs.Timeline.{IsPrefix}
 use Rattle.published_index.specs.States.{Watching, watching}
 use Rattle.ingest_desk.specs.declared.report.Report.{Report}
@@ -29,7 +30,7 @@ pub record ImportsFile {F J : Type 0} (source : F → Stream) (before after : Fi
     : Type 0 where
   pub report : Report J
   pub report_is : after.report ≡ Some report
-  pub imports : ImportsBeside (source before.source) (source after.source) report
+  pub imports : ImportsBeside no_label (source before.source) (source after.source) report
 
 -- the connections of a door were served
 pub record ServesDoor {G J : Type 0} (door : G → Connections) (before after : ReaderWork G J)

@@ -4,6 +4,7 @@ ghost use Rattle.explorer.specs.Workers.{ImportsFile, ServesDoor};
 
 use crate::workers::{FileWork, ReaderWork};
 use disk_model::Disk;
+use explorer_model::label::Label;
 use import_run::{DeskHandle, drain, import};
 use ingest_desk::{Desk, MergeDesk};
 use outside::{Door, FreeGate, Source};
@@ -32,7 +33,7 @@ impl<'a, D: Disk, J: Index> Access<'a, D, J> {
         Access { desk, workers }
     }
 
-    /// Imports a file.
+    /// Imports a file, without a label.
     pub fn import_file<F: Source, R: Wait + Threads + Sync>(
         &self,
         rt: &R,
@@ -46,6 +47,7 @@ impl<'a, D: Disk, J: Index> Access<'a, D, J> {
             alloc,
             &mut file.source,
             self.desk,
+            Label::none(),
             self.workers,
             &FreeGate,
         );

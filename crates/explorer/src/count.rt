@@ -16,6 +16,7 @@ use crate::opening::new_store;
 use crate::report::{report, write_lines, write_made};
 use disk_model::{Disk, Unkept};
 use explorer_model::fault::Refusal;
+use explorer_model::label::Label;
 use explorer_model::query::Query;
 use ingest_desk::{Ingest, Unnamed};
 use outside::{Sink, Source};
@@ -149,7 +150,7 @@ fn count_in<J: Index, R: AllocGlobal + Wait + Threads + Sync, I: Source, D: Disk
     ensures starves { IfErr result
         (λ _. ReadsBelow (I.source input.old) (I.source input.new)) }
 {
-    let came = import_into(rt, ingest, input, workers);
+    let came = import_into(rt, ingest, input, Label::none(), workers);
     match came.fault() {
         Some(fault) => {
             let fault = unless_memory(fault)?;

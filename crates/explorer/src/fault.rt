@@ -19,6 +19,8 @@ pub enum Fault {
     Usage,
     /// The first parameter of the query that is malformed or given twice.
     BadParameter(Parameter),
+    /// The text that is given for a label is none.
+    BadLabel,
     ReadFault,
     WriteFault,
     /// A call of a disk failed.
@@ -86,7 +88,7 @@ impl Fault {
     {
         let number = match self {
             Fault::Usage => 2,
-            Fault::BadParameter(_) => 3,
+            Fault::BadParameter(_) | Fault::BadLabel => 3,
             Fault::ReadFault => 4,
             Fault::WriteFault => 5,
             Fault::DiskFault => 6,
@@ -124,6 +126,7 @@ impl Fault {
         match self {
             Fault::Usage => fixed_line("error: a word of the command line is not text\n"),
             Fault::BadParameter(parameter) => parameter_line(*parameter),
+            Fault::BadLabel => fixed_line("bad parameter label\n"),
             Fault::ReadFault => fixed_line("read fault\n"),
             Fault::WriteFault => fixed_line("write fault\n"),
             Fault::DiskFault => fixed_line("disk fault\n"),

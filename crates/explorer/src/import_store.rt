@@ -3,16 +3,18 @@ ghost use Rattle.std.specs.Prelude.{◌≡◌, ◌≤◌, None, MatchOption, str
 ghost use Rattle.outside.specs.Stream.{Stream};
 ghost use Rattle.published_index.specs.Cover.{journal_of};
 ghost use Rattle.explorer.specs.Imported.{ImportedTo};
-ghost use Rattle.explorer.specs.ImportStore.{ImportsBy, IsToldOf, totals};
+ghost use Rattle.explorer.specs.ImportStore.{ImportsBy, ImportsLabelled, IsToldOf, totals};
 ghost use Rattle.explorer.specs.Lines.{ending_of};
 ghost use Rattle.explorer.specs.World.{world};
 
 use crate::fault::Fault;
 use crate::importing::{Came, import_into};
 use crate::opening::{fault_of_opening, open_store};
+use crate::order::ImportOrder;
 use crate::report::{report, write_lines};
 use arrayvec::ArrayString;
 use disk_model::Disk;
+use explorer_model::label::Label;
 use host::Host;
 use host::laws::what_is_handed_out_is_out;
 use ingest_desk::Unnamed;
@@ -25,44 +27,64 @@ use std::marker::Brand;
 use std::sync::Wait;
 use std::thread::Threads;
 
-/// Opens the store and then the file, and stores the new games of the file. It reports what is
-/// refused and prints how much is stored, also where the import ends early.
+/// Reads the label, and stores the new games of the file under it. A text that is no label ends the
+/// run before anything is asked of the host.
 pub fn import_store<R: AllocGlobal + Wait + Threads + Sync, O: Sink, E: Sink, H: Host>(
     rt: &R,
-    store: String,
-    file: String,
-    workers: usize,
+    order: ImportOrder,
     output: &mut O,
     errors: &mut E,
     host: &mut H,
 ) -> Result<(), Fault>
-    requires some_workers { 1 ≤ workers }
-    requires few_workers { workers ≤ 16 }
     ensures { (input : Stream) →
         let before = world input (O.sink output.old) (E.sink errors.old) (H.host host.old) in
         let after = world input (O.sink output.new) (E.sink errors.new) (H.host host.new) in
-        ImportsBy (string_bytes store) (string_bytes file) before after (ending_of result) }
+        ImportsBy (string_bytes order.store) (string_bytes order.file) (string_bytes order.label)
+        before after (ending_of result) }
+{
+    let Some(label) = Label::of(order.label.as_bytes()) else {
+        return Err(Fault::BadLabel);
+    };
+    import_labelled(rt, order, label, output, errors, host)
+}
+
+/// Opens the store and then the file, and stores the new games of the file under the label. It
+/// reports what is refused and prints how much is stored, also where the import ends early.
+fn import_labelled<R: AllocGlobal + Wait + Threads + Sync, O: Sink, E: Sink, H: Host>(
+    rt: &R,
+    order: ImportOrder,
+    label: Label,
+    output: &mut O,
+    errors: &mut E,
+    host: &mut H,
+) -> Result<(), Fault>
+    ensures { (input : Stream) →
+        let before = world input (O.sink output.old) (E.sink errors.old) (H.host host.old) in
+        let after = world input (O.sink output.new) (E.sink errors.new) (H.host host.new) in
+        ImportsLabelled (string_bytes order.store) (string_bytes order.file) label
+        before after (ending_of result) }
 {
     // law: what was handed out is to be given back
     what_is_handed_out_is_out();
-    let Ok(disk) = host.disk(store.as_str()) else {
-        return Err(Fault::CannotOpen { name: store });
+    let Ok(disk) = host.disk(order.store.as_str()) else {
+        return Err(Fault::CannotOpen { name: order.store });
     };
-    let unnamed = match open_store(rt, disk, workers) {
+    let unnamed = match open_store(rt, disk, order.workers) {
         Ok(unnamed) => unnamed,
         Err(back) => {
             let Back { disk, fault } = back;
-            host.close(store.as_str(), disk);
+            host.close(order.store.as_str(), disk);
             return Err(fault_of_opening(fault));
         }
     };
-    let Ok(mut source) = host.file(file.as_str()) else {
-        host.close(store.as_str(), unnamed.into_disk(rt));
-        return Err(Fault::CannotOpen { name: file });
+    let Ok(mut source) = host.file(order.file.as_str()) else {
+        host.close(order.store.as_str(), unnamed.into_disk(rt));
+        return Err(Fault::CannotOpen { name: order.file });
     };
-    let Imported { disk, came } = import_in::<Brand, _, _, _>(rt, unnamed, &mut source, workers);
-    host.close_file(file.as_str(), source);
-    host.close(store.as_str(), disk);
+    let Imported { disk, came } =
+        import_in::<Brand, _, _, _>(rt, unnamed, &mut source, label, order.workers);
+    host.close_file(order.file.as_str(), source);
+    host.close(order.store.as_str(), disk);
     match came {
         Some(came) => tell(rt.alloc(), &came, output, errors),
         None => Err(Fault::OutOfMemory),
@@ -76,11 +98,12 @@ struct Imported<D> {
     came: Option<Came>,
 }
 
-/// Imports the source into an opened store.
+/// Imports the source under the label into an opened store.
 fn import_in<J: Index, R: AllocGlobal + Wait + Threads + Sync, S: Source, D: Disk>(
     rt: &R,
     unnamed: Unnamed<D>,
     source: &mut S,
+    label: Label,
     workers: usize,
 ) -> Imported<D>
     requires name { unnamed.index.name ≡ J.name }
@@ -89,7 +112,7 @@ fn import_in<J: Index, R: AllocGlobal + Wait + Threads + Sync, S: Source, D: Dis
     requires sound { unnamed.manifest.fault ≡ None }
     ensures { MatchOption result.came
         ((result.disk ≡ unnamed.manifest.disk) × (S.source source.new ≡ S.source source.old))
-        (ImportedTo (journal_of unnamed.index.list) (D.disk unnamed.manifest.disk)
+        (ImportedTo label (journal_of unnamed.index.list) (D.disk unnamed.manifest.disk)
         (D.disk result.disk) (S.source source.old) (S.source source.new)) }
 {
     let (mut ingest, _passes) = match unnamed.named::<J>(rt.alloc()) {
@@ -101,7 +124,7 @@ fn import_in<J: Index, R: AllocGlobal + Wait + Threads + Sync, S: Source, D: Dis
             };
         }
     };
-    let came = import_into(rt, &mut ingest, source, workers);
+    let came = import_into(rt, &mut ingest, source, label, workers);
     Imported {
         disk: ingest.into_disk(rt),
         came: Some(came),

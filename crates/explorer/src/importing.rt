@@ -8,6 +8,7 @@ ghost use Rattle.explorer.specs.Imported.{ImportedIn};
 use crate::fault::Fault;
 use disk_model::Disk;
 use explorer_model::fault::Refusal;
+use explorer_model::label::Label;
 use import_run::{ending_of, import_alone};
 use ingest_desk::{ImportEnding, Ingest, Receipt};
 use outside::{FreeGate, Source};
@@ -42,21 +43,23 @@ impl Came {
     }
 }
 
-/// Imports the source into a store that is open. Merging is done meanwhile by as many workers.
+/// Imports the source under the label into a store that is open. Merging is done meanwhile by as many
+/// workers.
 pub fn import_into<J: Index, R: AllocGlobal + Wait + Threads + Sync, S: Source, D: Disk>(
     rt: &R,
     ingest: &mut Ingest<D, J>,
     source: &mut S,
+    label: Label,
     workers: usize,
 ) -> Came
     requires some_workers { 1 ≤ workers }
     requires few_workers { workers ≤ 16 }
     requires sound { ingest.old.manifest.fault ≡ None }
-    ensures { ImportedIn (journal ingest.old) (journal ingest.new)
+    ensures { ImportedIn label (journal ingest.old) (journal ingest.new)
         (D.disk ingest.old.manifest.disk) (D.disk ingest.new.manifest.disk)
         (S.source source.old) (S.source source.new) result }
 {
-    let report = import_alone(rt, rt.alloc(), source, ingest, workers, &FreeGate);
+    let report = import_alone(rt, rt.alloc(), source, ingest, label, workers, &FreeGate);
     Came {
         ending: ending_of(&report.end),
         games: count_games(report.receipts.as_slice()),

@@ -4,7 +4,6 @@ ghost use Rattle.std.specs.Prelude.{◌≡◌, ◌≢◌, ◌≤◌, ℕ, List, 
 ghost use Rattle.std.specs.List.{AllByRecursion};
 ghost use Rattle.outside.specs.Doors.{Connections};
 ghost use Rattle.explorer_model.specs.Cuts.{Cut};
-ghost use Rattle.explorer_model.specs.Labels.{no_label};
 ghost use Rattle.explorer_model.specs.Imports.{Accounted, AccountedApart};
 ghost use Rattle.explorer_model.specs.Journal.{IsSound};
 ghost use Rattle.explorer_model.specs.Replies.{IsFoundIn};
@@ -46,19 +45,23 @@ pub fn groups_are_determined()
         → (whole ≡ others) × (hand ≡ other) }
 {}
 
-/// What an import into a new store has stored and refused that ends early is determined by the
-/// bytes that were read, and by the groups of them where one finds no room.
+/// What an import under a label into a new store has stored and refused that ends early is determined
+/// by the bytes that were read, and by the groups of them where one finds no room.
 pub fn early_ends_are_determined()
-    ensures cut_off { (stream : List ℕ) (batches others : List Batch) (refused other : List Refusal)
-        → IsCutOff new_store stream batches refused → IsCutOff new_store stream others other
-        → (batches ≡ others) × (refused ≡ other) }
-    ensures too_much { (stream : List ℕ) (batches others : List Batch)
+    ensures cut_off { (label stream : List ℕ) (batches others : List Batch)
         (refused other : List Refusal)
-        → IsTooMuch new_store stream batches refused → IsTooMuch new_store stream others other
+        → IsCutOff label new_store stream batches refused
+        → IsCutOff label new_store stream others other
         → (batches ≡ others) × (refused ≡ other) }
-    ensures full { (games bytes games' bytes' : ℕ) (so_far : List (List Cut))
+    ensures too_much { (label stream : List ℕ) (batches others : List Batch)
+        (refused other : List Refusal)
+        → IsTooMuch label new_store stream batches refused
+        → IsTooMuch label new_store stream others other
+        → (batches ≡ others) × (refused ≡ other) }
+    ensures full { (label : List ℕ) (games bytes games' bytes' : ℕ) (so_far : List (List Cut))
         (batches others : List Batch) (refused other : List Refusal)
-        → IsFullIn games bytes so_far batches refused → IsFullIn games' bytes' so_far others other
+        → IsFullIn label games bytes so_far batches refused
+        → IsFullIn label games' bytes' so_far others other
         → IsSound batches → IsSound others
         → (games ≡ games') × (bytes ≡ bytes') × (batches ≡ others) × (refused ≡ other) }
 {
@@ -68,9 +71,10 @@ pub fn early_ends_are_determined()
 
 /// Where no cut is refused as Repeated, groups behind stored games are accounted as each by itself.
 pub fn groups_without_repeats_stand_apart()
-    ensures { (stored : List Game) (groups : List (List Cut)) (batches : List Batch)
-        (refused : List Refusal) → Accounted no_label stored groups batches refused
-        → AllByRecursion IsNoRepeat refused → AccountedApart no_label groups batches refused }
+    ensures { (label : List ℕ) (stored : List Game) (groups : List (List Cut))
+        (batches : List Batch) (refused : List Refusal)
+        → Accounted label stored groups batches refused
+        → AllByRecursion IsNoRepeat refused → AccountedApart label groups batches refused }
 {}
 
 /// A told input has one answer to a query, and one report.
@@ -140,10 +144,11 @@ pub fn a_listing_is_determined()
     opening_is_determined();
 }
 
-/// Runs of `import` over one told store and one told file below the bound have one ending, and come
-/// to the same but for how one journal is held, where no call fails and memory is there.
+/// Runs of `import` with one text for a label over one told store and one told file below the bound
+/// have one ending, and come to the same but for how one journal is held, where no call fails and
+/// memory is there.
 pub fn an_import_is_determined()
-    ensures { (store image file stream : List ℕ) (before after other : World)
+    ensures { (store image file stream label : List ℕ) (before after other : World)
         (ending ending' : Ending)
         → IsToldStore store image before → IsToldFile file stream before
         → IsToldErrors before
@@ -151,7 +156,8 @@ pub fn an_import_is_determined()
         → GoesWell before other → ReadsWell before other → ReportsWell before other
         → HasMemory (status_of ending) before after
         → HasMemory (status_of ending') before other
-        → ImportsBy store file before after ending → ImportsBy store file before other ending'
+        → ImportsBy store file label before after ending
+        → ImportsBy store file label before other ending'
         → (ending ≡ ending') × ImportAlike store (status_of ending) after other }
 {
     game_is_determined();
@@ -280,7 +286,7 @@ pub fn a_run_of_a_command_is_determined()
         → status ≢ 9 → status' ≢ 9
         → Runs words before after status → Runs words' before other status'
         → (status ≡ status') × (after ≡ other) }
-    ensures imports { (words words' : List (List ℕ)) (store file label image stream : List ℕ)
+    ensures imports { (words words' : List (List ℕ)) (store file image stream label : List ℕ)
         (workers workers' : ℕ) (before after other : World) (status status' : ℕ)
         → task_of words ≡ Some (Import store file workers label)
         → task_of words' ≡ Some (Import store file workers' label)

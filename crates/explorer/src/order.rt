@@ -1,5 +1,18 @@
 ghost use Rattle.std.specs.Prelude.{◌≤◌};
 
+/// What is asked of the command `import`.
+#[derive(Debug, Drop)]
+pub struct ImportOrder {
+    pub store: String,
+    pub file: String,
+    /// The text that is to be the label of the batches that are stored, and may be none.
+    pub label: String,
+    /// How many threads work at once, 1 to 16.
+    pub workers: usize,
+    ghost some_workers: { 1 ≤ workers },
+    ghost few_workers: { workers ≤ 16 },
+}
+
 /// What is asked of the command `serve`.
 #[derive(Debug, Drop)]
 pub struct Order {

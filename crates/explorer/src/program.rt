@@ -13,7 +13,7 @@ use crate::fault::Fault;
 use crate::import_store::import_store;
 use crate::list_batches::list_batches;
 use crate::migrate::migrate;
-use crate::order::Order;
+use crate::order::{ImportOrder, Order};
 use crate::query_store::query_store;
 use crate::serve::serve;
 use crate::status::Status;
@@ -110,8 +110,19 @@ fn run_command<R: AllocGlobal + Wait + Threads + Sync, I: Source, O: Sink, E: Si
             store,
             file,
             workers,
-            label: _,
-        } => import_store(rt, store, file, usize::from(workers), output, errors, host),
+            label,
+        } => import_store(
+            rt,
+            ImportOrder {
+                store,
+                file,
+                label,
+                workers: usize::from(workers),
+            },
+            output,
+            errors,
+            host,
+        ),
         Command::Migrate { old, new } => migrate(rt.alloc(), old, new, output, host),
         Command::Query {
             store,

@@ -1,5 +1,6 @@
 //! Runs of the program over inputs in memory, against what its rules say of them.
 mod answers;
+mod failing;
 mod formats;
 mod imports;
 mod listing;

@@ -28,6 +28,7 @@ use explorer_model::answer::Totals;
 use explorer_model::archive::Bytes;
 use explorer_model::chess::{Move, Position};
 use explorer_model::fault::Stop;
+use explorer_model::label::Label;
 use explorer_model::query::Query;
 use fen_uci::laws::written_fen_is_read;
 use fen_uci::write_fen;
@@ -255,7 +256,15 @@ fn store_samples<J: Index, R: AllocGlobal + Wait + Threads + Sync>(
     ids_differ();
     new_games_are_stored::<Unkept, J>();
     let mut source = ByteSource::new(stream);
-    let told = import_and_tell(rt, rt.alloc(), &mut source, ingest, workers, &FreeGate);
+    let told = import_and_tell(
+        rt,
+        rt.alloc(),
+        &mut source,
+        ingest,
+        Label::none(),
+        workers,
+        &FreeGate,
+    );
     // Else the published list followed each batch.
     if told.lacked {
         return Err(AllocError);

@@ -9,7 +9,6 @@ use Rattle.explorer_model.specs.declared.archive.Placed.{Placed}
 use Rattle.explorer_model.specs.declared.fault.Refusal.{Refusal}
 use Rattle.explorer_model.specs.declared.fault.Why.TheVariants as causes
 use Rattle.explorer_model.specs.Cuts.{Cut, Text, TooLong, Preamble}
-use Rattle.explorer_model.specs.Labels.{no_label}
 use Rattle.explorer_model.specs.Imports.{AreExaminations, Candidate, Examination, IsExaminationOf, Numbering, Refused, Unread, Verdict, and_candidate, batch_of, candidate_of, candidates, groups, numbers_of, refusal_of, refusals, verdict_behind, verdict_of, verdicts, verdicts_behind, verdicts_from, verdicts_in_turn}
 use Rattle.explorer_model.proofs.Lists.{zip-append}
 use Rattle.import_run.specs.Progress.{HasNoCandidate, and_games}
@@ -92,8 +91,8 @@ refusals_more vs refused = filter_map-append refusal_of vs (map Refused refused)
 
 -- ---- groups that are settled alike
 
-abbrev pub batches_behind : List Game → List (List Examination) → List Batch
-batches_behind stored examinations = filter_map (λ group. batch_of no_label (candidates group)) (verdicts_in_turn stored examinations)
+abbrev pub batches_behind : List ℕ → List Game → List (List Examination) → List Batch
+batches_behind label stored examinations = filter_map (λ group. batch_of label (candidates group)) (verdicts_in_turn stored examinations)
 
 abbrev pub refused_behind : List Game → List (List Examination) → List Refusal
 refused_behind stored examinations = flat_map refusals (verdicts_in_turn stored examinations)
@@ -101,15 +100,15 @@ refused_behind stored examinations = flat_map refusals (verdicts_in_turn stored 
 abbrev AllNone : List (List Examination) → Type 0
 AllNone examinations = AllByRecursion HasNoCandidate examinations
 
-pub record AreAlike (stored : List Game) (groups : List (List Cut)) (examinations : List (List Examination)) : Type 0 where
+pub record AreAlike (label : List ℕ) (stored : List Game) (groups : List (List Cut)) (examinations : List (List Examination)) : Type 0 where
   pub others : List (List Examination)
   pub are : AreExaminations groups others
-  pub batches : batches_behind stored others ≡ batches_behind stored examinations
+  pub batches : batches_behind label stored others ≡ batches_behind label stored examinations
   pub refused : refused_behind stored others ≡ refused_behind stored examinations
   pub none : AllNone examinations → AllNone others
 
-same_groups : (stored : List Game) (cuts : List Cut) (gs : List (List Cut)) (examinations : List (List Examination)) → groups cuts ≡ gs → AreExaminations gs examinations → AreAlike stored (groups cuts) examinations
-same_groups stored cuts gs examinations is each = record {
+same_groups : (label : List ℕ) (stored : List Game) (cuts : List Cut) (gs : List (List Cut)) (examinations : List (List Examination)) → groups cuts ≡ gs → AreExaminations gs examinations → AreAlike label stored (groups cuts) examinations
+same_groups label stored cuts gs examinations is each = record {
   others = examinations;
   are = subst (λ (l : List (List Cut)). AreExaminations l examinations) (sym is) each;
   batches = refl;
@@ -118,17 +117,17 @@ same_groups stored cuts gs examinations is each = record {
 }
 
 -- a group in hand without a text, and nothing before it
-no_hand : (stored : List Game) (hand : List Cut) (rest : List Examination) → texts_in hand ≡ 0 → AllZip IsExaminationOf hand rest → AreAlike stored (groups hand) (rest ∷ [])
+no_hand : (label : List ℕ) (stored : List Game) (hand : List Cut) (rest : List Examination) → texts_in hand ≡ 0 → AllZip IsExaminationOf hand rest → AreAlike label stored (groups hand) (rest ∷ [])
 unfolding verdicts_from verdicts_in_turn groups
-no_hand stored [] [] none more = record { others = []; are = tt; batches = refl; refused = refl; none = λ none. tt }
-no_hand stored [] (examination ∷ examinations) none more = absurd more
-no_hand stored (cut ∷ hand) rest none more = same_groups stored (cut ∷ hand) ((cut ∷ hand) ∷ []) (rest ∷ []) (groups_one (cut ∷ hand) (omega arith) (omega (arith, none))) (more, tt)
+no_hand label stored [] [] none more = record { others = []; are = tt; batches = refl; refused = refl; none = λ none. tt }
+no_hand label stored [] (examination ∷ examinations) none more = absurd more
+no_hand label stored (cut ∷ hand) rest none more = same_groups label stored (cut ∷ hand) ((cut ∷ hand) ∷ []) (rest ∷ []) (groups_one (cut ∷ hand) (omega arith) (omega (arith, none))) (more, tt)
 
 -- a whole group, and cuts without a text behind it
-last_full : (stored : List Game) (group hand : List Cut) (first rest : List Examination) → IsWhole group → texts_in hand ≡ 0 → AllZip IsExaminationOf group first → AllZip IsExaminationOf hand rest
-    → AreAlike stored (groups (group ++ hand)) (first ∷ rest ∷ [])
+last_full : (label : List ℕ) (stored : List Game) (group hand : List Cut) (first rest : List Examination) → IsWhole group → texts_in hand ≡ 0 → AllZip IsExaminationOf group first → AllZip IsExaminationOf hand rest
+    → AreAlike label stored (groups (group ++ hand)) (first ∷ rest ∷ [])
 unfolding verdicts_in_turn
-last_full stored group hand first rest full none each more =
+last_full label stored group hand first rest full none each more =
     let texts : texts_in (group ++ hand) ≡ 512 = omega (arith, texts-append group hand, texts_whole group full, none) in
     let one : groups (group ++ hand) ≡ (group ++ hand) ∷ [] = groups_one (group ++ hand) (some_cuts (group ++ hand) (omega (arith, texts))) (omega (arith, texts)) in
     let no = unread hand rest none more in
@@ -139,8 +138,8 @@ last_full stored group hand first rest full none each more =
       others = (first ++ rest) ∷ [];
       are = subst (λ (l : List (List Cut)). AreExaminations l ((first ++ rest) ∷ [])) (sym one) (zip-append IsExaminationOf group hand first rest each more, tt);
       batches =
-          ap (λ (l : List Candidate). cons_option (batch_of no_label l) []) (ap candidates both ∙ candidates_more here no.0)
-          ∙ ap (λ (l : List Batch). cons_option (batch_of no_label (candidates here)) l) (sym (ap (λ (l : List Candidate). cons_option (batch_of no_label l) []) (ap candidates last ∙ no_candidates no.0)));
+          ap (λ (l : List Candidate). cons_option (batch_of label l) []) (ap candidates both ∙ candidates_more here no.0)
+          ∙ ap (λ (l : List Batch). cons_option (batch_of label (candidates here)) l) (sym (ap (λ (l : List Candidate). cons_option (batch_of label l) []) (ap candidates last ∙ no_candidates no.0)));
       refused =
           append-nil (refusals (verdicts_behind (numbers_of stored) (first ++ rest))) ∙ ap refusals both ∙ refusals_more here no.0
           ∙ ap (λ (l : List Refusal). refusals here ++ l) (sym (append-nil (refusals (verdicts_behind (numbers_of (and_games stored first)) rest)) ∙ ap refusals last ∙ all_refusals no.0));
@@ -148,13 +147,13 @@ last_full stored group hand first rest full none each more =
     }
 
 -- a whole group, and others behind it
-one_before : (stored : List Game) (group cuts : List Cut) (first : List Examination) (examinations : List (List Examination)) → IsWhole group → 0 < texts_in cuts → AllZip IsExaminationOf group first
-    → AreAlike (and_games stored first) (groups cuts) examinations → AreAlike stored (groups (group ++ cuts)) (first ∷ examinations)
+one_before : (label : List ℕ) (stored : List Game) (group cuts : List Cut) (first : List Examination) (examinations : List (List Examination)) → IsWhole group → 0 < texts_in cuts → AllZip IsExaminationOf group first
+    → AreAlike label (and_games stored first) (groups cuts) examinations → AreAlike label stored (groups (group ++ cuts)) (first ∷ examinations)
 unfolding verdicts_in_turn
-one_before stored group cuts first examinations full some each rest = record {
+one_before label stored group cuts first examinations full some each rest = record {
   others = first ∷ rest.others;
   are = subst (λ (l : List (List Cut)). AreExaminations l (first ∷ rest.others)) (sym (groups_first group cuts full some)) (each, rest.are);
-  batches = ap (λ (l : List Batch). cons_option (batch_of no_label (candidates (verdicts_behind (numbers_of stored) first))) l) rest.batches;
+  batches = ap (λ (l : List Batch). cons_option (batch_of label (candidates (verdicts_behind (numbers_of stored) first))) l) rest.batches;
   refused = ap (λ (l : List Refusal). refusals (verdicts_behind (numbers_of stored) first) ++ l) rest.refused;
   none = λ all. (all.0, rest.none all.1);
 }
@@ -164,25 +163,25 @@ none_or_some zero = inl refl
 none_or_some (suc n) = inr (omega arith)
 
 -- whole groups, and the group in hand
-pub alike : (stored : List Game) (closed : List (List Cut)) (hand : List Cut) (examinations : List (List Examination)) → AllByRecursion IsWhole closed → texts_in hand ≤ 512
-    → AreExaminations (closed ++ hand ∷ []) examinations → AreAlike stored (groups (all_cuts closed ++ hand)) examinations
-alike stored [] hand [] full few each = absurd each
-alike stored [] hand (first ∷ second ∷ examinations) full few each = absurd each.1
-alike stored [] hand (first ∷ []) full few each = by_texts (none_or_some (texts_in hand))
+pub alike : (label : List ℕ) (stored : List Game) (closed : List (List Cut)) (hand : List Cut) (examinations : List (List Examination)) → AllByRecursion IsWhole closed → texts_in hand ≤ 512
+    → AreExaminations (closed ++ hand ∷ []) examinations → AreAlike label stored (groups (all_cuts closed ++ hand)) examinations
+alike label stored [] hand [] full few each = absurd each
+alike label stored [] hand (first ∷ second ∷ examinations) full few each = absurd each.1
+alike label stored [] hand (first ∷ []) full few each = by_texts (none_or_some (texts_in hand))
   where
-    by_texts : (texts_in hand ≡ 0) ⊎ (0 < texts_in hand) → AreAlike stored (groups hand) (first ∷ [])
-    by_texts (inl none) = no_hand stored hand first none each.0
-    by_texts (inr some) = same_groups stored hand (hand ∷ []) (first ∷ []) (groups_one hand (some_cuts hand some) few) each
-alike stored (group ∷ closed) hand [] full few each = absurd each
-alike stored (group ∷ closed) hand (first ∷ examinations) full few each =
-    subst (λ (cuts : List Cut). AreAlike stored (groups cuts) (first ∷ examinations)) (sym (append_assoc group (all_cuts closed) hand))
-    (by_rest closed examinations full.1 each.1 (none_or_some (texts_in (all_cuts closed ++ hand))) (λ (s : List Game). alike s closed hand examinations full.1 few each.1))
+    by_texts : (texts_in hand ≡ 0) ⊎ (0 < texts_in hand) → AreAlike label stored (groups hand) (first ∷ [])
+    by_texts (inl none) = no_hand label stored hand first none each.0
+    by_texts (inr some) = same_groups label stored hand (hand ∷ []) (first ∷ []) (groups_one hand (some_cuts hand some) few) each
+alike label stored (group ∷ closed) hand [] full few each = absurd each
+alike label stored (group ∷ closed) hand (first ∷ examinations) full few each =
+    subst (λ (cuts : List Cut). AreAlike label stored (groups cuts) (first ∷ examinations)) (sym (append_assoc group (all_cuts closed) hand))
+    (by_rest closed examinations full.1 each.1 (none_or_some (texts_in (all_cuts closed ++ hand))) (λ (s : List Game). alike label s closed hand examinations full.1 few each.1))
   where
     by_rest : (closed : List (List Cut)) (examinations : List (List Examination)) → AllByRecursion IsWhole closed → AreExaminations (closed ++ hand ∷ []) examinations → (texts_in (all_cuts closed ++ hand) ≡ 0) ⊎ (0 < texts_in (all_cuts closed ++ hand))
-        → ((s : List Game) → AreAlike s (groups (all_cuts closed ++ hand)) examinations) → AreAlike stored (groups (group ++ (all_cuts closed ++ hand))) (first ∷ examinations)
-    by_rest closed examinations full' each' (inr some) later = one_before stored group (all_cuts closed ++ hand) first examinations full.0 some each.0 (later (and_games stored first))
+        → ((s : List Game) → AreAlike label s (groups (all_cuts closed ++ hand)) examinations) → AreAlike label stored (groups (group ++ (all_cuts closed ++ hand))) (first ∷ examinations)
+    by_rest closed examinations full' each' (inr some) later = one_before label stored group (all_cuts closed ++ hand) first examinations full.0 some each.0 (later (and_games stored first))
     by_rest [] [] full' each' (inl none) later = absurd each'
-    by_rest [] (rest ∷ []) full' each' (inl none) later = last_full stored group hand first rest full.0 none each.0 each'.0
+    by_rest [] (rest ∷ []) full' each' (inl none) later = last_full label stored group hand first rest full.0 none each.0 each'.0
     by_rest [] (rest ∷ more ∷ examinations) full' each' (inl none) later = absurd each'.1
     by_rest (second ∷ closed) examinations full' each' (inl none) later =
         absurd (omega (arith, none, texts-append (second ++ all_cuts closed) hand, texts-append second (all_cuts closed), texts_whole second full'.0))

@@ -168,27 +168,27 @@ module _ {D : Type 0} (disk : D → DiskState) (left_since : D → ℕ → List 
       (subst G is (subst F was since.manifest)).fault
 
   module _ {J : Type 0} where
-    disk_faults : (start : Known) (stream : List ℕ) (left_over : Option (List ℕ)) (batches stored : List Batch) (refused : List Refusal) → start.fault ≡ before.manifest.fault → (end : End J)
-        → StandsAt end start stream left_over batches refused (stored_in after) → StoresBy end stored start.fault (stored_in after) → DiskFaultsAre end (disk before.manifest.disk) (disk after.manifest.disk)
-    disk_faults start stream left_over batches stored refused was (ends.DiskFault first last mark) stands stores = met_fault first last (sym was ∙ stands.1) stores.1
-    disk_faults start stream left_over batches stored refused was ends.Whole stands stores = no_fault (stores.1 ∙ was)
-    disk_faults start stream left_over batches stored refused was (ends.ReadFault first last) stands stores = no_fault (stores.1 ∙ was)
-    disk_faults start stream left_over batches stored refused was (ends.Closed first last mark) stands stores = no_fault (stores.1 ∙ was)
-    disk_faults start stream left_over batches stored refused was (ends.Full games bytes note) stands stores = no_fault (stores.1 ∙ was)
-    disk_faults start stream left_over batches stored refused was (ends.TooMuch bytes) stands stores = no_fault (stores.1 ∙ was)
-    disk_faults start stream left_over batches stored refused was ends.OutOfMemory stands stores = no_fault (stores.1 ∙ was)
+    disk_faults : {label : List ℕ} (start : Known) (stream : List ℕ) (left_over : Option (List ℕ)) (batches stored : List Batch) (refused : List Refusal) → start.fault ≡ before.manifest.fault → (end : End J)
+        → StandsAt label end start stream left_over batches refused (stored_in after) → StoresBy end stored start.fault (stored_in after) → DiskFaultsAre end (disk before.manifest.disk) (disk after.manifest.disk)
+    disk_faults {label} start stream left_over batches stored refused was (ends.DiskFault first last mark) stands stores = met_fault first last (sym was ∙ stands.1) stores.1
+    disk_faults {label} start stream left_over batches stored refused was ends.Whole stands stores = no_fault (stores.1 ∙ was)
+    disk_faults {label} start stream left_over batches stored refused was (ends.ReadFault first last) stands stores = no_fault (stores.1 ∙ was)
+    disk_faults {label} start stream left_over batches stored refused was (ends.Closed first last mark) stands stores = no_fault (stores.1 ∙ was)
+    disk_faults {label} start stream left_over batches stored refused was (ends.Full games bytes note) stands stores = no_fault (stores.1 ∙ was)
+    disk_faults {label} start stream left_over batches stored refused was (ends.TooMuch bytes) stands stores = no_fault (stores.1 ∙ was)
+    disk_faults {label} start stream left_over batches stored refused was ends.OutOfMemory stands stores = no_fault (stores.1 ∙ was)
 
-    pub imports_alone : (report : Report J) (source source_after : Stream) → IsSound (journal before) → Keeps disk left_since (journal before) before.manifest before.failed
+    pub imports_alone : {label : List ℕ} (report : Report J) (source source_after : Stream) → IsSound (journal before) → Keeps disk left_since (journal before) before.manifest before.failed
         → IsSound (journal after) → Keeps disk left_since (journal after) after.manifest after.failed
-        → ((start : Known) → Some (stored_in before) ≡ Some (store_of start) → Imports start source source_after report (Some (stored_in after)))
-        → ImportsAlone disk left_since source before source_after after report
-    imports_alone report source source_after sound keeps_before sound_after keeps imports =
+        → ((start : Known) → Some (stored_in before) ≡ Some (store_of start) → Imports label start source source_after report (Some (stored_in after)))
+        → ImportsAlone label disk left_since source before source_after after report
+    imports_alone {label} report source source_after sound keeps_before sound_after keeps imports =
         let start : Known = record { journal = journal before; fault = before.manifest.fault; failed = before.failed; games = sound.games; are_games = sound.are_games } in
         let i = imports start refl in
         let c = i.comes in
         let S : Store → Type 0 = λ s. StoresBy report.end (journal before ++ c.batches) before.manifest.fault s in
         let stores = subst S (sym (some_same (stored_in after) c.new c.still)) c.stores in
-        let T : Store → Type 0 = λ s. StandsAt report.end start i.stream source_after.left c.batches report.refused.items s in
+        let T : Store → Type 0 = λ s. StandsAt label report.end start i.stream source_after.left c.batches report.refused.items s in
         let stands = subst T (sym (some_same (stored_in after) c.new c.still)) c.stands in
         record {
           stream = i.stream;

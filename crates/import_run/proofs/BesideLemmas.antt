@@ -1,5 +1,5 @@
 -- Groups that are settled, whoever else stores beside.
-use Rattle.std.proofs.Common.{◌≡◌, ◌≢◌, ◌∙◌, ◌+◌, ◌<◌, ◌≤◌, ◌||◌, ℕ, Bool, true, false, List, [], ◌∷◌, ◌++◌, length, map, filter_map, Option, None, Some, Result, Ok, Err, refl, sym, ap, subst, suc, arith, nat_lt, length-append}
+use Rattle.std.proofs.Common.{◌≡◌, ◌≢◌, ◌∙◌, ◌+◌, ◌<◌, ◌≤◌, ◌||◌, ℕ, Bool, true, false, List, [], ◌∷◌, ◌++◌, length, map, filter_map, Option, None, Some, option_map, Result, Ok, Err, refl, sym, ap, subst, suc, arith, nat_lt, length-append}
 use Rattle.std.specs.Option.{option_or}
 use Rattle.std.specs.Prelude.{sum_by}
 use Rattle.std.specs.List.{All, AllZip, Contains, cons_option, flat_map}
@@ -12,7 +12,6 @@ use Rattle.explorer_model.specs.declared.archive.Batch.{Batch}
 use Rattle.explorer_model.specs.declared.archive.Placed.{Placed}
 use Rattle.explorer_model.specs.declared.fault.Refusal.{Refusal}
 use Rattle.explorer_model.specs.Cuts.{Cut}
-use Rattle.explorer_model.specs.Labels.{no_label}
 use Rattle.explorer_model.specs.Imports.{AccountedBeside, AreExaminations, Candidate, Examination, IsExaminationOf, Numbering, Verdict, batch_of, candidates, numbers_of, refusals, verdicts, verdicts_behind, verdicts_by}
 use Rattle.explorer_model.specs.Journal.{AreWithin, byte_count, game_count}
 use Rattle.explorer_model.specs.Timeline.{IsPrefix}
@@ -20,7 +19,7 @@ use Rattle.explorer_model.specs.Visits.{texts_of}
 use Rattle.explorer_model.proofs.Lists.{zip-append}
 use Rattle.tally_rows.specs.Tally.{Counted}
 use Rattle.tally_rows.proofs.Sums.{sum_by-map}
-use Rattle.batch_tally.specs.Tallying.{Counts, IsTallying}
+use Rattle.batch_tally.specs.Tallying.{IsTallying}
 use Rattle.batch_tally.specs.declared.tallying.Tallying.{Tallying}
 use Rattle.ingest_desk.specs.Causes.{is_over}
 use Rattle.ingest_desk.specs.Clashes.{clashes_from}
@@ -39,6 +38,7 @@ use Rattle.import_run.specs.Beside.{AnswersFor, AnswersTo, AreNamed, AreRepeats,
 use Rattle.import_run.specs.Committing.{Known, Store, store_of}
 use Rattle.import_run.specs.Grouping.{Ascend, IsTallied, merged}
 use Rattle.import_run.specs.Importing.{IsEndOf}
+use Rattle.import_run.specs.Labelling.{CountsUnder, under}
 use Rattle.import_run.specs.Rounds.{IsDecided}
 use Rattle.import_run.specs.Settling.{kept, left_by, lost, named_by, placed}
 use Rattle.import_run.proofs.HandLemmas.{batch_texts, counted_ids, first, kept_none, more}
@@ -55,10 +55,10 @@ no_number : (n : ℕ) → (let o : Option ℕ = None in o) ≡ Some n → ⊥
 no_number n e = cc
 
 -- the group as it was tallied first
-pub first_beside : (cuts : List Cut) (made : TalliedGroup) (clashes : List (List Batch)) → Ascend cuts → IsTallied cuts made
-    → RoundsBeside cuts made.tally made.places.items made.refused.items clashes
+pub first_beside : {label : List ℕ} (cuts : List Cut) (made : TalliedGroup) (clashes : List (List Batch)) → Ascend cuts → IsTallied label cuts made
+    → RoundsBeside label cuts made.tally made.places.items made.refused.items clashes
 unfolding first
-first_beside cuts made clashes ascend is = record {
+first_beside {label} cuts made clashes ascend is = record {
   rounds = first None cuts made ascend is;
   named = λ id n e. absurd (no_number n e);
 }
@@ -72,13 +72,13 @@ found_named : (stored number : Numbering) (clashes clashes' : List (List Batch))
 found_named stored number clashes clashes' grew named more id n e =
     by_both (stored id) (number id) n _ (λ here. named-grow clashes clashes' stored grew named id n here) (λ there. more id n there) e
 
-pub more_beside : OneGame → (cuts : List Cut) (counted : Counted) (places : List ℕ) (refused : List Refusal) (clashes clashes' : List (List Batch)) (r : RoundsBeside cuts (Some counted) places refused clashes)
-    (number : Numbering) (named refused' : List Refusal) (rest : List Placed) (next : Tallying) → IsPrefix clashes clashes' → AreNamed clashes' number
+pub more_beside : {label : List ℕ} → OneGame → (cuts : List Cut) (counted : Counted) (places : List ℕ) (refused : List Refusal) (clashes clashes' : List (List Batch)) (r : RoundsBeside label cuts (Some counted) places refused clashes)
+    (number : Numbering) (named refused' : List Refusal) (rest : List Placed) (next : Tallying) (tally : Option Counted) → IsPrefix clashes clashes' → AreNamed clashes' number
     → named ≡ named_by number (kept r.rounds.stored (verdicts r.rounds.examinations)) → rest ≡ map placed (left_by number (kept r.rounds.stored (verdicts r.rounds.examinations)))
-    → refused' ≡ merged refused named → IsTallying rest next → RoundsBeside cuts next.tally next.places.items refused' clashes'
+    → refused' ≡ merged refused named → IsTallying rest next → tally ≡ option_map (under label) next.tally → RoundsBeside label cuts tally next.places.items refused' clashes'
 unfolding more
-more_beside one cuts counted places refused clashes clashes' r number named refused' rest next grew theirs named_are rest_are refused_are made = record {
-  rounds = more one None cuts counted places refused None r.rounds number named refused' rest next None named_are rest_are refused_are made
+more_beside {label} one cuts counted places refused clashes clashes' r number named refused' rest next tally grew theirs named_are rest_are refused_are made tally_is = record {
+  rounds = more one None cuts counted places refused None r.rounds number named refused' rest next tally None named_are rest_are refused_are made tally_is
       (λ k e. absurd (untold k e)) (λ k e. absurd (untold k e));
   named = found_named r.rounds.stored number clashes clashes' grew r.named theirs;
 }
@@ -86,10 +86,10 @@ more_beside one cuts counted places refused clashes clashes' r number named refu
 -- ---- the end of a group
 
 module _ {J : Type 0} where
-  pub settles_beside : (cuts : List Cut) (counted : Counted) (places : List ℕ) (refused : List Refusal) (clashes clashes' : List (List Batch)) (r : RoundsBeside cuts (Some counted) places refused clashes)
-      (answer : Result (Receipt J) (CommitFault J)) (done : Done J) → IsPrefix clashes clashes' → AnswersTo answer counted → done.answer ≡ Some answer → done.refused.items ≡ refused → SettlesBeside cuts done clashes'
-  settles_beside cuts counted places refused clashes clashes' r answer done grew answers answer_is refused_is =
-      let P : Option (Result (Receipt J) (CommitFault J)) → Type 0 = λ a. AnswersFor (kept r.rounds.stored (verdicts r.rounds.examinations)) a in
+  pub settles_beside : {label : List ℕ} (cuts : List Cut) (counted : Counted) (places : List ℕ) (refused : List Refusal) (clashes clashes' : List (List Batch)) (r : RoundsBeside label cuts (Some counted) places refused clashes)
+      (answer : Result (Receipt J) (CommitFault J)) (done : Done J) → IsPrefix clashes clashes' → AnswersTo answer counted → done.answer ≡ Some answer → done.refused.items ≡ refused → SettlesBeside label cuts done clashes'
+  settles_beside {label} cuts counted places refused clashes clashes' r answer done grew answers answer_is refused_is =
+      let P : Option (Result (Receipt J) (CommitFault J)) → Type 0 = λ a. AnswersFor label (kept r.rounds.stored (verdicts r.rounds.examinations)) a in
       record {
         examinations = r.rounds.examinations;
         are_examinations = r.rounds.are_examinations;
@@ -99,10 +99,10 @@ module _ {J : Type 0} where
         answer = subst P (sym answer_is) (counted, r.rounds.made, answers);
       }
 
-  pub settles_none_beside : (cuts : List Cut) (places : List ℕ) (refused : List Refusal) (clashes : List (List Batch)) (r : RoundsBeside cuts None places refused clashes) (done : Done J)
-      → done.answer ≡ None → done.refused.items ≡ refused → SettlesBeside cuts done clashes
-  settles_none_beside cuts places refused clashes r done answer_is refused_is =
-      let P : Option (Result (Receipt J) (CommitFault J)) → Type 0 = λ a. AnswersFor (kept r.rounds.stored (verdicts r.rounds.examinations)) a in
+  pub settles_none_beside : {label : List ℕ} (cuts : List Cut) (places : List ℕ) (refused : List Refusal) (clashes : List (List Batch)) (r : RoundsBeside label cuts None places refused clashes) (done : Done J)
+      → done.answer ≡ None → done.refused.items ≡ refused → SettlesBeside label cuts done clashes
+  settles_none_beside {label} cuts places refused clashes r done answer_is refused_is =
+      let P : Option (Result (Receipt J) (CommitFault J)) → Type 0 = λ a. AnswersFor label (kept r.rounds.stored (verdicts r.rounds.examinations)) a in
       record {
         examinations = r.rounds.examinations;
         are_examinations = r.rounds.are_examinations;
@@ -127,13 +127,13 @@ by-more [] (g ∷ groups) number group same = absurd (omega (arith, same))
 by-more (n ∷ numbers) [] number group same = absurd (omega (arith, same))
 by-more (n ∷ numbers) (g ∷ groups) number group same = ap (λ (l : List (List Verdict)). verdicts_behind n g ∷ l) (by-more numbers groups number group (omega (arith, same)))
 
-abbrev batch_in : List Verdict → Option Batch
-batch_in group = batch_of no_label (candidates group)
+abbrev batch_in : List ℕ → List Verdict → Option Batch
+batch_in label group = batch_of label (candidates group)
 
-accounted_more : (groups : List (List Cut)) (batches batches' : List Batch) (refused refused' : List Refusal) (done : AccountedBeside no_label groups batches refused) (cuts : List Cut) (examinations : List Examination) (number : Numbering)
-    → AllZip IsExaminationOf cuts examinations → batches' ≡ batches ++ cons_option (batch_of no_label (kept number (verdicts examinations))) [] → refused' ≡ refused ++ lost number (verdicts examinations)
-    → AccountedBeside no_label (groups ++ cuts ∷ []) batches' refused'
-accounted_more groups batches batches' refused refused' done cuts examinations number each batches_are refused_are =
+accounted_more : {label : List ℕ} (groups : List (List Cut)) (batches batches' : List Batch) (refused refused' : List Refusal) (done : AccountedBeside label groups batches refused) (cuts : List Cut) (examinations : List Examination) (number : Numbering)
+    → AllZip IsExaminationOf cuts examinations → batches' ≡ batches ++ cons_option (batch_of label (kept number (verdicts examinations))) [] → refused' ≡ refused ++ lost number (verdicts examinations)
+    → AccountedBeside label (groups ++ cuts ∷ []) batches' refused'
+accounted_more {label} groups batches batches' refused refused' done cuts examinations number each batches_are refused_are =
     let here = verdicts_behind number examinations in
     let so_far = verdicts_by done.numbers done.examinations in
     let size = done.one_each ∙ sym (zip_length groups done.examinations done.are_examinations) in
@@ -144,8 +144,8 @@ accounted_more groups batches batches' refused refused' done cuts examinations n
       numbers = done.numbers ++ number ∷ [];
       one_each = both_longer done.numbers groups done.one_each;
       yields = record {
-        batches_are = batches_are ∙ ap (λ (l : List Batch). l ++ cons_option (batch_of no_label (candidates here)) []) done.yields.batches_are
-            ∙ sym (ap (filter_map batch_in) turn ∙ filter_map-append batch_in so_far (here ∷ []));
+        batches_are = batches_are ∙ ap (λ (l : List Batch). l ++ cons_option (batch_of label (candidates here)) []) done.yields.batches_are
+            ∙ sym (ap (filter_map (batch_in label)) turn ∙ filter_map-append (batch_in label) so_far (here ∷ []));
         refused_are = refused_are ∙ ap (λ (l : List Refusal). l ++ refusals here) done.yields.refused_are
             ∙ sym (ap (flat_map refusals) turn ∙ flat_map-append refusals so_far (here ∷ []) ∙ ap (λ (l : List Refusal). flat_map refusals so_far ++ l) (append-nil (refusals here)));
       };
@@ -174,8 +174,8 @@ module _ {J : Type 0} where
 all_cuts_more : (groups : List (List Cut)) (cuts : List Cut) → flat_map (λ (g : List Cut). g) (groups ++ cuts ∷ []) ≡ flat_map (λ (g : List Cut). g) groups ++ cuts
 all_cuts_more groups cuts = flat_map-append (λ (g : List Cut). g) groups (cuts ∷ []) ∙ ap (λ (l : List Cut). flat_map (λ (g : List Cut). g) groups ++ l) (append-nil cuts)
 
-module _ {J : Type 0} (groups : List (List Cut)) (old new : OpenImport J) (cuts : List Cut) (done : Done J) (p : ProgressBeside groups old) (s : SettlesBeside cuts done new.clashes.items)
-    (grew : IsPrefix old.clashes.items new.clashes.items) (refused_is : new.refused.items ≡ old.refused.items ++ done.refused.items) where
+module _ {J : Type 0} (groups : List (List Cut)) (old new : OpenImport J) (cuts : List Cut) (done : Done J) (p : ProgressBeside groups old) (s : SettlesBeside old.group.label cuts done new.clashes.items)
+    (label_is : new.group.label ≡ old.group.label) (grew : IsPrefix old.clashes.items new.clashes.items) (refused_is : new.refused.items ≡ old.refused.items ++ done.refused.items) where
   more_repeats : AreRepeats (flat_map (λ group. group) (groups ++ cuts ∷ [])) new.clashes.items new.refused.items
   more_repeats =
       let all = flat_map (λ (g : List Cut). g) (groups ++ cuts ∷ []) in
@@ -191,27 +191,27 @@ module _ {J : Type 0} (groups : List (List Cut)) (old new : OpenImport J) (cuts 
       (λ cut c. subst (C cut) (sym same) (Contains-append_right before cuts cut c)) (record { rest = []; is = sym (append-nil new.clashes.items) }) here in
       subst (λ (l : List Refusal). All P l) (sym refused_is) (All-append P old.refused.items done.refused.items earlier mine)
 
-  step : (o : Option Batch) → batch_of no_label (kept s.number (verdicts s.examinations)) ≡ o → AreReceipts 0 new.receipts.items (p.batches ++ cons_option o []) → ProgressBeside (groups ++ cuts ∷ []) new
+  step : (o : Option Batch) → batch_of old.group.label (kept s.number (verdicts s.examinations)) ≡ o → AreReceipts 0 new.receipts.items (p.batches ++ cons_option o []) → ProgressBeside (groups ++ cuts ∷ []) new
   step o is receipts = record {
     batches = p.batches ++ cons_option o [];
     are_receipts = receipts;
-    accounted = accounted_more groups p.batches (p.batches ++ cons_option o []) old.refused.items new.refused.items p.accounted cuts s.examinations s.number s.are_examinations
+    accounted = subst (λ (l : List ℕ). AccountedBeside l (groups ++ cuts ∷ []) (p.batches ++ cons_option o []) new.refused.items) (sym label_is) (accounted_more groups p.batches (p.batches ++ cons_option o []) old.refused.items new.refused.items p.accounted cuts s.examinations s.number s.are_examinations
         (ap (λ (o : Option Batch). p.batches ++ cons_option o []) (sym is))
-        (refused_is ∙ ap (λ (l : List Refusal). old.refused.items ++ l) s.refused);
+        (refused_is ∙ ap (λ (l : List Refusal). old.refused.items ++ l) s.refused));
     repeats = more_repeats;
   }
 
   pub none_beside : done.answer ≡ None → new.receipts.items ≡ old.receipts.items → ProgressBeside (groups ++ cuts ∷ []) new
   none_beside answer_is receipts_are =
-      let P : Option (Result (Receipt J) (CommitFault J)) → Type 0 = λ a. AnswersFor (kept s.number (verdicts s.examinations)) a in
+      let P : Option (Result (Receipt J) (CommitFault J)) → Type 0 = λ a. AnswersFor old.group.label (kept s.number (verdicts s.examinations)) a in
       let a = subst P answer_is s.answer in
       let Q : List (Receipt J) → Type 0 = λ r. AreReceipts 0 r (p.batches ++ []) in
       let R : List Batch → Type 0 = λ b. AreReceipts 0 old.receipts.items b in
-      step None (ap (batch_of no_label) a) (subst Q (sym receipts_are) (subst R (sym (append-nil p.batches)) p.are_receipts))
+      step None (ap (batch_of old.group.label) a) (subst Q (sym receipts_are) (subst R (sym (append-nil p.batches)) p.are_receipts))
 
   pub one_beside : (receipt : Receipt J) → done.answer ≡ Some (Ok receipt) → last_batches 0 old.receipts.items < receipt.batches → new.receipts.items ≡ old.receipts.items ++ receipt ∷ [] → ProgressBeside (groups ++ cuts ∷ []) new
   one_beside receipt answer_is above receipts_are =
-      let P : Option (Result (Receipt J) (CommitFault J)) → Type 0 = λ a. AnswersFor (kept s.number (verdicts s.examinations)) a in
+      let P : Option (Result (Receipt J) (CommitFault J)) → Type 0 = λ a. AnswersFor old.group.label (kept s.number (verdicts s.examinations)) a in
       let a = subst P answer_is s.answer in
       let is = a.2.is in
       let place : last_batches 0 old.receipts.items ≤ a.2.place = (let e = is.batches in omega (arith, e, above)) in
@@ -223,9 +223,9 @@ module _ {J : Type 0} (groups : List (List Cut)) (old new : OpenImport J) (cuts 
 no_batch : (b : Batch) → (let o : Option Batch = None in o) ≡ Some b → ⊥
 no_batch b e = cc
 
-some_candidates : (cs : List Candidate) (batch : Batch) → batch_of no_label cs ≡ Some batch → cs ≢ []
-some_candidates [] batch is none = no_batch batch is
-some_candidates (c ∷ cs) batch is none = cons_none c cs none
+some_candidates : {label : List ℕ} (cs : List Candidate) (batch : Batch) → batch_of label cs ≡ Some batch → cs ≢ []
+some_candidates {label} [] batch is none = no_batch batch is
+some_candidates {label} (c ∷ cs) batch is none = cons_none c cs none
   where
     cons_none : (c : Candidate) (cs : List Candidate) → c ∷ cs ≡ [] → ⊥
     cons_none c cs e = cc
@@ -243,8 +243,8 @@ over_not_within games bytes over within = by (nat_lt 262144 games) (nat_lt 53687
         let more : 536870912 < bytes = grind (arith, nat_tests) in omega (arith, more, within.1)
     by false false gs bs e = cc
 
-full_left : (note : List Batch) (games bytes : ℕ) (cs : List Candidate) (counted : Counted) → Counts cs counted → IsFullFor note games bytes counted → FindsNoRoom note games bytes cs
-full_left note games bytes cs counted counts full =
+full_left : {label : List ℕ} (note : List Batch) (games bytes : ℕ) (cs : List Candidate) (counted : Counted) → CountsUnder label cs counted → IsFullFor note games bytes counted → FindsNoRoom note games bytes cs
+full_left {label} note games bytes cs counted counts full =
     let texts = batch_texts cs counted.batch counts.batch in
     let more = texts_more note counted.batch ∙ ap (λ (l : List (List ℕ)). texts_of note ++ l) texts in
     let games_sum : game_count (note ++ counted.batch ∷ []) ≡ games + length cs =
@@ -271,19 +271,19 @@ full_left note games bytes cs counted counts full =
     length_both ts cs = length-append ts (map (λ (c : Candidate). c.text) cs) ∙ ap (λ n. length ts + n) (length-map cs (λ (c : Candidate). c.text))
 
 module _ {J : Type 0} where
-  ends_beside : (fault : CommitFault J) (end : End J) (cs : List Candidate) (counted : Counted) → Counts cs counted → AnswersTo (Err fault) counted → IsEndOf fault end → IsDecided {J = J} (Err fault) → EndsBeside end cs
-  ends_beside (faults.Closed before after mark) end cs counted counts answers is never = subst (λ (e : End J). EndsBeside e cs) (sym is) answers
-  ends_beside (faults.DiskFault before after mark) end cs counted counts answers is never =
+  ends_beside : {label : List ℕ} (fault : CommitFault J) (end : End J) (cs : List Candidate) (counted : Counted) → CountsUnder label cs counted → AnswersTo (Err fault) counted → IsEndOf fault end → IsDecided {J = J} (Err fault) → EndsBeside label end cs
+  ends_beside {label} (faults.Closed before after mark) end cs counted counts answers is never = subst (λ (e : End J). EndsBeside label e cs) (sym is) answers
+  ends_beside {label} (faults.DiskFault before after mark) end cs counted counts answers is never =
       let M : Option Batch → Type 0 = λ failed. IsMark kinds.DiskFault before after failed mark in
-      subst (λ (e : End J). EndsBeside e cs) (sym is) (subst M (sym counts.batch) answers)
-  ends_beside (faults.Full games bytes note) end cs counted counts answers is never = subst (λ (e : End J). EndsBeside e cs) (sym is) (full_left note games bytes cs counted counts answers)
-  ends_beside (faults.Clash handed pairs note) end cs counted counts answers is never = absurd never
-  ends_beside (faults.OutOfMemory out) end cs counted counts answers is never = absurd never
+      subst (λ (e : End J). EndsBeside label e cs) (sym is) (subst M (sym counts.batch) answers)
+  ends_beside {label} (faults.Full games bytes note) end cs counted counts answers is never = subst (λ (e : End J). EndsBeside label e cs) (sym is) (full_left note games bytes cs counted counts answers)
+  ends_beside {label} (faults.Clash handed pairs note) end cs counted counts answers is never = absurd never
+  ends_beside {label} (faults.OutOfMemory out) end cs counted counts answers is never = absurd never
 
-  pub stops_beside : (cuts : List Cut) (done : Done J) (clashes : List (List Batch)) (s : SettlesBeside cuts done clashes) (fault : CommitFault J) (stopped : Stopped J)
-      → done.answer ≡ Some (Err fault) → IsDecided {J = J} (Err fault) → IsEndOf fault stopped.end → stopped.refused ≡ done.refused → StopsBeside cuts clashes stopped
-  stops_beside cuts done clashes s fault stopped answer_is never is_end same =
-      let P : Option (Result (Receipt J) (CommitFault J)) → Type 0 = λ a. AnswersFor (kept s.number (verdicts s.examinations)) a in
+  pub stops_beside : {label : List ℕ} (cuts : List Cut) (done : Done J) (clashes : List (List Batch)) (s : SettlesBeside label cuts done clashes) (fault : CommitFault J) (stopped : Stopped J)
+      → done.answer ≡ Some (Err fault) → IsDecided {J = J} (Err fault) → IsEndOf fault stopped.end → stopped.refused ≡ done.refused → StopsBeside label cuts clashes stopped
+  stops_beside {label} cuts done clashes s fault stopped answer_is never is_end same =
+      let P : Option (Result (Receipt J) (CommitFault J)) → Type 0 = λ a. AnswersFor label (kept s.number (verdicts s.examinations)) a in
       let a = subst P answer_is s.answer in
       let refused = ap (λ r. r.items) same ∙ s.refused in
       let Q : List Refusal → Type 0 = λ l. AreRepeats cuts clashes l in

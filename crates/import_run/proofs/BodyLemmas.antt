@@ -3,6 +3,7 @@ use Rattle.std.proofs.Common.{◌≡◌, ◌+◌, ℕ, List, [], length, Some, r
 use Rattle.std.proofs.lemmas.List.{append-nil}
 use Rattle.disk_model.specs.Disk.{DiskState}
 use Rattle.outside.specs.Stream.{Reads, source_alone}
+use Rattle.explorer_model.specs.Labels.{no_label}
 use Rattle.explorer_model.specs.Journal.{IsSound}
 use Rattle.ingest_desk.specs.Kept.{Keeps}
 use Rattle.ingest_desk.specs.Stored.{Stored, journal}
@@ -27,8 +28,8 @@ body_read body =
 pub imports_body : {D J : Type 0} (disk : D → DiskState) (left_since : D → ℕ → List ℕ → Type 0) (before after : Stored D) → IsSince disk left_since before after
     → (body : List ℕ) (report : Report J) → IsSound (journal before) → Keeps disk left_since (journal before) before.manifest before.failed
     → IsSound (journal after) → Keeps disk left_since (journal after) after.manifest after.failed
-    → ((start : Known) → Some (stored_in before) ≡ Some (store_of start) → ComesQuietly start body (Some []) report (Some (stored_in after)))
-    → ComesQuietlyBeside body (Some []) report → ImportsBody disk left_since body before after report
+    → ((start : Known) → Some (stored_in before) ≡ Some (store_of start) → ComesQuietly no_label start body (Some []) report (Some (stored_in after)))
+    → ComesQuietlyBeside no_label body (Some []) report → ImportsBody disk left_since body before after report
 imports_body disk left_since before after since body report sound keeps_before sound_after keeps imports beside =
     let old = source_alone (Some body) 0 0 in
     let new = source_alone (Some []) (length body) 0 in

@@ -9,7 +9,6 @@ use Rattle.explorer_model.specs.declared.archive.Game.{Game}
 use Rattle.explorer_model.specs.declared.archive.Placed.{Placed}
 use Rattle.explorer_model.specs.declared.fault.Refusal.{Refusal}
 use Rattle.explorer_model.specs.Cuts.{Cut, Text, TooLong, Preamble}
-use Rattle.explorer_model.specs.Labels.{no_label}
 use Rattle.explorer_model.specs.Imports.{AccountedBeside, Accepted, Candidate, Examination, IsExaminationOf, Numbering, Refused, Verdict, and_candidate, numbers_of, refusals, verdict_behind, verdict_if_stored, verdict_of, verdicts, verdicts_from}
 use Rattle.explorer_model.specs.Timeline.{IsPrefix}
 use Rattle.explorer_model.specs.Visits.{AreGamesOf}
@@ -46,16 +45,17 @@ clash_names old new note games is are id n e =
 -- ---- what stays settled
 
 module _ {J : Type 0} (start : Option Store) (groups : List (List Cut)) (old new : OpenImport J) (receipts : new.receipts.items ≡ old.receipts.items) (refused : new.refused.items ≡ old.refused.items)
-    (grew : IsPrefix old.clashes.items new.clashes.items) where
+    (label_is : new.group.label ≡ old.group.label) (grew : IsPrefix old.clashes.items new.clashes.items) where
   beside_grown : ProgressBeside groups old → ProgressBeside groups new
   beside_grown p =
       let P : List (Receipt J) → Type 0 = λ l. AreReceipts 0 l p.batches in
-      let Q : List Refusal → Type 0 = λ l. AccountedBeside no_label groups p.batches l in
+      let L : List ℕ → Type 0 = λ l. AccountedBeside l groups p.batches old.refused.items in
+      let Q : List Refusal → Type 0 = λ l. AccountedBeside new.group.label groups p.batches l in
       let S : List Refusal → Type 0 = λ l. AreRepeats (all_cuts groups) new.clashes.items l in
       record {
         batches = p.batches;
         are_receipts = subst P (sym receipts) p.are_receipts;
-        accounted = subst Q (sym refused) p.accounted;
+        accounted = subst Q (sym refused) (subst L (sym label_is) p.accounted);
         repeats = subst S (sym refused) (all-repeats-grow (all_cuts groups) (all_cuts groups) old.clashes.items new.clashes.items old.refused.items (λ cut c. c) grew p.repeats);
       }
 
@@ -63,31 +63,38 @@ module _ {J : Type 0} (start : Option Store) (groups : List (List Cut)) (old new
   settled_grown told s = record {
     beside = beside_grown s.beside;
     alone = λ known is.
-        let P : List Refusal → Type 0 = λ l. Progress known groups new.receipts.items l told in
-        let Q : List (Receipt J) → Type 0 = λ l. Progress known groups l old.refused.items told in
-        subst P (sym refused) (subst Q (sym receipts) (s.alone known is));
+        let L : List ℕ → Type 0 = λ l. Progress l known groups old.receipts.items old.refused.items told in
+        let P : List Refusal → Type 0 = λ l. Progress new.group.label known groups new.receipts.items l told in
+        let Q : List (Receipt J) → Type 0 = λ l. Progress new.group.label known groups l old.refused.items told in
+        subst P (sym refused) (subst Q (sym receipts) (subst L (sym label_is) (s.alone known is)));
   }
 
-  pub lacks_behind : (told told' : Option Store) (next : List Cut) → IsSettledSo start groups old told → ((known : Known) → told ≡ Some (store_of known) → MayHaveMore known (next ∷ []) told')
+  pub lacks_behind : (told told' : Option Store) (next : List Cut) → IsSettledSo start groups old told → ((known : Known) → told ≡ Some (store_of known) → MayHaveMore old.group.label known (next ∷ []) told')
       → LacksBehind start groups (next ∷ []) new told'
   lacks_behind told told' next s lacks =
       let now = settled_grown told s in
       record {
         before = told;
         settled = now;
-        alone = λ known is. let p = now.alone known is in lacks p.known p.still;
+        alone = λ known is.
+            let p = now.alone known is in
+            let M : List ℕ → Type 0 = λ l. MayHaveMore l p.known (next ∷ []) told' in
+            subst M (sym label_is) (lacks p.known p.still);
       }
 
-  pub stops_behind : (told told' : Option Store) (next : List Cut) (stopped : Stopped J) → IsSettledSo start groups old told → StopsBeside next new.clashes.items stopped
-      → ((known : Known) → told ≡ Some (store_of known) → StopsAt known next stopped told')
+  pub stops_behind : (told told' : Option Store) (next : List Cut) (stopped : Stopped J) → IsSettledSo start groups old told → StopsBeside old.group.label next new.clashes.items stopped
+      → ((known : Known) → told ≡ Some (store_of known) → StopsAt old.group.label known next stopped told')
       → vec_len new.refused + length stopped.refused.items ≤ vec_capacity new.refused → StopsBehind start groups next new stopped told'
   stops_behind told told' next stopped s beside stops room =
       let now = settled_grown told s in
       record {
         before = told;
         settled = now;
-        beside = beside;
-        alone = λ known is. let p = now.alone known is in stops p.known p.still;
+        beside = subst (λ (l : List ℕ). StopsBeside l next new.clashes.items stopped) (sym label_is) beside;
+        alone = λ known is.
+            let p = now.alone known is in
+            let S : List ℕ → Type 0 = λ l. StopsAt l p.known next stopped told' in
+            subst S (sym label_is) (stops p.known p.still);
         room = room;
       }
 

@@ -8,7 +8,6 @@ use Rattle.outside.specs.Stream.{FailsToGive, Gives, Reads, Rises, Stream, sourc
 use Rattle.explorer_model.specs.declared.archive.Batch.{Batch}
 use Rattle.explorer_model.specs.declared.fault.Refusal.{Refusal}
 use Rattle.explorer_model.specs.Cuts.{Cut, cuts}
-use Rattle.explorer_model.specs.Labels.{no_label}
 use Rattle.explorer_model.specs.Imports.{AccountedBeside, Candidate, groups}
 use Rattle.explorer_model.specs.Journal.{input_limit}
 use Rattle.explorer_model.specs.Wire.{body_limit}
@@ -100,15 +99,15 @@ behind_closed stream closed rest is some = no_preamble stream (all_cuts closed) 
 
 module _ {J : Type 0} (stream : List ℕ) (left_over : Option (List ℕ)) where
   -- what is said of an end
-  record EndsSo (end : End J) (batches : List Batch) (refused : List Refusal) : Type 0 where
-    accounts : AccountsTo end (groups (cuts stream)) batches refused
-    stands : StandsBeside end stream left_over batches refused
+  record EndsSo (label : List ℕ) (end : End J) (batches : List Batch) (refused : List Refusal) : Type 0 where
+    accounts : AccountsTo label end (groups (cuts stream)) batches refused
+    stands : StandsBeside label end stream left_over batches refused
     quiet : (old new : Stream) → new.read_faults ≡ old.read_faults → ReadFaultsAre end old new
 
-  comes : (report : Report J) (end : End J) (batches : List Batch) → report.end ≡ end → EndsSo end batches report.refused.items → AreReceipts 0 report.receipts.items batches
-      → AreRepeats (cuts stream) report.clashes.items report.refused.items → games_of report.receipts.items ≤ length (cuts stream) → ComesQuietlyBeside stream left_over report
-  comes report end batches is so receipts repeats few =
-      let P : End J → Type 0 = λ e. EndsSo e batches report.refused.items in
+  comes : {label : List ℕ} (report : Report J) (end : End J) (batches : List Batch) → report.end ≡ end → EndsSo label end batches report.refused.items → AreReceipts 0 report.receipts.items batches
+      → AreRepeats (cuts stream) report.clashes.items report.refused.items → games_of report.receipts.items ≤ length (cuts stream) → ComesQuietlyBeside label stream left_over report
+  comes {label} report end batches is so receipts repeats few =
+      let P : End J → Type 0 = λ e. EndsSo label e batches report.refused.items in
       let s = subst P (sym is) so in
       record {
         comes = record {
@@ -120,15 +119,15 @@ module _ {J : Type 0} (stream : List ℕ) (left_over : Option (List ℕ)) where
       }
 
   -- a commit ended the import
-  ends_stopped : (end : End J) (batches : List Batch) (refused : List Refusal) (left : List Candidate) → EndsBeside end left → BreaksAt (groups (cuts stream)) batches refused left → BreaksBeside stream left_over batches refused left
-      → EndsSo end batches refused
-  ends_stopped ends.Whole batches refused left so breaks beside = absurd so
-  ends_stopped (ends.ReadFault before after) batches refused left so breaks beside = absurd so
-  ends_stopped (ends.DiskFault before after mark) batches refused left so breaks beside = record { accounts = (left, breaks, so); stands = (left, beside, so.failed_is); quiet = λ old new same. same }
-  ends_stopped (ends.Closed before after mark) batches refused left so breaks beside = record { accounts = (left, breaks, so); stands = (left, beside); quiet = λ old new same. same }
-  ends_stopped (ends.Full games bytes note) batches refused left so breaks beside = record { accounts = (left, breaks, so); stands = (left, beside, so); quiet = λ old new same. same }
-  ends_stopped (ends.TooMuch bytes) batches refused left so breaks beside = absurd so
-  ends_stopped ends.OutOfMemory batches refused left so breaks beside = absurd so
+  ends_stopped : {label : List ℕ} (end : End J) (batches : List Batch) (refused : List Refusal) (left : List Candidate) → EndsBeside label end left → BreaksAt label (groups (cuts stream)) batches refused left → BreaksBeside label stream left_over batches refused left
+      → EndsSo label end batches refused
+  ends_stopped {label} ends.Whole batches refused left so breaks beside = absurd so
+  ends_stopped {label} (ends.ReadFault before after) batches refused left so breaks beside = absurd so
+  ends_stopped {label} (ends.DiskFault before after mark) batches refused left so breaks beside = record { accounts = (left, breaks, so); stands = (left, beside, so.failed_is); quiet = λ old new same. same }
+  ends_stopped {label} (ends.Closed before after mark) batches refused left so breaks beside = record { accounts = (left, breaks, so); stands = (left, beside); quiet = λ old new same. same }
+  ends_stopped {label} (ends.Full games bytes note) batches refused left so breaks beside = record { accounts = (left, breaks, so); stands = (left, beside, so); quiet = λ old new same. same }
+  ends_stopped {label} (ends.TooMuch bytes) batches refused left so breaks beside = absurd so
+  ends_stopped {label} ends.OutOfMemory batches refused left so breaks beside = absurd so
 
   module _ (report : Report J) (import : OpenImport J) (receipts : report.receipts.items ≡ import.receipts.items) (clashes : report.clashes.items ≡ import.clashes.items) (below : length stream < input_limit) where
     front_receipts : (gs : List (List Cut)) (p : ProgressBeside gs import) → AreReceipts 0 report.receipts.items p.batches
@@ -149,9 +148,9 @@ module _ {J : Type 0} (stream : List ℕ) (left_over : Option (List ℕ)) where
         (prefix-self import.clashes.items) p.repeats)
 
     -- a commit of a group ended the import
-    comes_stopped : (stopped : Stopped J) (closed : List (List Cut)) (next more : List Cut) (rest : List (List Cut)) (p : ProgressBeside closed import) (b : StopsBeside next import.clashes.items stopped) → report.end ≡ stopped.end
+    comes_stopped : (stopped : Stopped J) (closed : List (List Cut)) (next more : List Cut) (rest : List (List Cut)) (p : ProgressBeside closed import) (b : StopsBeside import.group.label next import.clashes.items stopped) → report.end ≡ stopped.end
         → report.refused.items ≡ import.refused.items ++ stopped.refused.items → AreGroupsSoFar stream left_over (closed ++ next ∷ rest) → cuts stream ≡ all_cuts closed ++ (next ++ more)
-        → BreaksAt (groups (cuts stream)) p.batches report.refused.items b.left → ComesQuietlyBeside stream left_over report
+        → BreaksAt import.group.label (groups (cuts stream)) p.batches report.refused.items b.left → ComesQuietlyBeside import.group.label stream left_over report
     comes_stopped stopped closed next more rest p b end refused are is breaks =
         let C : Cut → List Cut → Type 0 = λ cut l. Contains l cut in
         let P : List (List Batch) → Type 0 = λ l. AreRepeats (cuts stream) l stopped.refused.items in
@@ -159,7 +158,7 @@ module _ {J : Type 0} (stream : List ℕ) (left_over : Option (List ℕ)) where
         (λ cut c. subst (C cut) (sym is) (Contains-append_right (all_cuts closed) (next ++ more) cut (Contains-append_left next more cut c))) (prefix-self import.clashes.items) b.repeats) in
         let Q : List Refusal → Type 0 = λ l. AreRepeats (cuts stream) report.clashes.items l in
         let both = All-append (λ (r : Refusal). RepeatsBy (cuts stream) report.clashes.items r.place r.why) import.refused.items stopped.refused.items (front_repeats closed (next ++ more) p is) here in
-        let beside : BreaksBeside stream left_over p.batches report.refused.items b.left = record {
+        let beside : BreaksBeside import.group.label stream left_over p.batches report.refused.items b.left = record {
           below = below;
           so_far = closed ++ next ∷ rest;
           are_so_far = are;
@@ -177,7 +176,7 @@ module _ {J : Type 0} (stream : List ℕ) (left_over : Option (List ℕ)) where
         comes report stopped.end p.batches end (ends_stopped stopped.end p.batches report.refused.items b.left b.ends breaks beside) (front_receipts closed p) (subst Q (sym refused) both) (front_few closed (next ++ more) p is)
 
     pub stopped_within_beside : (start : Option Store) (stopped : Stopped J) (told : Option Store) → report.end ≡ stopped.end → report.refused.items ≡ import.refused.items ++ stopped.refused.items
-        → StopsWithin start stream import stopped told → ComesQuietlyBeside stream left_over report
+        → StopsWithin start stream import stopped told → ComesQuietlyBeside import.group.label stream left_over report
     stopped_within_beside start stopped told end refused w =
         let s = w.stops in
         let p = s.behind.settled.beside in
@@ -185,19 +184,19 @@ module _ {J : Type 0} (stream : List ℕ) (left_over : Option (List ℕ)) where
         let is : cuts stream ≡ all_cuts s.closed ++ (s.next ++ w.more) = sym w.cut ∙ ap (λ (l : List Cut). l ++ w.more) s.all ∙ append_assoc (all_cuts s.closed) s.next w.more in
         let some = some_whole s.next s.whole in
         let first = no_preamble stream (all_cuts s.closed ++ s.next) w.more (sym w.cut ∙ ap (λ (l : List Cut). l ++ w.more) s.all) (omega (arith, some, length-append (all_cuts s.closed) s.next)) in
-        let P : List Cut → Type 0 = λ l. BreaksAt (groups l) p.batches report.refused.items b.left in
+        let P : List Cut → Type 0 = λ l. BreaksAt import.group.label (groups l) p.batches report.refused.items b.left in
         let front = stopped_so_far start stream left_over import told stopped w in
         comes_stopped stopped s.closed s.next w.more front.0 p b end refused front.1 is
         (subst P (sym is) (breaks_within s.closed s.next w.more p.batches import.refused.items stopped.refused.items report.refused.items b.left p.accounted b.judged b.some_left refused s.each s.whole first))
 
     pub stopped_at_end_beside : (start : Option Store) (stopped : Stopped J) (told : Option Store) → report.end ≡ stopped.end → report.refused.items ≡ import.refused.items ++ stopped.refused.items
-        → IsAtEnd left_over → StopsAtEnd start (cuts stream) import stopped told → ComesQuietlyBeside stream left_over report
+        → IsAtEnd left_over → StopsAtEnd start (cuts stream) import stopped told → ComesQuietlyBeside import.group.label stream left_over report
     stopped_at_end_beside start stopped told end refused at_end s = by (split_next s.done s.next s.rest s.all.whole s.all.hand s.all.all_are)
       where
         G : List Cut → Type 0
-        G l = BreaksAt (groups l) s.behind.settled.beside.batches report.refused.items s.behind.beside.left
+        G l = BreaksAt import.group.label (groups l) s.behind.settled.beside.batches report.refused.items s.behind.beside.left
 
-        by : ((s.done ≡ s.all.whole) × (s.next ≡ s.all.hand)) ⊎ ((more : List (List Cut)) × (s.all.whole ≡ s.done ++ s.next ∷ more)) → ComesQuietlyBeside stream left_over report
+        by : ((s.done ≡ s.all.whole) × (s.next ≡ s.all.hand)) ⊎ ((more : List (List Cut)) × (s.all.whole ≡ s.done ++ s.next ∷ more)) → ComesQuietlyBeside import.group.label stream left_over report
         by (inl same) =
             let p = s.behind.settled.beside in
             let b = s.behind.beside in
@@ -236,38 +235,38 @@ module _ {J : Type 0} (stream : List ℕ) (left_over : Option (List ℕ)) where
 
       -- memory was wanting
       comes_lacking : (gs : List (List Cut)) (rest : List Cut) (p : ProgressBeside gs import) → report.end ≡ ends.OutOfMemory → BeginSoFar stream left_over gs [] → cuts stream ≡ all_cuts gs ++ rest
-          → AccountedFront (groups (cuts stream)) p.batches import.refused.items → ComesQuietlyBeside stream left_over report
+          → AccountedFront import.group.label (groups (cuts stream)) p.batches import.refused.items → ComesQuietlyBeside import.group.label stream left_over report
       comes_lacking gs rest p end so_far is front =
-          let P : List Refusal → Type 0 = λ l. EndsSo ends.OutOfMemory p.batches l in
-          let lacks : LacksBeside stream left_over p.batches import.refused.items =
+          let P : List Refusal → Type 0 = λ l. EndsSo import.group.label ends.OutOfMemory p.batches l in
+          let lacks : LacksBeside import.group.label stream left_over p.batches import.refused.items =
           record { below = below; so_far = gs ++ so_far.0; are_so_far = so_far.1; done = gs; rest = so_far.0; so_far_is = refl; accounted = p.accounted } in
           comes report ends.OutOfMemory p.batches end
           (subst P (sym refused) (record { accounts = (front.finished, (front.unread, front.left_unread, front.accounts)); stands = lacks; quiet = λ old new same. same }))
           (front_receipts gs p) (settled_repeats gs rest p is) (front_few gs rest p is)
 
       lacks_front : (gs : List (List Cut)) (rest : List Cut) (p : ProgressBeside gs import) → report.end ≡ ends.OutOfMemory → BeginSoFar stream left_over gs [] → AllByRecursion IsWhole gs → cuts stream ≡ all_cuts gs ++ rest
-          → ComesQuietlyBeside stream left_over report
+          → ComesQuietlyBeside import.group.label stream left_over report
       lacks_front gs rest p end so_far each is =
-          let P : List Cut → Type 0 = λ l. AccountedFront (groups l) p.batches import.refused.items in
+          let P : List Cut → Type 0 = λ l. AccountedFront import.group.label (groups l) p.batches import.refused.items in
           comes_lacking gs rest p end so_far is (subst P (sym is) (accounted_front gs rest p.batches import.refused.items each (behind_closed stream gs rest is) p.accounted))
 
-      pub lacking_within_beside : (start : Option Store) (told : Option Store) → report.end ≡ ends.OutOfMemory → LacksWithin start stream import told → ComesQuietlyBeside stream left_over report
+      pub lacking_within_beside : (start : Option Store) (told : Option Store) → report.end ≡ ends.OutOfMemory → LacksWithin start stream import told → ComesQuietlyBeside import.group.label stream left_over report
       lacking_within_beside start told end w =
           let l = w.lacks in
           let front = lacking_so_far start stream left_over import told w in
           lacks_front l.closed ((all_cuts l.others ++ l.hand) ++ w.more) l.behind.settled.beside end (l.others ++ front.0, front.1) l.each
           (sym w.cut ∙ ap (λ (k : List Cut). k ++ w.more) l.all ∙ append_assoc (all_cuts l.closed) (all_cuts l.others ++ l.hand) w.more)
 
-      pub lacking_at_end_beside : (start : Option Store) (told : Option Store) → report.end ≡ ends.OutOfMemory → IsAtEnd left_over → LacksAtEnd start (cuts stream) import told → ComesQuietlyBeside stream left_over report
+      pub lacking_at_end_beside : (start : Option Store) (told : Option Store) → report.end ≡ ends.OutOfMemory → IsAtEnd left_over → LacksAtEnd start (cuts stream) import told → ComesQuietlyBeside import.group.label stream left_over report
       lacking_at_end_beside start told end at_end l = by (split_front l.done l.rest l.all.whole l.all.hand l.all.all_are)
         where
-          by : (l.done ≡ l.all.whole ++ l.all.hand ∷ []) ⊎ ((more : List (List Cut)) × (l.all.whole ≡ l.done ++ more)) → ComesQuietlyBeside stream left_over report
+          by : (l.done ≡ l.all.whole ++ l.all.hand ∷ []) ⊎ ((more : List (List Cut)) × (l.all.whole ≡ l.done ++ more)) → ComesQuietlyBeside import.group.label stream left_over report
           by (inl all) =
               let p = l.behind.settled.beside in
-              let A : List (List Cut) → Type 0 = λ g. AccountedBeside no_label g p.batches import.refused.items in
+              let A : List (List Cut) → Type 0 = λ g. AccountedBeside import.group.label g p.batches import.refused.items in
               let few : texts_in l.all.hand ≤ 512 = (let f = l.all.in_groups.few in omega (arith, f)) in
               let whole = accounted_whole l.all.whole l.all.hand p.batches import.refused.items l.all.in_groups.each few (subst A all p.accounted) in
-              let B : List Cut → Type 0 = λ k. AccountedBeside no_label (groups k) p.batches import.refused.items in
+              let B : List Cut → Type 0 = λ k. AccountedBeside import.group.label (groups k) p.batches import.refused.items in
               let is : cuts stream ≡ all_cuts l.done ++ [] = l.all.in_groups.all ∙ sym (ap all_cuts all ∙ all_cuts-last l.all.whole l.all.hand) ∙ sym (append-nil (all_cuts l.done)) in
               comes_lacking l.done [] p end (l.rest, inr (at_end, l.all)) is (front_of_all (groups (cuts stream)) p.batches import.refused.items (subst B (sym l.all.in_groups.all) whole))
           by (inr (more, whole)) =
@@ -277,13 +276,13 @@ module _ {J : Type 0} (stream : List ℕ) (left_over : Option (List ℕ)) where
               (l.all.in_groups.all ∙ ap (λ (g : List (List Cut)). all_cuts g ++ l.all.hand) whole ∙ ap (λ (k : List Cut). k ++ l.all.hand) (all_cuts-append l.done more)
               ∙ append_assoc (all_cuts l.done) (all_cuts more) l.all.hand)
 
-      pub whole_beside : (start : Option Store) (told : Option Store) → report.end ≡ ends.Whole → IsAtEnd left_over → TakenAll start (cuts stream) import told → ComesQuietlyBeside stream left_over report
+      pub whole_beside : (start : Option Store) (told : Option Store) → report.end ≡ ends.Whole → IsAtEnd left_over → TakenAll start (cuts stream) import told → ComesQuietlyBeside import.group.label stream left_over report
       whole_beside start told end at_end t =
           let p = t.settled.beside in
           let few : texts_in t.hand ≤ 512 = (let f = t.in_groups.few in omega (arith, f)) in
           let whole = accounted_whole t.closed t.hand p.batches import.refused.items t.in_groups.each few p.accounted in
-          let B : List Cut → Type 0 = λ k. AccountedBeside no_label (groups k) p.batches import.refused.items in
-          let P : List Refusal → Type 0 = λ l. EndsSo ends.Whole p.batches l in
+          let B : List Cut → Type 0 = λ k. AccountedBeside import.group.label (groups k) p.batches import.refused.items in
+          let P : List Refusal → Type 0 = λ l. EndsSo import.group.label ends.Whole p.batches l in
           let gs = t.closed ++ t.hand ∷ [] in
           let is : cuts stream ≡ all_cuts (t.closed ++ t.hand ∷ []) ++ [] = t.in_groups.all ∙ sym (all_cuts-last t.closed t.hand) ∙ sym (append-nil (all_cuts (t.closed ++ t.hand ∷ []))) in
           comes report ends.Whole p.batches end
@@ -294,7 +293,7 @@ module _ {J : Type 0} (stream : List ℕ) (left_over : Option (List ℕ)) where
 
 pub cut_off_beside : {J : Type 0} (start : Option Store) (stream : List ℕ) (after : List ℕ → List Cut) (last : List Cut) (import : OpenImport J) (told : Option Store) (report : Report J)
     → last ≡ after [] → length last ≤ 1 → IsReady import → CutSoFar start stream after import told → report.receipts.items ≡ import.receipts.items → report.refused.items ≡ import.refused.items
-    → report.clashes.items ≡ import.clashes.items → IsWholeBeside stream report
+    → report.clashes.items ≡ import.clashes.items → IsWholeBeside import.group.label stream report
 cut_off_beside {J} start stream after last import told report is few ready so_far receipts refused clashes =
     let all : so_far.taken ++ last ≡ cuts stream = ap (λ (l : List Cut). so_far.taken ++ l) is ∙ so_far.cut [] ∙ ap cuts (append-nil stream) in
     let long = ap (λ (l : List Cut). length l) is in
@@ -302,7 +301,7 @@ cut_off_beside {J} start stream after last import told report is few ready so_fa
     let t = so_far.so_far in
     let p = t.settled.beside in
     let P : List (Receipt J) → Type 0 = λ l. AreReceipts 0 l p.batches in
-    let Q : List Refusal → Type 0 = λ l. AccountedBeside no_label t.closed p.batches l in
+    let Q : List Refusal → Type 0 = λ l. AccountedBeside import.group.label t.closed p.batches l in
     let R : List Refusal → Type 0 = λ l. AreRepeats (all_cuts t.closed) report.clashes.items l in
     let S : List (List Batch) → Type 0 = λ l. AreRepeats (all_cuts t.closed) l import.refused.items in
     record {
@@ -318,7 +317,7 @@ cut_off_beside {J} start stream after last import told report is few ready so_fa
 
 -- ---- imports of a source
 
-module _ {J : Type 0} (front stream : List ℕ) (report : Report J) (w : IsWholeBeside front report) (rest : List ℕ) (is : front ++ rest ≡ stream) where
+module _ {J : Type 0} {label : List ℕ} (front stream : List ℕ) (report : Report J) (w : IsWholeBeside label front report) (rest : List ℕ) (is : front ++ rest ≡ stream) where
   more : List Cut
   more = (w.follows rest).0
 
@@ -333,13 +332,13 @@ module _ {J : Type 0} (front stream : List ℕ) (report : Report J) (w : IsWhole
       (λ cut c. subst (C cut) (sym all) (Contains-append_left (all_cuts w.whole) (w.follows rest).0 cut c)) (prefix-self report.clashes.items) w.repeats
 
   -- the report of a stream that was cut off, by its end
-  comes_cut : (left_over : Option (List ℕ)) (end : End J) → report.end ≡ end → ((front : AccountedFront (groups (cuts stream)) w.batches report.refused.items) → AccountsTo end (groups (cuts stream)) w.batches report.refused.items)
-      → StandsBeside end stream left_over w.batches report.refused.items → ComesBeside stream left_over report
+  comes_cut : (left_over : Option (List ℕ)) (end : End J) → report.end ≡ end → ((front : AccountedFront label (groups (cuts stream)) w.batches report.refused.items) → AccountsTo label end (groups (cuts stream)) w.batches report.refused.items)
+      → StandsBeside label end stream left_over w.batches report.refused.items → ComesBeside label stream left_over report
   comes_cut left_over end end_is accounts stands =
-      let F : List Cut → Type 0 = λ l. AccountedFront (groups l) w.batches report.refused.items in
+      let F : List Cut → Type 0 = λ l. AccountedFront label (groups l) w.batches report.refused.items in
       let so_far = subst F (sym all) (accounted_front w.whole (w.follows rest).0 w.batches report.refused.items w.in_groups.each (behind_closed stream w.whole (w.follows rest).0 all) w.accounted) in
-      let A : End J → Type 0 = λ e. AccountsTo e (groups (cuts stream)) w.batches report.refused.items in
-      let B : End J → Type 0 = λ e. StandsBeside e stream left_over w.batches report.refused.items in
+      let A : End J → Type 0 = λ e. AccountsTo label e (groups (cuts stream)) w.batches report.refused.items in
+      let B : End J → Type 0 = λ e. StandsBeside label e stream left_over w.batches report.refused.items in
       let within = games_within w.whole report.receipts.items w.batches report.refused.items w.are_receipts w.accounted in
       let long = ap (λ (l : List Cut). length l) all in
       record {
@@ -353,30 +352,30 @@ module _ {J : Type 0} (front stream : List ℕ) (report : Report J) (w : IsWhole
         few = omega (arith, within, long, length-append (all_cuts w.whole) (w.follows rest).0);
       }
 
-  is_cut : IsCutBeside front w.batches report.refused.items
+  is_cut : IsCutBeside label front w.batches report.refused.items
   is_cut = record { whole = w.whole; hand = w.hand; in_groups = w.in_groups; accounted = w.accounted }
 
-pub comes_failed : {J : Type 0} (stream : List ℕ) (left_over : Option (List ℕ)) (report : Report J) (before after : ℕ) → report.end ≡ ends.ReadFault before after → length stream < input_limit → IsWholeBeside stream report
-    → ComesBeside stream left_over report
-comes_failed stream left_over report before after is below w =
+pub comes_failed : {label : List ℕ} {J : Type 0} (stream : List ℕ) (left_over : Option (List ℕ)) (report : Report J) (before after : ℕ) → report.end ≡ ends.ReadFault before after → length stream < input_limit → IsWholeBeside label stream report
+    → ComesBeside label stream left_over report
+comes_failed {label} stream left_over report before after is below w =
     comes_cut stream stream report w [] (append-nil stream) left_over (ends.ReadFault before after) is (λ f. (f.finished, (f.unread, f.left_unread, f.accounts)))
     (below, is_cut stream stream report w [] (append-nil stream))
 
-pub comes_too_much_beside : {J : Type 0} (front stream : List ℕ) (last : ℕ) (left_over : Option (List ℕ)) (report : Report J) (bytes : ℕ) → report.end ≡ ends.TooMuch bytes → bytes ≡ length stream → length stream ≡ input_limit
-    → stream ≡ front ++ last ∷ [] → IsWholeBeside front report → ComesBeside stream left_over report
-comes_too_much_beside front stream last left_over report bytes is long at front_is w =
+pub comes_too_much_beside : {label : List ℕ} {J : Type 0} (front stream : List ℕ) (last : ℕ) (left_over : Option (List ℕ)) (report : Report J) (bytes : ℕ) → report.end ≡ ends.TooMuch bytes → bytes ≡ length stream → length stream ≡ input_limit
+    → stream ≡ front ++ last ∷ [] → IsWholeBeside label front report → ComesBeside label stream left_over report
+comes_too_much_beside {label} front stream last left_over report bytes is long at front_is w =
     comes_cut front stream report w (last ∷ []) (sym front_is) left_over (ends.TooMuch bytes) is (λ f. (f.finished, (f.unread, f.left_unread, f.accounts)))
     (long, record { at = at; front = front; last = last; front_is = front_is; cut = is_cut front stream report w (last ∷ []) (sym front_is) })
 
 module _ {J : Type 0} where
   -- an import without a fault of a read
-  pub imports_quietly_beside : (old new : Stream) (report : Report J) (stream : List ℕ) → Reads stream old new → new.read_faults ≡ old.read_faults → ComesQuietlyBeside stream new.left report → ImportsBeside old new report
-  imports_quietly_beside old new report stream reads same c = record { stream = stream; reads = reads; faults = c.quiet old new same; comes = c.comes }
+  pub imports_quietly_beside : {label : List ℕ} (old new : Stream) (report : Report J) (stream : List ℕ) → Reads stream old new → new.read_faults ≡ old.read_faults → ComesQuietlyBeside label stream new.left report → ImportsBeside label old new report
+  imports_quietly_beside {label} old new report stream reads same c = record { stream = stream; reads = reads; faults = c.quiet old new same; comes = c.comes }
 
   -- a read failed
-  pub imports_failed_beside : (old mid new : Stream) (report : Report J) (stream : List ℕ) (before after : ℕ) → report.end ≡ ends.ReadFault before after → before ≡ mid.read_faults → after ≡ new.read_faults
-      → mid.read_faults ≡ old.read_faults → Reads stream old mid → FailsToGive mid new → length stream < input_limit → IsWholeBeside stream report → ImportsBeside old new report
-  imports_failed_beside old mid new report stream before after is first last same reads fails below w =
+  pub imports_failed_beside : {label : List ℕ} (old mid new : Stream) (report : Report J) (stream : List ℕ) (before after : ℕ) → report.end ≡ ends.ReadFault before after → before ≡ mid.read_faults → after ≡ new.read_faults
+      → mid.read_faults ≡ old.read_faults → Reads stream old mid → FailsToGive mid new → length stream < input_limit → IsWholeBeside label stream report → ImportsBeside label old new report
+  imports_failed_beside {label} old mid new report stream before after is first last same reads fails below w =
       let P : End J → Type 0 = λ e. ReadFaultsAre e old new in
       let R : ℕ → Type 0 = λ n. Rises n new.read_faults in
       let S : ℕ → Type 0 = λ n. Rises before n in
@@ -388,9 +387,9 @@ module _ {J : Type 0} where
       }
 
   -- the last byte that an import takes was read
-  pub imports_bound_beside : (old mid new : Stream) (report : Report J) (front : List ℕ) (n bytes : ℕ) (buffer : List ℕ) → report.end ≡ ends.TooMuch bytes → Reads front old mid → mid.read_faults ≡ old.read_faults
-      → Gives n buffer mid new → n ≡ 1 → length front + 1 ≡ input_limit → bytes ≡ input_limit → IsWholeBeside front report → ImportsBeside old new report
-  imports_bound_beside old mid new report front n bytes buffer is reads same gives one long at w =
+  pub imports_bound_beside : {label : List ℕ} (old mid new : Stream) (report : Report J) (front : List ℕ) (n bytes : ℕ) (buffer : List ℕ) → report.end ≡ ends.TooMuch bytes → Reads front old mid → mid.read_faults ≡ old.read_faults
+      → Gives n buffer mid new → n ≡ 1 → length front + 1 ≡ input_limit → bytes ≡ input_limit → IsWholeBeside label front report → ImportsBeside label old new report
+  imports_bound_beside {label} old mid new report front n bytes buffer is reads same gives one long at w =
       let some : 0 < length buffer = (let within = gives.within in omega (arith, within, one)) in
       let last = one_byte buffer some in
       let front_is : front ++ take n buffer ≡ front ++ last.0 ∷ [] = ap (λ (k : ℕ). front ++ take k buffer) one ∙ ap (λ (l : List ℕ). front ++ l) last.1 in
@@ -406,13 +405,13 @@ module _ {J : Type 0} where
 -- ---- bodies
 
 -- an import of bytes at hand ends so
-pub ends_in_memory : {J : Type 0} (body : List ℕ) (report : Report J) → length body ≤ body_limit → ComesQuietlyBeside body (Some []) report → EndsInMemory (ending_of report.end)
-ends_in_memory {J} body report few c = by report.end c.comes.reports.batches c.comes.stands c.quiet
+pub ends_in_memory : {label : List ℕ} {J : Type 0} (body : List ℕ) (report : Report J) → length body ≤ body_limit → ComesQuietlyBeside label body (Some []) report → EndsInMemory (ending_of report.end)
+ends_in_memory {label} {J} body report few c = by report.end c.comes.reports.batches c.comes.stands c.quiet
   where
     still : Stream
     still = source_alone None 0 0
 
-    by : (end : End J) (batches : List Batch) → StandsBeside end body (Some []) batches report.refused.items → ((old new : Stream) → new.read_faults ≡ old.read_faults → ReadFaultsAre end old new) → EndsInMemory (ending_of end)
+    by : (end : End J) (batches : List Batch) → StandsBeside label end body (Some []) batches report.refused.items → ((old new : Stream) → new.read_faults ≡ old.read_faults → ReadFaultsAre end old new) → EndsInMemory (ending_of end)
     by ends.Whole batches stands quiet = tt
     by (ends.ReadFault before after) batches stands quiet = absurd (no_rise before after (quiet still still refl))
       where
@@ -428,14 +427,14 @@ ends_in_memory {J} body report few c = by report.end c.comes.reports.batches c.c
     by (ends.TooMuch bytes) batches stands quiet = let at = stands.1.at in absurd (omega (arith, at, few))
     by ends.OutOfMemory batches stands quiet = tt
 
-pub few_games : {J : Type 0} (body : List ℕ) (report : Report J) → length body ≤ body_limit → ComesQuietlyBeside body (Some []) report → games_of report.receipts.items < 2 ^ 32
-few_games body report few c = let games = c.comes.few in omega (arith, games, few, cuts_few body)
+pub few_games : {label : List ℕ} {J : Type 0} (body : List ℕ) (report : Report J) → length body ≤ body_limit → ComesQuietlyBeside label body (Some []) report → games_of report.receipts.items < 2 ^ 32
+few_games {label} body report few c = let games = c.comes.few in omega (arith, games, few, cuts_few body)
 
-pub marked_so : {J : Type 0} (end : End J) (gs : List (List Cut)) (batches : List Batch) (refused : List Refusal) → AccountsTo end gs batches refused → IsMarkedSo end
-marked_so ends.Whole gs batches refused a = tt
-marked_so (ends.ReadFault before after) gs batches refused a = tt
-marked_so (ends.DiskFault before after mark) gs batches refused a = a.2.kind_is
-marked_so (ends.Closed before after mark) gs batches refused a = a.2.kind_is
-marked_so (ends.Full games bytes note) gs batches refused a = tt
-marked_so (ends.TooMuch bytes) gs batches refused a = tt
-marked_so ends.OutOfMemory gs batches refused a = tt
+pub marked_so : {label : List ℕ} {J : Type 0} (end : End J) (gs : List (List Cut)) (batches : List Batch) (refused : List Refusal) → AccountsTo label end gs batches refused → IsMarkedSo end
+marked_so {label} ends.Whole gs batches refused a = tt
+marked_so {label} (ends.ReadFault before after) gs batches refused a = tt
+marked_so {label} (ends.DiskFault before after mark) gs batches refused a = a.2.kind_is
+marked_so {label} (ends.Closed before after mark) gs batches refused a = a.2.kind_is
+marked_so {label} (ends.Full games bytes note) gs batches refused a = tt
+marked_so {label} (ends.TooMuch bytes) gs batches refused a = tt
+marked_so {label} ends.OutOfMemory gs batches refused a = tt

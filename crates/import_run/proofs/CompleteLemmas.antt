@@ -10,7 +10,6 @@ use Rattle.explorer_model.specs.declared.archive.Batch.{Batch}
 use Rattle.explorer_model.specs.declared.archive.Game.{Game}
 use Rattle.explorer_model.specs.declared.archive.Placed.{Placed}
 use Rattle.explorer_model.specs.Cuts.{Cut, cuts}
-use Rattle.explorer_model.specs.Labels.{no_label}
 use Rattle.explorer_model.specs.Imports.{Candidate, IsExaminationOf, batch_of, groups, verdicts_in_turn}
 use Rattle.explorer_model.specs.Journal.{AreWithin, HaveDifferentIds, byte_count, game_count}
 use Rattle.explorer_model.specs.Visits.{AreGamesOf, texts_of}
@@ -81,9 +80,9 @@ size_of_all (text ∷ texts) =
 texts_behind : (front batches : List Batch) → texts_of (front ++ batches) ≡ texts_of front ++ texts_of batches
 texts_behind front batches = flat_map-append (λ (b : Batch). b.texts) front batches
 
-last_texts : (left : List Candidate) → texts_of (cons_option (batch_of no_label left) []) ≡ map (λ (c : Candidate). c.text) left
-last_texts [] = refl
-last_texts (c ∷ left) = append-nil (map (λ (c : Candidate). c.text) (c ∷ left))
+last_texts : (label : List ℕ) (left : List Candidate) → texts_of (cons_option (batch_of label left) []) ≡ map (λ (c : Candidate). c.text) left
+last_texts label [] = refl
+last_texts label (c ∷ left) = append-nil (map (λ (c : Candidate). c.text) (c ∷ left))
 
 -- some of the texts find room where all of them do
 within_all : (journal batches : List Batch) (left : List Candidate) (texts some more : List Placed) → FindRoom journal texts → texts ≡ some ++ more → texts_of batches ++ map (λ (c : Candidate). c.text) left ≡ bytes_of some
@@ -103,8 +102,8 @@ within_all journal batches left texts some more room split all =
       omega (arith, bytes, sizes, candidate_bytes left, less, room.1),
     )
 
-module _ {D J : Type 0} (disk : D → DiskState) (left_since : D → ℕ → List ℕ → Type 0) (one : OneGame) (source source_after : Stream) (before after : Stored D) (report : Report J) (stored : List Game)
-    (is : ImportsAlone disk left_since source before source_after after report) (can : CanEnd disk source before) (quiet : IsFaultless disk source source_after before after) (are : AreGamesOf (journal before) stored)
+module _ {D J : Type 0} {label : List ℕ} (disk : D → DiskState) (left_since : D → ℕ → List ℕ → Type 0) (one : OneGame) (source source_after : Stream) (before after : Stored D) (report : Report J) (stored : List Game)
+    (is : ImportsAlone label disk left_since source before source_after after report) (can : CanEnd disk source before) (quiet : IsFaultless disk source source_after before after) (are : AreGamesOf (journal before) stored)
     (new : HasNewGames stored can.bytes) (room : FindRoom (journal before) new.texts) where
   journal_is : is.start.journal ≡ journal before
   journal_is = ap (λ (s : Store). s.journal) is.start_is
@@ -127,12 +126,12 @@ module _ {D J : Type 0} (disk : D → DiskState) (left_since : D → ℕ → Lis
 
   whole_by : report.end ≡ ends.Whole → StoresAll {J = J} ends.Whole (journal before) new.texts report.refused.items (journal after)
   whole_by ended =
-      let stands = subst (λ (e : End J). StandsAt e is.start is.stream source_after.left is.batches report.refused.items (stored_in after)) ended is.stands in
+      let stands = subst (λ (e : End J). StandsAt label e is.start is.stream source_after.left is.batches report.refused.items (stored_in after)) ended is.stands in
       let stores = subst (λ (e : End J). StoresBy e (is.start.journal ++ is.batches) is.start.fault (stored_in after)) ended is.stores in
       let accounted = stands.2.accounted in
       let bytes = taken_all can.bytes is.stream source_after.left taken stands.0 in
       let all : all_cuts (groups (cuts is.stream)) ≡ as_cuts new.texts = flat_groups (cuts is.stream) ∙ ap cuts (sym bytes) ∙ new.all in
-      let done = all_stored one is.start.games (groups (cuts is.stream)) accounted.examinations new.texts new.games accounted.are_examinations all new.are_games different in (
+      let done = all_stored label one is.start.games (groups (cuts is.stream)) accounted.examinations new.texts new.games accounted.are_examinations all new.are_games different in (
         accounted.yields.refused_are ∙ done.none_refused,
         ap texts_of stores.0 ∙ texts_behind is.start.journal is.batches ∙ (λ i. texts_of (journal_is i) ++ texts_of (accounted.yields.batches_are i))
             ∙ ap (λ (l : List (List ℕ)). texts_of (journal before) ++ l) done.texts_are,
@@ -141,7 +140,7 @@ module _ {D J : Type 0} (disk : D → DiskState) (left_since : D → ℕ → Lis
   never_full : (a b : ℕ) (note : List Batch) → report.end ≡ ends.Full a b note → ⊥
   unfolding verdicts_in_turn
   never_full a b note ended =
-      let stands = subst (λ (e : End J). StandsAt e is.start is.stream source_after.left is.batches report.refused.items (stored_in after)) ended is.stands in
+      let stands = subst (λ (e : End J). StandsAt label e is.start is.stream source_after.left is.batches report.refused.items (stored_in after)) ended is.stands in
       let x = stands.2.0 in
       let none = stands.2.1 in
       let e = x.ends in
@@ -150,13 +149,13 @@ module _ {D J : Type 0} (disk : D → DiskState) (left_since : D → ℕ → Lis
       let front = front_of (all_cuts e.done ++ e.next) at.more new.texts new.games is.start.games all new.are_games different in
       let earlier = e.settled.accounted.examinations in
       let each = zip-append (AllZip IsExaminationOf) e.done (e.next ∷ []) earlier (e.examinations ∷ []) e.settled.accounted.are_examinations (e.are_examinations, tt) in
-      let done = all_stored one is.start.games (e.done ++ e.next ∷ []) (earlier ++ e.examinations ∷ []) front.some front.first each (all_cuts-last e.done e.next ∙ front.front_is) front.first_are front.different in
+      let done = all_stored label one is.start.games (e.done ++ e.next ∷ []) (earlier ++ e.examinations ∷ []) front.some front.first each (all_cuts-last e.done e.next ∙ front.front_is) front.first_are front.different in
       let left_is = left_behind one is.start x.so_far is.batches report.refused.items x.left e is_open in
-      let last : batches_behind (games_after is.start.games earlier) (e.examinations ∷ []) ≡ cons_option (batch_of no_label x.left) [] = ap (λ (cs : List Candidate). cons_option (batch_of no_label cs) []) (sym left_is) in
-      let batches : batches_behind is.start.games (earlier ++ e.examinations ∷ []) ≡ is.batches ++ cons_option (batch_of no_label x.left) [] =
-      batches-append is.start.games earlier (e.examinations ∷ []) ∙ (λ i. sym e.settled.accounted.yields.batches_are i ++ last i) in
+      let last : batches_behind label (games_after is.start.games earlier) (e.examinations ∷ []) ≡ cons_option (batch_of label x.left) [] = ap (λ (cs : List Candidate). cons_option (batch_of label cs) []) (sym left_is) in
+      let batches : batches_behind label is.start.games (earlier ++ e.examinations ∷ []) ≡ is.batches ++ cons_option (batch_of label x.left) [] =
+      batches-append label is.start.games earlier (e.examinations ∷ []) ∙ (λ i. sym e.settled.accounted.yields.batches_are i ++ last i) in
       let texts : texts_of is.batches ++ map (λ (c : Candidate). c.text) x.left ≡ bytes_of front.some =
-      ap (λ (l : List (List ℕ)). texts_of is.batches ++ l) (sym (last_texts x.left)) ∙ sym (ap texts_of batches ∙ texts_behind is.batches (cons_option (batch_of no_label x.left) [])) ∙ done.texts_are in
+      ap (λ (l : List (List ℕ)). texts_of is.batches ++ l) (sym (last_texts label x.left)) ∙ sym (ap texts_of batches ∙ texts_behind is.batches (cons_option (batch_of label x.left) [])) ∙ done.texts_are in
       let R : List Batch → Type 0 = λ j. FindRoom j new.texts in
       let within = within_all is.start.journal is.batches x.left new.texts front.some front.more (subst R (sym journal_is) room) front.is texts in
       let games = none.games_are ∙ ap game_count stands.1 in

@@ -6,7 +6,6 @@ use Rattle.outside.specs.Stream.{Stream}
 use Rattle.explorer_model.specs.declared.archive.Batch.{Batch}
 use Rattle.explorer_model.specs.declared.archive.Game.{Game}
 use Rattle.explorer_model.specs.Cuts.{Cut, cuts}
-use Rattle.explorer_model.specs.Labels.{no_label}
 use Rattle.explorer_model.specs.Imports.{Accounted, AreExaminations, batch_of, groups}
 use Rattle.explorer_model.specs.Journal.{IsSound, byte_count, game_count}
 use Rattle.explorer_model.specs.Visits.{AreGamesOf, texts_of}
@@ -74,9 +73,9 @@ pair_same a b a' b' e =
 is_some : (o : Option (ℕ × ℕ)) (x : ℕ × ℕ) → o ≡ Some x → IsSome o
 is_some o x is = subst (λ (p : Option (ℕ × ℕ)). IsSome p) (sym is) refl
 
-module _ {D J : Type 0} (disk : D → DiskState) (left_since : D → ℕ → List ℕ → Type 0) (one : OneGame) (same_batches : SameBatches) (same_refused : SameRefused) (bytes : List ℕ)
+module _ {D J : Type 0} {label : List ℕ} (disk : D → DiskState) (left_since : D → ℕ → List ℕ → Type 0) (one : OneGame) (same_batches : SameBatches label) (same_refused : SameRefused label) (bytes : List ℕ)
     (source source_after source_other : Stream) (before after other_after : Stored D) (report other : Report J) (told : source.left ≡ Some bytes)
-    (first : ImportsAlone disk left_since source before source_after after report) (second : ImportsAlone disk left_since source before source_other other_after other) where
+    (first : ImportsAlone label disk left_since source before source_after after report) (second : ImportsAlone label disk left_since source before source_other other_after other) where
   stores_are : second.start.journal ≡ first.start.journal
   stores_are = ap (λ (s : Store). s.journal) second.start_is ∙ sym (ap (λ (s : Store). s.journal) first.start_is)
 
@@ -105,7 +104,7 @@ module _ {D J : Type 0} (disk : D → DiskState) (left_since : D → ℕ → Lis
         refused = refused;
       }
 
-  module _ (x : EndsAt first.start first.stream source_after.left first.batches report.refused.items) (y : EndsAt second.start second.stream source_other.left second.batches other.refused.items) where
+  module _ (x : EndsAt label first.start first.stream source_after.left first.batches report.refused.items) (y : EndsAt label second.start second.stream source_other.left second.batches other.refused.items) where
     there : Reaches (cuts bytes) x.ends.done x.ends.next
     there = reaches bytes first.stream source_after.left x.so_far x.ends.done x.ends.next x.ends.rest taken x.are_so_far x.ends.so_far_is
 
@@ -169,11 +168,11 @@ module _ {D J : Type 0} (disk : D → DiskState) (left_since : D → ℕ → Lis
 
   -- ---- by the ends
 
-  stands_by : (end : End J) → report.end ≡ end → StandsAt end first.start first.stream source_after.left first.batches report.refused.items (stored_in after)
-  stands_by end is = subst (λ (e : End J). StandsAt e first.start first.stream source_after.left first.batches report.refused.items (stored_in after)) is first.stands
+  stands_by : (end : End J) → report.end ≡ end → StandsAt label end first.start first.stream source_after.left first.batches report.refused.items (stored_in after)
+  stands_by end is = subst (λ (e : End J). StandsAt label e first.start first.stream source_after.left first.batches report.refused.items (stored_in after)) is first.stands
 
-  stands_by_other : (end : End J) → other.end ≡ end → StandsAt end second.start second.stream source_other.left second.batches other.refused.items (stored_in other_after)
-  stands_by_other end is = subst (λ (e : End J). StandsAt e second.start second.stream source_other.left second.batches other.refused.items (stored_in other_after)) is second.stands
+  stands_by_other : (end : End J) → other.end ≡ end → StandsAt label end second.start second.stream source_other.left second.batches other.refused.items (stored_in other_after)
+  stands_by_other end is = subst (λ (e : End J). StandsAt label e second.start second.stream source_other.left second.batches other.refused.items (stored_in other_after)) is second.stands
 
   sound_full : (a b : ℕ) (note : List Batch) → report.end ≡ ends.Full a b note → IsSound (first.start.journal ++ first.batches)
   sound_full a b note is =
@@ -207,8 +206,8 @@ module _ {D J : Type 0} (disk : D → DiskState) (left_since : D → ℕ → Lis
 
   -- ---- where the other one settled all of the stream
 
-  module _ (x : EndsAt first.start first.stream source_after.left first.batches report.refused.items) (ended : other.end ≡ ends.Whole) where
-    settled_all : AreSettled second.start (groups (cuts bytes)) second.batches other.refused.items
+  module _ (x : EndsAt label first.start first.stream source_after.left first.batches report.refused.items) (ended : other.end ≡ ends.Whole) where
+    settled_all : AreSettled label second.start (groups (cuts bytes)) second.batches other.refused.items
     settled_all = whole_of disk left_since one same_batches same_refused bytes source source_other before other_after other told second ended
 
     some_text_there : 0 < texts_in x.ends.next
@@ -223,8 +222,8 @@ module _ {D J : Type 0} (disk : D → DiskState) (left_since : D → ℕ → Lis
 
     not_full : (a b : ℕ) → first.start.fault ≡ None → FindsNoRoom (first.start.journal ++ first.batches) a b x.left → ⊥
     not_full a b is_open no_room =
-        let A : List Game → Type 0 = λ g. Accounted no_label g (groups (cuts bytes)) second.batches other.refused.items in
-        let B : List (List Cut) → Type 0 = λ gs. Accounted no_label first.start.games gs second.batches other.refused.items in
+        let A : List Game → Type 0 = λ g. Accounted label g (groups (cuts bytes)) second.batches other.refused.items in
+        let B : List (List Cut) → Type 0 = λ gs. Accounted label first.start.games gs second.batches other.refused.items in
         let accounted = subst B among.is (subst A games_are settled_all.accounted) in
         let has = stored_among one same_batches same_refused first.start x.so_far first.batches report.refused.items x.left x.ends among.extra among.rest second.batches other.refused.items among.none accounted is_open in
         let stores = subst (λ (e : End J). StoresBy e (second.start.journal ++ second.batches) second.start.fault (stored_in other_after)) ended second.stores in
@@ -243,7 +242,7 @@ module _ {D J : Type 0} (disk : D → DiskState) (left_since : D → ℕ → Lis
       let x = stands_by (ends.DiskFault a b mark) is in
       let y = stands_by_other (ends.DiskFault a' b' mark') also in
       let both = ends_alike x.2.0 y.2.0 x.1 long in
-      (both.0, x.2.2 ∙ ap (batch_of no_label) both.1 ∙ sym y.2.2)
+      (both.0, x.2.2 ∙ ap (batch_of label) both.1 ∙ sym y.2.2)
 
   pub not_full_and_whole : (a b : ℕ) (note : List Batch) → report.end ≡ ends.Full a b note → other.end ≡ ends.Whole → ⊥
   not_full_and_whole a b note is also =
@@ -272,9 +271,9 @@ module _ {D J : Type 0} (disk : D → DiskState) (left_since : D → ℕ → Lis
 
 -- ---- ends that the stream and the store decide
 
-module _ {D J : Type 0} (disk : D → DiskState) (left_since : D → ℕ → List ℕ → Type 0) (one : OneGame) (same_batches : SameBatches) (same_refused : SameRefused) (bytes : List ℕ)
+module _ {D J : Type 0} {label : List ℕ} (disk : D → DiskState) (left_since : D → ℕ → List ℕ → Type 0) (one : OneGame) (same_batches : SameBatches label) (same_refused : SameRefused label) (bytes : List ℕ)
     (source source_after source_other : Stream) (before after other_after : Stored D) (report other : Report J) (told : source.left ≡ Some bytes)
-    (first : ImportsAlone disk left_since source before source_after after report) (second : ImportsAlone disk left_since source before source_other other_after other) where
+    (first : ImportsAlone label disk left_since source before source_after after report) (second : ImportsAlone label disk left_since source before source_other other_after other) where
   by_ends : (end end' : End J) → report.end ≡ end → other.end ≡ end' → IsPlainEnd end → IsPlainEnd end' → AreAlike first.batches second.batches report other × (report.end ≡ other.end)
   by_ends ends.Whole ends.Whole is also p q = whole_alike disk left_since one same_batches same_refused bytes source source_after source_other before after other_after report other told first second is also
   by_ends (ends.Full a b note) (ends.Full a' b' note') is also p q =

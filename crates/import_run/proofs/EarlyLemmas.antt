@@ -11,7 +11,6 @@ use Rattle.explorer_model.specs.declared.archive.Game.{Game}
 use Rattle.explorer_model.specs.declared.fault.Refusal.{Refusal}
 use Rattle.explorer_model.specs.declared.fault.GameFault.{GameFault}
 use Rattle.explorer_model.specs.Cuts.{Cut, Preamble, Text, TooLong}
-use Rattle.explorer_model.specs.Labels.{no_label}
 use Rattle.explorer_model.specs.Imports.{Accounted, AreExaminations, Candidate, Examination, IsExaminationOf, Read, Verdict, batch_of, candidates, numbers_of, verdicts, verdicts_behind, verdicts_in_turn}
 use Rattle.explorer_model.specs.Journal.{IsSound, byte_count, game_count}
 use Rattle.explorer_model.specs.Visits.{AreGamesOf, texts_of}
@@ -54,29 +53,42 @@ unfolding verdicts_in_turn
 turns-append stored [] more = refl
 turns-append stored (group ∷ first) more = ap (λ (l : List (List Verdict)). verdicts_behind (numbers_of stored) group ∷ l) (turns-append (and_games stored group) first more)
 
-pub batches-append : (stored : List Game) (first more : List (List Examination)) → batches_behind stored (first ++ more) ≡ batches_behind stored first ++ batches_behind (games_after stored first) more
-batches-append stored first more =
-    ap (filter_map batch_in) (turns-append stored first more)
-    ∙ filter_map-append batch_in (verdicts_in_turn stored first) (verdicts_in_turn (games_after stored first) more)
+pub batches-append : (label : List ℕ) (stored : List Game) (first more : List (List Examination)) → batches_behind label stored (first ++ more) ≡ batches_behind label stored first ++ batches_behind label (games_after stored first) more
+batches-append label stored first more =
+    ap (filter_map (batch_in label)) (turns-append stored first more)
+    ∙ filter_map-append (batch_in label) (verdicts_in_turn stored first) (verdicts_in_turn (games_after stored first) more)
+
+-- groups that are accounted behind the same games have the same batches, and the same is refused
+pub one_batches : OneGame → (label : List ℕ) → SameBatches label
+one_batches one label stored groups batches others refused other a b =
+    a.yields.batches_are
+    ∙ ap (batches_behind label stored) (one_groups one groups a.examinations b.examinations a.are_examinations b.are_examinations)
+    ∙ sym b.yields.batches_are
+
+pub one_refused : OneGame → (label : List ℕ) → SameRefused label
+one_refused one label stored groups batches others refused other a b =
+    a.yields.refused_are
+    ∙ ap (refused_behind stored) (one_groups one groups a.examinations b.examinations a.are_examinations b.are_examinations)
+    ∙ sym b.yields.refused_are
 
 one_before : (journal batches : List Batch) (o : Option Batch) → (journal ++ cons_option o []) ++ batches ≡ journal ++ cons_option o batches
 one_before journal batches None = ap (λ (l : List Batch). l ++ batches) (append-nil journal)
 one_before journal batches (Some batch) = append_assoc journal (batch ∷ []) batches
 
 -- the games of the journal with the batches of groups
-after_groups : (journal : List Batch) (games : List Game) (groups : List (List Cut)) (examinations : List (List Examination)) → AreGamesOf journal games → AreExaminations groups examinations
-    → AreGamesOf (journal ++ batches_behind games examinations) (games_after games examinations)
+after_groups : (label : List ℕ) (journal : List Batch) (games : List Game) (groups : List (List Cut)) (examinations : List (List Examination)) → AreGamesOf journal games → AreExaminations groups examinations
+    → AreGamesOf (journal ++ batches_behind label games examinations) (games_after games examinations)
 unfolding verdicts_in_turn
-after_groups journal games [] [] are each = subst (λ (j : List Batch). AreGamesOf j games) (sym (append-nil journal)) are
-after_groups journal games [] (group ∷ examinations) are each = absurd each
-after_groups journal games (cuts ∷ groups) [] are each = absurd each
-after_groups journal games (cuts ∷ groups) (group ∷ examinations) are each =
-    let o = batch_of no_label (candidates (verdicts_behind (numbers_of games) group)) in
-    let more = batches_behind (and_games games group) examinations in
+after_groups label journal games [] [] are each = subst (λ (j : List Batch). AreGamesOf j games) (sym (append-nil journal)) are
+after_groups label journal games [] (group ∷ examinations) are each = absurd each
+after_groups label journal games (cuts ∷ groups) [] are each = absurd each
+after_groups label journal games (cuts ∷ groups) (group ∷ examinations) are each =
+    let o = batch_of label (candidates (verdicts_behind (numbers_of games) group)) in
+    let more = batches_behind label (and_games games group) examinations in
     let last = games_after (and_games games group) examinations in
     let here = by_batch journal games cuts group are each.0 o refl in
     subst (λ (j : List Batch). AreGamesOf j last) (one_before journal more o)
-    (after_groups (journal ++ cons_option o []) (and_games games group) groups examinations here each.1)
+    (after_groups label (journal ++ cons_option o []) (and_games games group) groups examinations here each.1)
 
 -- two lists that are paired with one behind the other
 record SplitZip {A B : Type 0} (R : A → B → Type 0) (xs : List A) (y : A) (ys : List A) (zs : List B) : Type 0 where
@@ -161,9 +173,9 @@ one_longer batches others left has same = omega (arith, ap length has.is, length
 
 -- ---- two ends
 
-some_batch : (cs : List Candidate) → (cs ≡ [] → ⊥) → (batch : Batch) × (batch_of no_label cs ≡ Some batch)
-some_batch [] some = absurd (some refl)
-some_batch (c ∷ cs) some = (_, refl)
+some_batch : (label : List ℕ) (cs : List Candidate) → (cs ≡ [] → ⊥) → (batch : Batch) × (batch_of label cs ≡ Some batch)
+some_batch label [] some = absurd (some refl)
+some_batch label (c ∷ cs) some = (_, refl)
 
 none_some : (counts : ℕ × ℕ) → Some counts ≡ None → ⊥
 none_some counts e = cc
@@ -181,24 +193,24 @@ at_place [] group more none = none.0
 at_place (other ∷ first) group more none = at_place first group more none.1
 
 -- what is left of the group is what the games judge that are stored by then
-pub left_behind : OneGame → (start : Known) (so_far : List (List Cut)) (batches : List Batch) (refused : List Refusal) (left : List Candidate) (e : EndsIn start so_far batches refused left) → start.fault ≡ None
+pub left_behind : {label : List ℕ} → OneGame → (start : Known) (so_far : List (List Cut)) (batches : List Batch) (refused : List Refusal) (left : List Candidate) (e : EndsIn label start so_far batches refused left) → start.fault ≡ None
     → left ≡ candidates (verdicts_behind (numbers_of (games_after start.games e.settled.accounted.examinations)) e.examinations)
-left_behind one start so_far batches refused left e is_open =
+left_behind {label} one start so_far batches refused left e is_open =
     let earlier = e.settled.accounted.examinations in
     let stored = games_after start.games earlier in
     let G : List Batch → Type 0 = λ j. AreGamesOf j stored in
-    let behind : batches_behind start.games earlier ≡ batches = sym e.settled.accounted.yields.batches_are in
+    let behind : batches_behind label start.games earlier ≡ batches = sym e.settled.accounted.yields.batches_are in
     let are : AreGamesOf (start.journal ++ batches) stored =
-    subst G (ap (λ (l : List Batch). start.journal ++ l) behind) (after_groups start.journal start.games e.done earlier start.are_games e.settled.accounted.are_examinations) in
+    subst G (ap (λ (l : List Batch). start.journal ++ l) behind) (after_groups label start.journal start.games e.done earlier start.are_games e.settled.accounted.are_examinations) in
     let games : e.known.games ≡ stored = same_games one (texts_of e.known.journal) e.known.games stored e.known.are_games (subst G (sym e.journal_is) are) in
     e.left_are ∙ kept_open e.known.fault e.known.games (verdicts e.examinations) (e.fault_is ∙ is_open) ∙ ap (λ (g : List Game). kept (numbers_of g) (verdicts e.examinations)) games
 
-module _ (one : OneGame) (same_batches : SameBatches) (same_refused : SameRefused) where
+module _ {label : List ℕ} (one : OneGame) (same_batches : SameBatches label) (same_refused : SameRefused label) where
   -- a group behind which cuts without a text stand
-  module _ (start : Known) (so_far : List (List Cut)) (batches : List Batch) (refused : List Refusal) (left : List Candidate) (e : EndsIn start so_far batches refused left)
+  module _ (start : Known) (so_far : List (List Cut)) (batches : List Batch) (refused : List Refusal) (left : List Candidate) (e : EndsIn label start so_far batches refused left)
       (extra : List Cut) (rest : List (List Cut)) where
     -- it was stored among others
-    pub stored_among : (batches' : List Batch) (refused' : List Refusal) → texts_in extra ≡ 0 → Accounted no_label start.games (e.done ++ (e.next ++ extra) ∷ rest) batches' refused' → start.fault ≡ None → HasBatchOf batches batches' left
+    pub stored_among : (batches' : List Batch) (refused' : List Refusal) → texts_in extra ≡ 0 → Accounted label start.games (e.done ++ (e.next ++ extra) ∷ rest) batches' refused' → start.fault ≡ None → HasBatchOf batches batches' left
     unfolding verdicts_in_turn
     stored_among batches' refused' none accounted is_open =
         let parts = split_zip (AllZip IsExaminationOf) e.done (e.next ++ extra) rest accounted.examinations accounted.are_examinations in
@@ -207,20 +219,20 @@ module _ (one : OneGame) (same_batches : SameBatches) (same_refused : SameRefuse
         let here : e.examinations ≡ both.first = one_group one e.next e.examinations both.first e.are_examinations both.first_are in
         let no = unread extra both.second none both.second_are in
         let stored = games_after start.games e.settled.accounted.examinations in
-        let behind : batches_behind start.games e.settled.accounted.examinations ≡ batches = sym e.settled.accounted.yields.batches_are in
+        let behind : batches_behind label start.games e.settled.accounted.examinations ≡ batches = sym e.settled.accounted.yields.batches_are in
         let left_is = left_behind one start so_far batches refused left e is_open in
-        let some = some_batch left e.some_left in
-        let last = batches_behind (and_games (games_after start.games parts.front) parts.at) parts.rest in
+        let some = some_batch label left e.some_left in
+        let last = batches_behind label (and_games (games_after start.games parts.front) parts.at) parts.rest in
         let more : candidates (verdicts_behind (numbers_of stored) parts.at) ≡ candidates (verdicts_behind (numbers_of stored) e.examinations) =
         ap (λ (l : List Examination). candidates (verdicts_behind (numbers_of stored) l)) both.is ∙ ap candidates (behind_refused (numbers_of stored) both.first both.second no.0 no.1)
         ∙ candidates_more (verdicts_behind (numbers_of stored) both.first) no.0 ∙ ap (λ (l : List Examination). candidates (verdicts_behind (numbers_of stored) l)) (sym here) in
-        let made : batch_of no_label (candidates (verdicts_behind (numbers_of (games_after start.games parts.front)) parts.at)) ≡ Some some.0 =
-        ap (λ (l : List (List Examination)). batch_of no_label (candidates (verdicts_behind (numbers_of (games_after start.games l)) parts.at))) (sym front) ∙ ap (batch_of no_label) (more ∙ sym left_is) ∙ some.1 in
+        let made : batch_of label (candidates (verdicts_behind (numbers_of (games_after start.games parts.front)) parts.at)) ≡ Some some.0 =
+        ap (λ (l : List (List Examination)). batch_of label (candidates (verdicts_behind (numbers_of (games_after start.games l)) parts.at))) (sym front) ∙ ap (batch_of label) (more ∙ sym left_is) ∙ some.1 in
         record {
           batch = some.0;
           more = last;
-          is = accounted.yields.batches_are ∙ ap (batches_behind start.games) parts.is ∙ batches-append start.games parts.front (parts.at ∷ parts.rest)
-              ∙ ap (λ (l : List Batch). l ++ batches_behind (games_after start.games parts.front) (parts.at ∷ parts.rest)) (ap (batches_behind start.games) (sym front) ∙ behind)
+          is = accounted.yields.batches_are ∙ ap (batches_behind label start.games) parts.is ∙ batches-append label start.games parts.front (parts.at ∷ parts.rest)
+              ∙ ap (λ (l : List Batch). l ++ batches_behind label (games_after start.games parts.front) (parts.at ∷ parts.rest)) (ap (batches_behind label start.games) (sym front) ∙ behind)
               ∙ ap (λ (o : Option Batch). batches ++ cons_option o last) made;
           texts = batch_texts left some.0 some.1;
         }
@@ -247,12 +259,12 @@ module _ (one : OneGame) (same_batches : SameBatches) (same_refused : SameRefuse
         e.some_left (e.left_are ∙ ap candidates (alone_refused number e.examinations no.0 no.1) ∙ no_candidates no.0)
 
   module _ (start start' : Known) (games_are : start'.games ≡ start.games) (journal_are : start'.journal ≡ start.journal) (faults_are : start'.fault ≡ start.fault)
-      (so_far so_far' : List (List Cut)) (batches batches' : List Batch) (refused refused' : List Refusal) (left left' : List Candidate) (e : EndsIn start so_far batches refused left) (f : EndsIn start' so_far' batches' refused' left') where
+      (so_far so_far' : List (List Cut)) (batches batches' : List Batch) (refused refused' : List Refusal) (left left' : List Candidate) (e : EndsIn label start so_far batches refused left) (f : EndsIn label start' so_far' batches' refused' left') where
     -- at one group
     pub same_there : e.done ≡ f.done → e.next ≡ f.next → (batches ≡ batches') × ((refused ≡ refused') × (left ≡ left'))
     same_there done next =
-        let A : List Game → Type 0 = λ g. Accounted no_label g f.done batches' f.earlier in
-        let B : List (List Cut) → Type 0 = λ d. Accounted no_label start.games d batches' f.earlier in
+        let A : List Game → Type 0 = λ g. Accounted label g f.done batches' f.earlier in
+        let B : List (List Cut) → Type 0 = λ d. Accounted label start.games d batches' f.earlier in
         let accounted = subst B (sym done) (subst A games_are f.settled.accounted) in
         let bs = same_batches start.games e.done batches batches' e.earlier f.earlier e.settled.accounted accounted in
         let rs = same_refused start.games e.done batches batches' e.earlier f.earlier e.settled.accounted accounted in
@@ -272,9 +284,9 @@ module _ (one : OneGame) (same_batches : SameBatches) (same_refused : SameRefuse
     -- the group was stored by the other import
     pub stored_later : GoesOnWith f.done e.done e.next → start.fault ≡ None → HasBatchOf batches batches' left
     stored_later goes is_open =
-        let A : List Game → Type 0 = λ g. Accounted no_label g f.done batches' f.earlier in
-        let B : List (List Cut) → Type 0 = λ d. Accounted no_label start.games d batches' f.earlier in
-        let C : List Cut → Type 0 = λ group. Accounted no_label start.games (e.done ++ group ∷ goes.rest) batches' f.earlier in
+        let A : List Game → Type 0 = λ g. Accounted label g f.done batches' f.earlier in
+        let B : List (List Cut) → Type 0 = λ d. Accounted label start.games d batches' f.earlier in
+        let C : List Cut → Type 0 = λ group. Accounted label start.games (e.done ++ group ∷ goes.rest) batches' f.earlier in
         let accounted = subst C (sym (append-nil e.next)) (subst B goes.is (subst A games_are f.settled.accounted)) in
         stored_among start so_far batches refused left e [] goes.rest batches' f.earlier refl accounted is_open
 

@@ -1,5 +1,5 @@
 -- From one commit of a group to the next.
-use Rattle.std.proofs.Common.{◌≡◌, ◌<◌, ◌≤◌, ◌+◌, inl, inr, ℕ, Bool, true, false, cond, List, [], ◌∷◌, ◌++◌, length, map, filter, get_or, Option, None, Some, Result, Ok, Err, refl, sym, ap, ◌∙◌, subst, arith, zero, suc, add-one}
+use Rattle.std.proofs.Common.{◌≡◌, ◌<◌, ◌≤◌, ◌+◌, inl, inr, ℕ, Bool, true, false, cond, List, [], ◌∷◌, ◌++◌, length, map, filter, get_or, Option, None, Some, option_map, Result, Ok, Err, refl, sym, ap, ◌∙◌, subst, arith, zero, suc, add-one}
 use Rattle.std.proofs.lemmas.List.{length-map}
 use Rattle.std.specs.List.{All, AllByRecursion, AllZip}
 use Rattle.std.specs.Prelude.{OnErr, is_none}
@@ -9,11 +9,10 @@ use Rattle.explorer_model.specs.declared.archive.Game.{Game}
 use Rattle.explorer_model.specs.declared.archive.Placed.{Placed}
 use Rattle.explorer_model.specs.declared.fault.Refusal.{Refusal}
 use Rattle.explorer_model.specs.Cuts.{Cut}
-use Rattle.explorer_model.specs.Labels.{no_label}
 use Rattle.explorer_model.specs.Imports.{Candidate, Numbering, batch_of, candidates, numbers_of, refusals, verdicts}
 use Rattle.published_index.specs.Changes.{Change}
 use Rattle.tally_rows.specs.Tally.{Counted}
-use Rattle.batch_tally.specs.Tallying.{IsExaminationOfText, IsTallying, IsTallyMade, Counts}
+use Rattle.batch_tally.specs.Tallying.{IsExaminationOfText, IsTallying}
 use Rattle.batch_tally.specs.declared.tallying.Tallying.{Tallying}
 use Rattle.ingest_desk.specs.Causes.{HasIds, IsClosed, cause, cause_by}
 use Rattle.ingest_desk.specs.Clashes.{and_clash, clashes_from, clashes_of, ids_of}
@@ -27,18 +26,20 @@ use Rattle.import_run.specs.declared.text_group.TalliedGroup.{TalliedGroup}
 use Rattle.import_run.specs.Committing.{Commits, Known, Store, store_of}
 use Rattle.import_run.specs.Grouping.{Ascend, IsTallied, merged}
 use Rattle.import_run.specs.Hand.{InHand}
+use Rattle.import_run.specs.Labelling.{CountsUnder, IsTallyUnder, under}
 use Rattle.import_run.specs.Rounds.{IsAnswer, IsBatchOf, IsDecided, IsStill, MayHaveMore, MayStore, Rounds, Settles, size_of, stored_by}
 use Rattle.import_run.specs.Settling.{AreRead, Fresh, id_of, kept, left_by, lost, named_by, placed}
+use Rattle.import_run.proofs.LabelLemmas.{counts_own, made_under}
 use Rattle.import_run.proofs.VerdictLemmas.{OneGame, again, ascends, exact, fewer_fresh, fewer_read, found, found_right, fresh, kept-left, kept_found, merged_lost, same_settled, settled_none}
 
 -- ---- the tally of candidates
 
-pub batch_texts : (cs : List Candidate) (batch : Batch) → batch_of no_label cs ≡ Some batch → batch.texts ≡ map (λ c. c.text) cs
-batch_texts [] batch e = absurd (none_some batch e)
+pub batch_texts : {label : List ℕ} (cs : List Candidate) (batch : Batch) → batch_of label cs ≡ Some batch → batch.texts ≡ map (λ c. c.text) cs
+batch_texts {label} [] batch e = absurd (none_some batch e)
   where
     none_some : (b : Batch) → None ≡ Some b → ⊥
     none_some b e = cc
-batch_texts (c ∷ cs) batch e = ap (λ (b : Batch). b.texts) (sym (same_some _ _ e))
+batch_texts {label} (c ∷ cs) batch e = ap (λ (b : Batch). b.texts) (sym (same_some _ _ e))
   where
     same_some : (a b : Batch) → Some a ≡ Some b → a ≡ b
     same_some a b e = cc
@@ -47,12 +48,12 @@ classes_ids : (cs : List Candidate) → ids_of (map (λ c. c.game.classes) cs) �
 classes_ids [] = refl
 classes_ids (c ∷ cs) = ap (λ (l : List (List ℕ)). id_of c ∷ l) (classes_ids cs)
 
-pub counted_ids : (cs : List Candidate) (counted : Counted) → Counts cs counted → ids_of counted.classes ≡ map id_of cs
-counted_ids cs counted counts = ap ids_of counts.classes ∙ classes_ids cs
+pub counted_ids : {label : List ℕ} (cs : List Candidate) (counted : Counted) → CountsUnder label cs counted → ids_of counted.classes ≡ map id_of cs
+counted_ids {label} cs counted counts = ap ids_of counts.counts.classes ∙ classes_ids cs
 
-pub size_is : (cs : List Candidate) (tally : Option Counted) → IsTallyMade cs tally → size_of tally ≡ length cs
-size_is cs None made = ap length (sym made)
-size_is cs (Some counted) made = ap length (batch_texts cs counted.batch made.batch) ∙ length-map cs (λ (c : Candidate). c.text)
+pub size_is : {label : List ℕ} (cs : List Candidate) (tally : Option Counted) → IsTallyUnder label cs tally → size_of tally ≡ length cs
+size_is {label} cs None made = ap length (sym made)
+size_is {label} cs (Some counted) made = ap length (batch_texts cs counted.batch made.batch) ∙ length-map cs (λ (c : Candidate). c.text)
 
 -- ---- the rest is shorter
 
@@ -96,37 +97,37 @@ short P number cs all = short_all P (left_by number cs) (short_left P (λ c. is_
 -- ---- rounds
 
 -- the candidates that are kept are in hand
-pub hand : (told : Option Store) (cuts : List Cut) (counted : Counted) (places : List ℕ) (refused : List Refusal) (now : Option Store) → Rounds told cuts (Some counted) places refused now → InHand counted places
-hand told cuts counted places refused now r =
+pub hand : {label : List ℕ} (told : Option Store) (cuts : List Cut) (counted : Counted) (places : List ℕ) (refused : List Refusal) (now : Option Store) → Rounds label told cuts (Some counted) places refused now → InHand counted places
+hand {label} told cuts counted places refused now r =
     let all = fresh cuts [] r.examinations r.are_examinations in
     let same = kept-left r.stored (verdicts r.examinations) in
     let P : List Candidate → Type 0 = λ cs. AreRead cs in
     let Q : List Candidate → Type 0 = λ cs. Fresh [] cs in
     record {
       candidates = kept r.stored (verdicts r.examinations);
-      counts = r.made;
+      counts = counts_own label (kept r.stored (verdicts r.examinations)) counted r.made;
       places_are = r.places_are;
       read = subst P (sym same) (fewer_read (λ c. is_none (r.stored (id_of c))) (candidates (verdicts r.examinations)) all.1);
       fresh = subst Q (sym same) (fewer_fresh (λ c. is_none (r.stored (id_of c))) [] (candidates (verdicts r.examinations)) all.0);
     }
 
 -- some more ids were found to be stored
-unfoldable pub more : OneGame → (told : Option Store) (cuts : List Cut) (counted : Counted) (places : List ℕ) (refused : List Refusal) (now : Option Store) (r : Rounds told cuts (Some counted) places refused now)
-    (number : Numbering) (named refused' : List Refusal) (rest : List Placed) (next : Tallying) (now' : Option Store)
+unfoldable pub more : {label : List ℕ} → OneGame → (told : Option Store) (cuts : List Cut) (counted : Counted) (places : List ℕ) (refused : List Refusal) (now : Option Store) (r : Rounds label told cuts (Some counted) places refused now)
+    (number : Numbering) (named refused' : List Refusal) (rest : List Placed) (next : Tallying) (tally : Option Counted) (now' : Option Store)
     → named ≡ named_by number (kept r.stored (verdicts r.examinations)) → rest ≡ map placed (left_by number (kept r.stored (verdicts r.examinations)))
-    → refused' ≡ merged refused named → IsTallying rest next
+    → refused' ≡ merged refused named → IsTallying rest next → tally ≡ option_map (under label) next.tally
     → ((known : Known) → told ≡ Some (store_of known) → IsStill known now')
     → ((known : Known) → told ≡ Some (store_of known) → (id : List ℕ) (n : ℕ) → number id ≡ Some n → stored_by known.fault known.games id ≡ Some n)
-    → Rounds told cuts next.tally next.places.items refused' now'
+    → Rounds label told cuts tally next.places.items refused' now'
 unfolding hand
-more one told cuts counted places refused now r number named refused' rest next now' named_are rest_are refused_are made still right =
+more {label} one told cuts counted places refused now r number named refused' rest next tally now' named_are rest_are refused_are made tally_is still right =
     let cs = kept r.stored (verdicts r.examinations) in
     let h = hand told cuts counted places refused now r in
     let left = left_by number cs in
     let each : AllZip IsExaminationOfText (map placed left) made.examinations = let P : List Placed → Type 0 = λ l. AllZip IsExaminationOfText l made.examinations in subst P rest_are made.are_examinations in
     let both = again one left made.examinations (fewer_read (λ c. is_none (number (id_of c))) cs h.read) (fewer_fresh (λ c. is_none (number (id_of c))) [] cs h.fresh) each in
     let now_kept : candidates (verdicts made.examinations) ≡ kept (found r.stored number) (verdicts r.examinations) = both.0 ∙ sym (kept_found r.stored number (verdicts r.examinations)) in
-    let P : List Candidate → Type 0 = λ cs. IsTallyMade cs next.tally in
+    let P : List Candidate → Type 0 = λ cs. IsTallyUnder label cs tally in
     record {
       ascend = r.ascend;
       examinations = r.examinations;
@@ -135,7 +136,7 @@ more one told cuts counted places refused now r number named refused' rest next 
       refused_are = refused_are ∙ ap (λ l. merged l named) r.refused_are ∙ ap (merged (lost r.stored (verdicts r.examinations))) named_are
           ∙ merged_lost r.stored number 0 (verdicts r.examinations) (ascends 0 cuts [] r.examinations r.ascend r.are_examinations);
       places_are = made.places ∙ ap (map (λ (c : Candidate). c.place)) now_kept;
-      made = subst P now_kept made.tally;
+      made = subst P now_kept (made_under label (candidates (verdicts made.examinations)) next.tally tally made.tally tally_is);
       still = still;
       right = λ known is id n e. found_right (r.stored id) (number id) n (stored_by known.fault known.games id) (r.right known is id n) (right known is id n) e;
     }
@@ -192,17 +193,17 @@ no_clashes games journal counted nothing = by (clashes_of (numbers_of games) cou
     by [] e = refl
     by (pair ∷ pairs) e = absurd (some_none _ e)
 
-unnamed : (fault : Option (ℕ × ℕ)) (games : List Game) (journal : List Batch) (counted : Counted) (cs : List Candidate) → Counts cs counted → cause fault games journal counted ≡ None
+unnamed : {label : List ℕ} (fault : Option (ℕ × ℕ)) (games : List Game) (journal : List Batch) (counted : Counted) (cs : List Candidate) → CountsUnder label cs counted → cause fault games journal counted ≡ None
     → AllByRecursion (λ c. stored_by fault games (id_of c) ≡ None) cs
-unnamed (Some f) games journal counted cs counts nothing = all_none cs
-unnamed None games journal counted cs counts nothing =
+unnamed {label} (Some f) games journal counted cs counts nothing = all_none cs
+unnamed {label} None games journal counted cs counts nothing =
     kept_none (numbers_of games) 0 cs (ap (clashes_from 0 (numbers_of games)) (sym (counted_ids cs counted counts)) ∙ no_clashes games journal counted nothing)
 
 module _ {J : Type 0} where
-  kept_unnamed : (fault : Option (ℕ × ℕ)) (games : List Game) (journal : List Batch) (answer : Result (Receipt J) (CommitFault J)) (counted : Counted) (held : Option Change) (cs : List Candidate) → Counts cs counted → IsDecided answer
+  kept_unnamed : {label : List ℕ} (fault : Option (ℕ × ℕ)) (games : List Game) (journal : List Batch) (answer : Result (Receipt J) (CommitFault J)) (counted : Counted) (held : Option Change) (cs : List Candidate) → CountsUnder label cs counted → IsDecided answer
       → Refuses answer (cause fault games journal counted) counted held → AllByRecursion (λ c. stored_by fault games (id_of c) ≡ None) cs
-  kept_unnamed (Some f) games journal answer counted held cs counts never refused = all_none cs
-  kept_unnamed None games journal answer counted held cs counts never refused =
+  kept_unnamed {label} (Some f) games journal answer counted held cs counts never refused = all_none cs
+  kept_unnamed {label} None games journal answer counted held cs counts never refused =
       kept_none (numbers_of games) 0 cs (ap (clashes_from 0 (numbers_of games)) (sym (counted_ids cs counted counts)) ∙ no_pairs answer (clashes_of (numbers_of games) counted.classes) journal counted held never refused)
 
   -- a clash leaves the store as it was
@@ -227,17 +228,17 @@ module _ {J : Type 0} where
 
   -- ---- the end of a group
 
-  pub settles : (known : Known) (cuts : List Cut) (places : List ℕ) (refused : List Refusal) (now : Option Store) (counted : Counted) (r : Rounds (Some (store_of known)) cuts (Some counted) places refused now)
+  pub settles : {label : List ℕ} (known : Known) (cuts : List Cut) (places : List ℕ) (refused : List Refusal) (now : Option Store) (counted : Counted) (r : Rounds label (Some (store_of known)) cuts (Some counted) places refused now)
       (answer : Result (Receipt J) (CommitFault J)) (done : Done J) (now' : Option Store) → IsDecided answer
-      → ((k : Known) → now ≡ Some (store_of k) → Commits answer k counted now') → done.answer ≡ Some answer → done.refused.items ≡ refused → Settles known cuts done now'
-  settles known cuts places refused now counted r answer done now' never holds answer_is refused_is =
+      → ((k : Known) → now ≡ Some (store_of k) → Commits answer k counted now') → done.answer ≡ Some answer → done.refused.items ≡ refused → Settles label known cuts done now'
+  settles {label} known cuts places refused now counted r answer done now' never holds answer_is refused_is =
       let still = r.still known refl in
       let commits = holds known still in
       let N = stored_by known.fault known.games in
       let none = kept_unnamed known.fault known.games known.journal answer counted commits.held (kept r.stored (verdicts r.examinations)) r.made never commits.refused in
       let same = same_settled r.stored N (verdicts r.examinations) (exact r.stored N (verdicts r.examinations) (r.right known refl) none) in
-      let P : List Candidate → Type 0 = λ cs. Counts cs counted in
-      let Q : Option (Result (Receipt J) (CommitFault J)) → Type 0 = λ a. IsAnswer known (kept N (verdicts r.examinations)) a now' in
+      let P : List Candidate → Type 0 = λ cs. CountsUnder label cs counted in
+      let Q : Option (Result (Receipt J) (CommitFault J)) → Type 0 = λ a. IsAnswer label known (kept N (verdicts r.examinations)) a now' in
       record {
         examinations = r.examinations;
         are_examinations = r.are_examinations;
@@ -245,13 +246,13 @@ module _ {J : Type 0} where
         answer = subst Q (sym answer_is) (counted, subst P (ap candidates same) r.made, commits);
       }
 
-  pub settles_none : (known : Known) (cuts : List Cut) (places : List ℕ) (refused : List Refusal) (now : Option Store) (r : Rounds (Some (store_of known)) cuts None places refused now) (done : Done J)
-      → done.answer ≡ None → done.refused.items ≡ refused → Settles known cuts done now
-  settles_none known cuts places refused now r done answer_is refused_is =
+  pub settles_none : {label : List ℕ} (known : Known) (cuts : List Cut) (places : List ℕ) (refused : List Refusal) (now : Option Store) (r : Rounds label (Some (store_of known)) cuts None places refused now) (done : Done J)
+      → done.answer ≡ None → done.refused.items ≡ refused → Settles label known cuts done now
+  settles_none {label} known cuts places refused now r done answer_is refused_is =
       let N = stored_by known.fault known.games in
       let R : List Candidate → Type 0 = λ cs. AllByRecursion (λ c. N (id_of c) ≡ None) cs in
       let same = same_settled r.stored N (verdicts r.examinations) (exact r.stored N (verdicts r.examinations) (r.right known refl) (subst R (sym r.made) tt)) in
-      let Q : Option (Result (Receipt J) (CommitFault J)) → Type 0 = λ a. IsAnswer known (kept N (verdicts r.examinations)) a now in
+      let Q : Option (Result (Receipt J) (CommitFault J)) → Type 0 = λ a. IsAnswer label known (kept N (verdicts r.examinations)) a now in
       record {
         examinations = r.examinations;
         are_examinations = r.are_examinations;
@@ -261,43 +262,43 @@ module _ {J : Type 0} where
 
   -- ---- want of memory
 
-  pub lacks_commit : (known : Known) (cuts : List Cut) (places : List ℕ) (refused : List Refusal) (now : Option Store) (counted : Counted) (r : Rounds (Some (store_of known)) cuts (Some counted) places refused now) (stored : Bool)
-      (now' : Option Store) → Commits {J = J} (Err (faults.OutOfMemory stored)) known counted now' → MayHaveMore known (cuts ∷ []) now'
-  lacks_commit known cuts places refused now counted r true now' commits =
+  pub lacks_commit : {label : List ℕ} (known : Known) (cuts : List Cut) (places : List ℕ) (refused : List Refusal) (now : Option Store) (counted : Counted) (r : Rounds label (Some (store_of known)) cuts (Some counted) places refused now) (stored : Bool)
+      (now' : Option Store) → Commits {J = J} (Err (faults.OutOfMemory stored)) known counted now' → MayHaveMore label known (cuts ∷ []) now'
+  lacks_commit {label} known cuts places refused now counted r true now' commits =
       let N = stored_by known.fault known.games in
       let none = unnamed known.fault known.games known.journal counted (kept r.stored (verdicts r.examinations)) r.made commits.refused in
       let same = same_settled r.stored N (verdicts r.examinations) (exact r.stored N (verdicts r.examinations) (r.right known refl) none) in
-      let batch : IsBatchOf known cuts counted.batch = record {
+      let batch : IsBatchOf label known cuts counted.batch = record {
         examinations = r.examinations;
         are_examinations = r.are_examinations;
-        batch_is = ap (batch_of no_label) (sym (ap candidates same)) ∙ r.made.batch;
+        batch_is = ap (batch_of label) (sym (ap candidates same)) ∙ r.made.batch;
       } in
       record { new = commits.new; still = commits.still; fault = commits.fault; journal = inr (counted.batch, batch, commits.stores) }
-  lacks_commit known cuts places refused now counted r false now' commits = record { new = commits.new; still = commits.still; fault = commits.fault; journal = inl commits.stores }
+  lacks_commit {label} known cuts places refused now counted r false now' commits = record { new = commits.new; still = commits.still; fault = commits.fault; journal = inl commits.stores }
 
 pub on_err : {T E : Type 0} (result : Result T E) {P : Type 0} → P → OnErr result P
 on_err (Ok t) p = tt
 on_err (Err e) p = p
 
-stores_nothing : (known : Known) (groups : List (List Cut)) → MayStore known groups known.journal
-stores_nothing known [] = refl
-stores_nothing known (next ∷ groups) = inl refl
+stores_nothing : (label : List ℕ) (known : Known) (groups : List (List Cut)) → MayStore label known groups known.journal
+stores_nothing label known [] = refl
+stores_nothing label known (next ∷ groups) = inl refl
 
 -- of more groups the batch of the first may be stored too
-pub stores_more : (known : Known) (groups more : List (List Cut)) (journal : List Batch) → MayStore known groups journal → MayStore known (groups ++ more) journal
-stores_more known [] [] journal is = is
-stores_more known [] (next ∷ more) journal is = inl is
-stores_more known (next ∷ groups) more journal is = is
+pub stores_more : (label : List ℕ) (known : Known) (groups more : List (List Cut)) (journal : List Batch) → MayStore label known groups journal → MayStore label known (groups ++ more) journal
+stores_more label known [] [] journal is = is
+stores_more label known [] (next ∷ more) journal is = inl is
+stores_more label known (next ∷ groups) more journal is = is
 
-pub lacks_still : (known : Known) (groups : List (List Cut)) (now : Option Store) → IsStill known now → MayHaveMore known groups now
-lacks_still known groups now still = record { new = store_of known; still = still; fault = refl; journal = stores_nothing known groups }
+pub lacks_still : (label : List ℕ) (known : Known) (groups : List (List Cut)) (now : Option Store) → IsStill known now → MayHaveMore label known groups now
+lacks_still label known groups now still = record { new = store_of known; still = still; fault = refl; journal = stores_nothing label known groups }
 
 -- the group as it was tallied first
-unfoldable pub first : (told : Option Store) (cuts : List Cut) (made : TalliedGroup) → Ascend cuts → IsTallied cuts made → Rounds told cuts made.tally made.places.items made.refused.items told
-first told cuts made ascend is =
+unfoldable pub first : {label : List ℕ} (told : Option Store) (cuts : List Cut) (made : TalliedGroup) → Ascend cuts → IsTallied label cuts made → Rounds label told cuts made.tally made.places.items made.refused.items told
+first {label} told cuts made ascend is =
     let none : Numbering = λ id. None in
     let same = settled_none (verdicts is.examinations) in
-    let P : List Candidate → Type 0 = λ cs. IsTallyMade cs made.tally in
+    let P : List Candidate → Type 0 = λ cs. IsTallyUnder label cs made.tally in
     record {
       ascend = ascend;
       examinations = is.examinations;

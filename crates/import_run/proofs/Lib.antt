@@ -19,6 +19,7 @@ mod FollowedLists
 pub mod GroupLemmas
 mod HandLemmas
 mod HoldLemmas
+mod LabelLemmas
 pub mod LawLemmas
 mod MergeLemmas
 mod NewGameLemmas

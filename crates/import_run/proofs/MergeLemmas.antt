@@ -1,5 +1,5 @@
 -- What becomes of a group's texts, merged with its other cuts by their places, is what becomes of the group.
-use Rattle.std.proofs.Common.{◌≡◌, ℕ, ◌+◌, ◌<◌, ◌≤◌, Bool, List, [], ◌∷◌, ◌++◌, length, take, drop, map, filter_map, find, if◌then◌else◌, Option, None, Some, Result, Ok, Err, refl, sym, ap, subst, ◌∙◌, append_assoc, ◌-◌, ◌⊎◌, inl, inr, arith, zero, suc}
+use Rattle.std.proofs.Common.{◌≡◌, ℕ, ◌+◌, ◌<◌, ◌≤◌, Bool, List, [], ◌∷◌, ◌++◌, length, take, drop, map, filter_map, find, if◌then◌else◌, Option, None, Some, option_map, Result, Ok, Err, refl, sym, ap, subst, ◌∙◌, append_assoc, ◌-◌, ◌⊎◌, inl, inr, arith, zero, suc}
 use Rattle.std.specs.List.{AllByRecursion, AllZip}
 use Rattle.std.proofs.lemmas.Bool.{lt-ltb, le-ltb}
 use Rattle.std.proofs.lemmas.List.{append-nil, take_rest}
@@ -12,10 +12,11 @@ use Rattle.explorer_model.specs.Cuts.{Cut, Text, TooLong, Preamble}
 use Rattle.explorer_model.specs.Imports.{Examination, Unread, IsExaminationOf, Candidate, Verdict, Accepted, Refused, verdict_of, verdict_by, verdict_of_game, has_id_of, and_candidate, verdicts_from, verdicts, candidates, refusals}
 use Rattle.batch_tally.specs.Tallying.{IsExaminationOfText, IsTallying, IsTallyMade}
 use Rattle.batch_tally.specs.declared.tallying.Tallying.{Tallying}
-use Rattle.tally_rows.specs.Tally.{Counted}
 use Rattle.import_run.specs.declared.text_group.TextGroup.{TextGroup}
 use Rattle.import_run.specs.declared.text_group.TalliedGroup.{TalliedGroup}
 use Rattle.import_run.specs.Grouping.{Ascend, AscendFrom, text_of, unread_of, put_by_place, merged, IsGroupOf, IsTallied}
+use Rattle.import_run.specs.Labelling.{under}
+use Rattle.import_run.proofs.LabelLemmas.{made_under}
 use Rattle.import_run.proofs.PlaceLemmas.{ascend_sooner}
 
 -- ---- merging
@@ -139,7 +140,7 @@ woven_verdicts cuts examinations h each = woven_from 0 cuts [] examinations h ea
 -- ---- a group that is tallied
 
 pub is_tallied : (cuts : List Cut) (group : TextGroup) (made : Tallying) (tallied : TalliedGroup) → Ascend cuts → IsGroupOf cuts group → IsTallying group.texts.items made
-    → tallied.refused.items ≡ merged made.refused.items group.unread.items → tallied.tally ≡ made.tally → tallied.places.items ≡ made.places.items → IsTallied cuts tallied
+    → tallied.refused.items ≡ merged made.refused.items group.unread.items → tallied.tally ≡ option_map (under group.label) made.tally → tallied.places.items ≡ made.places.items → IsTallied group.label cuts tallied
 is_tallied cuts group made tallied ascend holds tallying refused tally places =
     let each : AllZip IsExaminationOfText (filter_map text_of cuts) tallying.examinations = subst (λ (l : List Placed). AllZip IsExaminationOfText l tallying.examinations) holds.texts tallying.are_examinations in
     let both = woven_verdicts cuts tallying.examinations ascend each in
@@ -148,7 +149,7 @@ is_tallied cuts group made tallied ascend holds tallying refused tally places =
       are_examinations = woven_examinations cuts tallying.examinations each;
       places = places ∙ tallying.places ∙ ap (map (λ (c : Candidate). c.place)) (sym both.0);
       refused = refused ∙ ap (λ (l : List Refusal). merged l group.unread.items) tallying.refused ∙ ap (λ (l : List Refusal). merged (refusals (verdicts tallying.examinations)) l) holds.unread ∙ sym both.1;
-      tally = subst (λ (t : Option Counted). IsTallyMade (candidates (verdicts (woven cuts tallying.examinations))) t) (sym tally) (subst (λ (l : List Candidate). IsTallyMade l made.tally) (sym both.0) tallying.tally);
+      tally = made_under group.label (candidates (verdicts (woven cuts tallying.examinations))) made.tally tallied.tally (subst (λ (l : List Candidate). IsTallyMade l made.tally) (sym both.0) tallying.tally) tally;
     }
 
 -- ---- the end of the loop that merges

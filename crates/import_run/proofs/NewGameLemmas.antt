@@ -9,7 +9,6 @@ use Rattle.explorer_model.specs.declared.archive.Classes.{Classes}
 use Rattle.explorer_model.specs.declared.archive.Game.{Game}
 use Rattle.explorer_model.specs.declared.archive.Placed.{Placed}
 use Rattle.explorer_model.specs.Cuts.{Cut, Text}
-use Rattle.explorer_model.specs.Labels.{no_label}
 use Rattle.explorer_model.specs.Imports.{AreExaminations, Candidate, Examination, IsExaminationOf, Numbering, batch_of, candidates, has_id_of, numbers_of, refusals, verdicts, verdicts_behind, verdicts_in_turn}
 use Rattle.explorer_model.specs.Journal.{HaveDifferentIds}
 use Rattle.explorer_model.specs.Visits.{texts_of}
@@ -178,13 +177,13 @@ split_games (text ∷ before) behind (game ∷ games) zip =
     }
 
 -- the batches of the groups have all the texts, and none is refused
-pub record AreAllStored (stored : List Game) (texts : List Placed) (examinations : List (List Examination)) : Type 0 where
+pub record AreAllStored (label : List ℕ) (stored : List Game) (texts : List Placed) (examinations : List (List Examination)) : Type 0 where
   pub texts_are : texts_of (batches_behind stored examinations) ≡ bytes_of texts
   pub none_refused : refused_behind stored examinations ≡ []
 
-texts_first : (cs : List Candidate) (batches : List Batch) → texts_of (cons_option (batch_of no_label cs) batches) ≡ map (λ (c : Candidate). c.text) cs ++ texts_of batches
-texts_first [] batches = refl
-texts_first (c ∷ cs) batches = refl
+texts_first : (label : List ℕ) (cs : List Candidate) (batches : List Batch) → texts_of (cons_option (batch_of label cs) batches) ≡ map (λ (c : Candidate). c.text) cs ++ texts_of batches
+texts_first label [] batches = refl
+texts_first label (c ∷ cs) batches = refl
 
 -- all but the later games
 front_games : (stored first more : List Game) → HaveDifferentIds (classes_of (stored ++ (first ++ more))) → HaveDifferentIds (classes_of stored ++ classes_of first)
@@ -199,13 +198,13 @@ no_texts : (texts : List Placed) → [] ≡ as_cuts texts → bytes_of texts ≡
 no_texts [] is = refl
 no_texts (text ∷ texts) is = absurd (omega (arith, ap length is))
 
-pub all_stored : OneGame → (stored : List Game) (groups : List (List Cut)) (examinations : List (List Examination)) (texts : List Placed) (games : List Game) → AreExaminations groups examinations
-    → all_cuts groups ≡ as_cuts texts → AllZip HasGame texts games → HaveDifferentIds (classes_of (stored ++ games)) → AreAllStored stored texts examinations
+pub all_stored : (label : List ℕ) → OneGame → (stored : List Game) (groups : List (List Cut)) (examinations : List (List Examination)) (texts : List Placed) (games : List Game) → AreExaminations groups examinations
+    → all_cuts groups ≡ as_cuts texts → AllZip HasGame texts games → HaveDifferentIds (classes_of (stored ++ games)) → AreAllStored label stored texts examinations
 unfolding verdicts_in_turn
-all_stored one stored [] [] texts games each all zip different = record { texts_are = sym (no_texts texts all); none_refused = refl }
-all_stored one stored [] (group ∷ examinations) texts games each all zip different = absurd each
-all_stored one stored (cuts ∷ groups) [] texts games each all zip different = absurd each
-all_stored one stored (cuts ∷ groups) (group ∷ examinations) texts games each all zip different =
+all_stored label one stored [] [] texts games each all zip different = record { texts_are = sym (no_texts texts all); none_refused = refl }
+all_stored label one stored [] (group ∷ examinations) texts games each all zip different = absurd each
+all_stored label one stored (cuts ∷ groups) [] texts games each all zip different = absurd each
+all_stored label one stored (cuts ∷ groups) (group ∷ examinations) texts games each all zip different =
     let s = split_texts cuts (all_cuts groups) texts all in
     let Z : List Placed → Type 0 = λ ts. AllZip HasGame ts games in
     let g = split_games s.before s.behind games (subst Z s.is zip) in
@@ -217,10 +216,10 @@ all_stored one stored (cuts ∷ groups) (group ∷ examinations) texts games eac
     ap (λ (cs : List Candidate). stored ++ map (λ (c : Candidate). c.game) cs) here.candidates_are ∙ ap (λ (l : List Game). stored ++ l) (cands_games s.before g.first g.first_are) in
     let H : List Game → Type 0 = λ gs. HaveDifferentIds (classes_of gs) in
     let I : List Game → Type 0 = λ gs. HaveDifferentIds (classes_of (gs ++ g.more)) in
-    let later = all_stored one (and_games stored group) groups examinations s.behind g.more each.1 s.back_is g.more_are (subst I (sym after) (subst H (sym (append_assoc stored g.first g.more)) apart)) in
+    let later = all_stored label one (and_games stored group) groups examinations s.behind g.more each.1 s.back_is g.more_are (subst I (sym after) (subst H (sym (append_assoc stored g.first g.more)) apart)) in
     record {
       texts_are =
-          texts_first (candidates (verdicts_behind (numbers_of stored) group)) (batches_behind (and_games stored group) examinations)
+          texts_first label (candidates (verdicts_behind (numbers_of stored) group)) (batches_behind (and_games stored group) examinations)
           ∙ (λ i. map (λ (c : Candidate). c.text) (here.candidates_are i) ++ later.texts_are i)
           ∙ ap (λ (l : List (List ℕ)). l ++ bytes_of s.behind) (cands_texts s.before g.first g.first_are)
           ∙ sym (ap bytes_of s.is ∙ map-append (λ (text : Placed). text.bytes) s.before s.behind);

@@ -7,7 +7,6 @@ use Rattle.explorer_model.specs.declared.archive.Batch.{Batch}
 use Rattle.explorer_model.specs.declared.archive.Game.{Game}
 use Rattle.explorer_model.specs.declared.fault.Refusal.{Refusal}
 use Rattle.explorer_model.specs.Cuts.{Cut}
-use Rattle.explorer_model.specs.Labels.{no_label}
 use Rattle.explorer_model.specs.Imports.{Accounted, Candidate, Examination, IsExaminationOf, Verdict, batch_of, candidates, numbers_of, refusals, verdict_behind, verdicts, verdicts_behind}
 use Rattle.explorer_model.specs.Visits.{AreGamesOf}
 use Rattle.ingest_desk.specs.Causes.{Cause, IsClosed, cause}
@@ -34,20 +33,20 @@ read_kept games cuts examinations each =
     let P : List Candidate → Type 0 = λ cs. AreRead cs in
     subst P (sym (kept-left (numbers_of games) (verdicts examinations))) (fewer_read (λ c. is_none (numbers_of games (id_of c))) (candidates (verdicts examinations)) (fresh cuts [] examinations each).1)
 
-no_kept : (cs : List Candidate) → batch_of no_label cs ≡ None → cs ≡ []
-no_kept [] e = refl
-no_kept (c ∷ cs) e = absurd (some_none _ e)
+no_kept : {label : List ℕ} (cs : List Candidate) → batch_of label cs ≡ None → cs ≡ []
+no_kept {label} [] e = refl
+no_kept {label} (c ∷ cs) e = absurd (some_none _ e)
   where
     some_none : (b : Batch) → Some b ≡ None → ⊥
     some_none b e = cc
 
-pub by_batch : (journal : List Batch) (games : List Game) (cuts : List Cut) (examinations : List Examination) → AreGamesOf journal games → AllZip IsExaminationOf cuts examinations
-    → (o : Option Batch) → batch_of no_label (candidates (verdicts_behind (numbers_of games) examinations)) ≡ o → AreGamesOf (journal ++ cons_option o []) (and_games games examinations)
-by_batch journal games cuts examinations are each None is =
+pub by_batch : {label : List ℕ} (journal : List Batch) (games : List Game) (cuts : List Cut) (examinations : List Examination) → AreGamesOf journal games → AllZip IsExaminationOf cuts examinations
+    → (o : Option Batch) → batch_of label (candidates (verdicts_behind (numbers_of games) examinations)) ≡ o → AreGamesOf (journal ++ cons_option o []) (and_games games examinations)
+by_batch {label} journal games cuts examinations are each None is =
     let P : List Game → Type 0 = λ g. AreGamesOf (journal ++ []) g in
     let Q : List Batch → Type 0 = λ j. AreGamesOf j games in
     subst P (sym (ap (λ (cs : List Candidate). games ++ map (λ c. c.game) cs) (no_kept (candidates (verdicts_behind (numbers_of games) examinations)) is) ∙ append-nil games)) (subst Q (sym (append-nil journal)) are)
-by_batch journal games cuts examinations are each (Some batch) is =
+by_batch {label} journal games cuts examinations are each (Some batch) is =
     games_more journal games (candidates (verdicts_behind (numbers_of games) examinations)) batch are (read_kept games cuts examinations each) is
 
 -- where nobody is judged, or the store is not closed, the stored games judge
@@ -100,18 +99,18 @@ module _ {J : Type 0} where
       some_none : (x : Cause) → Some x ≡ None → ⊥
       some_none x e = cc
 
-module _ {J : Type 0} (start : Known) (groups : List (List Cut)) (receipts receipts' : List (Receipt J)) (refused refused' : List Refusal) (told told' : Option Store) (cuts : List Cut) (p : Progress start groups receipts refused told) where
+module _ {J : Type 0} {label : List ℕ} (start : Known) (groups : List (List Cut)) (receipts receipts' : List (Receipt J)) (refused refused' : List Refusal) (told told' : Option Store) (cuts : List Cut) (p : Progress label start groups receipts refused told) where
   -- the batch of the group, or none
   step : (examinations : List Examination) → AllZip IsExaminationOf cuts examinations → (IsSome start.fault → HasNoCandidate examinations) → refused' ≡ refused ++ refusals (verdicts_behind (numbers_of p.known.games) examinations)
-      → (o : Option Batch) → batch_of no_label (candidates (verdicts_behind (numbers_of p.known.games) examinations)) ≡ o → AreReceiptsOf start.journal receipts' (p.batches ++ cons_option o [])
+      → (o : Option Batch) → batch_of label (candidates (verdicts_behind (numbers_of p.known.games) examinations)) ≡ o → AreReceiptsOf start.journal receipts' (p.batches ++ cons_option o [])
       → told' ≡ Some (record { journal = p.known.journal ++ cons_option o []; fault = p.known.fault; failed = p.known.failed })
-      → Progress start (groups ++ cuts ∷ []) receipts' refused' told'
+      → Progress label start (groups ++ cuts ∷ []) receipts' refused' told'
   unfolding one_more
   step examinations each closed refused_is o is receipts_are still =
       let more = one_more start.games groups p.batches refused p.accounted cuts examinations each in
-      let B : List Game → Option Batch = λ g. batch_of no_label (candidates (verdicts_behind (numbers_of g) examinations)) in
+      let B : List Game → Option Batch = λ g. batch_of label (candidates (verdicts_behind (numbers_of g) examinations)) in
       let R : List Game → List Refusal = λ g. refusals (verdicts_behind (numbers_of g) examinations) in
-      let acc : Accounted no_label start.games (groups ++ cuts ∷ []) (p.batches ++ cons_option o []) refused' = record {
+      let acc : Accounted label start.games (groups ++ cuts ∷ []) (p.batches ++ cons_option o []) refused' = record {
         examinations = p.accounted.examinations ++ examinations ∷ [];
         are_examinations = more.are_examinations;
         yields = record {
@@ -131,11 +130,11 @@ module _ {J : Type 0} (start : Known) (groups : List (List Cut)) (receipts recei
         closed = λ some. none_more p.accounted.examinations examinations (p.closed some) (closed some);
       }
 
-  pub no_batch : (done : Done J) → Settles p.known cuts done told' → done.answer ≡ None → refused' ≡ refused ++ done.refused.items → receipts' ≡ receipts
-      → Progress start (groups ++ cuts ∷ []) receipts' refused' told'
+  pub no_batch : (done : Done J) → Settles label p.known cuts done told' → done.answer ≡ None → refused' ≡ refused ++ done.refused.items → receipts' ≡ receipts
+      → Progress label start (groups ++ cuts ∷ []) receipts' refused' told'
   no_batch done s is refused_is receipts_is =
       let vs = verdicts s.examinations in
-      let P : Option (Result (Receipt J) (CommitFault J)) → Type 0 = λ a. IsAnswer p.known (kept (stored_by p.known.fault p.known.games) vs) a told' in
+      let P : Option (Result (Receipt J) (CommitFault J)) → Type 0 = λ a. IsAnswer label p.known (kept (stored_by p.known.fault p.known.games) vs) a told' in
       let a = subst P is s.answer in
       let same = same_behind p.known.fault p.known.games vs (inr a.0) in
       let Q : List (Receipt J) → List Batch → Type 0 = λ r b. AreReceiptsOf start.journal r b in
@@ -143,15 +142,15 @@ module _ {J : Type 0} (start : Known) (groups : List (List Cut)) (receipts recei
       let D : List Batch → Type 0 = λ b. AreReceiptsOf start.journal receipts b in
       step s.examinations s.are_examinations (λ some. none_kept p.known.fault p.known.games vs (is_some_by start.fault p.known.fault p.fault some) a.0)
       (refused_is ∙ ap (λ (l : List Refusal). refused ++ l) (s.refused ∙ ap refusals same))
-      None (ap (λ (v : List Verdict). batch_of no_label (candidates v)) (sym same) ∙ ap (batch_of no_label) a.0)
+      None (ap (λ (v : List Verdict). batch_of label (candidates v)) (sym same) ∙ ap (batch_of label) a.0)
       (subst C (sym receipts_is) (subst D (sym (append-nil p.batches)) p.receipts_are))
       (a.1 ∙ ap (λ (j : List Batch). Some (record { journal = j; fault = p.known.fault; failed = p.known.failed })) (sym (append-nil p.known.journal)))
 
-  pub one_batch : (done : Done J) (receipt : Receipt J) → Settles p.known cuts done told' → done.answer ≡ Some (Ok receipt) → refused' ≡ refused ++ done.refused.items
-      → receipts' ≡ receipts ++ receipt ∷ [] → Progress start (groups ++ cuts ∷ []) receipts' refused' told'
+  pub one_batch : (done : Done J) (receipt : Receipt J) → Settles label p.known cuts done told' → done.answer ≡ Some (Ok receipt) → refused' ≡ refused ++ done.refused.items
+      → receipts' ≡ receipts ++ receipt ∷ [] → Progress label start (groups ++ cuts ∷ []) receipts' refused' told'
   one_batch done receipt s is refused_is receipts_is =
       let vs = verdicts s.examinations in
-      let P : Option (Result (Receipt J) (CommitFault J)) → Type 0 = λ a. IsAnswer p.known (kept (stored_by p.known.fault p.known.games) vs) a told' in
+      let P : Option (Result (Receipt J) (CommitFault J)) → Type 0 = λ a. IsAnswer label p.known (kept (stored_by p.known.fault p.known.games) vs) a told' in
       let a = subst P is s.answer in
       let commits = a.2 in
       let same = same_behind p.known.fault p.known.games vs (inl (not_closed receipt p.known.fault p.known.games p.known.journal a.0 commits.held commits.refused)) in
@@ -159,7 +158,7 @@ module _ {J : Type 0} (start : Known) (groups : List (List Cut)) (receipts recei
       let I : List Batch → Type 0 = λ j. IsReceiptOf receipt j a.0.batch in
       step s.examinations s.are_examinations (λ some. absurd (none_some p.known.fault (is_some_by start.fault p.known.fault p.fault some) (not_closed receipt p.known.fault p.known.games p.known.journal a.0 commits.held commits.refused)))
       (refused_is ∙ ap (λ (l : List Refusal). refused ++ l) (s.refused ∙ ap refusals same))
-      (Some a.0.batch) (ap (λ (v : List Verdict). batch_of no_label (candidates v)) (sym same) ∙ a.1.batch)
+      (Some a.0.batch) (ap (λ (v : List Verdict). batch_of label (candidates v)) (sym same) ∙ a.1.batch)
       (subst C (sym receipts_is) (receipts_more start.journal receipts p.batches receipt a.0.batch p.receipts_are (subst I p.journal commits.receives.0)
       (commits.receives.1 ∙ commits.stores ∙ ap (λ (j : List Batch). j ++ a.0.batch ∷ []) p.journal)))
       (commits.still ∙ (λ i. Some (record { journal = commits.stores i; fault = commits.fault i; failed = commits.fails i })))
@@ -167,17 +166,17 @@ module _ {J : Type 0} (start : Known) (groups : List (List Cut)) (receipts recei
 -- ---- want of memory
 
 module _ {J : Type 0} where
-  pub lacks_none : (known : Known) (cuts : List Cut) (done : Done J) (told' : Option Store) → Settles known cuts done told' → done.answer ≡ None → MayHaveMore known (cuts ∷ []) told'
-  lacks_none known cuts done told' s is =
-      let P : Option (Result (Receipt J) (CommitFault J)) → Type 0 = λ a. IsAnswer known (kept (stored_by known.fault known.games) (verdicts s.examinations)) a told' in
+  pub lacks_none : {label : List ℕ} (known : Known) (cuts : List Cut) (done : Done J) (told' : Option Store) → Settles label known cuts done told' → done.answer ≡ None → MayHaveMore label known (cuts ∷ []) told'
+  lacks_none {label} known cuts done told' s is =
+      let P : Option (Result (Receipt J) (CommitFault J)) → Type 0 = λ a. IsAnswer label known (kept (stored_by known.fault known.games) (verdicts s.examinations)) a told' in
       let a = subst P is s.answer in
-      lacks_still known (cuts ∷ []) told' a.1
+      lacks_still label known (cuts ∷ []) told' a.1
 
-  pub lacks_one : (known : Known) (cuts : List Cut) (done : Done J) (receipt : Receipt J) (told' : Option Store) → Settles known cuts done told' → done.answer ≡ Some (Ok receipt) → MayHaveMore known (cuts ∷ []) told'
-  lacks_one known cuts done receipt told' s is =
-      let P : Option (Result (Receipt J) (CommitFault J)) → Type 0 = λ a. IsAnswer known (kept (stored_by known.fault known.games) (verdicts s.examinations)) a told' in
+  pub lacks_one : {label : List ℕ} (known : Known) (cuts : List Cut) (done : Done J) (receipt : Receipt J) (told' : Option Store) → Settles label known cuts done told' → done.answer ≡ Some (Ok receipt) → MayHaveMore label known (cuts ∷ []) told'
+  lacks_one {label} known cuts done receipt told' s is =
+      let P : Option (Result (Receipt J) (CommitFault J)) → Type 0 = λ a. IsAnswer label known (kept (stored_by known.fault known.games) (verdicts s.examinations)) a told' in
       let a = subst P is s.answer in
-      let batch : IsBatchOf known cuts a.0.batch = record { examinations = s.examinations; are_examinations = s.are_examinations; batch_is = a.1.batch } in
+      let batch : IsBatchOf label known cuts a.0.batch = record { examinations = s.examinations; are_examinations = s.are_examinations; batch_is = a.1.batch } in
       record { new = a.2.new; still = a.2.still; fault = a.2.fault; journal = inr (a.0.batch, batch, a.2.stores) }
 
   pub lacking : {T : Type 0} (result : Result T (Stop (Stopped J))) {P : Type 0} → P → IfErr result (λ stop. WhereLacking stop P)

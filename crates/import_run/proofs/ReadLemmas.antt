@@ -77,15 +77,15 @@ module _ {J : Type 0} where
   }
 
   -- an import without a fault of a read
-  pub imports_quietly : (start : Known) (old new : Stream) (report : Report J) (told : Option Store) (stream : List ℕ) → Reads stream old new → new.read_faults ≡ old.read_faults
-      → ComesQuietly start stream new.left report told → AreRepeats (cuts stream) report.clashes.items report.refused.items → Imports start old new report told
-  imports_quietly start old new report told stream reads same c repeats = record { stream = stream; reads = reads; faults = c.quiet old new same; comes = c.comes; repeats = repeats }
+  pub imports_quietly : {label : List ℕ} (start : Known) (old new : Stream) (report : Report J) (told : Option Store) (stream : List ℕ) → Reads stream old new → new.read_faults ≡ old.read_faults
+      → ComesQuietly label start stream new.left report told → AreRepeats (cuts stream) report.clashes.items report.refused.items → Imports label start old new report told
+  imports_quietly {label} start old new report told stream reads same c repeats = record { stream = stream; reads = reads; faults = c.quiet old new same; comes = c.comes; repeats = repeats }
 
   -- a read failed
-  pub imports_failed : (start : Known) (old mid new : Stream) (report : Report J) (told : Option Store) (stream : List ℕ) (before after : ℕ) → report.end ≡ ends.ReadFault before after
-      → before ≡ mid.read_faults → after ≡ new.read_faults → mid.read_faults ≡ old.read_faults → Reads stream old mid → FailsToGive mid new → ComesTo start stream new.left report told
-      → AreRepeats (cuts stream) report.clashes.items report.refused.items → Imports start old new report told
-  imports_failed start old mid new report told stream before after is first last same reads fails comes repeats =
+  pub imports_failed : {label : List ℕ} (start : Known) (old mid new : Stream) (report : Report J) (told : Option Store) (stream : List ℕ) (before after : ℕ) → report.end ≡ ends.ReadFault before after
+      → before ≡ mid.read_faults → after ≡ new.read_faults → mid.read_faults ≡ old.read_faults → Reads stream old mid → FailsToGive mid new → ComesTo label start stream new.left report told
+      → AreRepeats (cuts stream) report.clashes.items report.refused.items → Imports label start old new report told
+  imports_failed {label} start old mid new report told stream before after is first last same reads fails comes repeats =
       let P : End J → Type 0 = λ e. ReadFaultsAre e old new in
       let R : ℕ → Type 0 = λ n. Rises n new.read_faults in
       let S : ℕ → Type 0 = λ n. Rises before n in
@@ -98,11 +98,11 @@ module _ {J : Type 0} where
       }
 
   -- the bound was reached, by one byte that was read alone
-  pub imports_bound : (start : Known) (old mid new : Stream) (report : Report J) (told : Option Store) (front : List ℕ) (n bytes : ℕ) (buffer : List ℕ) → report.end ≡ ends.TooMuch bytes
+  pub imports_bound : {label : List ℕ} (start : Known) (old mid new : Stream) (report : Report J) (told : Option Store) (front : List ℕ) (n bytes : ℕ) (buffer : List ℕ) → report.end ≡ ends.TooMuch bytes
       → Reads front old mid → mid.read_faults ≡ old.read_faults → Gives n buffer mid new → n ≡ 1 → length front + 1 ≡ input_limit → bytes ≡ input_limit
-      → IsWholeSettled start front report.receipts.items report.refused.items told → AreRepeats (cuts (front ++ take n buffer)) report.clashes.items report.refused.items
-      → Imports start old new report told
-  imports_bound start old mid new report told front n bytes buffer is reads same gives one long bound whole repeats =
+      → IsWholeSettled label start front report.receipts.items report.refused.items told → AreRepeats (cuts (front ++ take n buffer)) report.clashes.items report.refused.items
+      → Imports label start old new report told
+  imports_bound {label} start old mid new report told front n bytes buffer is reads same gives one long bound whole repeats =
       let some : 0 < length buffer = omega (arith, gives.within, one) in
       let byte = one_byte buffer some in
       let front_is : front ++ take n buffer ≡ front ++ byte.0 ∷ [] = ap (λ (k : ℕ). front ++ take k buffer) one ∙ ap (λ (l : List ℕ). front ++ l) byte.1 in

@@ -10,7 +10,6 @@ use Rattle.explorer_model.specs.declared.archive.Batch.{Batch}
 use Rattle.explorer_model.specs.declared.archive.Game.{Game}
 use Rattle.explorer_model.specs.declared.fault.Refusal.{Refusal}
 use Rattle.explorer_model.specs.Cuts.{Cut}
-use Rattle.explorer_model.specs.Labels.{no_label}
 use Rattle.explorer_model.specs.Imports.{Candidate, batch_of, numbers_of, verdicts}
 use Rattle.explorer_model.specs.Journal.{AreWithin, byte_count, byte_limit, game_count, game_limit, input_limit}
 use Rattle.explorer_model.specs.Visits.{texts_of}
@@ -103,13 +102,13 @@ texts_bytes (first ∷ rest) =
     ∙ ap (λ (n : ℕ). length first.text + n) (texts_bytes rest)
     ∙ sym (sum_by-cons (λ (candidate : Candidate). length candidate.text) first rest)
 
-games_with : (journal : List Batch) (cs : List Candidate) (batch : Batch) → batch_of no_label cs ≡ Some batch → game_count (journal ++ batch ∷ []) ≡ game_count journal + length cs
-games_with journal cs batch is =
+games_with : {label : List ℕ} (journal : List Batch) (cs : List Candidate) (batch : Batch) → batch_of label cs ≡ Some batch → game_count (journal ++ batch ∷ []) ≡ game_count journal + length cs
+games_with {label} journal cs batch is =
     ap length (texts_more journal batch) ∙ length-append (texts_of journal) batch.texts
     ∙ ap (λ (n : ℕ). game_count journal + n) (ap length (batch_texts cs batch is) ∙ length-map cs (λ (c : Candidate). c.text))
 
-bytes_with : (journal : List Batch) (cs : List Candidate) (batch : Batch) → batch_of no_label cs ≡ Some batch → byte_count (journal ++ batch ∷ []) ≡ byte_count journal + sum_by (λ candidate. length candidate.text) cs
-bytes_with journal cs batch is =
+bytes_with : {label : List ℕ} (journal : List Batch) (cs : List Candidate) (batch : Batch) → batch_of label cs ≡ Some batch → byte_count (journal ++ batch ∷ []) ≡ byte_count journal + sum_by (λ candidate. length candidate.text) cs
+bytes_with {label} journal cs batch is =
     ap (sum_by (λ (text : List ℕ). length text)) (texts_more journal batch) ∙ sum_by-append (λ (text : List ℕ). length text) (texts_of journal) batch.texts
     ∙ ap (λ (n : ℕ). byte_count journal + n) (ap (sum_by (λ (text : List ℕ). length text)) (batch_texts cs batch is) ∙ texts_bytes cs)
 
@@ -129,33 +128,33 @@ over_true games bytes is within = by_tests (nat_lt game_limit games) (nat_lt byt
     by_tests false true a b e = let more : byte_limit < bytes = ltb-true byte_limit bytes b in omega (arith, more, within.1)
     by_tests false false a b e = cc
 
-over_with : (journal : List Batch) (cs : List Candidate) (batch : Batch) → batch_of no_label cs ≡ Some batch
+over_with : {label : List ℕ} (journal : List Batch) (cs : List Candidate) (batch : Batch) → batch_of label cs ≡ Some batch
     → has_no_room journal batch ≡ is_over (game_count journal + length cs) (byte_count journal + sum_by (λ candidate. length candidate.text) cs)
-over_with journal cs batch is =
+over_with {label} journal cs batch is =
     let g = games_with journal cs batch is in
     let b = bytes_with journal cs batch is in
     λ i. is_over (g i) (b i)
 
-some_left : (cs : List Candidate) (batch : Batch) → batch_of no_label cs ≡ Some batch → cs ≡ [] → ⊥
-some_left [] batch is none = cc
-some_left (c ∷ cs) batch is none = cc
+some_left : {label : List ℕ} (cs : List Candidate) (batch : Batch) → batch_of label cs ≡ Some batch → cs ≡ [] → ⊥
+some_left {label} [] batch is none = cc
+some_left {label} (c ∷ cs) batch is none = cc
 
 new_ids : (games : List Game) (cs : List Candidate) → AllByRecursion (λ c. numbers_of games (id_of c) ≡ None) cs → All (λ candidate. numbers_of games candidate.game.classes.id.bytes ≡ None) cs
 new_ids games cs each = All-from_recursion (λ (c : Candidate). numbers_of games (id_of c) ≡ None) cs each
 
 -- ---- the end
 
-pub record EndsSo {J : Type 0} (start : Known) (stream : List ℕ) (left_over : Option (List ℕ)) (batches : List Batch) (refused : List Refusal) (told : Option Store) (end : End J) : Type 0 where
+pub record EndsSo {J : Type 0} (label : List ℕ) (start : Known) (stream : List ℕ) (left_over : Option (List ℕ)) (batches : List Batch) (refused : List Refusal) (told : Option Store) (end : End J) : Type 0 where
   pub new : Store
   pub still : told ≡ Some new
-  pub stands : StandsAt end start stream left_over batches refused new
+  pub stands : StandsAt label end start stream left_over batches refused new
   pub quiet : (old new : Stream) → new.read_faults ≡ old.read_faults → ReadFaultsAre end old new
   pub stores : StoresBy end (start.journal ++ batches) start.fault new
 
-module _ {J : Type 0} (start : Known) (stream : List ℕ) (left_over : Option (List ℕ)) (done rest : List (List Cut)) (next : List Cut) (receipts : List (Receipt J)) (refused : List Refusal) (before : Option Store)
-    (p : Progress start done receipts refused before) (stopped : Stopped J) (told : Option Store) (so_far : List (List Cut)) (below : length stream < input_limit)
+module _ {J : Type 0} {label : List ℕ} (start : Known) (stream : List ℕ) (left_over : Option (List ℕ)) (done rest : List (List Cut)) (next : List Cut) (receipts : List (Receipt J)) (refused : List Refusal) (before : Option Store)
+    (p : Progress label start done receipts refused before) (stopped : Stopped J) (told : Option Store) (so_far : List (List Cut)) (below : length stream < input_limit)
     (are : AreGroupsSoFar stream left_over so_far) (so_far_is : so_far ≡ done ++ next ∷ rest) where
-  ends_at : (fault : CommitFault J) → Settles p.known next (record { answer = Some (Err fault); refused = stopped.refused }) told → EndsAt start stream left_over p.batches (refused ++ stopped.refused.items)
+  ends_at : (fault : CommitFault J) → Settles label p.known next (record { answer = Some (Err fault); refused = stopped.refused }) told → EndsAt label start stream left_over p.batches (refused ++ stopped.refused.items)
   ends_at fault s = record {
     below = below;
     so_far = so_far;
@@ -182,14 +181,14 @@ module _ {J : Type 0} (start : Known) (stream : List ℕ) (left_over : Option (L
   same_store : (new : Store) → new.journal ≡ p.known.journal → new.fault ≡ p.known.fault → (new.journal ≡ start.journal ++ p.batches) × (new.fault ≡ start.fault)
   same_store new journal fault = (journal ∙ p.journal, fault ∙ p.fault)
 
-  ends_by : (fault : CommitFault J) → IsEndOf fault stopped.end → IsDecided {J = J} (Err fault) → Settles p.known next (record { answer = Some (Err fault); refused = stopped.refused }) told
-      → EndsSo start stream left_over p.batches (refused ++ stopped.refused.items) told stopped.end
+  ends_by : (fault : CommitFault J) → IsEndOf fault stopped.end → IsDecided {J = J} (Err fault) → Settles label p.known next (record { answer = Some (Err fault); refused = stopped.refused }) told
+      → EndsSo label start stream left_over p.batches (refused ++ stopped.refused.items) told stopped.end
   unfolding ends_at
   ends_by (faults.Clash handed pairs note) is decided s = absurd decided
   ends_by (faults.OutOfMemory stored) is decided s = absurd decided
   ends_by (faults.Closed before' after mark) is decided s =
       let commits = s.answer.2 in
-      let P : End J → Type 0 = λ e. EndsSo start stream left_over p.batches (refused ++ stopped.refused.items) told e in
+      let P : End J → Type 0 = λ e. EndsSo label start stream left_over p.batches (refused ++ stopped.refused.items) told e in
       subst P (sym is) (record {
         stands = (commits.marked, sym p.fault ∙ closed_cause p.known.fault p.known.games p.known.journal s.answer.0 before' after commits.refused, ends_at (faults.Closed before' after mark) s);
         quiet = λ old new same. same;
@@ -205,7 +204,7 @@ module _ {J : Type 0} (start : Known) (stream : List ℕ) (left_over : Option (L
       let left = kept (stored_by p.known.fault p.known.games) (verdicts s.examinations) in
       let within = over_false (game_count p.known.journal + length left) (byte_count p.known.journal + sum_by (λ (candidate : Candidate). length candidate.text) left)
       (sym (over_with p.known.journal left s.answer.0.batch s.answer.1.batch) ∙ room.room) in
-      let P : End J → Type 0 = λ e. EndsSo start stream left_over p.batches (refused ++ stopped.refused.items) told e in
+      let P : End J → Type 0 = λ e. EndsSo label start stream left_over p.batches (refused ++ stopped.refused.items) told e in
       let H : List Batch → Type 0 = λ j. HasRoomFor j left in
       let M : Option Batch → Type 0 = λ failed. IsMark kinds.DiskFault before' after failed mark in
       subst P (sym is) (record {
@@ -228,7 +227,7 @@ module _ {J : Type 0} (start : Known) (stream : List ℕ) (left_over : Option (L
       let over = sym (over_with p.known.journal left s.answer.0.batch s.answer.1.batch) ∙ full.1.by.room in
       let passes = over_true (game_count p.known.journal + length left) (byte_count p.known.journal + sum_by (λ (candidate : Candidate). length candidate.text) left) over in
       let told_is : note ≡ p.known.journal = commits.receives ∙ commits.stores in
-      let P : End J → Type 0 = λ e. EndsSo start stream left_over p.batches (refused ++ stopped.refused.items) told e in
+      let P : End J → Type 0 = λ e. EndsSo label start stream left_over p.batches (refused ++ stopped.refused.items) told e in
       let F : List Batch → Type 0 = λ j. FindsNoRoom j games bytes left in
       let G : ℕ → Type 0 = λ g. AreWithin (g + length left) (bytes + sum_by (λ candidate. length candidate.text) left) → ⊥ in
       let B : ℕ → Type 0 = λ b. AreWithin (game_count p.known.journal + length left) (b + sum_by (λ candidate. length candidate.text) left) → ⊥ in
@@ -248,5 +247,5 @@ module _ {J : Type 0} (start : Known) (stream : List ℕ) (left_over : Option (L
         stores = same_store commits.new commits.stores commits.fault;
       })
 
-  pub ends_so : StopsAt p.known next stopped told → EndsSo start stream left_over p.batches (refused ++ stopped.refused.items) told stopped.end
+  pub ends_so : StopsAt label p.known next stopped told → EndsSo label start stream left_over p.batches (refused ++ stopped.refused.items) told stopped.end
   ends_so stops = ends_by stops.fault stops.is_end stops.decided stops.settled

@@ -12,7 +12,6 @@ use Rattle.explorer_model.specs.declared.fault.Refusal.{Refusal}
 use Rattle.explorer_model.specs.declared.fault.Stop.{Stop}
 use Rattle.explorer_model.specs.declared.fault.Stop.TheVariants as stops
 use Rattle.explorer_model.specs.Cuts.{Cut, text_limit}
-use Rattle.explorer_model.specs.Labels.{no_label}
 use Rattle.explorer_model.specs.Imports.{Accounted, AccountedBeside, verdicts_in_turn}
 use Rattle.ingest_desk.specs.Reporting.{AreReceipts}
 use Rattle.ingest_desk.specs.declared.receipt.Receipt.{Receipt}
@@ -79,9 +78,9 @@ all_cuts-more : (closed : List (List Cut)) (hand : List Cut) → all_cuts (close
 all_cuts-more closed hand =
     append-nil (all_cuts (closed ++ hand ∷ [])) ∙ flat_map-append (λ (group : List Cut). group) closed (hand ∷ []) ∙ ap (λ (l : List Cut). all_cuts closed ++ l) (append-nil hand)
 
-unfoldable accounted_none : (stored : List Game) → Accounted no_label stored [] [] []
+unfoldable accounted_none : (label : List ℕ) (stored : List Game) → Accounted label stored [] [] []
 unfolding verdicts_in_turn
-accounted_none stored = record { examinations = []; are_examinations = tt; yields = record { batches_are = refl; refused_are = refl } }
+accounted_none label stored = record { examinations = []; are_examinations = tt; yields = record { batches_are = refl; refused_are = refl } }
 
 module _ {J : Type 0} (start : Option Store) where
   -- ---- what is settled
@@ -91,11 +90,11 @@ module _ {J : Type 0} (start : Option Store) where
       let P : List Placed → Type 0 = λ l. All (λ text. length text.bytes ≤ text_limit) l in
       record { few = omega (arith, ap length none); short = subst P (sym none) (All-nil _) }
 
-  progress_none : (known : Known) (told : Option Store) → told ≡ Some (store_of known) → Progress {J = J} known [] [] [] told
+  progress_none : (label : List ℕ) (known : Known) (told : Option Store) → told ≡ Some (store_of known) → Progress {J = J} label known [] [] [] told
   unfolding accounted_none
-  progress_none known told still = record {
+  progress_none label known told still = record {
     batches = [];
-    accounted = accounted_none known.games;
+    accounted = accounted_none label known.games;
     receipts_are = tt;
     known = known;
     still = still;
@@ -105,18 +104,18 @@ module _ {J : Type 0} (start : Option Store) where
     closed = λ some. tt;
   }
 
-  same_progress : (known : Known) (groups : List (List Cut)) (receipts receipts' : List (Receipt J)) (refused refused' : List Refusal) (told : Option Store) → receipts' ≡ receipts → refused' ≡ refused
-      → Progress known groups receipts refused told → Progress known groups receipts' refused' told
-  same_progress known groups receipts receipts' refused refused' told is also p =
-      let P : List Refusal → Type 0 = λ l. Progress known groups receipts' l told in
-      let Q : List (Receipt J) → Type 0 = λ l. Progress known groups l refused told in
+  same_progress : (label : List ℕ) (known : Known) (groups : List (List Cut)) (receipts receipts' : List (Receipt J)) (refused refused' : List Refusal) (told : Option Store) → receipts' ≡ receipts → refused' ≡ refused
+      → Progress label known groups receipts refused told → Progress label known groups receipts' refused' told
+  same_progress label known groups receipts receipts' refused refused' told is also p =
+      let P : List Refusal → Type 0 = λ l. Progress label known groups receipts' l told in
+      let Q : List (Receipt J) → Type 0 = λ l. Progress label known groups l refused told in
       subst P (sym also) (subst Q (sym is) p)
 
   beside_none : (import : OpenImport J) → import.receipts.items ≡ [] → import.refused.items ≡ [] → ProgressBeside [] import
   unfolding verdicts_in_turn
   beside_none import receipts refused =
       let P : List (Receipt J) → Type 0 = λ l. AreReceipts 0 l [] in
-      let Q : List Refusal → Type 0 = λ l. AccountedBeside no_label [] [] l in
+      let Q : List Refusal → Type 0 = λ l. AccountedBeside import.group.label [] [] l in
       let S : List Refusal → Type 0 = λ l. AreRepeats [] import.clashes.items l in
       record {
         batches = [];
@@ -125,26 +124,29 @@ module _ {J : Type 0} (start : Option Store) where
         repeats = subst S (sym refused) (All-nil _);
       }
 
-  same_beside : (groups : List (List Cut)) (old new : OpenImport J) → new.receipts.items ≡ old.receipts.items → new.refused.items ≡ old.refused.items → new.clashes.items ≡ old.clashes.items
+  same_beside : (groups : List (List Cut)) (old new : OpenImport J) → new.group.label ≡ old.group.label → new.receipts.items ≡ old.receipts.items → new.refused.items ≡ old.refused.items → new.clashes.items ≡ old.clashes.items
       → ProgressBeside groups old → ProgressBeside groups new
-  same_beside groups old new receipts refused clashes p =
+  same_beside groups old new label_is receipts refused clashes p =
       let P : List (Receipt J) → Type 0 = λ l. AreReceipts 0 l p.batches in
-      let Q : List Refusal → Type 0 = λ l. AccountedBeside no_label groups p.batches l in
+      let Q : List Refusal → Type 0 = λ l. AccountedBeside new.group.label groups p.batches l in
+      let L : List ℕ → Type 0 = λ l. AccountedBeside l groups p.batches old.refused.items in
       let S : List Refusal → Type 0 = λ l. AreRepeats (all_cuts groups) new.clashes.items l in
       let T : List (List Batch) → Type 0 = λ l. AreRepeats (all_cuts groups) l old.refused.items in
       record {
         batches = p.batches;
         are_receipts = subst P (sym receipts) p.are_receipts;
-        accounted = subst Q (sym refused) p.accounted;
+        accounted = subst Q (sym refused) (subst L (sym label_is) p.accounted);
         repeats = subst S (sym refused) (subst T (sym clashes) p.repeats);
       }
 
   -- what is settled stays where a cut is put into the group in hand
-  same_settled : (groups : List (List Cut)) (old new : OpenImport J) (told : Option Store) → new.receipts.items ≡ old.receipts.items → new.refused.items ≡ old.refused.items → new.clashes.items ≡ old.clashes.items
+  same_settled : (groups : List (List Cut)) (old new : OpenImport J) (told : Option Store) → new.group.label ≡ old.group.label → new.receipts.items ≡ old.receipts.items → new.refused.items ≡ old.refused.items → new.clashes.items ≡ old.clashes.items
       → IsSettledSo start groups old told → IsSettledSo start groups new told
-  same_settled groups old new told receipts refused clashes s = record {
-    beside = same_beside groups old new receipts refused clashes s.beside;
-    alone = λ known is. same_progress known groups old.receipts.items new.receipts.items old.refused.items new.refused.items told receipts refused (s.alone known is);
+  same_settled groups old new told label_is receipts refused clashes s = record {
+    beside = same_beside groups old new label_is receipts refused clashes s.beside;
+    alone = λ known is.
+        let L : List ℕ → Type 0 = λ l. Progress l known groups old.receipts.items old.refused.items told in
+        same_progress new.group.label known groups old.receipts.items new.receipts.items old.refused.items new.refused.items told receipts refused (subst L (sym label_is) (s.alone known is));
   }
 
   -- memory was wanting, and nothing was done
@@ -152,7 +154,7 @@ module _ {J : Type 0} (start : Option Store) where
   lacks_nothing groups import told s = record {
     before = told;
     settled = s;
-    alone = λ known is. lacks_still (s.alone known is).known [] told (s.alone known is).still;
+    alone = λ known is. lacks_still import.group.label (s.alone known is).known [] told (s.alone known is).still;
   }
 
   -- the same of more groups
@@ -162,7 +164,7 @@ module _ {J : Type 0} (start : Option Store) where
     settled = b.settled;
     alone = λ known is.
         let m = b.alone known is in
-        record { new = m.new; still = m.still; fault = m.fault; journal = stores_more (b.settled.alone known is).known others more m.new.journal m.journal };
+        record { new = m.new; still = m.still; fault = m.fault; journal = stores_more import.group.label (b.settled.alone known is).known others more m.new.journal m.journal };
   }
 
   -- ---- steps
@@ -176,34 +178,34 @@ module _ {J : Type 0} (start : Option Store) where
     group = group;
     settled = record {
       beside = beside_none import receipts refused;
-      alone = λ known is. same_progress known [] [] import.receipts.items [] import.refused.items start receipts refused (progress_none known start is);
+      alone = λ known is. same_progress import.group.label known [] [] import.receipts.items [] import.refused.items start receipts refused (progress_none import.group.label known start is);
     };
   }
 
   -- a cut was put into the group in hand
   pub taken_open : (taken : List Cut) (cut : Cut) (old new : OpenImport J) (told : Option Store) → ((hand : List Cut) → IsGroupOf hand old.group → IsGroupOf (hand ++ cut ∷ []) new.group)
-      → new.receipts.items ≡ old.receipts.items → new.refused.items ≡ old.refused.items → new.clashes.items ≡ old.clashes.items
+      → new.group.label ≡ old.group.label → new.receipts.items ≡ old.receipts.items → new.refused.items ≡ old.refused.items → new.clashes.items ≡ old.clashes.items
       → TakenSoFar start taken old told → TakenSoFar start (taken ++ cut ∷ []) new told
-  taken_open taken cut old new told group receipts refused clashes so_far = record {
+  taken_open taken cut old new told group label_is receipts refused clashes so_far = record {
     closed = so_far.closed;
     hand = so_far.hand ++ cut ∷ [];
     all = more_cuts taken cut so_far.closed so_far.hand so_far.all;
     each = so_far.each;
     group = group so_far.hand so_far.group;
-    settled = same_settled so_far.closed old new told receipts refused clashes so_far.settled;
+    settled = same_settled so_far.closed old new told label_is receipts refused clashes so_far.settled;
   }
 
   -- memory was wanting for the next cut
-  pub lacks_open : (taken more : List Cut) (old new : OpenImport J) (told : Option Store) → new.receipts.items ≡ old.receipts.items → new.refused.items ≡ old.refused.items → new.clashes.items ≡ old.clashes.items
+  pub lacks_open : (taken more : List Cut) (old new : OpenImport J) (told : Option Store) → new.group.label ≡ old.group.label → new.receipts.items ≡ old.receipts.items → new.refused.items ≡ old.refused.items → new.clashes.items ≡ old.clashes.items
       → TakenSoFar start taken old told → LacksSoFar start (taken ++ more) new told
-  lacks_open taken more old new told receipts refused clashes so_far = record {
+  lacks_open taken more old new told label_is receipts refused clashes so_far = record {
     closed = so_far.closed;
     others = [];
     hand = so_far.hand ++ more;
     all = ap (λ (l : List Cut). l ++ more) so_far.all ∙ append_assoc (all_cuts so_far.closed) so_far.hand more;
     each = so_far.each;
     each_other = tt;
-    behind = lacks_nothing so_far.closed new told (same_settled so_far.closed old new told receipts refused clashes so_far.settled);
+    behind = lacks_nothing so_far.closed new told (same_settled so_far.closed old new told label_is receipts refused clashes so_far.settled);
   }
 
   pub lacks_now : (taken : List Cut) (import : OpenImport J) (told : Option Store) → TakenSoFar start taken import told → LacksSoFar start taken import told
@@ -218,7 +220,7 @@ module _ {J : Type 0} (start : Option Store) where
   }
 
   module _ (taken : List Cut) (cut : Cut) (old mid : OpenImport J) (told : Option Store) (group : (hand : List Cut) → IsGroupOf hand old.group → IsGroupOf (hand ++ cut ∷ []) mid.group)
-      (receipts : mid.receipts.items ≡ old.receipts.items) (refused : mid.refused.items ≡ old.refused.items) (clashes : mid.clashes.items ≡ old.clashes.items)
+      (label_is : mid.group.label ≡ old.group.label) (receipts : mid.receipts.items ≡ old.receipts.items) (refused : mid.refused.items ≡ old.refused.items) (clashes : mid.clashes.items ≡ old.clashes.items)
       (new : OpenImport J) (told' : Option Store) where
     -- a cut made the group in hand whole, and it was settled
     pub taken_closed : length old.group.texts.items < 512 → 512 ≤ length mid.group.texts.items → IsGroupOf [] new.group
@@ -235,7 +237,7 @@ module _ {J : Type 0} (start : Option Store) where
           all = is ∙ sym (all_cuts-more so_far.closed hand);
           each = all_whole so_far.closed hand so_far.each last;
           group = none;
-          settled = closes start so_far.closed hand (hand_ascends _ so_far.closed hand is ascend) holds (same_settled so_far.closed old mid told receipts refused clashes so_far.settled);
+          settled = closes start so_far.closed hand (hand_ascends _ so_far.closed hand is ascend) holds (same_settled so_far.closed old mid told label_is receipts refused clashes so_far.settled);
         }
 
     -- the same where its settling ended the import
@@ -252,7 +254,7 @@ module _ {J : Type 0} (start : Option Store) where
           all = is;
           each = so_far.each;
           whole = is_whole so_far.hand cut (omega (arith, few, holds_texts so_far.hand old.group so_far.group)) (omega (arith, whole, holds_texts (so_far.hand ++ cut ∷ []) mid.group holds));
-          behind = ends start so_far.closed hand (hand_ascends _ so_far.closed hand is ascend) holds (same_settled so_far.closed old mid told receipts refused clashes so_far.settled);
+          behind = ends start so_far.closed hand (hand_ascends _ so_far.closed hand is ascend) holds (same_settled so_far.closed old mid told label_is receipts refused clashes so_far.settled);
         }
 
     -- the same where memory was wanting
@@ -271,7 +273,7 @@ module _ {J : Type 0} (start : Option Store) where
           all = is ∙ ap (λ (l : List Cut). all_cuts so_far.closed ++ l) (sym (append-nil ((so_far.hand ++ cut ∷ []) ++ []) ∙ append-nil (so_far.hand ++ cut ∷ [])));
           each = so_far.each;
           each_other = (last, tt);
-          behind = lacks start so_far.closed hand (hand_ascends _ so_far.closed hand is ascend) holds (same_settled so_far.closed old mid told receipts refused clashes so_far.settled);
+          behind = lacks start so_far.closed hand (hand_ascends _ so_far.closed hand is ascend) holds (same_settled so_far.closed old mid told label_is receipts refused clashes so_far.settled);
         }
 
   -- ---- the end of a stream

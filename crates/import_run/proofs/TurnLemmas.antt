@@ -8,7 +8,6 @@ use Rattle.explorer_model.specs.declared.archive.Batch.{Batch}
 use Rattle.explorer_model.specs.declared.archive.Game.{Game}
 use Rattle.explorer_model.specs.declared.fault.Refusal.{Refusal}
 use Rattle.explorer_model.specs.Cuts.{Cut}
-use Rattle.explorer_model.specs.Labels.{no_label}
 use Rattle.explorer_model.specs.Imports.{Accounted, Candidate, Examination, IsExaminationOf, Verdict, batch_of, candidates, numbers_of, refusals, verdicts_behind, verdicts_in_turn}
 use Rattle.explorer_model.specs.Visits.{AreGamesOf, IsTextOf, texts_of}
 use Rattle.explorer_model.proofs.Lists.{zip-append}
@@ -26,14 +25,14 @@ unfolding verdicts_in_turn
 turn-more stored [] group = refl
 turn-more stored (g ∷ groups) group = ap (λ (l : List (List Verdict)). verdicts_behind (numbers_of stored) g ∷ l) (turn-more (and_games stored g) groups group)
 
-abbrev pub batch_in : List Verdict → Option Batch
-batch_in group = batch_of no_label (candidates group)
+abbrev pub batch_in : List ℕ → List Verdict → Option Batch
+batch_in label group = batch_of label (candidates group)
 
-unfoldable pub one_more : (stored : List Game) (groups : List (List Cut)) (batches : List Batch) (refused : List Refusal) (done : Accounted no_label stored groups batches refused) (cuts : List Cut) (examinations : List Examination)
+unfoldable pub one_more : {label : List ℕ} (stored : List Game) (groups : List (List Cut)) (batches : List Batch) (refused : List Refusal) (done : Accounted label stored groups batches refused) (cuts : List Cut) (examinations : List Examination)
     → AllZip IsExaminationOf cuts examinations
-    → Accounted no_label stored (groups ++ cuts ∷ []) (batches ++ cons_option (batch_of no_label (candidates (verdicts_behind (numbers_of (games_after stored done.examinations)) examinations))) [])
+    → Accounted label stored (groups ++ cuts ∷ []) (batches ++ cons_option (batch_of label (candidates (verdicts_behind (numbers_of (games_after stored done.examinations)) examinations))) [])
     (refused ++ refusals (verdicts_behind (numbers_of (games_after stored done.examinations)) examinations))
-one_more stored groups batches refused done cuts examinations each =
+one_more {label} stored groups batches refused done cuts examinations each =
     let here = verdicts_behind (numbers_of (games_after stored done.examinations)) examinations in
     let so_far = verdicts_in_turn stored done.examinations in
     let turn = turn-more stored done.examinations examinations in
@@ -41,8 +40,8 @@ one_more stored groups batches refused done cuts examinations each =
       examinations = done.examinations ++ examinations ∷ [];
       are_examinations = zip-append (AllZip IsExaminationOf) groups (cuts ∷ []) done.examinations (examinations ∷ []) done.are_examinations (each, tt);
       yields = record {
-        batches_are = ap (λ (l : List Batch). l ++ cons_option (batch_of no_label (candidates here)) []) done.yields.batches_are
-            ∙ sym (ap (filter_map batch_in) turn ∙ filter_map-append batch_in so_far (here ∷ []));
+        batches_are = ap (λ (l : List Batch). l ++ cons_option (batch_of label (candidates here)) []) done.yields.batches_are
+            ∙ sym (ap (filter_map (batch_in label)) turn ∙ filter_map-append (batch_in label) so_far (here ∷ []));
         refused_are = ap (λ (l : List Refusal). l ++ refusals here) done.yields.refused_are
             ∙ sym (ap (flat_map refusals) turn ∙ flat_map-append refusals so_far (here ∷ []) ∙ ap (λ (l : List Refusal). flat_map refusals so_far ++ l) (append-nil (refusals here)));
       };
@@ -59,9 +58,9 @@ texts_more journal batch =
     flat_map-append (λ (b : Batch). b.texts) journal (batch ∷ [])
     ∙ ap (λ (l : List (List ℕ)). texts_of journal ++ l) (append-nil batch.texts)
 
-pub games_more : (journal : List Batch) (games : List Game) (cs : List Candidate) (batch : Batch) → AreGamesOf journal games → AreRead cs → batch_of no_label cs ≡ Some batch
+pub games_more : {label : List ℕ} (journal : List Batch) (games : List Game) (cs : List Candidate) (batch : Batch) → AreGamesOf journal games → AreRead cs → batch_of label cs ≡ Some batch
     → AreGamesOf (journal ++ batch ∷ []) (games ++ map (λ c. c.game) cs)
-games_more journal games cs batch are read is =
+games_more {label} journal games cs batch are read is =
     let more = map (λ (c : Candidate). c.game) cs in
     let P : List (List ℕ) → Type 0 = λ texts. AllZip IsTextOf (texts_of journal ++ texts) (games ++ more) in
     let Q : List (List ℕ) → Type 0 = λ texts. AllZip IsTextOf texts (games ++ more) in

@@ -3,7 +3,6 @@ use Rattle.std.proofs.Common.{◌≡◌, ◌∙◌, inl, inr, ℕ, ◌<◌, List
 use Rattle.explorer_model.specs.declared.archive.Batch.{Batch}
 use Rattle.explorer_model.specs.declared.fault.Refusal.{Refusal}
 use Rattle.explorer_model.specs.Cuts.{Cut}
-use Rattle.explorer_model.specs.Labels.{no_label}
 use Rattle.explorer_model.specs.Imports.{AccountedBeside, AreExaminations, Candidate, Examination, Numbering, Verdict, batch_of, candidates, verdicts_by}
 use Rattle.explorer_model.specs.Journal.{input_limit}
 use Rattle.ingest_desk.specs.Reporting.{AreReceipts}
@@ -35,11 +34,11 @@ no_whole ended (group ∷ groups) hand are few =
     absurd (omega (arith, few, many, all, texts-append (group ++ all_cuts groups) hand, texts-append group (all_cuts groups)))
 
 -- of no groups there are no batches
-no_batches : (batches : List Batch) (refused : List Refusal) → AccountedBeside no_label [] batches refused → batches ≡ []
-no_batches batches refused a = by a.numbers a.examinations a.are_examinations a.yields.batches_are
+no_batches : {label : List ℕ} (batches : List Batch) (refused : List Refusal) → AccountedBeside label [] batches refused → batches ≡ []
+no_batches {label} batches refused a = by a.numbers a.examinations a.are_examinations a.yields.batches_are
   where
     by : (numbers : List Numbering) (examinations : List (List Examination)) → AreExaminations [] examinations
-        → batches ≡ filter_map (λ (group : List Verdict). batch_of no_label (candidates group)) (verdicts_by numbers examinations) → batches ≡ []
+        → batches ≡ filter_map (λ (group : List Verdict). batch_of label (candidates group)) (verdicts_by numbers examinations) → batches ≡ []
     by [] [] are is = is
     by (n ∷ numbers) [] are is = is
     by numbers (e ∷ examinations) are is = absurd are
@@ -48,8 +47,8 @@ no_receipts : {J : Type 0} (receipts : List (Receipt J)) → AreReceipts 0 recei
 no_receipts [] are = refl
 no_receipts (r ∷ receipts) are = absurd are
 
-pub unended : {J : Type 0} (stream rest : List ℕ) (byte : ℕ) (report : Report J) → length stream < input_limit → texts_in (ended_cuts stream) < 512 → ComesBeside stream (Some (byte ∷ rest)) report → report.receipts.items ≡ []
-unended {J} stream rest byte report below few comes =
+pub unended : {label : List ℕ} {J : Type 0} (stream rest : List ℕ) (byte : ℕ) (report : Report J) → length stream < input_limit → texts_in (ended_cuts stream) < 512 → ComesBeside label stream (Some (byte ∷ rest)) report → report.receipts.items ≡ []
+unended {label} {J} stream rest byte report below few comes =
     let P : List Batch → Type 0 = λ l. AreReceipts 0 report.receipts.items l in
     no_receipts report.receipts.items (subst P (by report.end comes.reports.batches comes.stands) comes.reports.are_receipts)
   where
@@ -57,18 +56,18 @@ unended {J} stream rest byte report below few comes =
     none_so_far so_far (inl (hand, are)) = no_whole (ended_cuts stream) so_far hand are few
     none_so_far so_far (inr (at_end, all)) = absurd (some_none byte rest at_end)
 
-    of_none : (groups : List (List Cut)) (batches : List Batch) → groups ≡ [] → AccountedBeside no_label groups batches report.refused.items → batches ≡ []
+    of_none : (groups : List (List Cut)) (batches : List Batch) → groups ≡ [] → AccountedBeside label groups batches report.refused.items → batches ≡ []
     of_none groups batches none accounted =
-        let A : List (List Cut) → Type 0 = λ l. AccountedBeside no_label l batches report.refused.items in
+        let A : List (List Cut) → Type 0 = λ l. AccountedBeside label l batches report.refused.items in
         no_batches batches report.refused.items (subst A none accounted)
 
-    broken : (batches : List Batch) (left : List Candidate) → BreaksBeside stream (Some (byte ∷ rest)) batches report.refused.items left → batches ≡ []
+    broken : (batches : List Batch) (left : List Candidate) → BreaksBeside label stream (Some (byte ∷ rest)) batches report.refused.items left → batches ≡ []
     broken batches left breaks = absurd (some_behind breaks.done breaks.next breaks.rest (sym breaks.so_far_is ∙ none_so_far breaks.so_far breaks.are_so_far))
 
-    lacking : (batches : List Batch) → LacksBeside stream (Some (byte ∷ rest)) batches report.refused.items → batches ≡ []
+    lacking : (batches : List Batch) → LacksBeside label stream (Some (byte ∷ rest)) batches report.refused.items → batches ≡ []
     lacking batches lacks = of_none lacks.done batches (front_none lacks.done lacks.rest (sym lacks.so_far_is ∙ none_so_far lacks.so_far lacks.are_so_far)) lacks.accounted
 
-    by : (end : End J) (batches : List Batch) → StandsBeside end stream (Some (byte ∷ rest)) batches report.refused.items → batches ≡ []
+    by : (end : End J) (batches : List Batch) → StandsBeside label end stream (Some (byte ∷ rest)) batches report.refused.items → batches ≡ []
     by ends.Whole batches stands = absurd (some_none byte rest stands.0)
     by (ends.ReadFault before after) batches stands =
         let cut = stands.1 in of_none cut.whole batches (no_whole (ended_cuts stream) cut.whole cut.hand cut.in_groups few) cut.accounted

@@ -1,5 +1,5 @@
 -- The verdicts on a group's cuts, where more and more ids are found to be stored.
-use Rattle.std.proofs.Common.{◌≡◌, ◌≤◌, ◌+◌, ℕ, Bool, true, false, cond, List, [], ◌∷◌, ◌++◌, map, filter, find, Option, None, Some, Result, Ok, Err, refl, sym, ap, ◌∙◌, subst, arith}
+use Rattle.std.proofs.Common.{◌≡◌, ◌≤◌, ◌+◌, ℕ, Bool, true, false, cond, List, [], ◌∷◌, ◌++◌, map, filter, find, Option, None, Some, option_map, Result, Ok, Err, refl, sym, ap, ◌∙◌, subst, arith}
 use Rattle.std.proofs.lemmas.List.{append-nil}
 use Rattle.std.proofs.lemmas.List.Elements.{filter-append}
 use Rattle.std.specs.List.{AllByRecursion, AllZip}
@@ -17,6 +17,8 @@ use Rattle.explorer_model.specs.Imports.{Examination, Read, Candidate, Numbering
 use Rattle.batch_tally.specs.Tallying.{IsExaminationOfText, IsTallying, IsTallyMade}
 use Rattle.import_run.specs.Grouping.{AscendFrom, merged, place_of}
 use Rattle.explorer_model.specs.Cuts.{Cut, Text, TooLong, Preamble}
+use Rattle.import_run.specs.Labelling.{under}
+use Rattle.import_run.proofs.LabelLemmas.{counts_under}
 use Rattle.import_run.proofs.MergeLemmas.{Above, merge_first, merge_other}
 use Rattle.import_run.specs.Settling.{AreRead, Fresh, id_of, kept, lost, left_by, named_by, placed, repeated}
 
@@ -166,14 +168,17 @@ of_texts (text ∷ texts) [] each = absurd each
 of_texts (text ∷ texts) (examination ∷ examinations) each = (each.0, of_texts texts examinations each.1)
 
 -- the candidates of texts that were tallied are in hand
-pub hand_made : (texts : List Placed) (made : Tallying) → IsTallying texts made → IfSome made.tally (λ counted. InHand counted made.places.items)
-hand_made texts made is = by_tally made.tally is.tally
+pub hand_made : (label : List ℕ) (texts : List Placed) (made : Tallying) (tally : Option Counted) → IsTallying texts made → tally ≡ option_map (under label) made.tally
+    → IfSome tally (λ counted. InHand counted made.places.items)
+hand_made label texts made tally is same =
+    let P : Option Counted → Type 0 = λ t. IfSome t (λ counted. InHand counted made.places.items) in
+    subst P (sym same) (by_tally made.tally is.tally)
   where
-    by_tally : (tally : Option Counted) → IsTallyMade (candidates (verdicts is.examinations)) tally → IfSome tally (λ counted. InHand counted made.places.items)
+    by_tally : (tally : Option Counted) → IsTallyMade (candidates (verdicts is.examinations)) tally → IfSome (option_map (under label) tally) (λ counted. InHand counted made.places.items)
     by_tally None m = tt
     by_tally (Some counted) m =
         let all = fresh (map Text texts) [] is.examinations (of_texts texts is.examinations is.are_examinations) in
-        record { candidates = candidates (verdicts is.examinations); counts = m; places_are = is.places; read = all.1; fresh = all.0 }
+        record { candidates = candidates (verdicts is.examinations); counts = counts_under label (candidates (verdicts is.examinations)) counted m; places_are = is.places; read = all.1; fresh = all.0 }
 
 -- ---- fewer candidates
 

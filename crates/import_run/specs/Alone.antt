@@ -36,8 +36,8 @@ abbrev pub DiskFaultsAre : {J : Type 0} → End J → DiskState → DiskState �
 DiskFaultsAre (ends.DiskFault before after mark) old new = IsFault before after old new
 DiskFaultsAre _ old new = new.faults ≡ old.faults
 
--- What an import comes to by its report, from the bytes that it took of its source.
-pub record ImportsAlone {D J : Type 0} (disk : D → DiskState)
+-- What an import under a label comes to by its report, from the bytes that it took of its source.
+pub record ImportsAlone {D J : Type 0} (label : List ℕ) (disk : D → DiskState)
     (left_since : D → ℕ → List ℕ → Type 0) (source : Stream) (before : Stored D)
     (source_after : Stream) (after : Stored D) (report : Report J) : Type 0 where
   -- the bytes that were taken
@@ -51,7 +51,7 @@ pub record ImportsAlone {D J : Type 0} (disk : D → DiskState)
   -- the batches of the receipts, and what became of the groups of the stream
   pub batches : List Batch
   pub receipts : AreReceiptsOf start.journal report.receipts.items batches
-  pub stands : StandsAt report.end start stream source_after.left batches report.refused.items
+  pub stands : StandsAt label report.end start stream source_after.left batches report.refused.items
       (stored_in after)
   -- each number that a text is refused with is that of a game in the journal of one of the notes
   pub repeats : AreRepeats (cuts stream) report.clashes.items report.refused.items

@@ -5,12 +5,10 @@ use Rattle.explorer_model.specs.declared.archive.Batch.{Batch}
 use Rattle.explorer_model.specs.declared.archive.Game.{Game}
 use Rattle.explorer_model.specs.declared.fault.Refusal.{Refusal}
 use Rattle.explorer_model.specs.Cuts.{Cut}
-use Rattle.explorer_model.specs.Labels.{no_label}
 use Rattle.explorer_model.specs.Imports.{AccountedBeside, Candidate, Examination, IsExaminationOf, Numbering, batch_of, numbers_of, verdicts}
 use Rattle.explorer_model.specs.Journal.{byte_count, game_count}
 use Rattle.explorer_model.specs.Visits.{AreGamesOf}
 use Rattle.tally_rows.specs.Tally.{Counted}
-use Rattle.batch_tally.specs.Tallying.{Counts}
 use Rattle.ingest_desk.specs.Causes.{has_no_room}
 use Rattle.ingest_desk.specs.Clashes.{clashes_of}
 use Rattle.ingest_desk.specs.Marked.{IsMark}
@@ -24,6 +22,7 @@ use Rattle.ingest_desk.specs.declared.report.End.TheVariants as ends
 use Rattle.import_run.specs.declared.groups.OpenImport.{OpenImport}
 use Rattle.import_run.specs.declared.groups.Stopped.{Stopped}
 use Rattle.import_run.specs.declared.settle.Done.{Done}
+use Rattle.import_run.specs.Labelling.{CountsUnder}
 use Rattle.import_run.specs.Rounds.{Rounds}
 use Rattle.import_run.specs.Settling.{kept, lost}
 
@@ -64,28 +63,28 @@ AreNamed journals number = (id : List ℕ) (n : ℕ) → number id ≡ Some n
     × (games : List Game) × AreGamesOf journal games × (numbers_of games id ≡ Some n)
 
 -- the rounds of a group, whose numbers stand in the journals of clashes
-pub record RoundsBeside (cuts : List Cut) (tally : Option Counted) (places : List ℕ)
-    (refused : List Refusal) (clashes : List (List Batch)) : Type 0 where
-  pub rounds : Rounds None cuts tally places refused None
+pub record RoundsBeside (label : List ℕ) (cuts : List Cut) (tally : Option Counted)
+    (places : List ℕ) (refused : List Refusal) (clashes : List (List Batch)) : Type 0 where
+  pub rounds : Rounds label None cuts tally places refused None
   pub named : AreNamed clashes rounds.stored
 
--- the answer to the commit of the candidates; none where there is no candidate
-abbrev pub AnswersFor : {J : Type 0} → List Candidate
+-- the answer to the commit of the candidates under the label; none where there is no candidate
+abbrev pub AnswersFor : {J : Type 0} → List ℕ → List Candidate
     → Option (Result (Receipt J) (CommitFault J)) → Type 0
-AnswersFor candidates None = candidates ≡ []
-AnswersFor candidates (Some answer) =
-    (counted : Counted) × Counts candidates counted × AnswersTo answer counted
+AnswersFor label candidates None = candidates ≡ []
+AnswersFor label candidates (Some answer) =
+    (counted : Counted) × CountsUnder label candidates counted × AnswersTo answer counted
 
 -- The texts whose ids were found to be stored are refused with their numbers, and the others are
--- handed over as one batch.
-pub record SettlesBeside {J : Type 0} (cuts : List Cut) (done : Done J)
+-- handed over as one batch under the label.
+pub record SettlesBeside {J : Type 0} (label : List ℕ) (cuts : List Cut) (done : Done J)
     (clashes : List (List Batch)) : Type 0 where
   pub examinations : List Examination
   pub are_examinations : AllZip IsExaminationOf cuts examinations
   pub number : Numbering
   pub named : AreNamed clashes number
   pub refused : done.refused.items ≡ lost number (verdicts examinations)
-  pub answer : AnswersFor (kept number (verdicts examinations)) done.answer
+  pub answer : AnswersFor label (kept number (verdicts examinations)) done.answer
 
 -- ---- an import
 
@@ -99,29 +98,29 @@ abbrev pub AreRepeats : List Cut → List (List Batch) → List Refusal → Type
 AreRepeats cuts clashes refused =
     All (λ refusal. RepeatsBy cuts clashes refusal.place refusal.why) refused
 
--- the groups are accounted by the batches of the receipts and by the refusals
+-- the groups are accounted under the label by the batches of the receipts and by the refusals
 pub record ProgressBeside {J : Type 0} (groups : List (List Cut)) (import : OpenImport J)
     : Type 0 where
   pub batches : List Batch
   pub are_receipts : AreReceipts 0 import.receipts.items batches
-  pub accounted : AccountedBeside no_label groups batches import.refused.items
+  pub accounted : AccountedBeside import.group.label groups batches import.refused.items
   pub repeats :
       AreRepeats (flat_map (λ group. group) groups) import.clashes.items import.refused.items
 
 -- the mark is that of the end, where what is left is the batch that failed, or the note has no room
 -- for what is left
-abbrev pub EndsBeside : {J : Type 0} → End J → List Candidate → Type 0
-EndsBeside (ends.DiskFault before after mark) left =
-    IsMark kinds.DiskFault before after (batch_of no_label left) mark
-EndsBeside (ends.Closed before after mark) left = IsMark kinds.Closed before after None mark
-EndsBeside (ends.Full games bytes note) left = FindsNoRoom note games bytes left
-EndsBeside _ left = ⊥
+abbrev pub EndsBeside : {J : Type 0} → List ℕ → End J → List Candidate → Type 0
+EndsBeside label (ends.DiskFault before after mark) left =
+    IsMark kinds.DiskFault before after (batch_of label left) mark
+EndsBeside label (ends.Closed before after mark) left = IsMark kinds.Closed before after None mark
+EndsBeside label (ends.Full games bytes note) left = FindsNoRoom note games bytes left
+EndsBeside label _ left = ⊥
 
 -- a commit of what was left of a group ended the import
-pub record StopsBeside {J : Type 0} (group : List Cut) (clashes : List (List Batch))
-    (stopped : Stopped J) : Type 0 where
+pub record StopsBeside {J : Type 0} (label : List ℕ) (group : List Cut)
+    (clashes : List (List Batch)) (stopped : Stopped J) : Type 0 where
   pub left : List Candidate
   pub judged : IsJudged group left stopped.refused.items
   pub some_left : left ≢ []
-  pub ends : EndsBeside stopped.end left
+  pub ends : EndsBeside label stopped.end left
   pub repeats : AreRepeats group clashes stopped.refused.items

@@ -3,6 +3,7 @@ use Rattle.std.specs.Prelude.{◌≡◌, ⊤, ℕ, List, [], Some, length}
 use Rattle.disk_model.specs.Disk.{DiskState}
 use Rattle.outside.specs.Stream.{source_alone}
 use Rattle.explorer_model.specs.declared.archive.Batch.{Batch}
+use Rattle.explorer_model.specs.Labels.{no_label}
 use Rattle.ingest_desk.specs.Stored.{Stored}
 use Rattle.ingest_desk.specs.declared.report.End.{End}
 use Rattle.ingest_desk.specs.declared.report.End.TheVariants as ends
@@ -27,5 +28,5 @@ IsPlainEnd _ = ⊥
 abbrev pub ImportsBody : {D J : Type 0} → (D → DiskState) → (D → ℕ → List ℕ → Type 0) → List ℕ
     → Stored D → Stored D → Report J → Type 0
 ImportsBody disk left_since body before after report =
-    ImportsAlone disk left_since (source_alone (Some body) 0 0) before
+    ImportsAlone no_label disk left_since (source_alone (Some body) 0 0) before
     (source_alone (Some []) (length body) 0) after report

@@ -6,9 +6,9 @@ use Rattle.explorer_model.specs.declared.fault.Refusal.{Refusal}
 use Rattle.explorer_model.specs.declared.fault.Why.TheVariants as causes
 use Rattle.explorer_model.specs.Cuts.{Cut, Text, TooLong, Preamble, text_limit}
 use Rattle.explorer_model.specs.Imports.{Examination, IsExaminationOf, verdicts, candidates, refusals}
-use Rattle.batch_tally.specs.Tallying.{IsTallyMade}
 use Rattle.import_run.specs.declared.text_group.TextGroup.{TextGroup}
 use Rattle.import_run.specs.declared.text_group.TalliedGroup.{TalliedGroup}
+use Rattle.import_run.specs.Labelling.{IsTallyUnder}
 
 -- ---- cuts
 
@@ -61,11 +61,11 @@ abbrev pub merged : List Refusal → List Refusal → List Refusal
 merged [] others = others
 merged (refusal ∷ refused) others = put_by_place refusal (merged refused) others
 
--- the cuts of a group were examined: its candidates are tallied, and each other cut is refused, in
--- the order of the cuts
-pub record IsTallied (cuts : List Cut) (tallied : TalliedGroup) : Type 0 where
+-- the cuts of a group were examined: its candidates are tallied under the label, and each other cut
+-- is refused, in the order of the cuts
+pub record IsTallied (label : List ℕ) (cuts : List Cut) (tallied : TalliedGroup) : Type 0 where
   pub examinations : List Examination
   pub are_examinations : AllZip IsExaminationOf cuts examinations
   pub places : tallied.places.items ≡ map (λ c. c.place) (candidates (verdicts examinations))
   pub refused : tallied.refused.items ≡ refusals (verdicts examinations)
-  pub tally : IsTallyMade (candidates (verdicts examinations)) tallied.tally
+  pub tally : IsTallyUnder label (candidates (verdicts examinations)) tallied.tally

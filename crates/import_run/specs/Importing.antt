@@ -30,10 +30,10 @@ WhereLacking (stops.Fault stopped) P = Unit {0}
 WhereLacking stops.OutOfMemory P = P
 
 -- a commit of the group's new texts ended the import
-pub record StopsAt {J : Type 0} (known : Known) (hand : List Cut) (stopped : Stopped J)
-    (told : Option Store) : Type 0 where
+pub record StopsAt {J : Type 0} (label : List ℕ) (known : Known) (hand : List Cut)
+    (stopped : Stopped J) (told : Option Store) : Type 0 where
   pub fault : CommitFault J
   pub is_end : IsEndOf fault stopped.end
   pub decided : IsDecided {J = J} (Err fault)
-  pub settled : Settles known hand
+  pub settled : Settles label known hand
       (record { answer = Some (Err fault); refused = stopped.refused }) told

@@ -1,3 +1,4 @@
+pub mod Labelling
 pub mod Grouping
 pub mod SoFar
 pub mod Settling

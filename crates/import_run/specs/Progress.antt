@@ -5,7 +5,6 @@ use Rattle.explorer_model.specs.declared.archive.Batch.{Batch}
 use Rattle.explorer_model.specs.declared.archive.Game.{Game}
 use Rattle.explorer_model.specs.declared.fault.Refusal.{Refusal}
 use Rattle.explorer_model.specs.Cuts.{Cut}
-use Rattle.explorer_model.specs.Labels.{no_label}
 use Rattle.explorer_model.specs.Imports.{Accounted, Examination, candidates, numbers_of, verdicts, verdicts_behind}
 use Rattle.ingest_desk.specs.Commits.{IsReceiptOf}
 use Rattle.ingest_desk.specs.declared.receipt.Receipt.{Receipt}
@@ -34,13 +33,13 @@ AreReceiptsOf journal (receipt ∷ receipts) [] = ⊥
 abbrev pub HasNoCandidate : List Examination → Type 0
 HasNoCandidate group = candidates (verdicts group) ≡ []
 
--- The groups are accounted by the batches behind the journal, one for each receipt, and by the
--- refusals. Where the store is closed, none of them has a candidate.
-pub record Progress {J : Type 0} (start : Known) (groups : List (List Cut))
+-- The groups are accounted under the label by the batches behind the journal, one for each receipt,
+-- and by the refusals. Where the store is closed, none of them has a candidate.
+pub record Progress {J : Type 0} (label : List ℕ) (start : Known) (groups : List (List Cut))
     (receipts : List (Receipt J)) (refused : List Refusal) (told : Option Store)
     : Type 0 where
   pub batches : List Batch
-  pub accounted : Accounted no_label start.games groups batches refused
+  pub accounted : Accounted label start.games groups batches refused
   pub receipts_are : AreReceiptsOf start.journal receipts batches
   pub known : Known
   pub still : told ≡ Some (store_of known)

@@ -6,7 +6,6 @@ use Rattle.outside.specs.Stream.{Stream, Reads}
 use Rattle.explorer_model.specs.declared.archive.Batch.{Batch}
 use Rattle.explorer_model.specs.declared.fault.Refusal.{Refusal}
 use Rattle.explorer_model.specs.Cuts.{Cut, cuts, text_limit}
-use Rattle.explorer_model.specs.Labels.{no_label}
 use Rattle.explorer_model.specs.Imports.{AccountedBeside, group_limit}
 use Rattle.ingest_desk.specs.Reporting.{AreReceipts}
 use Rattle.ingest_desk.specs.declared.receipt.Receipt.{Receipt}
@@ -35,7 +34,7 @@ pub record IsSettledSo {J : Type 0} (start : Option Store) (groups : List (List 
     (import : OpenImport J) (told : Option Store) : Type 0 where
   pub beside : ProgressBeside groups import
   pub alone : (known : Known) → start ≡ Some (store_of known)
-      → Progress known groups import.receipts.items import.refused.items told
+      → Progress import.group.label known groups import.receipts.items import.refused.items told
 
 -- the groups are settled, and the next one ended the import
 pub record StopsBehind {J : Type 0} (start : Option Store) (done : List (List Cut))
@@ -43,9 +42,9 @@ pub record StopsBehind {J : Type 0} (start : Option Store) (done : List (List Cu
     : Type 0 where
   pub before : Option Store
   pub settled : IsSettledSo start done import before
-  pub beside : StopsBeside next import.clashes.items stopped
+  pub beside : StopsBeside import.group.label next import.clashes.items stopped
   pub alone : (known : Known) → (is : start ≡ Some (store_of known))
-      → StopsAt (settled.alone known is).known next stopped told
+      → StopsAt import.group.label (settled.alone known is).known next stopped told
   -- the refusals of the group find room behind the others
   pub room : vec_len import.refused + length stopped.refused.items ≤ vec_capacity import.refused
 
@@ -56,7 +55,7 @@ pub record LacksBehind {J : Type 0} (start : Option Store) (done others : List (
   pub before : Option Store
   pub settled : IsSettledSo start done import before
   pub alone : (known : Known) → (is : start ≡ Some (store_of known))
-      → MayHaveMore (settled.alone known is).known others told
+      → MayHaveMore import.group.label (settled.alone known is).known others told
 
 -- ---- cuts that were taken
 
@@ -151,43 +150,44 @@ pub record LacksAtEnd {J : Type 0} (start : Option Store) (taken : List Cut) (im
 -- ---- what an import comes to
 
 -- the whole groups of a stream that was cut off are settled
-pub record IsWholeSettled {J : Type 0} (start : Known) (stream : List ℕ)
+pub record IsWholeSettled {J : Type 0} (label : List ℕ) (start : Known) (stream : List ℕ)
     (receipts : List (Receipt J)) (refused : List Refusal) (told : Option Store) : Type 0 where
   pub whole : List (List Cut)
   pub hand : List Cut
   pub in_groups : AreInGroups (ended_cuts stream) whole hand
-  pub progress : Progress start whole receipts refused told
+  pub progress : Progress label start whole receipts refused told
 
 -- the report of an import that took these bytes, and the store after it
-pub record ComesTo {J : Type 0} (start : Known) (stream : List ℕ) (left_over : Option (List ℕ))
-    (report : Report J) (told : Option Store) : Type 0 where
+pub record ComesTo {J : Type 0} (label : List ℕ) (start : Known) (stream : List ℕ)
+    (left_over : Option (List ℕ)) (report : Report J) (told : Option Store) : Type 0 where
   pub batches : List Batch
   pub receipts : AreReceiptsOf start.journal report.receipts.items batches
   pub new : Store
   pub still : told ≡ Some new
-  pub stands : StandsAt report.end start stream left_over batches report.refused.items new
+  pub stands : StandsAt label report.end start stream left_over batches report.refused.items new
   pub stores : StoresBy report.end (start.journal ++ batches) start.fault new
 
 -- the same, where no read failed
-pub record ComesQuietly {J : Type 0} (start : Known) (stream : List ℕ)
+pub record ComesQuietly {J : Type 0} (label : List ℕ) (start : Known) (stream : List ℕ)
     (left_over : Option (List ℕ)) (report : Report J) (told : Option Store) : Type 0 where
-  pub comes : ComesTo start stream left_over report told
+  pub comes : ComesTo label start stream left_over report told
   pub quiet : (old new : Stream) → new.read_faults ≡ old.read_faults
       → ReadFaultsAre report.end old new
 
 -- an import of a source into a store that is known
-pub record Imports {J : Type 0} (start : Known) (before after : Stream) (report : Report J)
-    (told : Option Store) : Type 0 where
+pub record Imports {J : Type 0} (label : List ℕ) (start : Known) (before after : Stream)
+    (report : Report J) (told : Option Store) : Type 0 where
   pub stream : List ℕ
   pub reads : Reads stream before after
   pub faults : ReadFaultsAre report.end before after
-  pub comes : ComesTo start stream after.left report told
+  pub comes : ComesTo label start stream after.left report told
   pub repeats : AreRepeats (cuts stream) report.clashes.items report.refused.items
 
 -- ---- what an import comes to, whoever else stores beside it
 
 -- the whole groups of a stream that was cut off are accounted
-pub record IsWholeBeside {J : Type 0} (stream : List ℕ) (report : Report J) : Type 0 where
+pub record IsWholeBeside {J : Type 0} (label : List ℕ) (stream : List ℕ) (report : Report J)
+    : Type 0 where
   pub whole : List (List Cut)
   pub hand : List Cut
   pub in_groups : AreInGroups (ended_cuts stream) whole hand
@@ -195,13 +195,13 @@ pub record IsWholeBeside {J : Type 0} (stream : List ℕ) (report : Report J) : 
       → (more : List Cut) × (cuts (stream ++ rest) ≡ flat_map (λ group. group) whole ++ more)
   pub batches : List Batch
   pub are_receipts : AreReceipts 0 report.receipts.items batches
-  pub accounted : AccountedBeside no_label whole batches report.refused.items
+  pub accounted : AccountedBeside label whole batches report.refused.items
   pub repeats :
       AreRepeats (flat_map (λ group. group) whole) report.clashes.items report.refused.items
 
 -- the report of an import that took these bytes without a fault of a read
-pub record ComesQuietlyBeside {J : Type 0} (stream : List ℕ) (left_over : Option (List ℕ))
-    (report : Report J) : Type 0 where
-  pub comes : ComesBeside stream left_over report
+pub record ComesQuietlyBeside {J : Type 0} (label : List ℕ) (stream : List ℕ)
+    (left_over : Option (List ℕ)) (report : Report J) : Type 0 where
+  pub comes : ComesBeside label stream left_over report
   pub quiet : (old new : Stream) → new.read_faults ≡ old.read_faults
       → ReadFaultsAre report.end old new

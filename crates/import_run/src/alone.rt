@@ -8,6 +8,7 @@ use crate::draining::DrainEnd;
 use crate::merging::{Merging, merge_due};
 use crate::stream::import_stream;
 use disk_model::Disk;
+use explorer_model::label::Label;
 use game_replay::laws::game_is_determined;
 use ingest_desk::{CommitFault, Ingest, Receipt, Report};
 use outside::{Gate, Source};
@@ -17,24 +18,25 @@ use std::sync::Wait;
 use std::thread::Threads;
 use tally_rows::Tally;
 
-/// Imports the texts of a source, where nobody else stores anything meanwhile.
+/// Imports the texts of a source under the label, where nobody else stores anything meanwhile.
 pub fn import_alone<S: Source, D: Disk, J: Index, G: Gate, R: Wait + Threads + Sync>(
     rt: &R,
     alloc: Global,
     source: &mut S,
     ingest: &mut Ingest<D, J>,
+    label: Label,
     workers: usize,
     gate: &G,
 ) -> Report<J>
     requires some_workers { 1 ≤ workers }
     requires few_workers { workers ≤ 16 }
-    ensures { ImportsAlone D.disk D.left_since (S.source source.old) ingest.old
+    ensures { ImportsAlone label D.disk D.left_since (S.source source.old) ingest.old
         (S.source source.new) ingest.new result }
 {
     let LoneImport {
         report,
         lacked: _lacked,
-    } = import_and_tell(rt, alloc, source, ingest, workers, gate);
+    } = import_and_tell(rt, alloc, source, ingest, label, workers, gate);
     report
 }
 
@@ -52,12 +54,13 @@ pub fn import_and_tell<S: Source, D: Disk, J: Index, G: Gate, R: Wait + Threads 
     alloc: Global,
     source: &mut S,
     ingest: &mut Ingest<D, J>,
+    label: Label,
     workers: usize,
     gate: &G,
 ) -> LoneImport<J>
     requires some_workers { 1 ≤ workers }
     requires few_workers { workers ≤ 16 }
-    ensures alone { ImportsAlone D.disk D.left_since (S.source source.old) ingest.old
+    ensures alone { ImportsAlone label D.disk D.left_since (S.source source.old) ingest.old
         (S.source source.new) ingest.new result.report }
     ensures follows { result.lacked ≡ false → ingest.new.manifest.fault ≡ None
         → Follows ingest.old ingest.new }
@@ -67,7 +70,7 @@ pub fn import_and_tell<S: Source, D: Disk, J: Index, G: Gate, R: Wait + Threads 
         ingest: &mut *ingest,
         lacked: false,
     };
-    let report = import_stream(rt, alloc, source, &mut seat, workers, gate);
+    let report = import_stream(rt, alloc, source, &mut seat, label, workers, gate);
     let _after = seat.ingest.batches();
     LoneImport {
         report,

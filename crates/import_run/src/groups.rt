@@ -13,6 +13,7 @@ use crate::committer::Committer;
 use crate::settle::{Done, settle};
 use crate::text_group::TextGroup;
 use explorer_model::fault::{Refusal, Stop};
+use explorer_model::label::Label;
 use ingest_desk::{CommitFault, End, Receipt};
 use outside::Gate;
 use published_index::{Index, Note};
@@ -29,7 +30,8 @@ pub struct Stopped<J: Index> {
     pub refused: Vec<Refusal>,
 }
 
-/// An import in its stream: the group in hand, and what became of those before it.
+/// An import in its stream: the group in hand, whose label all its batches have, and what became of
+/// the groups before it.
 #[derive(Drop)]
 pub struct OpenImport<J: Index> {
     pub group: TextGroup,
@@ -40,15 +42,16 @@ pub struct OpenImport<J: Index> {
 
 impl<J: Index> OpenImport<J> {
     /// Nothing came, and nothing is in hand.
-    pub fn new(alloc: Global) -> Self
+    pub fn new(alloc: Global, label: Label) -> Self
         ensures group { IsGroupOf [] result.group }
         ensures none { result.group.texts.items ≡ [] }
+        ensures label { result.group.label ≡ label }
         ensures receipts { result.receipts.items ≡ [] }
         ensures refused { result.refused.items ≡ [] }
         ensures clashes { result.clashes.items ≡ [] }
     {
         OpenImport {
-            group: TextGroup::new(alloc),
+            group: TextGroup::new(alloc, label),
             receipts: Vec::new(alloc),
             refused: Vec::new(alloc),
             clashes: Vec::new(alloc),
@@ -68,6 +71,7 @@ impl<J: Index> OpenImport<J> {
         requires few_workers { workers ≤ 16 }
         requires few { length self.old.group.texts.items ≤ group_limit }
         requires short { All (λ text. length text.bytes ≤ text_limit) self.old.group.texts.items }
+        ensures label { self.new.group.label ≡ self.old.group.label }
         ensures group { OnOk result (IsGroupOf [] self.new.group) }
         ensures none { OnOk result (self.new.group.texts.items ≡ []) }
         ensures closes { OnOk result ((start : Option Store) (closed : List (List ACut))
@@ -86,7 +90,8 @@ impl<J: Index> OpenImport<J> {
             → LacksBehind start closed (hand ∷ []) self.new (C.told committer.new))) }
         ensures since { C.since committer.old committer.new }
     {
-        let group = mem::replace(&mut self.group, TextGroup::new(alloc));
+        let next = TextGroup::new(alloc, self.group.label.clone()?);
+        let group = mem::replace(&mut self.group, next);
         self.receipts.reserve(1)?;
         self.refused
             .reserve(group.texts.len() + group.unread.len())?;

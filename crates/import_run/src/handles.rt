@@ -2,6 +2,7 @@
 ghost use Rattle.std.specs.Prelude.{◌≡◌, ◌<◌, ◌≤◌, ◌^◌, ◌∷◌, [], None, Some, false, length, option_map};
 ghost use Rattle.std.specs.Thread.{IsSync};
 ghost use Rattle.explorer_model.specs.Cuts.{cuts};
+ghost use Rattle.explorer_model.specs.Labels.{no_label};
 ghost use Rattle.explorer_model.specs.Wire.{body_limit};
 ghost use Rattle.ingest_desk.specs.Importers.{CountsRose, EndsInMemory, TellsAll, call_of, ending_of as ending_by};
 ghost use Rattle.ingest_desk.specs.Reporting.{Reports, games_of};
@@ -136,7 +137,7 @@ impl<D: Disk, J: Index> Importer<J> for OwnIngest<D, J> {
     fn import<R: Wait + Threads + Sync>(&mut self, rt: &R, alloc: Global, body: &[u8]) -> Report<J>
         requires shares { IsSync R.row }
         requires few { length body.now ≤ body_limit }
-        ensures reports { Reports (cuts body.now) result }
+        ensures reports { Reports no_label (cuts body.now) result }
         ensures in_memory { EndsInMemory (ending_by result.end) }
         ensures few { games_of result.receipts.items < 2 ^ 32 }
         ensures counts { CountsRose (ending_by result.end)

@@ -5,6 +5,7 @@ ghost use Rattle.import_run.specs.EndingBeside.{ImportsBeside};
 use crate::desk::Seat;
 use crate::stream::import_stream;
 use disk_model::Disk;
+use explorer_model::label::Label;
 use ingest_desk::{Desk, Report};
 use outside::{Gate, Source};
 use published_index::Index;
@@ -12,20 +13,22 @@ use std::alloc::Global;
 use std::sync::Wait;
 use std::thread::Threads;
 
-/// Imports the texts of a source into the store of a desk, beside all others that use it. It waits for
-/// the lock at each of its steps. After each commit it merges one job, without the lock.
+/// Imports the texts of a source under the label into the store of a desk, beside all others that use
+/// it. It waits for the lock at each of its steps. After each commit it merges one job, without the
+/// lock.
 pub fn import<S: Source, D: Disk, J: Index, G: Gate, R: Wait + Threads + Sync>(
     rt: &R,
     alloc: Global,
     source: &mut S,
     desk: &Desk<D, J>,
+    label: Label,
     workers: usize,
     gate: &G,
 ) -> Report<J>
     requires some_workers { 1 ≤ workers }
     requires few_workers { workers ≤ 16 }
-    ensures { ImportsBeside (S.source source.old) (S.source source.new) result }
+    ensures { ImportsBeside label (S.source source.old) (S.source source.new) result }
 {
     let mut seat = Seat::new(desk);
-    import_stream(rt, alloc, source, &mut seat, workers, gate)
+    import_stream(rt, alloc, source, &mut seat, label, workers, gate)
 }

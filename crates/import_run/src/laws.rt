@@ -28,7 +28,6 @@ ghost use Rattle.import_run.specs.Since.{HasSoundBehind};
 ghost use Rattle.import_run.specs.SoFar.{ended_cuts};
 ghost use Rattle.import_run.specs.Upkeep.{CountsItsSpan, Follows, FollowsAll};
 
-use batch_tally::laws::accounting_is_determined;
 use disk_model::Disk;
 use game_replay::laws::game_is_determined;
 use ingest_desk::laws::{fronts_are_sound, listing_is_determined};
@@ -38,8 +37,9 @@ use published_index::Index;
 /// call of the disk fails, settles all of the stream, unless a group finds no room or memory is
 /// wanting.
 pub fn an_import_without_faults_ends<D: Disk, J: Index>()
-    ensures { (source source_after : Stream) (before after : Stored D) (report : Report J)
-        → ImportsAlone D.disk D.left_since source before source_after after report
+    ensures { (label : List ℕ) (source source_after : Stream) (before after : Stored D)
+        (report : Report J)
+        → ImportsAlone label D.disk D.left_since source before source_after after report
         → CanEnd D.disk source before → IsFaultless D.disk source source_after before after
         → EndsWithoutFault report.end }
 {}
@@ -47,9 +47,10 @@ pub fn an_import_without_faults_ends<D: Disk, J: Index>()
 /// An import without faults into a store that is open, of a told stream below the bound that is texts
 /// of new games alone and finds room, stores all of them, or memory is wanting.
 pub fn new_games_are_stored<D: Disk, J: Index>()
-    ensures { (source source_after : Stream) (before after : Stored D) (report : Report J)
+    ensures { (label : List ℕ) (source source_after : Stream) (before after : Stored D)
+        (report : Report J)
         (stored : List Game)
-        → ImportsAlone D.disk D.left_since source before source_after after report
+        → ImportsAlone label D.disk D.left_since source before source_after after report
         → (can : CanEnd D.disk source before)
         → IsFaultless D.disk source source_after before after
         → AreGamesOf (journal before) stored → (new : HasNewGames stored can.bytes)
@@ -59,68 +60,71 @@ pub fn new_games_are_stored<D: Disk, J: Index>()
     game_is_determined();
 }
 
-/// Two imports into one store store the same batches and refuse the same texts: where both come to
-/// the end of one told stream; and where both took the same bytes, and a read failed behind them or
-/// they came to the bound.
+/// Two imports into one store under one label store the same batches and refuse the same texts: where
+/// both come to the end of one told stream; and where both took the same bytes, and a read failed
+/// behind them or they came to the bound.
 pub fn imports_are_determined<D: Disk, J: Index>()
-    ensures whole { (bytes : List ℕ) (source source_after source_other : Stream)
+    ensures whole { (label bytes : List ℕ) (source source_after source_other : Stream)
         (before after other_after : Stored D) (report other : Report J)
         → source.left ≡ Some bytes
-        → (first : ImportsAlone D.disk D.left_since source before source_after after report)
-        → (second : ImportsAlone D.disk D.left_since source before source_other other_after other)
+        → (first : ImportsAlone label D.disk D.left_since source before source_after after report)
+        → (second : ImportsAlone label D.disk D.left_since source before source_other other_after
+        other)
         → report.end ≡ ends.Whole → other.end ≡ ends.Whole
         → (first.batches ≡ second.batches) × (report.refused.items ≡ other.refused.items) }
-    ensures cut_off { (source source_after source_other : Stream)
+    ensures cut_off { (label : List ℕ) (source source_after source_other : Stream)
         (before after other_after : Stored D) (report other : Report J) (a b a' b' : ℕ)
-        → (first : ImportsAlone D.disk D.left_since source before source_after after report)
-        → (second : ImportsAlone D.disk D.left_since source before source_other other_after other)
+        → (first : ImportsAlone label D.disk D.left_since source before source_after after report)
+        → (second : ImportsAlone label D.disk D.left_since source before source_other other_after
+        other)
         → first.stream ≡ second.stream
         → report.end ≡ ends.ReadFault a b → other.end ≡ ends.ReadFault a' b'
         → (first.batches ≡ second.batches) × (report.refused.items ≡ other.refused.items) }
-    ensures too_much { (source source_after source_other : Stream)
+    ensures too_much { (label : List ℕ) (source source_after source_other : Stream)
         (before after other_after : Stored D) (report other : Report J) (n n' : ℕ)
-        → (first : ImportsAlone D.disk D.left_since source before source_after after report)
-        → (second : ImportsAlone D.disk D.left_since source before source_other other_after other)
+        → (first : ImportsAlone label D.disk D.left_since source before source_after after report)
+        → (second : ImportsAlone label D.disk D.left_since source before source_other other_after
+        other)
         → first.stream ≡ second.stream
         → report.end ≡ ends.TooMuch n → other.end ≡ ends.TooMuch n'
         → (first.batches ≡ second.batches) × (report.refused.items ≡ other.refused.items) }
 {
     game_is_determined();
-    accounting_is_determined();
 }
 
-/// Two imports of one told stream into one store have one end and come to the same, unless a call of
-/// the disk or a read fails, the bound is reached or memory is wanting. Where the disk fails, those come
-/// to the same that stored as many batches, and one batch has failed.
+/// Two imports of one told stream into one store under one label have one end and come to the same,
+/// unless a call of the disk or a read fails, the bound is reached or memory is wanting. Where the disk
+/// fails, those come to the same that stored as many batches, and one batch has failed.
 pub fn ends_are_determined<D: Disk, J: Index>()
-    ensures plain { (bytes : List ℕ) (source source_after source_other : Stream)
+    ensures plain { (label bytes : List ℕ) (source source_after source_other : Stream)
         (before after other_after : Stored D) (report other : Report J)
         → source.left ≡ Some bytes
-        → (first : ImportsAlone D.disk D.left_since source before source_after after report)
-        → (second : ImportsAlone D.disk D.left_since source before source_other other_after other)
+        → (first : ImportsAlone label D.disk D.left_since source before source_after after report)
+        → (second : ImportsAlone label D.disk D.left_since source before source_other other_after
+        other)
         → IsPlainEnd report.end → IsPlainEnd other.end
         → AreAlike first.batches second.batches report other × (report.end ≡ other.end) }
-    ensures disk_fault { (bytes : List ℕ) (source source_after source_other : Stream)
+    ensures disk_fault { (label bytes : List ℕ) (source source_after source_other : Stream)
         (before after other_after : Stored D) (report other : Report J) (a b a' b' : ℕ)
         (mark mark' : Marked) → source.left ≡ Some bytes
-        → (first : ImportsAlone D.disk D.left_since source before source_after after report)
-        → (second : ImportsAlone D.disk D.left_since source before source_other other_after other)
+        → (first : ImportsAlone label D.disk D.left_since source before source_after after report)
+        → (second : ImportsAlone label D.disk D.left_since source before source_other other_after
+        other)
         → report.end ≡ ends.DiskFault a b mark → other.end ≡ ends.DiskFault a' b' mark'
         → length first.batches ≡ length second.batches
         → AreAlike first.batches second.batches report other
         × (after.failed ≡ other_after.failed) }
 {
     game_is_determined();
-    accounting_is_determined();
 }
 
 /// Beside others too, nothing is stored of a text that has not ended, nor of a group that is not whole:
 /// an import that took bytes in which fewer texts have ended than a group has, of a stream that goes on,
 /// has no receipt, whatever its end.
 pub fn what_has_not_ended_is_not_stored<J: Index>()
-    ensures { (stream rest : List ℕ) (byte : ℕ) (report : Report J)
+    ensures { (label stream rest : List ℕ) (byte : ℕ) (report : Report J)
         → length stream < input_limit → count_by is_text (ended_cuts stream) < group_limit
-        → ComesBeside stream (Some (byte ∷ rest)) report → report.receipts.items ≡ [] }
+        → ComesBeside label stream (Some (byte ∷ rest)) report → report.receipts.items ≡ [] }
 {}
 
 /// Two importers over ingests of their own tell one call of one body into one store, but for these
@@ -133,7 +137,6 @@ pub fn calls_are_determined<D: Disk, J: Index>()
         → call_of body report ≡ call_of body other }
 {
     game_is_determined();
-    accounting_is_determined();
 }
 
 /// What is read of a disk that tells its content is the stored journal. After a disk fault the batch
@@ -154,8 +157,9 @@ pub fn a_told_disk_has_the_journal<D: Disk>()
 /// What a crash leaves of an import into an open store, at any moment of it, has a sound journal that
 /// begins with the one before. So it is opened (`ingest_desk::laws::opening_is_determined`).
 pub fn what_a_crash_leaves_is_sound<D: Disk, J: Index>()
-    ensures { (source source_after : Stream) (before after : Stored D) (report : Report J)
-        → ImportsAlone D.disk D.left_since source before source_after after report
+    ensures { (label : List ℕ) (source source_after : Stream) (before after : Stored D)
+        (report : Report J)
+        → ImportsAlone label D.disk D.left_since source before source_after after report
         → before.manifest.fault ≡ None
         → EachImage D.disk D.left_since before.manifest.disk (HasJournal (journal before))
         → LeavesOnly D.disk D.left_since before.manifest.disk after.manifest.disk

@@ -4,7 +4,7 @@ ghost use Rattle.explorer_model.specs.Imports.{Candidate, Numbering, group_limit
 ghost use Rattle.ingest_desk.specs.Clashes.{clashes_from};
 ghost use Rattle.import_run.specs.Settling.{id_of, left_by, named_by, named_first, placed};
 
-use explorer_model::archive::{Batch, Placed};
+use explorer_model::archive::{Placed, Texts};
 use explorer_model::fault::{Refusal, Why};
 use ingest_desk::Clashing;
 use std::alloc::{AllocError, Global};
@@ -16,17 +16,17 @@ pub struct Named {
     pub rest: Vec<Placed>,
 }
 
-/// Refuses the named texts of a batch whose texts have these places.
+/// Refuses the named texts of a batch, which have these places.
 pub fn name(
     alloc: Global,
-    batch: Batch,
+    texts: Texts,
     places: &[u64],
     pairs: &[Clashing],
 ) -> Result<Named, AllocError>
-    requires few { length batch.texts ≤ group_limit }
-    requires long { length batch.texts ≤ length places.now }
+    requires few { length texts ≤ group_limit }
+    requires long { length texts ≤ length places.now }
     ensures { IfOk result (λ named. (candidates : List Candidate) (number : Numbering)
-        → batch.texts ≡ map (λ c. c.text) candidates
+        → texts ≡ map (λ c. c.text) candidates
         → places.now ≡ map (λ c. c.place) candidates
         → pairs.now ≡ clashes_from 0 number (map id_of candidates)
         → (named.refused.items ≡ named_by number candidates)
@@ -36,7 +36,7 @@ pub fn name(
     let mut rest = Vec::new(alloc);
     let mut at = 0;
     let mut next = 0;
-    let texts = batch.texts.into_vec();
+    let texts = texts.into_vec();
     'naming: for bytes in texts {
         let place = places[at];
         match named_at(pairs, next, at) {

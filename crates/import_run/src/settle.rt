@@ -1,5 +1,5 @@
 //! A group is settled: its new texts are stored as one batch.
-ghost use Rattle.std.specs.Prelude.{◌≡◌, ◌<◌, ◌≤◌, List, [], ◌∷◌, Option, Some, length, IfOk, IfSome, OnErr};
+ghost use Rattle.std.specs.Prelude.{◌≡◌, ◌<◌, ◌≤◌, ℕ, List, [], ◌∷◌, Option, Some, length, IfOk, IfSome, OnErr};
 ghost use Rattle.std.specs.List.{All};
 ghost use Rattle.explorer_model.specs.Cuts.{Cut as ACut, text_limit};
 ghost use Rattle.explorer_model.specs.Imports.{group_limit};
@@ -12,7 +12,8 @@ ghost use Rattle.import_run.specs.Rounds.{AnswerDecided, IsAgain, IsEnded, MayHa
 
 use crate::committer::Committer;
 use crate::naming::name;
-use crate::text_group::{TalliedGroup, TextGroup, merge};
+use crate::text_group::{TalliedGroup, TextGroup, labelled, merge};
+use explorer_model::archive::Batch;
 use explorer_model::fault::Refusal;
 use game_replay::laws::game_is_determined;
 use ingest_desk::{CommitFault, Receipt};
@@ -54,13 +55,13 @@ pub fn settle<C: Committer<J>, J: Index, R: Wait + Threads + Sync, G: Gate>(
     requires short { All (λ text. length text.bytes ≤ text_limit) group.texts.items }
     ensures settles { IfOk result (λ done. (known : Known) (cuts : List ACut) → Ascend cuts
         → IsGroupOf cuts group → C.told committer.old ≡ Some (store_of known)
-        → Settles known cuts done (C.told committer.new)) }
+        → Settles group.label known cuts done (C.told committer.new)) }
     ensures decided { IfOk result (λ done. AnswerDecided done.answer) }
     ensures memory { OnErr result ((known : Known) (cuts : List ACut) → Ascend cuts
         → IsGroupOf cuts group → C.told committer.old ≡ Some (store_of known)
-        → MayHaveMore known (cuts ∷ []) (C.told committer.new)) }
+        → MayHaveMore group.label known (cuts ∷ []) (C.told committer.new)) }
     ensures beside { IfOk result (λ done. (cuts : List ACut) → Ascend cuts → IsGroupOf cuts group
-        → SettlesBeside cuts done clashes.new.items) }
+        → SettlesBeside group.label cuts done clashes.new.items) }
     ensures notes { IsPrefix clashes.old.items clashes.new.items }
     ensures since { C.since committer.old committer.new }
 {
@@ -87,7 +88,8 @@ pub fn settle<C: Committer<J>, J: Index, R: Wait + Threads + Sync, G: Gate>(
     }
 }
 
-/// Commits a tally. Where ids clash, those texts are refused, and the rest is tallied again.
+/// Commits a tally. Where ids clash, those texts are refused, and the rest is tallied again under its
+/// label.
 fn commit_once<C: Committer<J>, J: Index, R: Wait + Threads + Sync, G: Gate>(
     rt: &R,
     alloc: Global,
@@ -103,30 +105,33 @@ fn commit_once<C: Committer<J>, J: Index, R: Wait + Threads + Sync, G: Gate>(
     requires few_workers { workers ≤ 16 }
     requires hand { InHand counted places.items }
     ensures again { IfOk result (λ round. IsAgain round (λ state. (told : Option Store)
-        (cuts : List ACut)
-        → Rounds told cuts (Some counted) places.items refused.items (C.told committer.old)
-        → Rounds told cuts state.tally state.places.items state.refused.items
+        (label : List ℕ) (cuts : List ACut)
+        → Rounds label told cuts (Some counted) places.items refused.items (C.told committer.old)
+        → Rounds label told cuts state.tally state.places.items state.refused.items
         (C.told committer.new))) }
     ensures hand { IfOk result (λ round. IsAgain round (λ state. IfSome state.tally (λ next.
         InHand next state.places.items))) }
     ensures fewer { IfOk result (λ round.
         IsAgain round (λ state. size_of state.tally < size_of (Some counted))) }
-    ensures ended { IfOk result (λ round. IsEnded round (λ done. (known : Known) (cuts : List ACut)
-        → Rounds (Some (store_of known)) cuts (Some counted) places.items refused.items
+    ensures ended { IfOk result (λ round. IsEnded round (λ done. (label : List ℕ) (known : Known)
+        (cuts : List ACut)
+        → Rounds label (Some (store_of known)) cuts (Some counted) places.items refused.items
         (C.told committer.old)
-        → Settles known cuts done (C.told committer.new))) }
+        → Settles label known cuts done (C.told committer.new))) }
     ensures decided { IfOk result (λ round. IsEnded round (λ done. AnswerDecided done.answer)) }
-    ensures memory { OnErr result ((known : Known) (cuts : List ACut)
-        → Rounds (Some (store_of known)) cuts (Some counted) places.items refused.items
+    ensures memory { OnErr result ((label : List ℕ) (known : Known) (cuts : List ACut)
+        → Rounds label (Some (store_of known)) cuts (Some counted) places.items refused.items
         (C.told committer.old)
-        → MayHaveMore known (cuts ∷ []) (C.told committer.new)) }
-    ensures again_beside { IfOk result (λ round. IsAgain round (λ state. (cuts : List ACut)
-        → RoundsBeside cuts (Some counted) places.items refused.items clashes.old.items
-        → RoundsBeside cuts state.tally state.places.items state.refused.items
+        → MayHaveMore label known (cuts ∷ []) (C.told committer.new)) }
+    ensures again_beside { IfOk result (λ round. IsAgain round (λ state. (label : List ℕ)
+        (cuts : List ACut)
+        → RoundsBeside label cuts (Some counted) places.items refused.items clashes.old.items
+        → RoundsBeside label cuts state.tally state.places.items state.refused.items
         clashes.new.items)) }
-    ensures ended_beside { IfOk result (λ round. IsEnded round (λ done. (cuts : List ACut)
-        → RoundsBeside cuts (Some counted) places.items refused.items clashes.old.items
-        → SettlesBeside cuts done clashes.new.items)) }
+    ensures ended_beside { IfOk result (λ round. IsEnded round (λ done. (label : List ℕ)
+        (cuts : List ACut)
+        → RoundsBeside label cuts (Some counted) places.items refused.items clashes.old.items
+        → SettlesBeside label cuts done clashes.new.items)) }
     ensures notes { IsPrefix clashes.old.items clashes.new.items }
     ensures since { C.since committer.old committer.new }
 {
@@ -145,11 +150,12 @@ fn commit_once<C: Committer<J>, J: Index, R: Wait + Threads + Sync, G: Gate>(
         CommitFault::Clash { tally, pairs, note } => {
             clashes.push_reserved(note);
             let (batch, _classes, _rows) = tally.into_parts();
-            let named = name(alloc, batch, places.as_slice(), pairs.as_slice())?;
+            let Batch { label, texts } = batch;
+            let named = name(alloc, texts, places.as_slice(), pairs.as_slice())?;
             let refused = merge(alloc, refused.as_slice(), named.refused.as_slice())?;
             let again = batch_tally::tally(rt, alloc, named.rest, workers, gate)?;
             Ok(Round::Again(TalliedGroup {
-                tally: again.tally,
+                tally: labelled(again.tally, label),
                 places: again.places,
                 refused,
             }))

@@ -3,6 +3,7 @@ ghost use Rattle.std.specs.Prelude.{◌≡◌, ◌+◌, ◌<◌, ◌≤◌, ◌^
 ghost use Rattle.std.specs.Io.KnownBytes.{IsAtEnd};
 ghost use Rattle.explorer_model.specs.Cuts.{Cut as ACut, cuts};
 ghost use Rattle.explorer_model.specs.Journal.{input_limit};
+ghost use Rattle.explorer_model.specs.Labels.{no_label};
 ghost use Rattle.explorer_model.specs.Wire.{body_limit};
 ghost use Rattle.pgn_cut.specs.Cut.{meaning, cuts_in};
 ghost use Rattle.pgn_cut.specs.Cutter.{came, cuts_of_rest};
@@ -16,6 +17,7 @@ use crate::committer::Committer;
 use crate::groups::{OpenImport, Stopped};
 use crate::text_group::GROUP_LIMIT;
 use explorer_model::fault::Stop;
+use explorer_model::label::Label;
 use ingest_desk::{End, Report};
 use outside::{Gate, Source};
 use pgn_cut::cut::Cut;
@@ -31,25 +33,26 @@ pub const INPUT_LIMIT: u64 = 1 << 40;
 /// How many bytes one read asks for.
 const BUFFER: usize = 4096;
 
-/// Reads the stream, and stores or refuses each cut of its groups.
+/// Reads the stream, and stores or refuses each cut of its groups. What is stored has the label.
 pub fn import_stream<S: Source, C: Committer<J>, J: Index, G: Gate, R: Wait + Threads + Sync>(
     rt: &R,
     alloc: Global,
     source: &mut S,
     committer: &mut C,
+    label: Label,
     workers: usize,
     gate: &G,
 ) -> Report<J>
     requires some_workers { 1 ≤ workers }
     requires few_workers { workers ≤ 16 }
     ensures told { (start : Known) → C.told committer.old ≡ Some (store_of start)
-        → Imports start (S.source source.old) (S.source source.new) result
+        → Imports label start (S.source source.old) (S.source source.new) result
         (C.told committer.new) }
-    ensures beside { ImportsBeside (S.source source.old) (S.source source.new) result }
+    ensures beside { ImportsBeside label (S.source source.old) (S.source source.new) result }
     ensures since { C.since committer.old committer.new }
 {
     let mut cutter = Cutter::new();
-    let mut import = OpenImport::new(alloc);
+    let mut import = OpenImport::new(alloc, label);
     let mut buffer = [0; BUFFER];
     let mut taken = 0;
     'reading: loop {
@@ -75,7 +78,7 @@ pub fn import_stream<S: Source, C: Committer<J>, J: Index, G: Gate, R: Wait + Th
     }
 }
 
-/// Stores or refuses each text of bytes that are all at hand.
+/// Stores or refuses each text of bytes that are all at hand. What is stored has the empty label.
 pub fn import_bytes<C: Committer<J>, J: Index, G: Gate, R: Wait + Threads + Sync>(
     rt: &R,
     alloc: Global,
@@ -88,12 +91,12 @@ pub fn import_bytes<C: Committer<J>, J: Index, G: Gate, R: Wait + Threads + Sync
     requires few_workers { workers ≤ 16 }
     requires few { length bytes.now ≤ body_limit }
     ensures told { (start : Known) → C.told committer.old ≡ Some (store_of start)
-        → ComesQuietly start bytes.now (Some []) result (C.told committer.new) }
-    ensures beside { ComesQuietlyBeside bytes.now (Some []) result }
+        → ComesQuietly no_label start bytes.now (Some []) result (C.told committer.new) }
+    ensures beside { ComesQuietlyBeside no_label bytes.now (Some []) result }
     ensures since { C.since committer.old committer.new }
 {
     let mut cutter = Cutter::new();
-    let mut import = OpenImport::new(alloc);
+    let mut import = OpenImport::new(alloc, Label::none());
     match import.feed(rt, alloc, committer, &mut cutter, bytes, workers, gate) {
         Ok(()) => import.end(rt, alloc, committer, cutter, workers, gate),
         Err(Stop::Fault(stopped)) => import.stopped(stopped),
@@ -135,6 +138,7 @@ impl<J: Index> OpenImport<J> {
         requires ready { IsReady self.old }
         ensures came { OnOk result (came cutter.new ≡ came cutter.old + length bytes.now) }
         ensures ready { OnOk result (IsReady self.new) }
+        ensures label { self.new.group.label ≡ self.old.group.label }
         ensures cut { OnOk result ((start : Option Store) (past : List ℕ)
             → CutSoFar start past (cuts_of_rest cutter.old) self.old (C.told committer.old)
             → CutSoFar start (past ++ bytes.now) (cuts_of_rest cutter.new) self.new
@@ -176,6 +180,7 @@ impl<J: Index> OpenImport<J> {
         requires short { IfSome cut (λ cut. IsShort (meaning cut)) }
         requires ready { IsReady self.old }
         ensures ready { OnOk result (IsReady self.new) }
+        ensures label { self.new.group.label ≡ self.old.group.label }
         ensures taken { OnOk result ((start : Option Store) (taken : List ACut)
             → Ascend (taken ++ cuts_in cut)
             → TakenSoFar start taken self.old (C.told committer.old)
@@ -210,6 +215,7 @@ impl<J: Index> OpenImport<J> {
         requires short { IsShort (meaning cut) }
         requires ready { IsReady self.old }
         ensures ready { OnOk result (IsReady self.new) }
+        ensures label { self.new.group.label ≡ self.old.group.label }
         ensures taken { OnOk result ((start : Option Store) (taken : List ACut)
             → Ascend (taken ++ meaning cut ∷ [])
             → TakenSoFar start taken self.old (C.told committer.old)
@@ -250,11 +256,11 @@ impl<J: Index> OpenImport<J> {
             → length stream < input_limit
             → CutSoFar (Some (store_of start)) stream (cuts_of_rest cutter) self
             (C.told committer.old)
-            → ComesQuietly start stream left result (C.told committer.new) }
+            → ComesQuietly self.group.label start stream left result (C.told committer.new) }
         ensures beside { (start : Option Store) (stream : List ℕ) (left : Option (List ℕ))
             → IsAtEnd left → length stream < input_limit
             → CutSoFar start stream (cuts_of_rest cutter) self (C.told committer.old)
-            → ComesQuietlyBeside stream left result }
+            → ComesQuietlyBeside self.group.label stream left result }
         ensures since { C.since committer.old committer.new }
     {
         let mut import = self;
@@ -279,6 +285,7 @@ impl<J: Index> OpenImport<J> {
         requires few_workers { workers ≤ 16 }
         requires short { IfSome cut (λ cut. IsShort (meaning cut)) }
         requires ready { IsReady self.old }
+        ensures label { self.new.group.label ≡ self.old.group.label }
         ensures done { OnOk result ((start : Option Store) (taken : List ACut)
             → Ascend (taken ++ cuts_in cut)
             → TakenSoFar start taken self.old (C.told committer.old)
@@ -304,9 +311,11 @@ impl<J: Index> OpenImport<J> {
         requires { IsReady self }
         ensures settled { (start : Known) (stream : List ℕ) (told : Option Store)
             → CutSoFar (Some (store_of start)) stream (cuts_of_rest cutter) self told
-            → IsWholeSettled start stream result.receipts.items result.refused.items told }
+            → IsWholeSettled self.group.label start stream result.receipts.items
+            result.refused.items told }
         ensures beside { (start : Option Store) (stream : List ℕ) (told : Option Store)
-            → CutSoFar start stream (cuts_of_rest cutter) self told → IsWholeBeside stream result }
+            → CutSoFar start stream (cuts_of_rest cutter) self told
+            → IsWholeBeside self.group.label stream result }
         ensures end { result.end ≡ end }
     {
         // No more than one cut has begun and not ended.
@@ -319,18 +328,19 @@ impl<J: Index> OpenImport<J> {
         ensures within { (start : Known) (stream : List ℕ) (left : Option (List ℕ))
             (told : Option Store) → length stream < input_limit
             → StopsWithin (Some (store_of start)) stream self stopped told
-            → ComesQuietly start stream left result told }
+            → ComesQuietly self.group.label start stream left result told }
         ensures at_end { (start : Known) (stream : List ℕ) (left : Option (List ℕ))
             (told : Option Store) → IsAtEnd left → length stream < input_limit
             → StopsAtEnd (Some (store_of start)) (cuts stream) self stopped told
-            → ComesQuietly start stream left result told }
+            → ComesQuietly self.group.label start stream left result told }
         ensures beside_within { (start : Option Store) (stream : List ℕ)
             (left : Option (List ℕ)) (told : Option Store) → length stream < input_limit
-            → StopsWithin start stream self stopped told → ComesQuietlyBeside stream left result }
+            → StopsWithin start stream self stopped told
+            → ComesQuietlyBeside self.group.label stream left result }
         ensures beside_at_end { (start : Option Store) (stream : List ℕ)
             (left : Option (List ℕ)) (told : Option Store) → IsAtEnd left
             → length stream < input_limit → StopsAtEnd start (cuts stream) self stopped told
-            → ComesQuietlyBeside stream left result }
+            → ComesQuietlyBeside self.group.label stream left result }
     {
         let mut import = self;
         match import.refused.extend_from_slice(stopped.refused.as_slice()) {

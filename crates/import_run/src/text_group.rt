@@ -1,15 +1,17 @@
 //! Groups of cuts: what is held until a group is whole, and what becomes of it.
-ghost use Rattle.std.specs.Prelude.{◌≡◌, ◌+◌, ◌≤◌, List, [], ◌∷◌, ◌++◌, length, IfOk, IfSome, OnOk};
+ghost use Rattle.std.specs.Prelude.{◌≡◌, ◌+◌, ◌≤◌, List, [], ◌∷◌, ◌++◌, length, option_map, IfOk, IfSome, OnOk};
 ghost use Rattle.std.specs.List.{All};
 ghost use Rattle.explorer_model.specs.Cuts.{Cut as ACut, text_limit};
 ghost use Rattle.explorer_model.specs.Imports.{group_limit};
 ghost use Rattle.pgn_cut.specs.Cut.{meaning};
 ghost use Rattle.import_run.specs.Grouping.{Ascend, IsGroupOf, IsShort, IsTallied, merged};
 ghost use Rattle.import_run.specs.Hand.{InHand};
+ghost use Rattle.import_run.specs.Labelling.{under};
 
 use batch_tally::tally;
 use explorer_model::archive::Placed;
 use explorer_model::fault::{Refusal, Why};
+use explorer_model::label::Label;
 use outside::Gate;
 use pgn_cut::cut::Cut;
 use std::alloc::{AllocError, Global};
@@ -19,9 +21,11 @@ use tally_rows::Tally;
 /// How many texts a whole group has.
 pub const GROUP_LIMIT: usize = 512;
 
-/// The cuts of a group so far: its texts, and why each other cut is refused.
+/// The cuts of a group so far: its texts, and why each other cut is refused. What is accepted becomes
+/// one batch under the label.
 #[derive(Debug, Drop)]
 pub struct TextGroup {
+    pub label: Label,
     pub texts: Vec<Placed>,
     pub unread: Vec<Refusal>,
 }
@@ -29,7 +33,7 @@ pub struct TextGroup {
 /// A group of which each text was replayed.
 #[derive(Debug, Drop)]
 pub struct TalliedGroup {
-    /// The texts that are accepted; none where no text is.
+    /// The texts that are accepted, under the label of the group; none where no text is.
     pub tally: Option<Tally>,
     /// The place of each accepted text, in order.
     pub places: Vec<u64>,
@@ -39,11 +43,13 @@ pub struct TalliedGroup {
 
 impl TextGroup {
     /// A group without cuts.
-    pub fn new(alloc: Global) -> Self
+    pub fn new(alloc: Global, label: Label) -> Self
         ensures group { IsGroupOf [] result }
         ensures none { result.texts.items ≡ [] }
+        ensures label { result.label ≡ label }
     {
         TextGroup {
+            label,
             texts: Vec::new(alloc),
             unread: Vec::new(alloc),
         }
@@ -54,6 +60,7 @@ impl TextGroup {
         requires short { IsShort (meaning cut) }
         ensures group { OnOk result ((cuts : List ACut)
             → IsGroupOf cuts self.old → IsGroupOf (cuts ++ meaning cut ∷ []) self.new) }
+        ensures label { self.new.label ≡ self.old.label }
         ensures more { OnOk result (length self.new.texts.items ≤ length self.old.texts.items + 1) }
         ensures short { All (λ text. length text.bytes ≤ text_limit) self.old.texts.items
             → OnOk result (All (λ text. length text.bytes ≤ text_limit) self.new.texts.items) }
@@ -85,19 +92,30 @@ impl TextGroup {
         requires few { length self.texts.items ≤ group_limit }
         requires short { All (λ text. length text.bytes ≤ text_limit) self.texts.items }
         ensures tallied { IfOk result (λ tallied. (cuts : List ACut)
-            → Ascend cuts → IsGroupOf cuts self → IsTallied cuts tallied) }
+            → Ascend cuts → IsGroupOf cuts self → IsTallied self.label cuts tallied) }
         ensures hand { IfOk result (λ tallied. IfSome tallied.tally (λ counted.
             InHand counted tallied.places.items)) }
     {
-        let TextGroup { texts, unread } = self;
+        let TextGroup {
+            label,
+            texts,
+            unread,
+        } = self;
         let tallying = tally(rt, alloc, texts, workers, gate)?;
         let refused = merge(alloc, tallying.refused.as_slice(), unread.as_slice())?;
         Ok(TalliedGroup {
-            tally: tallying.tally,
+            tally: labelled(tallying.tally, label),
             places: tallying.places,
             refused,
         })
     }
+}
+
+/// The tally under the label.
+pub fn labelled(tally: Option<Tally>, label: Label) -> Option<Tally>
+    ensures { result ≡ option_map (under label) tally }
+{
+    Some(tally?.labelled(label))
 }
 
 /// Two lists of refusals in one, where each has them by their places.

@@ -25,25 +25,25 @@ unfolding groups cuts cuts_from cuts_of parted preamble
 no-groups = refl
 
 reports : {J : Type 0} (cuts : List Cut) (report : Report J) → report.receipts.items ≡ [] → report.refused.items ≡ []
-    → AccountsTo report.end (groups cuts) [] [] → Reports cuts report
+    → AccountsTo no_label report.end (groups cuts) [] [] → Reports no_label cuts report
 reports cuts report receipts refused accounts = record {
   batches = [];
   are_receipts = rw receipts tt;
-  accounts = subst (λ (r : List Refusal). AccountsTo report.end (groups cuts) [] r) (sym refused) accounts;
+  accounts = subst (λ (r : List Refusal). AccountsTo no_label report.end (groups cuts) [] r) (sym refused) accounts;
   repeats = rw refused (All-nil (λ r. RepeatsBy cuts report.clashes.items r.place r.why));
 }
 
 pub reports-nothing : {J : Type 0} (body : List ℕ) (report : Report J) → report.receipts.items ≡ [] → report.refused.items ≡ []
-    → report.end ≡ ends.OutOfMemory → Reports (cuts body) report
+    → report.end ≡ ends.OutOfMemory → Reports no_label (cuts body) report
 reports-nothing {J} body report receipts refused end =
     reports (cuts body) report receipts refused
-    (subst (λ (e : End J). AccountsTo e (groups (cuts body)) [] []) (sym end) (0, ([], refl, record { within = omega arith; accounted = none-beside })))
+    (subst (λ (e : End J). AccountsTo no_label e (groups (cuts body)) [] []) (sym end) (0, ([], refl, record { within = omega arith; accounted = none-beside })))
 
 pub reports-empty : {J : Type 0} (body : List ℕ) (report : Report J) → body ≡ [] → report.receipts.items ≡ []
-    → report.refused.items ≡ [] → report.end ≡ ends.Whole → Reports (cuts body) report
+    → report.refused.items ≡ [] → report.end ≡ ends.Whole → Reports no_label (cuts body) report
 reports-empty {J} body report empty receipts refused end =
     let whole : AccountedBeside no_label (groups (cuts body)) [] [] = rw (empty, no-groups) none-beside in
-    reports (cuts body) report receipts refused (subst (λ (e : End J). AccountsTo e (groups (cuts body)) [] []) (sym end) whole)
+    reports (cuts body) report receipts refused (subst (λ (e : End J). AccountsTo no_label e (groups (cuts body)) [] []) (sym end) whole)
 
 pub empty-list : (xs : List ℕ) → (length xs == 0) ≡ true → xs ≡ []
 empty-list [] empty = refl

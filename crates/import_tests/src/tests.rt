@@ -4,6 +4,7 @@ mod desks;
 mod doors;
 mod imports;
 mod kept;
+mod labels;
 
 ghost use Rattle.std.specs.Prelude.{◌≡◌};
 

@@ -11,3 +11,6 @@ pub mod ListingLemmas
 pub mod AlikeLemmas
 pub mod InstallLemmas
 pub mod JobLemmas
+pub mod LifeLemmas
+pub mod LivingLemmas
+pub mod HistoryLemmas

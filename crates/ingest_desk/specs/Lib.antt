@@ -17,3 +17,6 @@ pub mod Installs
 pub mod Jobs
 pub mod Listing
 pub mod Alike
+pub mod Lives
+pub mod Living
+pub mod Histories

@@ -8,7 +8,6 @@ use Rattle.explorer_model.specs.declared.fault.Why.{Why}
 use Rattle.explorer_model.specs.declared.fault.Why.TheVariants.{Repeated, TooLong}
 use Rattle.explorer_model.specs.Cuts.{Cut, Text, cuts}
 use Rattle.explorer_model.specs.Cuts as pieces
-use Rattle.explorer_model.specs.Labels.{no_label}
 use Rattle.explorer_model.specs.Imports.{AccountedBeside, Candidate, Examination, IsExaminationOf, Numbering, batch_of, candidates, group_limit, groups, is_text, numbers_of, refusals, verdicts_behind}
 use Rattle.explorer_model.specs.Journal.{AreWithin, byte_count, game_count}
 use Rattle.explorer_model.specs.Visits.{AreGamesOf, IsTextOf, texts_of}
@@ -85,11 +84,11 @@ LeftUnreadIn [] unread = unread ≡ []
 LeftUnreadIn (group ∷ []) unread = LeftUnread group unread
 LeftUnreadIn (group ∷ next ∷ rest) unread = LeftUnreadIn (next ∷ rest) unread
 
--- the groups before one of them are accounted by the batches and the refusals
-pub record AccountsUpTo (finished : ℕ) (groups : List (List Cut)) (batches : List Batch)
-    (refused : List Refusal) : Type 0 where
+-- the groups before one of them are accounted under the label by the batches and the refusals
+pub record AccountsUpTo (label : List ℕ) (finished : ℕ) (groups : List (List Cut))
+    (batches : List Batch) (refused : List Refusal) : Type 0 where
   pub within : finished ≤ length groups
-  pub accounted : AccountedBeside no_label (take finished groups) batches refused
+  pub accounted : AccountedBeside label (take finished groups) batches refused
 
 -- a group as it is judged behind some numbering of stored ids
 pub record IsJudged (group : List Cut) (left : List Candidate) (refused : List Refusal)
@@ -102,11 +101,11 @@ pub record IsJudged (group : List Cut) (left : List Candidate) (refused : List R
 
 -- An import broke off at a group of the stream, some of whose texts are left to be stored: the
 -- groups before it are accounted, and its refusals are listed behind theirs, as far as it was read.
-pub record BreaksAt (groups : List (List Cut)) (batches : List Batch) (refused : List Refusal)
-    (left : List Candidate) : Type 0 where
+pub record BreaksAt (label : List ℕ) (groups : List (List Cut)) (batches : List Batch)
+    (refused : List Refusal) (left : List Candidate) : Type 0 where
   pub finished : ℕ
   pub before : List Refusal
-  pub accounts : AccountsUpTo finished groups batches before
+  pub accounts : AccountsUpTo label finished groups batches before
   pub group : List Cut
   pub in_hand : slice_get groups finished ≡ Some group
   pub hand : List Refusal
@@ -128,29 +127,31 @@ pub record FindsNoRoom (journal : List Batch) (games bytes : ℕ) (left : List C
   pub passes : ¬ AreWithin (games + length left)
       (bytes + sum_by (λ candidate. length candidate.text) left)
 
--- an import that ended so has these batches stored and these texts refused
-abbrev pub AccountsTo : {J : Type 0} → End J → List (List Cut) → List Batch → List Refusal → Type 0
-AccountsTo ends.Whole groups batches refused = AccountedBeside no_label groups batches refused
-AccountsTo (ends.DiskFault before after mark) groups batches refused =
-    (left : List Candidate) × BreaksAt groups batches refused left
-    × IsMark kinds.DiskFault before after (batch_of no_label left) mark
-AccountsTo (ends.Closed before after mark) groups batches refused =
-    (left : List Candidate) × BreaksAt groups batches refused left
+-- an import under the label that ended so has these batches stored and these texts refused
+abbrev pub AccountsTo : {J : Type 0} → List ℕ → End J → List (List Cut) → List Batch → List Refusal
+    → Type 0
+AccountsTo label ends.Whole groups batches refused = AccountedBeside label groups batches refused
+AccountsTo label (ends.DiskFault before after mark) groups batches refused =
+    (left : List Candidate) × BreaksAt label groups batches refused left
+    × IsMark kinds.DiskFault before after (batch_of label left) mark
+AccountsTo label (ends.Closed before after mark) groups batches refused =
+    (left : List Candidate) × BreaksAt label groups batches refused left
     × IsMark kinds.Closed before after None mark
-AccountsTo (ends.Full games bytes note) groups batches refused =
-    (left : List Candidate) × BreaksAt groups batches refused left
+AccountsTo label (ends.Full games bytes note) groups batches refused =
+    (left : List Candidate) × BreaksAt label groups batches refused left
     × FindsNoRoom note games bytes left
-AccountsTo _ groups batches refused =
+AccountsTo label _ groups batches refused =
     (finished : ℕ) × ((unread : List Refusal) × LeftUnreadIn (take finished groups) unread
-    × AccountsUpTo finished groups batches (refused ++ unread))
+    × AccountsUpTo label finished groups batches (refused ++ unread))
 
 -- ---- reports
 
--- What an import of a stream reports, by the cuts of the stream: its receipts are those of the
--- batches that it stored.
-pub record Reports {J : Type 0} (cuts : List Cut) (report : Report J) : Type 0 where
+-- What an import of a stream under a label reports, by the cuts of the stream: its receipts are those
+-- of the batches that it stored.
+pub record Reports {J : Type 0} (label : List ℕ) (cuts : List Cut) (report : Report J)
+    : Type 0 where
   pub batches : List Batch
   pub are_receipts : AreReceipts 0 report.receipts.items batches
-  pub accounts : AccountsTo report.end (groups cuts) batches report.refused.items
+  pub accounts : AccountsTo label report.end (groups cuts) batches report.refused.items
   pub repeats : All (λ refusal. RepeatsBy cuts report.clashes.items refusal.place refusal.why)
       report.refused.items

@@ -2,6 +2,7 @@
 ghost use Rattle.std.specs.Prelude.{◌≤◌, ◌<◌, ◌^◌, ◌∷◌, [], length};
 ghost use Rattle.std.specs.Thread.{IsSync};
 ghost use Rattle.explorer_model.specs.Cuts.{cuts};
+ghost use Rattle.explorer_model.specs.Labels.{no_label};
 ghost use Rattle.explorer_model.specs.Wire.{body_limit};
 ghost use Rattle.ingest_desk.specs.Importers.{
   CountsRose,
@@ -24,11 +25,11 @@ pub trait Importer<J: Index> {
     // What the importer has come to.
     ghost importer: { Self → ImporterState };
 
-    /// Imports the texts of a body. It may wait for other imports.
+    /// Imports the texts of a body, under the empty label. It may wait for other imports.
     fn import<R: Wait + Threads + Sync>(&mut self, rt: &R, alloc: Global, body: &[u8]) -> Report<J>
         requires shares { IsSync R.row }
         requires few { length body.now ≤ body_limit }
-        ensures reports { Reports (cuts body.now) result }
+        ensures reports { Reports no_label (cuts body.now) result }
         ensures in_memory { EndsInMemory (ending_of result.end) }
         ensures few { games_of result.receipts.items < 2 ^ 32 }
         ensures counts { CountsRose (ending_of result.end)

@@ -7,3 +7,4 @@ pub mod DoorLemmas
 pub mod LawLemmas
 pub mod AskedLemmas
 pub mod ReplyLemmas
+pub mod FaultlessLemmas

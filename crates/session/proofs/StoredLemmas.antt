@@ -20,8 +20,9 @@ use Rattle.ingest_desk.specs.declared.report.End.{End}
 use Rattle.ingest_desk.specs.declared.report.End.TheVariants as ends
 use Rattle.ingest_desk.specs.declared.report.Report.{Report}
 use Rattle.ingest_desk.specs.Importers.{EndsInMemory, ending_of}
+use Rattle.ingest_desk.specs.Lives.{StandFrom}
 use Rattle.ingest_desk.specs.Reporting.{AccountsTo, AreReceipts, RepeatsBy, RepeatsGame, Reports, games_of}
-use Rattle.session.specs.Imports.{AccountsBy, AreNew, HasImported, HasStoredBody, IsRepeatOf, RepliesTo, StandFrom, TellsEnding}
+use Rattle.session.specs.Imports.{AccountsBy, AreNew, HasImported, HasStoredBody, IsRepeatOf, RepliesTo, TellsEnding}
 use Rattle.session.specs.Steps.{AreBehind, KnowsEnd, KnowsNotes, KnowsReceipts}
 use Rattle.session.proofs.FrontLemmas.{get-prefix}
 
@@ -89,7 +90,7 @@ repeats-known cuts notes refused journal knows each =
 
 -- how an import accounted the groups, over a journal that has all that was told
 accounts-by : {J : Type 0} (end : End J) (journal : List Batch) (groups : List (List Cut)) (batches : List Batch)
-    (refused : List Refusal) → EndsInMemory (ending_of end) → KnowsEnd end journal → AccountsTo end groups batches refused
+    (refused : List Refusal) → EndsInMemory (ending_of end) → KnowsEnd end journal → AccountsTo no_label end groups batches refused
     → AccountsBy (ending_of end) journal groups batches refused
 accounts-by ends.Whole journal groups batches refused in_memory told a = a
 accounts-by (ends.ReadFault before after) journal groups batches refused in_memory told a = absurd in_memory
@@ -102,7 +103,7 @@ accounts-by ends.OutOfMemory journal groups batches refused in_memory told a = a
 
 -- what an import stored and refused of a body, over a journal that has all that was told
 pub has-imported : {J : Type 0} (body : List ℕ) (report : Report J) (journal : List Batch)
-    → Reports (cuts body) report → EndsInMemory (ending_of report.end)
+    → Reports no_label (cuts body) report → EndsInMemory (ending_of report.end)
     → KnowsReceipts report.receipts.items journal → KnowsNotes report.clashes.items journal → KnowsEnd report.end journal
     → HasImported (ending_of report.end) journal body (games_of report.receipts.items) report.refused.items
 has-imported body report journal reports in_memory knows notes told = record {
@@ -130,7 +131,7 @@ stand-behind seen receipts batches journal behind are knows =
 
 -- the reply to an import, over a journal that has all that was told
 pub replies-to : {J : Type 0} (body : List ℕ) (report : Report J) (seen : ℕ) (journal : List Batch) (reply : Reply)
-    → (reports : Reports (cuts body) report) → EndsInMemory (ending_of report.end)
+    → (reports : Reports no_label (cuts body) report) → EndsInMemory (ending_of report.end)
     → KnowsReceipts report.receipts.items journal → KnowsNotes report.clashes.items journal → KnowsEnd report.end journal
     → TellsEnding (ending_of report.end) (length journal) (games_of report.receipts.items) report.refused.items reply
     → AreNew reply seen journal reports.batches
@@ -145,7 +146,7 @@ replies-to body report seen journal reply reports in_memory knows notes told tel
 
 -- a whole import stored its body in a journal that has all that was told
 pub has-stored-body : {J : Type 0} (body : List ℕ) (report : Report J) (journal : List Batch)
-    → (reports : Reports (cuts body) report)
+    → (reports : Reports no_label (cuts body) report)
     → AccountedBeside no_label (groups (cuts body)) reports.batches report.refused.items
     → KnowsReceipts report.receipts.items journal → KnowsNotes report.clashes.items journal
     → HasStoredBody journal body (games_of report.receipts.items) report.refused.items

@@ -1,5 +1,5 @@
 -- Statement: what is replied to the import of a body.
-use Rattle.std.specs.Prelude.{◌≡◌, ◌⊎◌, ⊤, ℕ, ◌+◌, ◌≤◌, List, [], ◌∷◌, ◌++◌, length, slice_get, take, Some}
+use Rattle.std.specs.Prelude.{◌≡◌, ◌⊎◌, ⊤, ℕ, List, ◌++◌, length, take}
 use Rattle.std.specs.List.{All}
 use Rattle.explorer_model.specs.declared.archive.Batch.{Batch}
 use Rattle.explorer_model.specs.declared.fault.Refusal.{Refusal}
@@ -13,18 +13,12 @@ use Rattle.explorer_model.specs.Imports.{AccountedBeside, Candidate, groups}
 use Rattle.explorer_model.specs.Journal.{game_count}
 use Rattle.explorer_model.specs.Replies.{stored_body}
 use Rattle.explorer_model.specs.Timeline.{IsPrefix}
+use Rattle.ingest_desk.specs.Lives.{StandFrom}
 use Rattle.ingest_desk.specs.declared.report.ImportEnding.{ImportEnding}
 use Rattle.ingest_desk.specs.declared.report.ImportEnding.TheVariants as endings
 use Rattle.ingest_desk.specs.Reporting.{AccountsUpTo, BreaksAt, FindsNoRoom, LeftUnreadIn, RepeatsGame}
 
 -- ---- what is stored
-
--- the batches stand in the journal in their order, none before this place of it, from 0
-abbrev pub StandFrom : ℕ → List Batch → List Batch → Type 0
-StandFrom least journal [] = ⊤
-StandFrom least journal (batch ∷ batches) =
-    (place : ℕ) × (least ≤ place) × (slice_get journal place ≡ Some batch)
-    × StandFrom (place + 1) journal batches
 
 -- a text that is refused so is a repeat of a game of the journal
 abbrev pub IsRepeatOf : List Cut → List Batch → ℕ → Why → Type 0
@@ -43,17 +37,18 @@ pub record HasNoRoom (journal : List Batch) (games bytes : ℕ) (left : List Can
 -- those before the one at which it broke off. Where that found no room, the journal has none for it.
 abbrev pub AccountsBy : ImportEnding → List Batch → List (List Cut) → List Batch → List Refusal
     → Type 0
-AccountsBy endings.Whole journal groups batches refused = AccountedBeside no_label groups batches refused
+AccountsBy endings.Whole journal groups batches refused =
+    AccountedBeside no_label groups batches refused
 AccountsBy (endings.DiskFault before after) journal groups batches refused =
-    (left : List Candidate) × BreaksAt groups batches refused left
+    (left : List Candidate) × BreaksAt no_label groups batches refused left
 AccountsBy (endings.Closed before after) journal groups batches refused =
-    (left : List Candidate) × BreaksAt groups batches refused left
+    (left : List Candidate) × BreaksAt no_label groups batches refused left
 AccountsBy (endings.Full games bytes) journal groups batches refused =
-    (left : List Candidate) × BreaksAt groups batches refused left
+    (left : List Candidate) × BreaksAt no_label groups batches refused left
     × HasNoRoom journal games bytes left
 AccountsBy endings.OutOfMemory journal groups batches refused =
     (finished : ℕ) × ((unread : List Refusal) × LeftUnreadIn (take finished groups) unread
-    × AccountsUpTo finished groups batches (refused ++ unread))
+    × AccountsUpTo no_label finished groups batches (refused ++ unread))
 AccountsBy _ journal groups batches refused = ⊥
 
 -- An import of the body ended so. The batches that it stored have so many games and stand in the

@@ -1,17 +1,21 @@
 -- Words of laws: what a reader of the replies may know.
-use Rattle.std.specs.Prelude.{◌≡◌, ◌⊎◌, ◌≤◌, ⊤, ℕ, ◌+◌, List, [], ◌∷◌, ◌++◌, length, take, filter_map, Option, Some, None}
+use Rattle.std.specs.Prelude.{◌≡◌, ◌⊎◌, ◌<◌, ◌≤◌, ⊤, ℕ, ◌+◌, List, [], ◌∷◌, ◌++◌, length, take, filter_map, Option, Some, None}
 use Rattle.explorer_model.specs.declared.archive.Batch.{Batch}
 use Rattle.explorer_model.specs.declared.wire.Asked.{Asked}
 use Rattle.explorer_model.specs.declared.wire.Asked.TheVariants.{NoMemory, Done, Cut}
 use Rattle.explorer_model.specs.declared.wire.Reply.{Reply}
 use Rattle.explorer_model.specs.declared.wire.Reply.TheVariants as replies
-use Rattle.explorer_model.specs.Replies.{IsFoundIn}
+use Rattle.explorer_model.specs.declared.fault.Refusal.{Refusal}
+use Rattle.explorer_model.specs.Replies.{IsFoundIn, stored_body}
 use Rattle.explorer_model.specs.Timeline.{IsPrefix}
 use Rattle.explorer_model.specs.Wire.{IsAsked}
+use Rattle.outside.specs.Stream.{Rises}
+use Rattle.ingest_desk.specs.Importers.{ImportCounts}
 use Rattle.session.specs.declared.serving.Ended.{Ended}
 use Rattle.session.specs.declared.serving.Ended.TheVariants as ends
 use Rattle.session.specs.Exchanges.{Exchange, asked_in}
-use Rattle.session.specs.Replies.{Route, Answer}
+use Rattle.session.specs.Imports.{HasStoredBody}
+use Rattle.session.specs.Replies.{Readings, Route, Answer}
 
 -- the number of batches that a reply names
 abbrev pub number_of : Reply → Option ℕ
@@ -68,3 +72,32 @@ IsAllAnswered ends.ReadFault taken exchanges =
 IsAllAnswered ends.WriteFault taken exchanges =
     LastLacksMemory exchanges
     ⊎ ((all : List Asked) → IsAsked taken all → IsPrefix (asked_in exchanges) all)
+
+-- ---- what is replied where nothing fails
+
+-- The query is answered, or memory was wanting, or a reading was not given, which the pass counts.
+abbrev pub IsAnswered : List ℕ → List Batch → Readings → Readings → Reply → Type 0
+IsAnswered text journal before after (replies.Found batches body) =
+    IsFoundIn text journal batches body
+IsAnswered text journal before after replies.NoMemory = ⊤
+IsAnswered text journal before after replies.Unread = before.unread < after.unread
+IsAnswered text journal before after _ = ⊥
+
+-- no count of the importer rose
+pub record NoneRose (before after : ImportCounts) : Type 0 where
+  pub disk_faults : ¬ Rises before.disk_faults after.disk_faults
+  pub closed : ¬ Rises before.closed after.closed
+  pub full : ¬ Rises before.full after.full
+
+-- The reply tells that the body is stored, with so many games and these refusals: each candidate of
+-- the body is stored or is listed as a repeat.
+pub record TellsStored (body : List ℕ) (journal : List Batch) (reply : Reply) : Type 0 where
+  pub stored : ℕ
+  pub refused : List Refusal
+  pub has_body : HasStoredBody journal body stored refused
+  pub reply_is : reply ≡ replies.Stored (length journal)
+      (stored_body (length journal) stored refused)
+
+-- the body is stored, or memory was wanting
+abbrev pub IsStored : List ℕ → List Batch → Reply → Type 0
+IsStored body journal reply = TellsStored body journal reply ⊎ (reply ≡ replies.NoMemory)

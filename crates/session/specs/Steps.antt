@@ -8,6 +8,7 @@ use Rattle.explorer_model.specs.declared.wire.Asked.{Asked}
 use Rattle.explorer_model.specs.declared.wire.Asked.TheVariants as asks
 use Rattle.explorer_model.specs.declared.wire.Reply.{Reply}
 use Rattle.explorer_model.specs.Cuts.{cuts}
+use Rattle.explorer_model.specs.Labels.{no_label}
 use Rattle.explorer_model.specs.Timeline.{IsPrefix}
 use Rattle.explorer_model.specs.Wire.{body_limit, request_limit}
 use Rattle.http_wire.specs.Asking.{Buffer}
@@ -41,7 +42,7 @@ KnowsEnd _ seen = ⊤
 pub record HasLearnt (J : Type 0) (body : List ℕ) (before after : ImporterState) (seen : List Batch)
     : Type 0 where
   pub report : Report J
-  pub reports : Reports (cuts body) report
+  pub reports : Reports no_label (cuts body) report
   pub told : TellsAll before.calls after.calls (call_of body report ∷ [])
   pub receipts : KnowsReceipts report.receipts.items seen
   pub clashes : KnowsNotes report.clashes.items seen

@@ -4,9 +4,10 @@ ghost use Rattle.explorer_model.specs.declared.archive.Batch.{Batch};
 ghost use Rattle.explorer_model.specs.Timeline.{IsPrefix};
 ghost use Rattle.explorer_model.specs.Wire.{body_limit};
 ghost use Rattle.ingest_desk.specs.Importers.{EndsInMemory, ending_of};
+ghost use Rattle.ingest_desk.specs.Lives.{StandFrom};
 ghost use Rattle.ingest_desk.specs.Reporting.{games_of};
 ghost use Rattle.session.specs.Exchanges.{backend};
-ghost use Rattle.session.specs.Imports.{AreNew, StandFrom, TellsEnding};
+ghost use Rattle.session.specs.Imports.{AreNew, TellsEnding};
 ghost use Rattle.session.specs.Replies.{readings_of};
 ghost use Rattle.session.specs.Steps.{
   AreBehind,

@@ -1,13 +1,17 @@
 //! Laws of what a connection comes to. Each is the contract of a function that has nothing to do or
 //! only cites the laws below it.
-ghost use Rattle.std.specs.Prelude.{◌≡◌, ◌≤◌, ◌+◌, ℕ, List};
+ghost use Rattle.std.specs.Prelude.{◌≡◌, ◌≤◌, ◌+◌, ℕ, List, Ok, Option};
 ghost use Rattle.std.specs.List.{AllByRecursion};
 ghost use Rattle.explorer_model.specs.declared.archive.Batch.{Batch};
+ghost use Rattle.explorer_model.specs.declared.query.Query.{Query};
 ghost use Rattle.explorer_model.specs.declared.wire.Reply.{Reply};
+ghost use Rattle.explorer_model.specs.Query.{QueryReads};
+ghost use Rattle.ingest_desk.specs.declared.report.ImportCall.{ImportCall};
 ghost use Rattle.outside.specs.Stream.{Stream};
 ghost use Rattle.session.specs.declared.serving.Ended.{Ended};
-ghost use Rattle.session.specs.Exchanges.{Backend, Exchange, Moment, AreExchanges};
-ghost use Rattle.session.specs.Laws.{AscendFrom, IsAllAnswered, IsOverFront, IsTold, numbers, unread_in};
+ghost use Rattle.session.specs.Exchanges.{Backend, Exchange, GrantsImport, Moment, AreExchanges};
+ghost use Rattle.session.specs.Laws.{AscendFrom, IsAllAnswered, IsAnswered, IsOverFront, IsStored};
+ghost use Rattle.session.specs.Laws.{IsTold, NoneRose, numbers, unread_in};
 ghost use Rattle.session.specs.Replies.{AnswersQuery, Readings, route_of};
 ghost use Rattle.session.specs.Serving.{Served};
 
@@ -48,3 +52,22 @@ pub fn replies_are_determined()
     query_is_determined();
     answers_are_determined();
 }
+
+/// A query that is accepted is answered with what is found, unless memory was wanting or a reading
+/// was not given, which the pass counts.
+pub fn accepted_queries_are_answered()
+    ensures { (text : List ℕ) (query : Query) (journal : List Batch) (before after : Readings)
+        (reply : Reply) → QueryReads text (Ok query)
+        → AnswersQuery text journal before after reply
+        → IsAnswered text journal before after reply }
+{
+    query_is_determined();
+}
+
+/// A body during whose import no count of the importer rose is stored, unless memory was wanting.
+pub fn imports_without_faults_are_stored()
+    ensures { (body : List ℕ) (journal : List Batch) (before after : Moment)
+        (call : Option ImportCall) (reply : Reply)
+        → GrantsImport body journal before after call reply
+        → NoneRose before.counts after.counts → IsStored body journal reply }
+{}

@@ -2,5 +2,6 @@
 //! segments that passes enter while it is changed, and a desk for all commits.
 #![tactic(auto)]
 
+pub mod lives;
 #[cfg(test)]
 mod tests;

@@ -3,7 +3,7 @@ ghost use Rattle.std.specs.Prelude.{◌≡◌, [], IfOk};
 
 use super::{NO_GAME, ONE_WHITE, ends, games, joined, named};
 use disk_model::MemDisk;
-use host::{Host, MemCall, MemFile, MemHost, MemLinks};
+use host::{MemCall, MemFile, MemHost, MemLinks};
 use outside::{MemLink, MemSink, MemSource};
 use std::alloc::{AllocError, Global};
 use std::test::Fail;
@@ -145,6 +145,7 @@ fn serves_peers_and_imports_what_they_post(rt: HostRuntime) -> Result<(), Fail> 
     assert!(rt; was_told(alloc, &host, 0, &[none, (Some("1"), STORED), one])?);
     assert!(rt; was_told(alloc, &host, 1, &[one, (Some("1"), REPEATED)])?);
     assert!(rt; ends(&rt, &mut host, &["query", "s"], (0, ONE_WHITE, ""))?);
+    assert!(rt; ends(&rt, &mut host, &["batches", "s"], (0, "1 1 \n", ""))?);
     Ok(())
 }
 
@@ -189,19 +190,7 @@ fn an_accept_fails(rt: HostRuntime) -> Result<(), Fail> {
     Ok(())
 }
 
-/// How many games each batch of the store `s` has.
-fn batch_sizes(alloc: Global, host: &mut MemHost) -> Result<Vec<usize>, Fail> {
-    let Ok(opened) = manifest::open(alloc, host.disk("s")?) else {
-        return Err(Fail::from("not a store"));
-    };
-    let mut sizes = Vec::new(alloc);
-    for batch in &opened.journal {
-        sizes.push(batch.texts.len())?;
-    }
-    Ok(sizes)
-}
-
-/// A batch has at most 512 games. The peer asks for nothing.
+/// A batch has at most 512 games, and no label. The peer asks for nothing.
 #[test]
 fn imports_a_file_of_two_groups(rt: HostRuntime) -> Result<(), Fail> {
     let alloc = rt.alloc();
@@ -223,6 +212,7 @@ fn imports_a_file_of_two_groups(rt: HostRuntime) -> Result<(), Fail> {
     ];
     assert!(rt; ends(&rt, &mut host, &words, (0, "listening a\n", ""))?);
     assert!(rt; was_written(&host, 0, ""));
-    assert_eq!(rt; batch_sizes(alloc, &mut host)?, vec![in alloc; 512, 1]?);
+    let batches = (0, "1 512 \n2 1 \n", "");
+    assert!(rt; ends(&rt, &mut host, &["batches", "s"], batches)?);
     Ok(())
 }

@@ -63,7 +63,7 @@ fn host_of_stores(alloc: Global) -> Result<MemHost, Fail> {
 #[test]
 fn makes_a_store_once_and_opens_what_is_named(rt: HostRuntime) -> Result<(), Fail> {
     let mut host = host_of_stores(rt.alloc())?;
-    let table: [(&[&str], _); 13] = [
+    let table: [(&[&str], _); 15] = [
         (&["create", "a"], (0, "created\n", "")),
         (&["create", "a"], (7, "", "not empty 13\n")),
         (&["create", "b"], (6, "", "disk fault\n")),
@@ -76,6 +76,8 @@ fn makes_a_store_once_and_opens_what_is_named(rt: HostRuntime) -> Result<(), Fai
         (&["query", "short"], (7, "", "not a store\n")),
         (&["query", "other"], (7, "", "format 9\n")),
         (&["query", "lost"], (10, "", "cannot open lost\n")),
+        (&["import", "lost", "f"], (10, "", "cannot open lost\n")),
+        (&["import", "a", "lost"], (10, "", "cannot open lost\n")),
         (&["serve", "short", "l"], (7, "", "not a store\n")),
         (&["serve", "lost", "l"], (10, "", "cannot open lost\n")),
         (&["serve", "a", "l", "f", "g"], (10, "", "cannot open g\n")),

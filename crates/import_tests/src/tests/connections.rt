@@ -15,11 +15,12 @@ use std::sync::{Mutex, Wait};
 use std::test::Fail;
 use std::thread::Threads;
 
-/// What one reader is asked on one connection.
+/// What one reader is asked on one connection, and whether its first reply can't be written.
 #[derive(Drop)]
 struct Talk {
     reader: usize,
     requests: Vec<u8>,
+    is_broken: bool,
 }
 
 const GET: &str = "GET /lichess HTTP/1.1\r\n\r\n";
@@ -127,7 +128,7 @@ fn converse_each<J: Index, R: Threads + Wait + Sync>(
     let mut all = Vec::new(alloc);
     for talk in talks {
         let pass = passes.get_mut(talk.reader).ok_or("there are two readers")?;
-        all.push(served(rt, alloc, desk, pass, talk.requests)?)?;
+        all.push(served(rt, alloc, desk, pass, talk)?)?;
     }
     Ok(all)
 }
@@ -137,17 +138,30 @@ fn served<J: Index, R: Threads + Wait + Sync>(
     alloc: Global,
     desk: &Desk<MemDisk, J>,
     pass: &mut Pass<J>,
-    requests: Vec<u8>,
+    talk: Talk,
 ) -> Result<Vec<u8>, Fail> {
-    let source = MemSource::new(requests, 4096, Vec::new(alloc));
-    let sink = MemSink::new(alloc, 1_000_000, Vec::new(alloc))?;
-    let mut link = MemLink::new(source, sink);
+    let wanted = if talk.is_broken {
+        Ended::WriteFault
+    } else {
+        Ended::Done
+    };
+    let mut link = link_of(alloc, talk)?;
     let mut handle = DeskHandle::new(desk, 2);
     let ended = serve_connection(rt, alloc, &mut link, pass, &mut handle);
-    if ended != Ended::Done {
-        return Err(Fail::from("the connection is not done"));
+    if ended != wanted {
+        return Err(Fail::from("the connection ended otherwise"));
     }
     Ok(link.written().to_vec(alloc)?)
+}
+
+/// A link that brings the requests, whose first write fails where it is broken.
+fn link_of(alloc: Global, talk: Talk) -> Result<MemLink, AllocError> {
+    let mut failing = Vec::new(alloc);
+    if talk.is_broken {
+        failing.push(0)?;
+    }
+    let source = MemSource::new(talk.requests, 4096, Vec::new(alloc));
+    Ok(MemLink::new(source, MemSink::new(alloc, 1_000_000, failing)?))
 }
 
 /// What is written on the one connection of a reader, over a new store on a disk, of whose calls
@@ -158,10 +172,7 @@ fn replies_of_one<R: Threads + Wait + Abort + Sync>(
     failing: Vec<u64>,
     requests: Vec<u8>,
 ) -> Result<Vec<u8>, Fail> {
-    let talk = Talk {
-        reader: 0,
-        requests,
-    };
+    let talk = talk_of(0, requests);
     let mut written = replies(rt, alloc, failing, vec![in alloc; talk]?)?;
     if written.len() != 1 {
         return Err(Fail::from("there is one connection"));
@@ -221,21 +232,20 @@ fn get_post_and_get(alloc: Global) -> Result<Vec<u8>, AllocError> {
     Ok(requests)
 }
 
+fn talk_of(reader: usize, requests: Vec<u8>) -> Talk {
+    Talk {
+        reader,
+        requests,
+        is_broken: false,
+    }
+}
+
 /// One reader imports a game between two questions. The other asks, and then imports the same game.
 fn talks_of_two(alloc: Global) -> Result<Vec<Talk>, AllocError> {
     let mut talks = Vec::new(alloc);
-    talks.push(Talk {
-        reader: 0,
-        requests: get_post_and_get(alloc)?,
-    })?;
-    talks.push(Talk {
-        reader: 1,
-        requests: GET.as_bytes().to_vec(alloc)?,
-    })?;
-    talks.push(Talk {
-        reader: 1,
-        requests: post_of(alloc, "aaaaaaa1")?,
-    })?;
+    talks.push(talk_of(0, get_post_and_get(alloc)?))?;
+    talks.push(talk_of(1, GET.as_bytes().to_vec(alloc)?))?;
+    talks.push(talk_of(1, post_of(alloc, "aaaaaaa1")?))?;
     Ok(talks)
 }
 
@@ -250,6 +260,27 @@ fn second_reader_finds_what_the_first_posted(rt: HostRuntime) -> Result<(), Fail
         &[(1, again)],
     ];
     assert_eq!(rt; written.len(), 3);
+    for (written, replies) in written.iter().zip(wanted) {
+        assert!(rt; are_found(alloc, written.as_slice(), replies)?);
+    }
+    Ok(())
+}
+
+/// An import whose reply can't be written, and a question of the other reader.
+fn broken_talk_and_another(alloc: Global) -> Result<Vec<Talk>, AllocError> {
+    let mut broken = talk_of(0, post_of(alloc, "aaaaaaa1")?);
+    broken.is_broken = true;
+    let mut talks = vec![in alloc; broken]?;
+    talks.push(talk_of(1, GET.as_bytes().to_vec(alloc)?))?;
+    Ok(talks)
+}
+
+#[test]
+fn import_stands_whose_reply_is_not_written(rt: HostRuntime) -> Result<(), Fail> {
+    let alloc: Global = rt.alloc();
+    let written = replies(&rt, alloc, Vec::new(alloc), broken_talk_and_another(alloc)?)?;
+    let wanted: [&[(u32, &str)]; 2] = [&[], &[(1, ONE_GAME)]];
+    assert_eq!(rt; written.len(), 2);
     for (written, replies) in written.iter().zip(wanted) {
         assert!(rt; are_found(alloc, written.as_slice(), replies)?);
     }

@@ -5,6 +5,7 @@ ghost use Rattle.std.specs.Thread.{IsSync};
 use super::{Told, games, named, new_store, summary_of};
 use disk_model::MemDisk;
 use explorer_model::fault::{Refusal, Why};
+use explorer_model::label::Label;
 use import_run::{DeskHandle, DrainEnd, Drained, OwnIngest, drain, import};
 use ingest_desk::{Desk, ImportEnding, Importer, MergeDesk, Unnamed};
 use outside::{FreeGate, MemSource};
@@ -90,7 +91,7 @@ fn import_one<J: Index, R: Threads + Wait + Sync>(
     (first, count): (usize, usize),
 ) -> Result<Told, AllocError> {
     let mut source = MemSource::new(games(alloc, first, count)?, 4096, Vec::new(alloc));
-    let report = import(rt, alloc, &mut source, desk, 2, &FreeGate);
+    let report = import(rt, alloc, &mut source, desk, Label::none(), 2, &FreeGate);
     summary_of(alloc, report)
 }
 

@@ -4,6 +4,7 @@ ghost use Rattle.std.specs.Prelude.{◌≡◌};
 use super::{Told, games, named, new_store, summary_of};
 use disk_model::MemDisk;
 use explorer_model::fault::{GameFault, Refusal, TagFault, TagName, Why};
+use explorer_model::label::Label;
 use import_run::{DrainEnd, drain_alone, import_alone};
 use ingest_desk::{ImportEnding, Ingest, Unnamed};
 use outside::{FreeGate, MemSource};
@@ -123,7 +124,7 @@ fn import_one<J: Index, R: Threads + Wait + Abort + Sync>(
     stream: &Stream,
 ) -> Result<Told, Fail> {
     let mut source = source_of(alloc, stream)?;
-    let report = import_alone(rt, alloc, &mut source, ingest, 2, &FreeGate);
+    let report = import_alone(rt, alloc, &mut source, ingest, Label::none(), 2, &FreeGate);
     Ok(summary_of(alloc, report)?)
 }
 

@@ -24,7 +24,8 @@ fn batches_are_stored_published_and_joined(rt: HostRuntime) -> Result<(), Fail> 
     let alloc: Global = rt.alloc();
     let unnamed = new_store(&rt, alloc, Vec::new(alloc))?;
     let disk = stores_three::<Brand, _>(&rt, alloc, unnamed)?;
-    let unnamed = opened(&rt, alloc, disk, 2)?;
+    // No crash tears what was acknowledged.
+    let unnamed = opened(&rt, alloc, disk.crashed(7), 2)?;
     let (batches, _disk) = batches_of::<Brand, _>(&rt, alloc, unnamed)?;
     assert_eq!(rt; batches, 2);
     Ok(())
@@ -112,27 +113,32 @@ fn batches_of<J: Index, R: Wait + Abort>(
 
 // ---- faults of the disk
 
-/// How many batches a store has once a call of its disk failed under its second commit.
+/// How many batches a store has once a call of its disk failed under its second commit, and a crash
+/// with this choice tore what was written.
 fn batches_behind_a_fault<R: Threads + Wait + Abort + Sync>(
     rt: &R,
     alloc: Global,
     failing: u64,
+    choice: u64,
 ) -> Result<u32, Fail> {
     let unnamed = new_store(rt, alloc, vec![in alloc; failing]?)?;
     let disk = breaks::<Brand, _>(rt, alloc, unnamed)?;
-    let unnamed = opened(rt, alloc, disk, 1)?;
+    let unnamed = opened(rt, alloc, disk.crashed(choice), 1)?;
     let (batches, _disk) = batches_of::<Brand, _>(rt, alloc, unnamed)?;
     Ok(batches)
 }
 
 #[test]
-fn sync_of_the_second_commit_fails(rt: HostRuntime) -> Result<(), Fail> {
-    let alloc: Global = rt.alloc();
+fn call_of_the_second_commit_fails(rt: HostRuntime) -> Result<(), Fail> {
     // The disk's calls: three of the creation, four of the first commit, and of the second one a
-    // write, a sync, a write of the gate and a sync.
-    assert_eq!(rt; batches_behind_a_fault(&rt, alloc, 8)?, 1);
-    // All of the second batch was written.
-    assert_eq!(rt; batches_behind_a_fault(&rt, alloc, 10)?, 2);
+    // write, a sync, a write of the gate, which is torn to 1, 0, 1, 1, 1, 2, 1 and 3, and a sync.
+    let torn = [2, 1, 2, 2, 2, 1, 2, 1];
+    for (failing, counts) in [(7, [1; 8]), (8, [1; 8]), (9, torn), (10, torn)] {
+        for (choice, batches) in counts.iter().enumerate() {
+            let found = batches_behind_a_fault(&rt, rt.alloc(), failing, choice as u64)?;
+            assert_eq!(rt; found, *batches, "call {failing}, choice {choice}");
+        }
+    }
     Ok(())
 }
 
@@ -225,6 +231,44 @@ fn fault_of<J: Index>(
         }
         _ => None,
     }
+}
+
+// ---- a full list
+
+#[test]
+fn sixty_fifth_batch_finds_room_by_a_join(rt: HostRuntime) -> Result<(), Fail> {
+    let unnamed = new_store(&rt, rt.alloc(), Vec::new(rt.alloc()))?;
+    fills_the_list::<Brand, _>(&rt, rt.alloc(), unnamed)
+}
+
+fn fills_the_list<J: Index, R: Threads + Wait + Abort + Sync>(
+    rt: &R,
+    alloc: Global,
+    unnamed: Unnamed<MemDisk>,
+) -> Result<(), Fail>
+    requires { unnamed.index.name ≡ J.name }
+{
+    let (mut ingest, _passes) = named::<J, _, R>(rt, alloc, unnamed)?;
+    let outcome = fill_the_list(rt, alloc, &mut ingest);
+    let _disk = ingest.into_disk(rt);
+    outcome
+}
+
+/// Commits alone join nothing until 64 segments stand, and the 65th joins two.
+fn fill_the_list<J: Index, R: Threads + Wait + Abort + Sync>(
+    rt: &R,
+    alloc: Global,
+    ingest: &mut Ingest<MemDisk, J>,
+) -> Result<(), Fail> {
+    for number in 0..65u32 {
+        if commit_games(rt, alloc, ingest, number, 1)?.is_none() {
+            return Err(Fail::from("not stored"));
+        }
+        let list = ingest.publisher().list();
+        let stands = (list.batches(), list.segments().len());
+        assert_eq!(rt; stands, (number + 1, (number as usize + 1).min(64)));
+    }
+    Ok(())
 }
 
 // ---- damaged stores

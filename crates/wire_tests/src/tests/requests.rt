@@ -98,10 +98,21 @@ fn requests_are_read_however_they_are_cut(rt: HostRuntime) -> Result<(), Fail> {
 #[test]
 fn request_may_end_at_each_byte(rt: HostRuntime) -> Result<(), Fail> {
     let alloc: Global = rt.alloc();
-    let text = b"\r\nPOST /import HTTP/1.1\r\nContent-Length: 5\r\n\r\n12345";
-    for end in 0..text.len() {
-        let word = first(alloc, &text[..end])?;
-        assert_eq!(rt; word, if end < 3 { "done" } else { "cut" }, "at {end}");
+    // How many bytes of line ends stand before the request.
+    let table: [(&[u8], usize); 4] = [
+        (
+            b"\r\nPOST /import HTTP/1.1\r\nContent-Length: 5\r\n\r\n12345",
+            2,
+        ),
+        (b"GET /lichess HTTP/1.1\r\n\r\n", 0),
+        (b"\nGET /lichess?moves=3&moves=3 HTTP/1.0\n\n", 1),
+        (b"DELETE /lichess HTTP/1.1\r\nConnection: close\r\n\r\n", 0),
+    ];
+    for (text, blank) in table {
+        for end in 0..text.len() {
+            let word = first(alloc, &text[..end])?;
+            assert_eq!(rt; word, if end <= blank { "done" } else { "cut" }, "at {end}");
+        }
     }
     Ok(())
 }

@@ -111,7 +111,7 @@ fn each_command_is_read(rt: HostRuntime) -> Result<(), Fail> {
 #[test]
 fn other_words_are_refused(rt: HostRuntime) -> Result<(), Fail> {
     let alloc = rt.alloc();
-    let table: [(&[&str], &str); 26] = [
+    let table: [(&[&str], &str); 29] = [
         (
             &[],
             "error: 'explorer' requires a subcommand but one was not provided\n",
@@ -196,6 +196,18 @@ fn other_words_are_refused(rt: HostRuntime) -> Result<(), Fail> {
         (
             &["serve", "s", "a", "--readers", "65"],
             "error: invalid value '65' for '--readers <N>': 65 is not in 1..=64\n",
+        ),
+        (
+            &["serve", "s", "a", "--readers", "0"],
+            "error: invalid value '0' for '--readers <N>': 0 is not in 1..=64\n",
+        ),
+        (
+            &["serve", "s", "a", "--connections", "0"],
+            "error: invalid value '0' for '--connections <N>': 0 is not in 1..=1000000\n",
+        ),
+        (
+            &["serve", "s", "a", "--connections", "1000001"],
+            "error: invalid value '1000001' for '--connections <N>': 1000001 is not in 1..=1000000\n",
         ),
         (
             &["trial", "5"],

@@ -1,4 +1,5 @@
 use Rattle.explorer.proofs.StoreRunLemmas.{one_asking, one_creating, one_importing, one_listed, one_migrating, one_refusing, one_serving, one_trying}
+use Rattle.explorer.proofs.NoRoomLemmas.{accounts_from}
 use Rattle.explorer.proofs.laws.a_run_of_a_command_is_determined.Goals as goal
 
 pub returns-clause-creates : goal.returns-clause-creates
@@ -18,10 +19,10 @@ returns-clause-lists c = λ words words' store image workers workers' before aft
     (record { opened = once.opened; refused = once.refused; either = once.either }) asks asks' told well well' fed fed'
 
 pub returns-clause-imports : goal.returns-clause-imports
-returns-clause-imports c = λ words words' store file label image stream workers workers' before after other status status' asks asks' told told_file errors well reads reports well' reads' reports' fed fed' first second.
+returns-clause-imports c = λ words words' store file image stream label workers workers' before after other status status' asks asks' told told_file errors well reads reports well' reads' reports' fed fed' first second.
     let once = c.opening_is_determined.ensures in
-    one_importing words words' before after other status status' first second errors reports reports' store file label image stream workers workers' c.game_is_determined.ensures
-    (record { batches = c.accounting_is_determined.ensures.batches; refused = c.accounting_is_determined.ensures.refused })
+    one_importing words words' before after other status status' first second errors reports reports' store file image stream label workers workers' c.game_is_determined.ensures
+    (accounts_from c.accounting_is_determined.ensures.batches c.accounting_is_determined.ensures.refused)
     (record { opened = once.opened; refused = once.refused; either = once.either }) asks asks' told told_file well reads well' reads' fed fed'
 
 pub returns-clause-migrates : goal.returns-clause-migrates
@@ -31,7 +32,7 @@ returns-clause-migrates c = λ words words' old image new there before after oth
 pub returns-clause-tries : goal.returns-clause-tries
 returns-clause-tries c = λ words words' games seed workers workers' before after other status status' asks asks' told errors well reports well' reports' fed fed' first second.
     one_trying words words' before after other status status' first second errors reports reports' games seed workers workers' c.game_is_determined.ensures
-    (record { batches = c.accounting_is_determined.ensures.batches; refused = c.accounting_is_determined.ensures.refused })
+    (accounts_from c.accounting_is_determined.ensures.batches c.accounting_is_determined.ensures.refused)
     c.samples_are_determined.ensures c.answers_are_determined.ensures c.query_is_determined.ensures asks asks' told well well' fed fed'
 
 pub returns-clause-refuses : goal.returns-clause-refuses

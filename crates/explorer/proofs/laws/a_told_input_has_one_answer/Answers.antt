@@ -1,6 +1,7 @@
 use Rattle.explorer.proofs.LawLemmas.{one_answer}
+use Rattle.explorer.proofs.NoRoomLemmas.{accounts_from}
 use Rattle.explorer.proofs.laws.a_told_input_has_one_answer.Goals as goal
 
 pub returns : goal.returns
 returns c = λ query before after other told first second.
-    one_answer query before after other (record { batches = c.accounting_is_determined.ensures.batches; refused = c.accounting_is_determined.ensures.refused }) c.answers_are_determined.ensures told first second
+    one_answer query before after other (accounts_from c.accounting_is_determined.ensures.batches c.accounting_is_determined.ensures.refused) c.answers_are_determined.ensures told first second

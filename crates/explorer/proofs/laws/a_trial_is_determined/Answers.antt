@@ -1,7 +1,8 @@
 use Rattle.explorer.proofs.TrialLawLemmas.{one_trial}
+use Rattle.explorer.proofs.NoRoomLemmas.{accounts_from}
 use Rattle.explorer.proofs.laws.a_trial_is_determined.Goals as goal
 
 pub returns : goal.returns
 returns c = λ games seed before after other ending ending'.
-    one_trial games seed c.game_is_determined.ensures (record { batches = c.accounting_is_determined.ensures.batches; refused = c.accounting_is_determined.ensures.refused })
+    one_trial games seed c.game_is_determined.ensures (accounts_from c.accounting_is_determined.ensures.batches c.accounting_is_determined.ensures.refused)
     c.samples_are_determined.ensures c.answers_are_determined.ensures c.query_is_determined.ensures before after other ending ending'

@@ -17,14 +17,15 @@ returns-in-Whole-clause-stored g c = λ texts is.
     let told = ap (λ (b : BytesLeft). Some b.left) c.new-source.ensures in
     let made = new_games c.streams_are_cut_into_samples.ensures c.samples_have_games.ensures c.ids_differ.ensures texts stream is in
     let room = subst (λ (l : List Placed). FindRoom (journal before) l) (sym made.texts_are) (find_room (journal before) texts stream c.requires.empty is) in
-    let all = c.new_games_are_stored.ensures _ _ before c.import_and_tell-told.new.ingest c.import_and_tell-told.result.report [] c.import_and_tell-told.ensures.alone
+    let alone = rw c.none.ensures at c.import_and_tell-told.ensures.alone in
+    let all = c.new_games_are_stored.ensures _ _ _ before c.import_and_tell-told.new.ingest c.import_and_tell-told.result.report [] alone
     (record { bytes = stream; told = told; below = below_limit texts stream is; reads = zero_fits; sound = c.requires.sound; calls = zero_fits })
     (record { reads = refl; calls = refl })
     (subst (λ (j : List Batch). AreGamesOf j []) (sym c.requires.empty) tt)
     made.new room in
     let report = c.import_and_tell-told.result.report in
     let of_texts = subst (λ (l : List Placed). StoresAll report.end (journal before) l report.refused.items (journal c.import_and_tell-told.new.ingest)) made.texts_are all in
-    stores_texts _ _ _ _ before c.import_and_tell-told.new.ingest report c.import_and_tell-told.ensures.alone stream told c.requires.sound c.requires.empty c.ending_of.result c.ending_of.ensures c.in-Whole.is texts is.joined_is of_texts
+    stores_texts _ _ _ _ before c.import_and_tell-told.new.ingest report alone stream told c.requires.sound c.requires.empty c.ending_of.result c.ending_of.ensures c.in-Whole.is texts is.joined_is of_texts
 
 pub unreachable-requires : goal.unreachable-requires
 unreachable-requires g c =
@@ -35,7 +36,8 @@ unreachable-requires g c =
     let told = ap (λ (b : BytesLeft). Some b.left) c.new-source.ensures in
     let made = new_games c.streams_are_cut_into_samples.ensures c.samples_have_games.ensures c.ids_differ.ensures texts stream is in
     let room = subst (λ (l : List Placed). FindRoom (journal before) l) (sym made.texts_are) (find_room (journal before) texts stream c.requires.empty is) in
-    let all = c.new_games_are_stored.ensures _ _ before c.import_and_tell-told.new.ingest c.import_and_tell-told.result.report [] c.import_and_tell-told.ensures.alone
+    let alone = rw c.none.ensures at c.import_and_tell-told.ensures.alone in
+    let all = c.new_games_are_stored.ensures _ _ _ before c.import_and_tell-told.new.ingest c.import_and_tell-told.result.report [] alone
     (record { bytes = stream; told = told; below = below_limit texts stream is; reads = zero_fits; sound = c.requires.sound; calls = zero_fits })
     (record { reads = refl; calls = refl })
     (subst (λ (j : List Batch). AreGamesOf j []) (sym c.requires.empty) tt)

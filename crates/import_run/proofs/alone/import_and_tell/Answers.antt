@@ -13,7 +13,7 @@ returns-clause-alone g c =
     let new = g.S.Source.source r.new.source in
     let mid = r.new.committer.ingest.now in
     let name = sym r.ensures.since.0 in
-    tied (λ after. ImportsAlone d.disk d.left_since old c.args.ingest.now new after r.result) mid _ (search rules)
+    tied (λ after. ImportsAlone c.args.label d.disk d.left_since old c.args.ingest.now new after r.result) mid _ (search rules)
     (imports_alone d.disk d.left_since c.args.ingest.now mid r.ensures.since.1.since r.result old new c.batches-before.ensures.sound c.batches-before.ensures.keeps c.batches-after.ensures.sound c.batches-after.ensures.keeps r.ensures.told)
 
 pub returns-clause-follows : goal.returns-clause-follows

@@ -7,8 +7,8 @@ use Rattle.import_run.proofs.naming.name.Given as goal
 
 abbrev pub invariant-naming : goal.invariant-naming
 invariant-naming l = record {
-  count : l.at + length l.bytes-iterator.rest.items ≡ length l.fn.batch.texts;
+  count : l.at + length l.bytes-iterator.rest.items ≡ length l.fn.texts;
   next_within : l.next ≤ length l.pairs;
-  so_far : (candidates : List Candidate) (number : Numbering) → l.fn.batch.texts ≡ map (λ c. c.text) candidates → l.places ≡ map (λ c. c.place) candidates
+  so_far : (candidates : List Candidate) (number : Numbering) → l.fn.texts ≡ map (λ c. c.text) candidates → l.places ≡ map (λ c. c.place) candidates
       → l.pairs ≡ clashes_from 0 number (map id_of candidates) → Naming number candidates l.bytes-iterator.rest.items l.pairs l.at l.next l.refused.items l.rest.items;
 }

@@ -29,12 +29,12 @@ settling-preserved g c =
     record {
       hand = hand;
       rounds = λ cuts ascend holds.
-          let P : Option Counted → Type 0 = λ t. Rounds told cuts t l.state.places.items l.state.refused.items now in
-          again told cuts (subst P c.in-Some.is (l.invariant.rounds cuts ascend holds));
+          let P : Option Counted → Type 0 = λ t. Rounds c.args.group.label told cuts t l.state.places.items l.state.refused.items now in
+          again told c.args.group.label cuts (subst P c.in-Some.is (l.invariant.rounds cuts ascend holds));
       since = g.met.C.Committer.since_before c.args.committer.now l.committer c.commit_once.new.committer l.invariant.since c.commit_once.ensures.since;
       beside = λ cuts ascend holds.
-          let P : Option Counted → Type 0 = λ t. RoundsBeside cuts t l.state.places.items l.state.refused.items l.clashes.items in
-          beside cuts (subst P c.in-Some.is (l.invariant.beside cuts ascend holds));
+          let P : Option Counted → Type 0 = λ t. RoundsBeside c.args.group.label cuts t l.state.places.items l.state.refused.items l.clashes.items in
+          beside c.args.group.label cuts (subst P c.in-Some.is (l.invariant.beside cuts ascend holds));
       notes = prefix-trans c.args.clashes.now.items l.clashes.items c.commit_once.new.clashes.items l.invariant.notes c.commit_once.ensures.notes;
     }
 
@@ -42,12 +42,12 @@ pub returns-in_default-clause-settles : goal.returns-in_default-clause-settles
 returns-in_default-clause-settles g c = λ known cuts ascend holds is.
     let l = c.settling in
     let now = g.C.Committer.told l.committer in
-    let P : Option Counted → Type 0 = λ t. Rounds (g.C.Committer.told c.args.committer.now) cuts t l.state.places.items l.state.refused.items now in
-    let Q : Option Store → Type 0 = λ k. Rounds k cuts None l.state.places.items l.state.refused.items now in
+    let P : Option Counted → Type 0 = λ t. Rounds c.args.group.label (g.C.Committer.told c.args.committer.now) cuts t l.state.places.items l.state.refused.items now in
+    let Q : Option Store → Type 0 = λ k. Rounds c.args.group.label k cuts None l.state.places.items l.state.refused.items now in
     settles_none known cuts l.state.places.items l.state.refused.items now (subst Q is (subst P c.in_default.is (l.invariant.rounds cuts ascend holds))) _ refl refl
 
 pub returns-in_default-clause-beside : goal.returns-in_default-clause-beside
 returns-in_default-clause-beside g c = λ cuts ascend holds.
     let l = c.settling in
-    let P : Option Counted → Type 0 = λ t. RoundsBeside cuts t l.state.places.items l.state.refused.items l.clashes.items in
+    let P : Option Counted → Type 0 = λ t. RoundsBeside c.args.group.label cuts t l.state.places.items l.state.refused.items l.clashes.items in
     settles_none_beside cuts l.state.places.items l.state.refused.items l.clashes.items (subst P c.in_default.is (l.invariant.beside cuts ascend holds)) _ refl refl

@@ -12,10 +12,10 @@ abbrev pub invariant-settling : goal.invariant-settling
 invariant-settling g l = record {
   hand : IfSome l.state.tally (λ counted. InHand counted l.state.places.items);
   rounds : (cuts : List Cut) → Ascend cuts → IsGroupOf cuts l.fn.group
-      → Rounds (g.C.Committer.told l.fn.committer) cuts l.state.tally l.state.places.items l.state.refused.items (g.C.Committer.told l.committer);
+      → Rounds l.fn.group.label (g.C.Committer.told l.fn.committer) cuts l.state.tally l.state.places.items l.state.refused.items (g.C.Committer.told l.committer);
   since : g.C.Committer.since l.fn.committer l.committer;
   beside : (cuts : List Cut) → Ascend cuts → IsGroupOf cuts l.fn.group
-      → RoundsBeside cuts l.state.tally l.state.places.items l.state.refused.items l.clashes.items;
+      → RoundsBeside l.fn.group.label cuts l.state.tally l.state.places.items l.state.refused.items l.clashes.items;
   notes : IsPrefix l.fn.clashes.items l.clashes.items;
 }
 

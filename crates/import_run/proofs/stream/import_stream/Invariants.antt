@@ -10,6 +10,7 @@ invariant-reading g l = record {
   below : l.taken < INPUT_LIMIT;
   so_far : came l.cutter ≡ l.taken;
   ready : IsReady l.import;
+  label : l.import.group.label ≡ l.fn.label;
   read : HasRead (g.C.Committer.told l.fn.committer) l.taken (g.S.Source.source l.fn.source) (g.S.Source.source l.source) (cuts_of_rest l.cutter) l.import (g.C.Committer.told l.committer);
   since : g.C.Committer.since l.fn.committer l.committer;
 }

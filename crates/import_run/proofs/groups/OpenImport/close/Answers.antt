@@ -12,116 +12,127 @@ use Rattle.import_run.proofs.HandLemmas.{lacks_still}
 use Rattle.import_run.proofs.NextLemmas.{lacking, lacks_none, lacks_one, no_batch, one_batch}
 use Rattle.import_run.proofs.groups.OpenImport.close.Goals as goal
 
-pub returns-in_err-reserve-clause-lacks : goal.returns-in_err-reserve-clause-lacks
-returns-in_err-reserve-clause-lacks g c =
+pub returns-in_err-clone-clause-lacks : goal.returns-in_err-clone-clause-lacks
+returns-in_err-clone-clause-lacks g c =
     let told = g.C.Committer.told c.args.committer.now in
     lacking c.from_residual.result
     (λ (start : Option Store) (closed : List (List Cut)) (hand : List Cut) (ascend : Ascend hand) (holds : IsGroupOf hand c.args.self.now.group) (s : IsSettledSo start closed c.args.self.now told).
-    lacks_behind start closed c.args.self.now _ c.reserve.ensures.items refl (notes_same _ _ refl) told told hand s (λ known is. lacks_still known (hand ∷ []) told is))
+    lacks_behind start closed c.args.self.now _ refl refl refl (notes_same _ _ refl) told told hand s (λ known is. lacks_still c.args.self.now.group.label known (hand ∷ []) told is))
+
+pub returns-in_err-reserve-clause-lacks : goal.returns-in_err-reserve-clause-lacks
+returns-in_err-reserve-clause-lacks g c =
+    let told = g.C.Committer.told c.args.committer.now in
+    lacking c.from_residual-in_err-reserve.result
+    (λ (start : Option Store) (closed : List (List Cut)) (hand : List Cut) (ascend : Ascend hand) (holds : IsGroupOf hand c.args.self.now.group) (s : IsSettledSo start closed c.args.self.now told).
+    lacks_behind start closed c.args.self.now _ c.reserve.ensures.items refl (c.new-next.ensures.label ∙ c.in_ok-clone.ensures) (notes_same _ _ refl) told told hand s (λ known is. lacks_still c.args.self.now.group.label known (hand ∷ []) told is))
 
 pub returns-in_err-reserve-2-clause-lacks : goal.returns-in_err-reserve-2-clause-lacks
 returns-in_err-reserve-2-clause-lacks g c =
     let told = g.C.Committer.told c.args.committer.now in
     lacking c.from_residual-in_err-reserve-2.result
     (λ (start : Option Store) (closed : List (List Cut)) (hand : List Cut) (ascend : Ascend hand) (holds : IsGroupOf hand c.args.self.now.group) (s : IsSettledSo start closed c.args.self.now told).
-    lacks_behind start closed c.args.self.now _ c.reserve.ensures.items c.reserve-2.ensures.items (notes_same _ _ refl) told told hand s (λ known is. lacks_still known (hand ∷ []) told is))
+    lacks_behind start closed c.args.self.now _ c.reserve.ensures.items c.reserve-2.ensures.items (c.new-next.ensures.label ∙ c.in_ok-clone.ensures) (notes_same _ _ refl) told told hand s (λ known is. lacks_still c.args.self.now.group.label known (hand ∷ []) told is))
 
 pub returns-in_err-answer-clause-lacks : goal.returns-in_err-answer-clause-lacks
 returns-in_err-answer-clause-lacks g c =
+    let memory = rw c.replace-group.ensures.value at c.in_err-answer.ensures.memory in
     let told = g.C.Committer.told c.args.committer.now in
     lacking c.from_residual-in_err-answer.result
     (λ (start : Option Store) (closed : List (List Cut)) (hand : List Cut) (ascend : Ascend hand) (holds : IsGroupOf hand c.args.self.now.group) (s : IsSettledSo start closed c.args.self.now told).
-    let mine = subst (λ group. IsGroupOf hand group) (sym c.replace-group.ensures.value) holds in
-    lacks_behind start closed c.args.self.now _ c.reserve.ensures.items c.reserve-2.ensures.items c.settle.ensures.notes told (g.C.Committer.told c.settle.new.committer) hand s
-    (λ known is. c.in_err-answer.ensures.memory known hand ascend mine is))
+    lacks_behind start closed c.args.self.now _ c.reserve.ensures.items c.reserve-2.ensures.items (c.new-next.ensures.label ∙ c.in_ok-clone.ensures) c.settle.ensures.notes told (g.C.Committer.told c.settle.new.committer) hand s
+    (λ known is. memory known hand ascend holds is))
 
 pub returns-in_err-extend_from_slice-clause-lacks : goal.returns-in_err-extend_from_slice-clause-lacks
 returns-in_err-extend_from_slice-clause-lacks g c =
     let d = c.in_ok-answer in
+    let settles = rw c.replace-group.ensures.value at d.ensures.settles in
     let told = g.C.Committer.told c.args.committer.now in
     let told' = g.C.Committer.told c.settle.new.committer in
     lacking c.from_residual-in_err-extend_from_slice.result
     (λ (start : Option Store) (closed : List (List Cut)) (hand : List Cut) (ascend : Ascend hand) (holds : IsGroupOf hand c.args.self.now.group) (s : IsSettledSo start closed c.args.self.now told).
-    let mine = subst (λ group. IsGroupOf hand group) (sym c.replace-group.ensures.value) holds in
-    lacks_behind start closed c.args.self.now _ c.reserve.ensures.items (c.in_err-extend_from_slice.ensures.items ∙ c.reserve-2.ensures.items) c.settle.ensures.notes told told' hand s
-    (λ known is. lacks_none known hand d.field-0 told' (d.ensures.settles known hand ascend mine is) c.in_default.is))
+    lacks_behind start closed c.args.self.now _ c.reserve.ensures.items (c.in_err-extend_from_slice.ensures.items ∙ c.reserve-2.ensures.items) (c.new-next.ensures.label ∙ c.in_ok-clone.ensures) c.settle.ensures.notes told told' hand s
+    (λ known is. lacks_none known hand d.field-0 told' (settles known hand ascend holds is) c.in_default.is))
 
 pub returns-in_default-clause-closes : goal.returns-in_default-clause-closes
 returns-in_default-clause-closes g c = λ start closed hand ascend holds s.
     let d = c.in_ok-answer in
+    let settles = rw c.replace-group.ensures.value at d.ensures.settles in
+    let beside = rw c.replace-group.ensures.value at d.ensures.beside in
     let old = c.args.self.now in
     let told = g.C.Committer.told c.args.committer.now in
     let told' = g.C.Committer.told c.settle.new.committer in
-    let mine = subst (λ group. IsGroupOf hand group) (sym c.replace-group.ensures.value) holds in
     let refused = extended c.extend_from_slice.new.self.items c.reserve-2.new.self.items c.as_slice.result.now old.refused.items d.field-0.refused.items c.in_ok-extend_from_slice.ensures.items c.reserve-2.ensures.items c.as_slice.ensures.value in
     record {
-      beside = none_beside closed old _ hand d.field-0 s.beside (d.ensures.beside hand ascend mine) c.settle.ensures.notes refused c.in_default.is c.reserve.ensures.items;
+      beside = none_beside closed old _ hand d.field-0 s.beside (beside hand ascend holds) (c.new-next.ensures.label ∙ c.in_ok-clone.ensures) c.settle.ensures.notes refused c.in_default.is c.reserve.ensures.items;
       alone = λ known is.
           let p = s.alone known is in
           no_batch known closed old.receipts.items c.reserve.new.self.items old.refused.items c.extend_from_slice.new.self.items told told' hand p
-          d.field-0 (d.ensures.settles p.known hand ascend mine p.still) c.in_default.is refused c.reserve.ensures.items;
+          d.field-0 (settles p.known hand ascend holds p.still) c.in_default.is refused c.reserve.ensures.items;
     }
 
 pub returns-then-batches-last_batches-clause-lacks : goal.returns-then-batches-last_batches-clause-lacks
 returns-then-batches-last_batches-clause-lacks g c =
     let d = c.in_ok-answer in
+    let settles = rw c.replace-group.ensures.value at d.ensures.settles in
     let told = g.C.Committer.told c.args.committer.now in
     let told' = g.C.Committer.told c.settle.new.committer in
     λ start closed hand ascend holds s.
-    let mine = subst (λ group. IsGroupOf hand group) (sym c.replace-group.ensures.value) holds in
-    lacks_behind start closed c.args.self.now _ c.reserve.ensures.items c.reserve-2.ensures.items c.settle.ensures.notes told told' hand s
-    (λ known is. lacks_one known hand d.field-0 c.in-Ok.receipt told' (d.ensures.settles known hand ascend mine is) (c.in-Some.is ∙ ap Some c.in-Ok.is))
+    lacks_behind start closed c.args.self.now _ c.reserve.ensures.items c.reserve-2.ensures.items (c.new-next.ensures.label ∙ c.in_ok-clone.ensures) c.settle.ensures.notes told told' hand s
+    (λ known is. lacks_one known hand d.field-0 c.in-Ok.receipt told' (settles known hand ascend holds is) (c.in-Some.is ∙ ap Some c.in-Ok.is))
 
 pub returns-in_err-extend_from_slice-in-Ok-clause-lacks : goal.returns-in_err-extend_from_slice-in-Ok-clause-lacks
 returns-in_err-extend_from_slice-in-Ok-clause-lacks g c =
     let d = c.in_ok-answer in
+    let settles = rw c.replace-group.ensures.value at d.ensures.settles in
     let told = g.C.Committer.told c.args.committer.now in
     let told' = g.C.Committer.told c.settle.new.committer in
     lacking c.from_residual-in_err-extend_from_slice-in-Ok.result
     (λ (start : Option Store) (closed : List (List Cut)) (hand : List Cut) (ascend : Ascend hand) (holds : IsGroupOf hand c.args.self.now.group) (s : IsSettledSo start closed c.args.self.now told).
-    let mine = subst (λ group. IsGroupOf hand group) (sym c.replace-group.ensures.value) holds in
-    lacks_behind start closed c.args.self.now _ c.reserve.ensures.items (c.in_err-extend_from_slice-in-Ok.ensures.items ∙ c.reserve-2.ensures.items) c.settle.ensures.notes told told' hand s
-    (λ known is. lacks_one known hand d.field-0 c.in-Ok.receipt told' (d.ensures.settles known hand ascend mine is) (c.in-Some.is ∙ ap Some c.in-Ok.is)))
+    lacks_behind start closed c.args.self.now _ c.reserve.ensures.items (c.in_err-extend_from_slice-in-Ok.ensures.items ∙ c.reserve-2.ensures.items) (c.new-next.ensures.label ∙ c.in_ok-clone.ensures) c.settle.ensures.notes told told' hand s
+    (λ known is. lacks_one known hand d.field-0 c.in-Ok.receipt told' (settles known hand ascend holds is) (c.in-Some.is ∙ ap Some c.in-Ok.is)))
 
 pub returns-in-Ok-clause-closes : goal.returns-in-Ok-clause-closes
 returns-in-Ok-clause-closes g c = λ start closed hand ascend holds s.
     let d = c.in_ok-answer in
+    let settles = rw c.replace-group.ensures.value at d.ensures.settles in
+    let beside = rw c.replace-group.ensures.value at d.ensures.beside in
     let old = c.args.self.now in
     let told = g.C.Committer.told c.args.committer.now in
     let told' = g.C.Committer.told c.settle.new.committer in
-    let mine = subst (λ group. IsGroupOf hand group) (sym c.replace-group.ensures.value) holds in
     let answer = c.in-Some.is ∙ ap Some c.in-Ok.is in
     let refused = extended c.extend_from_slice-in-Ok.new.self.items c.reserve-2.new.self.items c.as_slice-in-Ok-2.result.now old.refused.items d.field-0.refused.items c.in_ok-extend_from_slice-in-Ok.ensures.items c.reserve-2.ensures.items c.as_slice-in-Ok-2.ensures.value in
     let receipts = extended c.push_reserved.new.self.items c.reserve.new.self.items (c.in-Ok.receipt ∷ []) old.receipts.items (c.in-Ok.receipt ∷ []) c.push_reserved.ensures.items c.reserve.ensures.items refl in
     let last = c.last_batches.ensures ∙ ap (λ l. last_batches 0 l) (c.as_slice-in-Ok.ensures.value ∙ c.reserve.ensures.items) in
     let above : last_batches 0 old.receipts.items < c.in-Ok.receipt.batches = above_last c.batches.result c.last_batches.result c.in-Ok.receipt.batches (last_batches 0 old.receipts.items) c.if-batches-last_batches.false c.batches.ensures last in
     record {
-      beside = one_beside closed old _ hand d.field-0 s.beside (d.ensures.beside hand ascend mine) c.settle.ensures.notes refused c.in-Ok.receipt answer above receipts;
+      beside = one_beside closed old _ hand d.field-0 s.beside (beside hand ascend holds) (c.new-next.ensures.label ∙ c.in_ok-clone.ensures) c.settle.ensures.notes refused c.in-Ok.receipt answer above receipts;
       alone = λ known is.
           let p = s.alone known is in
           one_batch known closed old.receipts.items c.push_reserved.new.self.items old.refused.items c.extend_from_slice-in-Ok.new.self.items told told' hand p
-          d.field-0 c.in-Ok.receipt (d.ensures.settles p.known hand ascend mine p.still) answer refused receipts;
+          d.field-0 c.in-Ok.receipt (settles p.known hand ascend holds p.still) answer refused receipts;
     }
 
 pub returns-clause-stops : goal.returns-clause-stops
 returns-clause-stops g c = λ start closed hand ascend holds s.
     let d = c.in_ok-answer in
+    let settles = rw c.replace-group.ensures.value at d.ensures.settles in
+    let beside = rw c.replace-group.ensures.value at d.ensures.beside in
+    let mine = subst (λ group. IsGroupOf hand group) (sym c.replace-group.ensures.value) holds in
     let answer = c.in-Some.is ∙ ap Some c.in-Err.is in
     let told = g.C.Committer.told c.args.committer.now in
     let told' = g.C.Committer.told c.settle.new.committer in
-    let mine = subst (λ group. IsGroupOf hand group) (sym c.replace-group.ensures.value) holds in
-    let beside = d.ensures.beside hand ascend mine in
+    let judged = beside hand ascend holds in
     let decided = subst (λ a. AnswerDecided a) answer d.ensures.decided in
-    let few = few_refused hand c.replace-group.result beside.examinations beside.number mine beside.are_examinations in
-    let long = ap (λ (l : List Refusal). length l) beside.refused in
-    stops_behind start closed c.args.self.now _ c.reserve.ensures.items c.reserve-2.ensures.items c.settle.ensures.notes told told' hand _ s
-    (stops_beside hand d.field-0 c.settle.new.clashes.items beside c.in-Err.fault _ answer decided c.end_of.ensures refl)
+    let few = few_refused hand c.replace-group.result judged.examinations judged.number mine judged.are_examinations in
+    let long = ap (λ (l : List Refusal). length l) judged.refused in
+    stops_behind start closed c.args.self.now _ c.reserve.ensures.items c.reserve-2.ensures.items (c.new-next.ensures.label ∙ c.in_ok-clone.ensures) c.settle.ensures.notes told told' hand _ s
+    (stops_beside hand d.field-0 c.settle.new.clashes.items judged c.in-Err.fault _ answer decided c.end_of.ensures refl)
     (λ known is.
-    let settled = d.ensures.settles known hand ascend mine is in
+    let settled = settles known hand ascend holds is in
     record {
       fault = c.in-Err.fault;
       is_end = c.end_of.ensures;
       decided = decided;
-      settled = subst (λ a. Settles known hand (record { answer = a; refused = d.field-0.refused }) told') answer settled;
+      settled = subst (λ a. Settles c.args.self.now.group.label known hand (record { answer = a; refused = d.field-0.refused }) told') answer settled;
     })
     (omega (arith, few, long, c.in_ok-reserve-2.ensures.ok, c.len.ensures, c.len-2.ensures, c.replace-group.result.texts.ok.0, c.replace-group.result.unread.ok.0))
