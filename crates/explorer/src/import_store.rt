@@ -81,8 +81,13 @@ fn import_labelled<R: AllocGlobal + Wait + Threads + Sync, O: Sink, E: Sink, H: 
         host.close(order.store.as_str(), unnamed.into_disk(rt));
         return Err(Fault::CannotOpen { name: order.file });
     };
-    let Imported { disk, came } =
-        import_in::<Brand, _, _, _>(rt, unnamed, &mut source, label, order.workers);
+    let Imported { disk, came } = import_in::<Brand, _, _, _>(
+        rt,
+        unnamed,
+        &mut source,
+        label,
+        order.workers,
+    );
     host.close_file(order.file.as_str(), source);
     host.close(order.store.as_str(), disk);
     match came {

@@ -84,7 +84,10 @@ fn imports_a_file_once_under_its_label(rt: HostRuntime) -> Result<(), Fail> {
     ];
     let mut host = host_with_files(rt.alloc())?;
     for (words, printed, reported) in table {
-        assert!(rt; ends(&rt, &mut host, words, (0, printed, reported))?, "{words:?}");
+        assert!(rt;
+            ends(&rt, &mut host, words, (0, printed, reported))?,
+            "{words:?}"
+        );
     }
     Ok(())
 }
