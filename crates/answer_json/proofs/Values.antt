@@ -77,7 +77,7 @@ one_more_move values new one lines openings i d before within is pushed =
     let value : Data = move_value (get_or lines i d) (get_or openings i None) in
     let inside : i < length (move_values lines openings) = rw (length-moves lines openings) within in
     let more : take (i + 1) (move_values lines openings) ≡ take i (move_values lines openings) ++ get_or (move_values lines openings) i value ∷ [] =
-        take_more (move_values lines openings) i value inside in
+    take_more (move_values lines openings) i value inside in
     rw (pushed, more, map-append view values (one ∷ []), before, is, get_or-moves lines openings i d value within) refl
 
 -- all of the moves have their values

@@ -39,11 +39,7 @@ pub fn named_body(alloc: Global, found: &Found, naming: &Naming) -> Result<Vec<u
     }
 }
 
-fn value_without_history(
-    alloc: Global,
-    found: &Found,
-    naming: &Naming,
-) -> Result<Value, AllocError>
+fn value_without_history(alloc: Global, found: &Found, naming: &Naming) -> Result<Value, AllocError>
     requires plain { IsPlainFound found.now }
     requires without { found.now.history ≡ None }
     ensures { IfOk result (λ value. view value ≡ answer_value found.now naming.now) }

@@ -168,15 +168,15 @@ module _ {D : Type 0} (disk : D → DiskState) (left_since : D → ℕ → List 
       (subst G is (subst F was since.manifest)).fault
 
   module _ {J : Type 0} where
-    disk_faults : {label : List ℕ} (start : Known) (stream : List ℕ) (left_over : Option (List ℕ)) (batches stored : List Batch) (refused : List Refusal) → start.fault ≡ before.manifest.fault → (end : End J)
+    disk_faults : (label : List ℕ) (start : Known) (stream : List ℕ) (left_over : Option (List ℕ)) (batches stored : List Batch) (refused : List Refusal) → start.fault ≡ before.manifest.fault → (end : End J)
         → StandsAt label end start stream left_over batches refused (stored_in after) → StoresBy end stored start.fault (stored_in after) → DiskFaultsAre end (disk before.manifest.disk) (disk after.manifest.disk)
-    disk_faults {label} start stream left_over batches stored refused was (ends.DiskFault first last mark) stands stores = met_fault first last (sym was ∙ stands.1) stores.1
-    disk_faults {label} start stream left_over batches stored refused was ends.Whole stands stores = no_fault (stores.1 ∙ was)
-    disk_faults {label} start stream left_over batches stored refused was (ends.ReadFault first last) stands stores = no_fault (stores.1 ∙ was)
-    disk_faults {label} start stream left_over batches stored refused was (ends.Closed first last mark) stands stores = no_fault (stores.1 ∙ was)
-    disk_faults {label} start stream left_over batches stored refused was (ends.Full games bytes note) stands stores = no_fault (stores.1 ∙ was)
-    disk_faults {label} start stream left_over batches stored refused was (ends.TooMuch bytes) stands stores = no_fault (stores.1 ∙ was)
-    disk_faults {label} start stream left_over batches stored refused was ends.OutOfMemory stands stores = no_fault (stores.1 ∙ was)
+    disk_faults label start stream left_over batches stored refused was (ends.DiskFault first last mark) stands stores = met_fault first last (sym was ∙ stands.1) stores.1
+    disk_faults label start stream left_over batches stored refused was ends.Whole stands stores = no_fault (stores.1 ∙ was)
+    disk_faults label start stream left_over batches stored refused was (ends.ReadFault first last) stands stores = no_fault (stores.1 ∙ was)
+    disk_faults label start stream left_over batches stored refused was (ends.Closed first last mark) stands stores = no_fault (stores.1 ∙ was)
+    disk_faults label start stream left_over batches stored refused was (ends.Full games bytes note) stands stores = no_fault (stores.1 ∙ was)
+    disk_faults label start stream left_over batches stored refused was (ends.TooMuch bytes) stands stores = no_fault (stores.1 ∙ was)
+    disk_faults label start stream left_over batches stored refused was ends.OutOfMemory stands stores = no_fault (stores.1 ∙ was)
 
     pub imports_alone : {label : List ℕ} (report : Report J) (source source_after : Stream) → IsSound (journal before) → Keeps disk left_since (journal before) before.manifest before.failed
         → IsSound (journal after) → Keeps disk left_since (journal after) after.manifest after.failed
@@ -203,7 +203,7 @@ module _ {D : Type 0} (disk : D → DiskState) (left_since : D → ℕ → List 
           repeats = i.repeats;
           stores = stores;
           sound = sound_after;
-          disk_faults = disk_faults start i.stream source_after.left c.batches (journal before ++ c.batches) report.refused.items refl report.end stands stores;
+          disk_faults = disk_faults label start i.stream source_after.left c.batches (journal before ++ c.batches) report.refused.items refl report.end stands stores;
           keeps = keeps;
           since = since;
         }

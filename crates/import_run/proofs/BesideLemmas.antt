@@ -223,9 +223,9 @@ module _ {J : Type 0} (groups : List (List Cut)) (old new : OpenImport J) (cuts 
 no_batch : (b : Batch) → (let o : Option Batch = None in o) ≡ Some b → ⊥
 no_batch b e = cc
 
-some_candidates : {label : List ℕ} (cs : List Candidate) (batch : Batch) → batch_of label cs ≡ Some batch → cs ≢ []
-some_candidates {label} [] batch is none = no_batch batch is
-some_candidates {label} (c ∷ cs) batch is none = cons_none c cs none
+some_candidates : (label : List ℕ) (cs : List Candidate) (batch : Batch) → batch_of label cs ≡ Some batch → cs ≢ []
+some_candidates label [] batch is none = no_batch batch is
+some_candidates label (c ∷ cs) batch is none = cons_none c cs none
   where
     cons_none : (c : Candidate) (cs : List Candidate) → c ∷ cs ≡ [] → ⊥
     cons_none c cs e = cc
@@ -245,7 +245,7 @@ over_not_within games bytes over within = by (nat_lt 262144 games) (nat_lt 53687
 
 full_left : {label : List ℕ} (note : List Batch) (games bytes : ℕ) (cs : List Candidate) (counted : Counted) → CountsUnder label cs counted → IsFullFor note games bytes counted → FindsNoRoom note games bytes cs
 full_left {label} note games bytes cs counted counts full =
-    let texts = batch_texts cs counted.batch counts.batch in
+    let texts = batch_texts label cs counted.batch counts.batch in
     let more = texts_more note counted.batch ∙ ap (λ (l : List (List ℕ)). texts_of note ++ l) texts in
     let games_sum : game_count (note ++ counted.batch ∷ []) ≡ games + length cs =
     ap (λ (l : List (List ℕ)). length l) more ∙ length_both (texts_of note) cs ∙ ap (λ n. n + length cs) (sym full.games_are) in
@@ -296,7 +296,7 @@ module _ {J : Type 0} where
           left_are = refl;
           refused_are = refused;
         };
-        some_left = some_candidates (kept s.number (verdicts s.examinations)) a.0.batch a.1.batch;
+        some_left = some_candidates label (kept s.number (verdicts s.examinations)) a.0.batch a.1.batch;
         ends = ends_beside fault stopped.end (kept s.number (verdicts s.examinations)) a.0 a.1 a.2 is_end never;
         repeats = subst Q (sym refused) (repeats cuts clashes s.number s.examinations s.named s.are_examinations);
       }

@@ -430,11 +430,11 @@ ends_in_memory {label} {J} body report few c = by report.end c.comes.reports.bat
 pub few_games : {label : List ℕ} {J : Type 0} (body : List ℕ) (report : Report J) → length body ≤ body_limit → ComesQuietlyBeside label body (Some []) report → games_of report.receipts.items < 2 ^ 32
 few_games {label} body report few c = let games = c.comes.few in omega (arith, games, few, cuts_few body)
 
-pub marked_so : {label : List ℕ} {J : Type 0} (end : End J) (gs : List (List Cut)) (batches : List Batch) (refused : List Refusal) → AccountsTo label end gs batches refused → IsMarkedSo end
-marked_so {label} ends.Whole gs batches refused a = tt
-marked_so {label} (ends.ReadFault before after) gs batches refused a = tt
-marked_so {label} (ends.DiskFault before after mark) gs batches refused a = a.2.kind_is
-marked_so {label} (ends.Closed before after mark) gs batches refused a = a.2.kind_is
-marked_so {label} (ends.Full games bytes note) gs batches refused a = tt
-marked_so {label} (ends.TooMuch bytes) gs batches refused a = tt
-marked_so {label} ends.OutOfMemory gs batches refused a = tt
+pub marked_so : (label : List ℕ) {J : Type 0} (end : End J) (gs : List (List Cut)) (batches : List Batch) (refused : List Refusal) → AccountsTo label end gs batches refused → IsMarkedSo end
+marked_so label ends.Whole gs batches refused a = tt
+marked_so label (ends.ReadFault before after) gs batches refused a = tt
+marked_so label (ends.DiskFault before after mark) gs batches refused a = a.2.kind_is
+marked_so label (ends.Closed before after mark) gs batches refused a = a.2.kind_is
+marked_so label (ends.Full games bytes note) gs batches refused a = tt
+marked_so label (ends.TooMuch bytes) gs batches refused a = tt
+marked_so label ends.OutOfMemory gs batches refused a = tt

@@ -21,7 +21,7 @@ use Rattle.import_run.specs.Ending.{EndsIn}
 use Rattle.import_run.specs.Progress.{HasNoCandidate, and_games, games_after}
 use Rattle.import_run.specs.Rounds.{stored_by}
 use Rattle.import_run.specs.Settling.{kept, lost}
-use Rattle.import_run.proofs.AccountLemmas.{alone_refused, batches_behind, behind_refused, candidates_more, no_candidates, unread, with_refused}
+use Rattle.import_run.proofs.AccountLemmas.{alone_refused, batches_behind, behind_refused, candidates_more, no_candidates, refused_behind, unread, with_refused}
 use Rattle.import_run.proofs.AloneLemmas.{same_games}
 use Rattle.import_run.proofs.GroupLemmas.{texts_in}
 use Rattle.import_run.proofs.HandLemmas.{batch_texts}
@@ -86,7 +86,7 @@ after_groups label journal games (cuts ∷ groups) (group ∷ examinations) are 
     let o = batch_of label (candidates (verdicts_behind (numbers_of games) group)) in
     let more = batches_behind label (and_games games group) examinations in
     let last = games_after (and_games games group) examinations in
-    let here = by_batch journal games cuts group are each.0 o refl in
+    let here = by_batch label journal games cuts group are each.0 o refl in
     subst (λ (j : List Batch). AreGamesOf j last) (one_before journal more o)
     (after_groups label (journal ++ cons_option o []) (and_games games group) groups examinations here each.1)
 
@@ -234,7 +234,7 @@ module _ {label : List ℕ} (one : OneGame) (same_batches : SameBatches label) (
           is = accounted.yields.batches_are ∙ ap (batches_behind label start.games) parts.is ∙ batches-append label start.games parts.front (parts.at ∷ parts.rest)
               ∙ ap (λ (l : List Batch). l ++ batches_behind label (games_after start.games parts.front) (parts.at ∷ parts.rest)) (ap (batches_behind label start.games) (sym front) ∙ behind)
               ∙ ap (λ (o : Option Batch). batches ++ cons_option o last) made;
-          texts = batch_texts left some.0 some.1;
+          texts = batch_texts label left some.0 some.1;
         }
 
     -- a closed store has no such group

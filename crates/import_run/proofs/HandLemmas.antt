@@ -12,7 +12,7 @@ use Rattle.explorer_model.specs.Cuts.{Cut}
 use Rattle.explorer_model.specs.Imports.{Candidate, Numbering, batch_of, candidates, numbers_of, refusals, verdicts}
 use Rattle.published_index.specs.Changes.{Change}
 use Rattle.tally_rows.specs.Tally.{Counted}
-use Rattle.batch_tally.specs.Tallying.{IsExaminationOfText, IsTallying}
+use Rattle.batch_tally.specs.Tallying.{IsExaminationOfText, IsTallying, IsTallyMade}
 use Rattle.batch_tally.specs.declared.tallying.Tallying.{Tallying}
 use Rattle.ingest_desk.specs.Causes.{HasIds, IsClosed, cause, cause_by}
 use Rattle.ingest_desk.specs.Clashes.{and_clash, clashes_from, clashes_of, ids_of}
@@ -34,12 +34,12 @@ use Rattle.import_run.proofs.VerdictLemmas.{OneGame, again, ascends, exact, fewe
 
 -- ---- the tally of candidates
 
-pub batch_texts : {label : List ℕ} (cs : List Candidate) (batch : Batch) → batch_of label cs ≡ Some batch → batch.texts ≡ map (λ c. c.text) cs
-batch_texts {label} [] batch e = absurd (none_some batch e)
+pub batch_texts : (label : List ℕ) (cs : List Candidate) (batch : Batch) → batch_of label cs ≡ Some batch → batch.texts ≡ map (λ c. c.text) cs
+batch_texts label [] batch e = absurd (none_some batch e)
   where
     none_some : (b : Batch) → None ≡ Some b → ⊥
     none_some b e = cc
-batch_texts {label} (c ∷ cs) batch e = ap (λ (b : Batch). b.texts) (sym (same_some _ _ e))
+batch_texts label (c ∷ cs) batch e = ap (λ (b : Batch). b.texts) (sym (same_some _ _ e))
   where
     same_some : (a b : Batch) → Some a ≡ Some b → a ≡ b
     same_some a b e = cc
@@ -51,9 +51,12 @@ classes_ids (c ∷ cs) = ap (λ (l : List (List ℕ)). id_of c ∷ l) (classes_i
 pub counted_ids : {label : List ℕ} (cs : List Candidate) (counted : Counted) → CountsUnder label cs counted → ids_of counted.classes ≡ map id_of cs
 counted_ids {label} cs counted counts = ap ids_of counts.counts.classes ∙ classes_ids cs
 
-pub size_is : {label : List ℕ} (cs : List Candidate) (tally : Option Counted) → IsTallyUnder label cs tally → size_of tally ≡ length cs
-size_is {label} cs None made = ap length (sym made)
-size_is {label} cs (Some counted) made = ap length (batch_texts cs counted.batch made.batch) ∙ length-map cs (λ (c : Candidate). c.text)
+pub size_is : (label : List ℕ) (cs : List Candidate) (tally : Option Counted) → IsTallyUnder label cs tally → size_of tally ≡ length cs
+size_is label cs None made = ap length (sym made)
+size_is label cs (Some counted) made = ap length (batch_texts label cs counted.batch made.batch) ∙ length-map cs (λ (c : Candidate). c.text)
+
+pub size_made : (label : List ℕ) (cs : List Candidate) (made tally : Option Counted) → IsTallyMade cs made → tally ≡ option_map (under label) made → size_of tally ≡ length cs
+size_made label cs made tally is same = size_is label cs tally (made_under label cs made tally is same)
 
 -- ---- the rest is shorter
 

@@ -5,7 +5,12 @@ use Rattle.explorer_model.specs.Labels.{no_label}
 use Rattle.explorer_model.specs.Imports.{Candidate, batch_of}
 use Rattle.tally_rows.specs.Tally.{Counted}
 use Rattle.batch_tally.specs.Tallying.{Counts, IsTallyMade}
+use Rattle.outside.specs.Stream.{Stream}
+use Rattle.ingest_desk.specs.declared.report.Report.{Report}
+use Rattle.import_run.specs.Committing.{Known, Store}
+use Rattle.import_run.specs.EndingBeside.{ImportsBeside}
 use Rattle.import_run.specs.Labelling.{CountsUnder, IsTallyUnder, under}
+use Rattle.import_run.specs.Taking.{ComesQuietly, ComesQuietlyBeside, Imports}
 
 none_some : (batch : Batch) → (let o : Option Batch = None in o) ≡ Some batch → ⊥
 none_some batch e = cc
@@ -50,3 +55,20 @@ pub counts_own : (label : List ℕ) (cs : List Candidate) (counted : Counted) �
 counts_own label cs counted counts =
     let P : List ℕ → Type 0 = λ l. CountsUnder l cs counted in
     subst P (sym (label_is label cs counted.batch counts.batch)) counts
+
+-- ---- what is said of an import, under a label that is the same
+
+module _ {J : Type 0} {label other : List ℕ} (same : label ≡ other) where
+  pub imports_as : {start : Known} {old new : Stream} {report : Report J} {told : Option Store} → Imports label start old new report told → Imports other start old new report told
+  imports_as {start} {old} {new} {report} {told} said = subst (λ (l : List ℕ). Imports l start old new report told) same said
+
+  pub imports_beside_as : {old new : Stream} {report : Report J} → ImportsBeside label old new report → ImportsBeside other old new report
+  imports_beside_as {old} {new} {report} said = subst (λ (l : List ℕ). ImportsBeside l old new report) same said
+
+  pub quietly_as : {start : Known} {stream : List ℕ} {left_over : Option (List ℕ)} {report : Report J} {told : Option Store} → ComesQuietly label start stream left_over report told
+      → ComesQuietly other start stream left_over report told
+  quietly_as {start} {stream} {left_over} {report} {told} said = subst (λ (l : List ℕ). ComesQuietly l start stream left_over report told) same said
+
+  pub quietly_beside_as : {stream : List ℕ} {left_over : Option (List ℕ)} {report : Report J} → ComesQuietlyBeside label stream left_over report
+      → ComesQuietlyBeside other stream left_over report
+  quietly_beside_as {stream} {left_over} {report} said = subst (λ (l : List ℕ). ComesQuietlyBeside l stream left_over report) same said

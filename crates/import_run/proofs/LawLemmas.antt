@@ -39,25 +39,25 @@ no_longer (Some xs) (Some ys) bytes stream is next =
     let same : xs ≡ bytes = cc in
     omega (arith, ap length same, ap length next, length-append stream ys)
 
-module _ {D J : Type 0} (disk : D → DiskState) (source source_after : Stream) (before after : Stored D) (can : CanEnd disk source before) (quiet : IsFaultless disk source source_after before after)
+module _ {D J : Type 0} (label : List ℕ) (disk : D → DiskState) (source source_after : Stream) (before after : Stored D) (can : CanEnd disk source before) (quiet : IsFaultless disk source source_after before after)
     (start : Known) (stream : List ℕ) (reads : Reads stream source source_after) (open_is : start.fault ≡ before.manifest.fault) (batches : List Batch) (refused : List Refusal) where
-  ends_by : {label : List ℕ} (end : End J) → StandsAt label end start stream source_after.left batches refused (stored_in after) → ReadFaultsAre end source source_after
+  ends_by : (end : End J) → StandsAt label end start stream source_after.left batches refused (stored_in after) → ReadFaultsAre end source source_after
       → DiskFaultsAre end (disk before.manifest.disk) (disk after.manifest.disk) → EndsWithoutFault end
-  ends_by {label} ends.Whole stands faults calls = tt
-  ends_by {label} (ends.Full games bytes note) stands faults calls = tt
-  ends_by {label} ends.OutOfMemory stands faults calls = tt
-  ends_by {label} (ends.ReadFault first last) stands faults calls =
+  ends_by ends.Whole stands faults calls = tt
+  ends_by (ends.Full games bytes note) stands faults calls = tt
+  ends_by ends.OutOfMemory stands faults calls = tt
+  ends_by (ends.ReadFault first last) stands faults calls =
       no_rise first last (faults.1 ∙ quiet.reads ∙ sym faults.0) (omega (arith, faults.0, can.reads)) faults.2
-  ends_by {label} (ends.DiskFault first last mark) stands faults calls =
+  ends_by (ends.DiskFault first last mark) stands faults calls =
       no_rise first last (calls.after_is ∙ quiet.calls ∙ sym calls.before_is) (omega (arith, calls.before_is, can.calls)) calls.rises
-  ends_by {label} (ends.Closed first last mark) stands faults calls = none_some (first, last) (sym can.sound ∙ sym open_is ∙ stands.1)
-  ends_by {label} (ends.TooMuch bytes) stands faults calls =
+  ends_by (ends.Closed first last mark) stands faults calls = none_some (first, last) (sym can.sound ∙ sym open_is ∙ stands.1)
+  ends_by (ends.TooMuch bytes) stands faults calls =
       omega (arith, stands.1.at, no_longer source.left source_after.left can.bytes stream can.told reads.next, can.below)
 
 pub ends_without_fault : {label : List ℕ} {D J : Type 0} (disk : D → DiskState) (left_since : D → ℕ → List ℕ → Type 0) (source source_after : Stream) (before after : Stored D) (report : Report J)
     → ImportsAlone label disk left_since source before source_after after report → CanEnd disk source before → IsFaultless disk source source_after before after → EndsWithoutFault report.end
 ends_without_fault {label} disk left_since source source_after before after report is can quiet =
-    ends_by disk source source_after before after can quiet is.start is.stream is.reads (ap (λ (s : Store). s.fault) is.start_is) is.batches report.refused.items
+    ends_by label disk source source_after before after can quiet is.start is.stream is.reads (ap (λ (s : Store). s.fault) is.start_is) is.batches report.refused.items
     report.end is.stands is.read_faults is.disk_faults
 
 -- ---- two imports of one stream

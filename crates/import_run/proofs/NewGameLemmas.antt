@@ -178,7 +178,7 @@ split_games (text ∷ before) behind (game ∷ games) zip =
 
 -- the batches of the groups have all the texts, and none is refused
 pub record AreAllStored (label : List ℕ) (stored : List Game) (texts : List Placed) (examinations : List (List Examination)) : Type 0 where
-  pub texts_are : texts_of (batches_behind stored examinations) ≡ bytes_of texts
+  pub texts_are : texts_of (batches_behind label stored examinations) ≡ bytes_of texts
   pub none_refused : refused_behind stored examinations ≡ []
 
 texts_first : (label : List ℕ) (cs : List Candidate) (batches : List Batch) → texts_of (cons_option (batch_of label cs) batches) ≡ map (λ (c : Candidate). c.text) cs ++ texts_of batches

@@ -33,21 +33,21 @@ read_kept games cuts examinations each =
     let P : List Candidate → Type 0 = λ cs. AreRead cs in
     subst P (sym (kept-left (numbers_of games) (verdicts examinations))) (fewer_read (λ c. is_none (numbers_of games (id_of c))) (candidates (verdicts examinations)) (fresh cuts [] examinations each).1)
 
-no_kept : {label : List ℕ} (cs : List Candidate) → batch_of label cs ≡ None → cs ≡ []
-no_kept {label} [] e = refl
-no_kept {label} (c ∷ cs) e = absurd (some_none _ e)
+no_kept : (label : List ℕ) (cs : List Candidate) → batch_of label cs ≡ None → cs ≡ []
+no_kept label [] e = refl
+no_kept label (c ∷ cs) e = absurd (some_none _ e)
   where
     some_none : (b : Batch) → Some b ≡ None → ⊥
     some_none b e = cc
 
-pub by_batch : {label : List ℕ} (journal : List Batch) (games : List Game) (cuts : List Cut) (examinations : List Examination) → AreGamesOf journal games → AllZip IsExaminationOf cuts examinations
+pub by_batch : (label : List ℕ) (journal : List Batch) (games : List Game) (cuts : List Cut) (examinations : List Examination) → AreGamesOf journal games → AllZip IsExaminationOf cuts examinations
     → (o : Option Batch) → batch_of label (candidates (verdicts_behind (numbers_of games) examinations)) ≡ o → AreGamesOf (journal ++ cons_option o []) (and_games games examinations)
-by_batch {label} journal games cuts examinations are each None is =
+by_batch label journal games cuts examinations are each None is =
     let P : List Game → Type 0 = λ g. AreGamesOf (journal ++ []) g in
     let Q : List Batch → Type 0 = λ j. AreGamesOf j games in
-    subst P (sym (ap (λ (cs : List Candidate). games ++ map (λ c. c.game) cs) (no_kept (candidates (verdicts_behind (numbers_of games) examinations)) is) ∙ append-nil games)) (subst Q (sym (append-nil journal)) are)
-by_batch {label} journal games cuts examinations are each (Some batch) is =
-    games_more journal games (candidates (verdicts_behind (numbers_of games) examinations)) batch are (read_kept games cuts examinations each) is
+    subst P (sym (ap (λ (cs : List Candidate). games ++ map (λ c. c.game) cs) (no_kept label (candidates (verdicts_behind (numbers_of games) examinations)) is) ∙ append-nil games)) (subst Q (sym (append-nil journal)) are)
+by_batch label journal games cuts examinations are each (Some batch) is =
+    games_more label journal games (candidates (verdicts_behind (numbers_of games) examinations)) batch are (read_kept games cuts examinations each) is
 
 -- where nobody is judged, or the store is not closed, the stored games judge
 same_behind : (fault : Option (ℕ × ℕ)) (games : List Game) (vs : List Verdict) → (fault ≡ None) ⊎ (kept (stored_by fault games) vs ≡ []) → map (verdict_behind (stored_by fault games)) vs ≡ map (verdict_behind (numbers_of games)) vs
@@ -122,7 +122,7 @@ module _ {J : Type 0} {label : List ℕ} (start : Known) (groups : List (List Cu
         batches = p.batches ++ cons_option o [];
         accounted = acc;
         receipts_are = receipts_are;
-        known = record { journal = p.known.journal ++ cons_option o []; fault = p.known.fault; failed = p.known.failed; games = and_games p.known.games examinations; are_games = by_batch p.known.journal p.known.games cuts examinations p.known.are_games each o is };
+        known = record { journal = p.known.journal ++ cons_option o []; fault = p.known.fault; failed = p.known.failed; games = and_games p.known.games examinations; are_games = by_batch label p.known.journal p.known.games cuts examinations p.known.are_games each o is };
         still = still;
         journal = ap (λ (j : List Batch). j ++ cons_option o []) p.journal ∙ append_assoc start.journal p.batches (cons_option o []);
         games = ap (λ (g : List Game). and_games g examinations) p.games ∙ sym (games-after start.games p.accounted.examinations examinations);

@@ -102,15 +102,15 @@ texts_bytes (first ∷ rest) =
     ∙ ap (λ (n : ℕ). length first.text + n) (texts_bytes rest)
     ∙ sym (sum_by-cons (λ (candidate : Candidate). length candidate.text) first rest)
 
-games_with : {label : List ℕ} (journal : List Batch) (cs : List Candidate) (batch : Batch) → batch_of label cs ≡ Some batch → game_count (journal ++ batch ∷ []) ≡ game_count journal + length cs
-games_with {label} journal cs batch is =
+games_with : (label : List ℕ) (journal : List Batch) (cs : List Candidate) (batch : Batch) → batch_of label cs ≡ Some batch → game_count (journal ++ batch ∷ []) ≡ game_count journal + length cs
+games_with label journal cs batch is =
     ap length (texts_more journal batch) ∙ length-append (texts_of journal) batch.texts
-    ∙ ap (λ (n : ℕ). game_count journal + n) (ap length (batch_texts cs batch is) ∙ length-map cs (λ (c : Candidate). c.text))
+    ∙ ap (λ (n : ℕ). game_count journal + n) (ap length (batch_texts label cs batch is) ∙ length-map cs (λ (c : Candidate). c.text))
 
-bytes_with : {label : List ℕ} (journal : List Batch) (cs : List Candidate) (batch : Batch) → batch_of label cs ≡ Some batch → byte_count (journal ++ batch ∷ []) ≡ byte_count journal + sum_by (λ candidate. length candidate.text) cs
-bytes_with {label} journal cs batch is =
+bytes_with : (label : List ℕ) (journal : List Batch) (cs : List Candidate) (batch : Batch) → batch_of label cs ≡ Some batch → byte_count (journal ++ batch ∷ []) ≡ byte_count journal + sum_by (λ candidate. length candidate.text) cs
+bytes_with label journal cs batch is =
     ap (sum_by (λ (text : List ℕ). length text)) (texts_more journal batch) ∙ sum_by-append (λ (text : List ℕ). length text) (texts_of journal) batch.texts
-    ∙ ap (λ (n : ℕ). byte_count journal + n) (ap (sum_by (λ (text : List ℕ). length text)) (batch_texts cs batch is) ∙ texts_bytes cs)
+    ∙ ap (λ (n : ℕ). byte_count journal + n) (ap (sum_by (λ (text : List ℕ). length text)) (batch_texts label cs batch is) ∙ texts_bytes cs)
 
 over_false : (games bytes : ℕ) → is_over games bytes ≡ false → AreWithin games bytes
 over_false games bytes is = by_tests (nat_lt game_limit games) (nat_lt byte_limit bytes) refl refl is
@@ -128,16 +128,16 @@ over_true games bytes is within = by_tests (nat_lt game_limit games) (nat_lt byt
     by_tests false true a b e = let more : byte_limit < bytes = ltb-true byte_limit bytes b in omega (arith, more, within.1)
     by_tests false false a b e = cc
 
-over_with : {label : List ℕ} (journal : List Batch) (cs : List Candidate) (batch : Batch) → batch_of label cs ≡ Some batch
+over_with : (label : List ℕ) (journal : List Batch) (cs : List Candidate) (batch : Batch) → batch_of label cs ≡ Some batch
     → has_no_room journal batch ≡ is_over (game_count journal + length cs) (byte_count journal + sum_by (λ candidate. length candidate.text) cs)
-over_with {label} journal cs batch is =
-    let g = games_with journal cs batch is in
-    let b = bytes_with journal cs batch is in
+over_with label journal cs batch is =
+    let g = games_with label journal cs batch is in
+    let b = bytes_with label journal cs batch is in
     λ i. is_over (g i) (b i)
 
-some_left : {label : List ℕ} (cs : List Candidate) (batch : Batch) → batch_of label cs ≡ Some batch → cs ≡ [] → ⊥
-some_left {label} [] batch is none = cc
-some_left {label} (c ∷ cs) batch is none = cc
+some_left : (label : List ℕ) (cs : List Candidate) (batch : Batch) → batch_of label cs ≡ Some batch → cs ≡ [] → ⊥
+some_left label [] batch is none = cc
+some_left label (c ∷ cs) batch is none = cc
 
 new_ids : (games : List Game) (cs : List Candidate) → AllByRecursion (λ c. numbers_of games (id_of c) ≡ None) cs → All (λ candidate. numbers_of games candidate.game.classes.id.bytes ≡ None) cs
 new_ids games cs each = All-from_recursion (λ (c : Candidate). numbers_of games (id_of c) ≡ None) cs each
@@ -173,7 +173,7 @@ module _ {J : Type 0} {label : List ℕ} (start : Known) (stream : List ℕ) (le
       examinations = s.examinations;
       are_examinations = s.are_examinations;
       left_are = refl;
-      some_left = some_left (kept (stored_by p.known.fault p.known.games) (verdicts s.examinations)) s.answer.0.batch s.answer.1.batch;
+      some_left = some_left label (kept (stored_by p.known.fault p.known.games) (verdicts s.examinations)) s.answer.0.batch s.answer.1.batch;
       refused_are = ap (λ (l : List Refusal). refused ++ l) s.refused;
     };
   }
@@ -203,7 +203,7 @@ module _ {J : Type 0} {label : List ℕ} (start : Known) (stream : List ℕ) (le
       let room = room_cause p.known.games p.known.journal s.answer.0 (subst K opens commits.refused) in
       let left = kept (stored_by p.known.fault p.known.games) (verdicts s.examinations) in
       let within = over_false (game_count p.known.journal + length left) (byte_count p.known.journal + sum_by (λ (candidate : Candidate). length candidate.text) left)
-      (sym (over_with p.known.journal left s.answer.0.batch s.answer.1.batch) ∙ room.room) in
+      (sym (over_with label p.known.journal left s.answer.0.batch s.answer.1.batch) ∙ room.room) in
       let P : End J → Type 0 = λ e. EndsSo label start stream left_over p.batches (refused ++ stopped.refused.items) told e in
       let H : List Batch → Type 0 = λ j. HasRoomFor j left in
       let M : Option Batch → Type 0 = λ failed. IsMark kinds.DiskFault before' after failed mark in
@@ -224,7 +224,7 @@ module _ {J : Type 0} {label : List ℕ} (start : Known) (stream : List ℕ) (le
       let left = kept (stored_by p.known.fault p.known.games) (verdicts s.examinations) in
       let ids = counted_ids left s.answer.0 s.answer.1 in
       let new = kept_none (numbers_of p.known.games) 0 left (ap (clashes_from 0 (numbers_of p.known.games)) (sym ids) ∙ full.1.by.new) in
-      let over = sym (over_with p.known.journal left s.answer.0.batch s.answer.1.batch) ∙ full.1.by.room in
+      let over = sym (over_with label p.known.journal left s.answer.0.batch s.answer.1.batch) ∙ full.1.by.room in
       let passes = over_true (game_count p.known.journal + length left) (byte_count p.known.journal + sum_by (λ (candidate : Candidate). length candidate.text) left) over in
       let told_is : note ≡ p.known.journal = commits.receives ∙ commits.stores in
       let P : End J → Type 0 = λ e. EndsSo label start stream left_over p.batches (refused ++ stopped.refused.items) told e in

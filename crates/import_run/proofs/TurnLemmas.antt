@@ -58,10 +58,10 @@ texts_more journal batch =
     flat_map-append (λ (b : Batch). b.texts) journal (batch ∷ [])
     ∙ ap (λ (l : List (List ℕ)). texts_of journal ++ l) (append-nil batch.texts)
 
-pub games_more : {label : List ℕ} (journal : List Batch) (games : List Game) (cs : List Candidate) (batch : Batch) → AreGamesOf journal games → AreRead cs → batch_of label cs ≡ Some batch
+pub games_more : (label : List ℕ) (journal : List Batch) (games : List Game) (cs : List Candidate) (batch : Batch) → AreGamesOf journal games → AreRead cs → batch_of label cs ≡ Some batch
     → AreGamesOf (journal ++ batch ∷ []) (games ++ map (λ c. c.game) cs)
-games_more {label} journal games cs batch are read is =
+games_more label journal games cs batch are read is =
     let more = map (λ (c : Candidate). c.game) cs in
     let P : List (List ℕ) → Type 0 = λ texts. AllZip IsTextOf (texts_of journal ++ texts) (games ++ more) in
     let Q : List (List ℕ) → Type 0 = λ texts. AllZip IsTextOf texts (games ++ more) in
-    subst Q (sym (texts_more journal batch)) (subst P (sym (batch_texts cs batch is)) (zip-append IsTextOf (texts_of journal) (map (λ c. c.text) cs) games more are (read_zip cs read)))
+    subst Q (sym (texts_more journal batch)) (subst P (sym (batch_texts label cs batch is)) (zip-append IsTextOf (texts_of journal) (map (λ c. c.text) cs) games more are (read_zip cs read)))

@@ -90,7 +90,7 @@ impl<J: Index> OpenImport<J> {
             → LacksBehind start closed (hand ∷ []) self.new (C.told committer.new))) }
         ensures since { C.since committer.old committer.new }
     {
-        let next = TextGroup::new(alloc, self.group.label.clone()?);
+        let next = TextGroup::new(alloc, copy_of(&self.group.label));
         let group = mem::replace(&mut self.group, next);
         self.receipts.reserve(1)?;
         self.refused
@@ -125,6 +125,16 @@ impl<J: Index> OpenImport<J> {
             refused,
         }))
     }
+}
+
+/// The same label again, which takes no memory.
+fn copy_of(label: &Label) -> Label
+    ensures { result ≡ label.now }
+{
+    let Some(copy) = Label::of(label.as_str().as_bytes()) else {
+        unreachable!()
+    };
+    copy
 }
 
 /// How many batches the journal of the last receipt has; none where there is no receipt.

@@ -50,20 +50,60 @@ const NAMES: [(&str, &str, &str); 34] = [
     ("\t\te4", "play=e2e4", ""),
     // of two lines to one position the first names it, and another order of moves leads there too
     ("B00\tA\te4\nB01\tB\t1. e4", "play=e2e4", "A"),
-    ("D06\tA\td4 d5 c4\nD07\tB\tc4 d5 d4", "play=c2c4,d7d5,d2d4", "A"),
+    (
+        "D06\tA\td4 d5 c4\nD07\tB\tc4 d5 d4",
+        "play=c2c4,d7d5,d2d4",
+        "A",
+    ),
     ("D06\tA\t1. d4 d5 2. c4", "play=c2c4,d7d5,d2d4", "A"),
-    ("C44\tA\t1. e4 e5 2. Nf3 Nc6", "play=g1f3,b8c6,e2e4,e7e5", "A"),
+    (
+        "C44\tA\t1. e4 e5 2. Nf3 Nc6",
+        "play=g1f3,b8c6,e2e4,e7e5",
+        "A",
+    ),
     // a square behind a pawn counts where the pawn can be taken en passant
-    (KINGS_PAWN, "fen=rnbqkbnr/pppppppp/8/8/4P3/8/PPPP1PPP/RNBQKBNR+b+KQkq+e3+0+1", "King's Pawn Game"),
-    (KINGS_PAWN, "fen=rnbqkbnr/pppppppp/8/8/4P3/8/PPPP1PPP/RNBQKBNR+b+KQkq+-+0+1", "King's Pawn Game"),
+    (
+        KINGS_PAWN,
+        "fen=rnbqkbnr/pppppppp/8/8/4P3/8/PPPP1PPP/RNBQKBNR+b+KQkq+e3+0+1",
+        "King's Pawn Game",
+    ),
+    (
+        KINGS_PAWN,
+        "fen=rnbqkbnr/pppppppp/8/8/4P3/8/PPPP1PPP/RNBQKBNR+b+KQkq+-+0+1",
+        "King's Pawn Game",
+    ),
     ("B00\tA\t1. e4 a6 2. e5 d5", "play=e2e4,a7a6,e4e5,d7d5", "A"),
-    ("B00\tA\t1. e4 a6 2. e5 d5", "fen=rnbqkbnr/1pp1pppp/p7/3pP3/8/8/PPPP1PPP/RNBQKBNR+w+KQkq+d6+0+3", "A"),
-    ("B00\tA\t1. e4 a6 2. e5 d5", "fen=rnbqkbnr/1pp1pppp/p7/3pP3/8/8/PPPP1PPP/RNBQKBNR+w+KQkq+-+0+3", "-"),
+    (
+        "B00\tA\t1. e4 a6 2. e5 d5",
+        "fen=rnbqkbnr/1pp1pppp/p7/3pP3/8/8/PPPP1PPP/RNBQKBNR+w+KQkq+d6+0+3",
+        "A",
+    ),
+    (
+        "B00\tA\t1. e4 a6 2. e5 d5",
+        "fen=rnbqkbnr/1pp1pppp/p7/3pP3/8/8/PPPP1PPP/RNBQKBNR+w+KQkq+-+0+3",
+        "-",
+    ),
     // so do the rights to castle and whose turn it is, and how many moves were made does not
-    (KINGS_PAWN, "fen=rnbqkbnr/pppppppp/8/8/4P3/8/PPPP1PPP/RNBQKBNR+b+KQk+-+0+1", "-"),
-    (KINGS_PAWN, "fen=rnbqkbnr/pppppppp/8/8/4P3/8/PPPP1PPP/RNBQKBNR+w+KQkq+-+0+1", "-"),
-    (KINGS_PAWN, "fen=rnbqkbnr/pppppppp/8/8/4P3/8/PPPP1PPP/RNBQKBNR+b+KQkq+-+40+99", "King's Pawn Game"),
-    (KINGS_PAWN, "fen=rnbqkbnr/pppppppp/8/8/8/4P3/PPPP1PPP/RNBQKBNR+b+KQkq+-+0+1", "-"),
+    (
+        KINGS_PAWN,
+        "fen=rnbqkbnr/pppppppp/8/8/4P3/8/PPPP1PPP/RNBQKBNR+b+KQk+-+0+1",
+        "-",
+    ),
+    (
+        KINGS_PAWN,
+        "fen=rnbqkbnr/pppppppp/8/8/4P3/8/PPPP1PPP/RNBQKBNR+w+KQkq+-+0+1",
+        "-",
+    ),
+    (
+        KINGS_PAWN,
+        "fen=rnbqkbnr/pppppppp/8/8/4P3/8/PPPP1PPP/RNBQKBNR+b+KQkq+-+40+99",
+        "King's Pawn Game",
+    ),
+    (
+        KINGS_PAWN,
+        "fen=rnbqkbnr/pppppppp/8/8/8/4P3/PPPP1PPP/RNBQKBNR+b+KQkq+-+0+1",
+        "-",
+    ),
 ];
 
 /// What a file of at most 4,194,304 bytes gives.
@@ -97,7 +137,11 @@ fn named(alloc: Global, file: &str, text: &str) -> Result<String, Fail> {
 #[test]
 fn books_name_positions(rt: HostRuntime) -> Result<(), Fail> {
     for (file, text, wanted) in NAMES {
-        assert_eq!(rt; named(rt.alloc(), file, text)?.as_str(), wanted, "{file}, {text}");
+        assert_eq!(rt;
+            named(rt.alloc(), file, text)?.as_str(),
+            wanted,
+            "{file}, {text}"
+        );
     }
     Ok(())
 }
@@ -156,7 +200,13 @@ const LONG: [(&str, &str, usize, &str, Option<BookFault>); 7] = [
     ("A00\tA\te5", KNIGHTS, 16, "", Some(TOO_LONG)),
     ("A00\tA\te5", KNIGHTS, 15, " Nf3 Nf6 Ng1", Some(BAD_MOVE)),
     ("", "\n", 4_194_278, KINGS_PAWN, None),
-    ("", "\n", 4_194_278, "B00\tKing's Pawn Game\t1. e5", Some(LAST_LINE)),
+    (
+        "",
+        "\n",
+        4_194_278,
+        "B00\tKing's Pawn Game\t1. e5",
+        Some(LAST_LINE),
+    ),
 ];
 
 const TOO_LONG: BookFault = BookFault {
@@ -194,7 +244,11 @@ fn long_files_and_lines_have_limits(rt: HostRuntime) -> Result<(), Fail> {
     let alloc = rt.alloc();
     for (begin, piece, count, end, wanted) in LONG {
         let file = long_file(alloc, begin, piece, count, end)?;
-        assert_eq!(rt; fault_of(alloc, file.as_slice())?, wanted, "{begin}, {count}, {end}");
+        assert_eq!(rt;
+            fault_of(alloc, file.as_slice())?,
+            wanted,
+            "{begin}, {count}, {end}"
+        );
     }
     Ok(())
 }
@@ -209,8 +263,18 @@ const NAMINGS: [(&str, &str, &str, &str); 8] = [
     // the whole has the last name on the way
     ("play=e2e4", "c5", "e5", "King's Pawn Game; -; -;"),
     ("play=e2e4,c7c5", "Nf3", "c3", "King's Pawn Game; -; -;"),
-    ("play=e2e4,e7e5", "f4", "Nf3", "King's Pawn Game; -; King's Knight Opening;"),
-    ("play=e2e4,e7e5,g1f3", "Nc6", "Nf6", "King's Knight Opening; -; -;"),
+    (
+        "play=e2e4,e7e5",
+        "f4",
+        "Nf3",
+        "King's Pawn Game; -; King's Knight Opening;",
+    ),
+    (
+        "play=e2e4,e7e5,g1f3",
+        "Nc6",
+        "Nf6",
+        "King's Knight Opening; -; -;",
+    ),
     // which another order of moves may pass by, and the root is on it
     ("play=g1f3,e7e5", "e4", "d4", "-; King's Knight Opening; -;"),
     (

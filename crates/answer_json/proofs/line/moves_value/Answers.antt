@@ -1,4 +1,6 @@
-use Rattle.std.proofs.Common.{arith}
+use Rattle.std.proofs.Common.{◌∙◌, ap, arith, get_or}
+use Rattle.std.specs.Option.{option_copied}
+use Rattle.explorer_model.specs.Answer.{move_value}
 use Rattle.answer_json.proofs.Values.{all_moves_valued, one_more_move}
 use Rattle.answer_json.proofs.line.moves_value.Goals as goal
 
@@ -7,5 +9,8 @@ returns c = all_moves_valued c.loop-place.values c.args.lines.now c.args.opening
 
 pub loop-place-preserved : goal.loop-place-preserved
 loop-place-preserved c =
-    one_more_move c.loop-place.values.items c.push.new.self.items c.in_ok-move_value.value c.args.lines.now c.args.openings.now c.loop-place.place c.index-lines-place.result
-    c.loop-place.invariant c.loop-place-test.true (c.in_ok-move_value.ensures) (c.in_ok-push.ensures.items)
+    let line = c.index-lines-place in
+    let value = c.in_ok-move_value in
+    let is = value.ensures ∙ ap (λ l. move_value l (option_copied c.opening_at.result)) line.is ∙ ap (move_value (get_or c.args.lines.now c.loop-place.place line.result)) c.opening_at.ensures in
+    one_more_move c.loop-place.values.items c.push.new.self.items value.field-0 c.args.lines.now c.args.openings.now c.loop-place.place line.result
+    c.loop-place.invariant c.loop-place-test.true is c.in_ok-push.ensures.items

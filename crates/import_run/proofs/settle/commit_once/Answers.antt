@@ -12,10 +12,10 @@ use Rattle.import_run.specs.Grouping.{merged}
 use Rattle.import_run.specs.Labelling.{under}
 use Rattle.import_run.specs.Rounds.{Rounds}
 use Rattle.import_run.specs.Settling.{id_of, kept, left_by, placed}
-use Rattle.import_run.proofs.HandLemmas.{batch_texts, counted_ids, decided, lacks_commit, lacks_still, left_lt, more, on_err, right_clash, settles, short, size_is, still_clash}
+use Rattle.import_run.proofs.HandLemmas.{batch_texts, counted_ids, decided, lacks_commit, lacks_still, left_lt, more, on_err, right_clash, settles, short, size_is, size_made, still_clash}
 use Rattle.import_run.proofs.BesideLemmas.{more_beside, settles_beside}
 use Rattle.import_run.proofs.CloseLemmas.{clash_names, extended, notes_one, notes_same}
-use Rattle.import_run.proofs.LabelLemmas.{label_is, made_under}
+use Rattle.import_run.proofs.LabelLemmas.{label_is}
 use Rattle.import_run.proofs.VerdictLemmas.{again, fewer_fresh, fewer_read, hand_made}
 use Rattle.import_run.proofs.settle.commit_once.Goals as goal
 
@@ -32,7 +32,7 @@ name-requires-clause-long g c =
     let x = c.in-Clash in
     let cl = rw x.is at c.in-Err.ensures.clash in
     let N = numbers_of cl.1.1.0 in
-    let theirs = batch_texts h.candidates c.args.counted.batch h.counts.batch in
+    let theirs = batch_texts c.args.counted.batch.label h.candidates c.args.counted.batch h.counts.batch in
     let texts = ap (λ b. b.texts) (c.into_parts-batch.ensures.batch ∙ ap (λ t. t.batch) cl.0) ∙ theirs in
     let pairs = cl.1.1.1.1.0 ∙ ap (clashes_from 0 N) (counted_ids h.candidates c.args.counted h.counts) in
     let size = ap length texts in
@@ -45,12 +45,12 @@ tally-requires-clause-few g c =
     let x = c.in-Clash in
     let cl = rw x.is at c.in-Err.ensures.clash in
     let N = numbers_of cl.1.1.0 in
-    let theirs = batch_texts h.candidates c.args.counted.batch h.counts.batch in
+    let theirs = batch_texts c.args.counted.batch.label h.candidates c.args.counted.batch h.counts.batch in
     let texts = ap (λ b. b.texts) (c.into_parts-batch.ensures.batch ∙ ap (λ t. t.batch) cl.0) ∙ theirs in
     let pairs = cl.1.1.1.1.0 ∙ ap (clashes_from 0 N) (counted_ids h.candidates c.args.counted h.counts) in
     let named = c.in_ok-named-in-Clash.ensures h.candidates N texts (c.as_slice.ensures.value ∙ h.places_are) (c.as_slice-in-Clash.ensures.value ∙ pairs) in
     let less = left_lt N 0 h.candidates (λ e. cl.1.0 (pairs ∙ e)) in
-    let size = size_is h.candidates (Some c.args.counted) h.counts in
+    let size = size_is c.args.counted.batch.label h.candidates (Some c.args.counted) h.counts in
     let counted = rw cl.0 at c.into_parts-batch.ensures.counted in
     rw named.1 (omega (arith, less, size, counted.batch.few, length-map (left_by N h.candidates) placed))
 
@@ -60,7 +60,7 @@ tally-requires-clause-short g c =
     let x = c.in-Clash in
     let cl = rw x.is at c.in-Err.ensures.clash in
     let N = numbers_of cl.1.1.0 in
-    let theirs = batch_texts h.candidates c.args.counted.batch h.counts.batch in
+    let theirs = batch_texts c.args.counted.batch.label h.candidates c.args.counted.batch h.counts.batch in
     let texts = ap (λ b. b.texts) (c.into_parts-batch.ensures.batch ∙ ap (λ t. t.batch) cl.0) ∙ theirs in
     let pairs = cl.1.1.1.1.0 ∙ ap (clashes_from 0 N) (counted_ids h.candidates c.args.counted h.counts) in
     let named = c.in_ok-named-in-Clash.ensures h.candidates N texts (c.as_slice.ensures.value ∙ h.places_are) (c.as_slice-in-Clash.ensures.value ∙ pairs) in
@@ -74,7 +74,7 @@ returns-in-Clash-clause-again g c = λ told label cuts r.
     let x = c.in-Clash in
     let cl = rw x.is at c.in-Err.ensures.clash in
     let N = numbers_of cl.1.1.0 in
-    let theirs = batch_texts cs c.args.counted.batch r.made.batch in
+    let theirs = batch_texts label cs c.args.counted.batch r.made.batch in
     let texts = ap (λ b. b.texts) (c.into_parts-batch.ensures.batch ∙ ap (λ t. t.batch) cl.0) ∙ theirs in
     let pairs = cl.1.1.1.1.0 ∙ ap (clashes_from 0 N) (counted_ids cs c.args.counted r.made) in
     let known = rw x.is at c.in-Err.ensures.told in
@@ -96,7 +96,7 @@ returns-in-Clash-clause-again_beside g c = λ label cuts r.
     let x = c.in-Clash in
     let cl = rw x.is at c.in-Err.ensures.clash in
     let N = numbers_of cl.1.1.0 in
-    let theirs = batch_texts cs c.args.counted.batch r.rounds.made.batch in
+    let theirs = batch_texts label cs c.args.counted.batch r.rounds.made.batch in
     let texts = ap (λ b. b.texts) (c.into_parts-batch.ensures.batch ∙ ap (λ t. t.batch) cl.0) ∙ theirs in
     let pairs = cl.1.1.1.1.0 ∙ ap (clashes_from 0 N) (counted_ids cs c.args.counted r.rounds.made) in
     let named = c.in_ok-named-in-Clash.ensures cs N texts (c.as_slice.ensures.value ∙ r.rounds.places_are) (c.as_slice-in-Clash.ensures.value ∙ pairs) in
@@ -119,18 +119,18 @@ returns-in-Clash-clause-fewer g c =
     let x = c.in-Clash in
     let cl = rw x.is at c.in-Err.ensures.clash in
     let N = numbers_of cl.1.1.0 in
-    let theirs = batch_texts h.candidates c.args.counted.batch h.counts.batch in
+    let theirs = batch_texts c.args.counted.batch.label h.candidates c.args.counted.batch h.counts.batch in
     let texts = ap (λ b. b.texts) (c.into_parts-batch.ensures.batch ∙ ap (λ t. t.batch) cl.0) ∙ theirs in
     let pairs = cl.1.1.1.1.0 ∙ ap (clashes_from 0 N) (counted_ids h.candidates c.args.counted h.counts) in
     let named = c.in_ok-named-in-Clash.ensures h.candidates N texts (c.as_slice.ensures.value ∙ h.places_are) (c.as_slice-in-Clash.ensures.value ∙ pairs) in
     let less = left_lt N 0 h.candidates (λ e. cl.1.0 (pairs ∙ e)) in
-    let size = size_is h.candidates (Some c.args.counted) h.counts in
+    let size = size_is c.args.counted.batch.label h.candidates (Some c.args.counted) h.counts in
     let made = c.in_ok-again-in-Clash.ensures in
     let P : List Placed → Type 0 = λ l. AllZip IsExaminationOfText l made.examinations in
     let both = again c.game_is_determined.ensures (left_by N h.candidates) made.examinations (fewer_read (λ a. is_none (N (id_of a))) h.candidates h.read)
     (fewer_fresh (λ a. is_none (N (id_of a))) [] h.candidates h.fresh) (subst P named.1 made.are_examinations) in
     let rest = candidates (verdicts made.examinations) in
-    let after = size_is (candidates (verdicts made.examinations)) _ (made_under _ rest c.in_ok-again-in-Clash.again.tally _ made.tally c.labelled.ensures) ∙ ap length both.0 in
+    let after = size_made _ rest c.in_ok-again-in-Clash.again.tally _ made.tally c.labelled.ensures ∙ ap length both.0 in
     omega (arith, less, size, after)
 
 pub returns-in-Ok-clause-ended : goal.returns-in-Ok-clause-ended

@@ -2,7 +2,8 @@ use Rattle.std.proofs.Common.{◌<◌, ℕ, List, [], ◌∙◌, Option, Some, l
 use Rattle.pgn_cut.specs.Cutter.{cuts_of_rest}
 use Rattle.explorer_model.specs.Journal.{input_limit}
 use Rattle.import_run.specs.Committing.{Store, store_of}
-use Rattle.import_run.specs.Taking.{ComesQuietly, ComesQuietlyBeside, CutSoFar, LacksWithin, StopsWithin}
+use Rattle.import_run.specs.Taking.{CutSoFar, LacksWithin, StopsWithin}
+use Rattle.import_run.proofs.LabelLemmas.{quietly_as, quietly_beside_as}
 use Rattle.import_run.proofs.ComeBesideLemmas.{lacking_within_beside}
 use Rattle.import_run.proofs.ComeLemmas.{lacking_within}
 use Rattle.import_run.proofs.TakingLemmas.{taken_none}
@@ -14,7 +15,7 @@ returns-in-Ok-clause-beside g c =
     let below : length c.args.bytes.now < input_limit = omega (arith, c.requires.few) in
     let start : CutSoFar told [] (cuts_of_rest c.new-cutter.result) c.new-import.result told =
     record { taken = []; cut = c.new-cutter.ensures.cuts; begun = λ some. absurd (omega (arith, some)); so_far = taken_none told c.new-import.result c.new-import.ensures.group c.new-import.ensures.receipts c.new-import.ensures.refused } in
-    subst (λ (l : List ℕ). ComesQuietlyBeside l c.args.bytes.now (Some []) c.end.result) (c.feed.ensures.label ∙ c.new-import.ensures.label ∙ c.none.ensures)
+    quietly_beside_as (c.feed.ensures.label ∙ c.new-import.ensures.label ∙ c.none.ensures)
     (c.end.ensures.beside told c.args.bytes.now (Some []) refl below (c.in-Ok.ensures.cut told [] start))
 
 pub returns-in-Err-Fault-clause-beside : goal.returns-in-Err-Fault-clause-beside
@@ -25,7 +26,7 @@ returns-in-Err-Fault-clause-beside g c =
     let start : CutSoFar told [] (cuts_of_rest c.new-cutter.result) c.new-import.result told =
     record { taken = []; cut = c.new-cutter.ensures.cuts; begun = λ some. absurd (omega (arith, some)); so_far = taken_none told c.new-import.result c.new-import.ensures.group c.new-import.ensures.receipts c.new-import.ensures.refused } in
     let stops : StopsWithin told c.args.bytes.now c.feed.new.self c.in-Err-Fault.stopped told' = (rw c.in-Err-Fault.field-0-is at c.in-Err-Fault.ensures.stops) told [] start in
-    subst (λ (l : List ℕ). ComesQuietlyBeside l c.args.bytes.now (Some []) c.stopped.result) (c.feed.ensures.label ∙ c.new-import.ensures.label ∙ c.none.ensures)
+    quietly_beside_as (c.feed.ensures.label ∙ c.new-import.ensures.label ∙ c.none.ensures)
     (c.stopped.ensures.beside_within told c.args.bytes.now (Some []) told' below
     (subst (λ stopped. StopsWithin told c.args.bytes.now c.feed.new.self stopped told') (sym c.in-Err-Fault.stopped-is) stops))
 
@@ -37,7 +38,7 @@ returns-clause-beside g c =
     let start : CutSoFar told [] (cuts_of_rest c.new-cutter.result) c.new-import.result told =
     record { taken = []; cut = c.new-cutter.ensures.cuts; begun = λ some. absurd (omega (arith, some)); so_far = taken_none told c.new-import.result c.new-import.ensures.group c.new-import.ensures.receipts c.new-import.ensures.refused } in
     let lacks : LacksWithin told c.args.bytes.now c.feed.new.self told' = (rw c.in-Err-OutOfMemory.field-0-is at c.in-Err-OutOfMemory.ensures.lacks) told [] start in
-    subst (λ (l : List ℕ). ComesQuietlyBeside l c.args.bytes.now (Some []) c.report.result) (c.feed.ensures.label ∙ c.new-import.ensures.label ∙ c.none.ensures)
+    quietly_beside_as (c.feed.ensures.label ∙ c.new-import.ensures.label ∙ c.none.ensures)
     (lacking_within_beside c.args.bytes.now (Some []) c.report.result c.feed.new.self c.report.ensures.receipts c.report.ensures.clashes below c.report.ensures.refused told told' c.report.ensures.end lacks)
 
 pub returns-in-Ok-clause-told : goal.returns-in-Ok-clause-told
@@ -48,7 +49,7 @@ returns-in-Ok-clause-told g c = λ start is.
     let begin : CutSoFar told [] (cuts_of_rest c.new-cutter.result) c.new-import.result told =
     record { taken = []; cut = c.new-cutter.ensures.cuts; begun = λ some. absurd (omega (arith, some)); so_far = taken_none told c.new-import.result c.new-import.ensures.group c.new-import.ensures.receipts c.new-import.ensures.refused } in
     let P : Option Store → Type 0 = λ s. CutSoFar s c.args.bytes.now (cuts_of_rest c.feed.new.cutter) c.feed.new.self told' in
-    subst (λ (l : List ℕ). ComesQuietly l start c.args.bytes.now (Some []) c.end.result _) (c.feed.ensures.label ∙ c.new-import.ensures.label ∙ c.none.ensures)
+    quietly_as (c.feed.ensures.label ∙ c.new-import.ensures.label ∙ c.none.ensures)
     (c.end.ensures.comes start c.args.bytes.now (Some []) refl below (subst P is (c.in-Ok.ensures.cut told [] begin)))
 
 pub returns-in-Err-Fault-clause-told : goal.returns-in-Err-Fault-clause-told
@@ -60,7 +61,7 @@ returns-in-Err-Fault-clause-told g c = λ start is.
     record { taken = []; cut = c.new-cutter.ensures.cuts; begun = λ some. absurd (omega (arith, some)); so_far = taken_none told c.new-import.result c.new-import.ensures.group c.new-import.ensures.receipts c.new-import.ensures.refused } in
     let stops : StopsWithin told c.args.bytes.now c.feed.new.self c.in-Err-Fault.stopped told' = (rw c.in-Err-Fault.field-0-is at c.in-Err-Fault.ensures.stops) told [] begin in
     let P : Option Store → Type 0 = λ s. StopsWithin s c.args.bytes.now c.feed.new.self c.in-Err-Fault.stopped told' in
-    subst (λ (l : List ℕ). ComesQuietly l start c.args.bytes.now (Some []) c.stopped.result _) (c.feed.ensures.label ∙ c.new-import.ensures.label ∙ c.none.ensures)
+    quietly_as (c.feed.ensures.label ∙ c.new-import.ensures.label ∙ c.none.ensures)
     (c.stopped.ensures.within start c.args.bytes.now (Some []) told' below
     (subst (λ stopped. StopsWithin (Some (store_of start)) c.args.bytes.now c.feed.new.self stopped told') (sym c.in-Err-Fault.stopped-is) (subst P is stops)))
 
@@ -73,5 +74,5 @@ returns-clause-told g c = λ start is.
     record { taken = []; cut = c.new-cutter.ensures.cuts; begun = λ some. absurd (omega (arith, some)); so_far = taken_none told c.new-import.result c.new-import.ensures.group c.new-import.ensures.receipts c.new-import.ensures.refused } in
     let lacks : LacksWithin told c.args.bytes.now c.feed.new.self told' = (rw c.in-Err-OutOfMemory.field-0-is at c.in-Err-OutOfMemory.ensures.lacks) told [] begin in
     let P : Option Store → Type 0 = λ s. LacksWithin s c.args.bytes.now c.feed.new.self told' in
-    subst (λ (l : List ℕ). ComesQuietly l start c.args.bytes.now (Some []) c.report.result _) (c.feed.ensures.label ∙ c.new-import.ensures.label ∙ c.none.ensures)
+    quietly_as (c.feed.ensures.label ∙ c.new-import.ensures.label ∙ c.none.ensures)
     (lacking_within start c.report.result c.args.bytes.now (Some []) told' c.feed.new.self c.report.ensures.end c.report.ensures.receipts c.report.ensures.refused below (subst P is lacks))

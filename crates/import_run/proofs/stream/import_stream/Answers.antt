@@ -3,8 +3,8 @@ use Rattle.std.proofs.Common.{◌≡◌, ◌+◌, ◌<◌, ℕ, List, [], ◌++�
 use Rattle.pgn_cut.specs.Cutter.{cuts_of_rest}
 use Rattle.explorer_model.specs.Journal.{input_limit}
 use Rattle.import_run.specs.Committing.{Store, store_of}
-use Rattle.import_run.specs.EndingBeside.{ImportsBeside}
-use Rattle.import_run.specs.Taking.{CutSoFar, Imports, LacksWithin, StopsWithin}
+use Rattle.import_run.specs.Taking.{CutSoFar, LacksWithin, StopsWithin}
+use Rattle.import_run.proofs.LabelLemmas.{imports_as, imports_beside_as}
 use Rattle.import_run.proofs.ComeBesideLemmas.{imports_bound_beside, imports_failed_beside, imports_quietly_beside, lacking_within_beside, whole_repeats}
 use Rattle.import_run.proofs.ComeLemmas.{comes_cut_off, lacking_within}
 use Rattle.import_run.proofs.ReadLemmas.{imports_bound, imports_failed, imports_quietly, longer, no_fault, one_read, read_last, read_more, read_nothing, read_on}
@@ -46,7 +46,7 @@ returns-in_default-clause-told g c = λ start is.
     let read = c.reading.invariant.read in
     let told = g.C.Committer.told c.reading.committer in
     let P : Option Store → Type 0 = λ s. CutSoFar s read.stream (cuts_of_rest c.reading.cutter) c.reading.import told in
-    subst (λ (l : List ℕ). Imports l start _ _ c.cut_off.result _) c.reading.invariant.label
+    imports_as c.reading.invariant.label
     (imports_failed start _ (g.S.Source.source c.reading.source) _ c.cut_off.result told read.stream c.read_faults-before.result c.read_faults-after.result c.cut_off.ensures.end
     c.read_faults-before.ensures c.read_faults-after.ensures read.faults read.reads c.in_default.ensures.fails
     (comes_cut_off start c.cut_off.result read.stream _ told c.read_faults-before.result c.read_faults-after.result c.cut_off.ensures.end (omega (arith, read.long, c.reading.invariant.below))
@@ -61,7 +61,7 @@ returns-then-count-eq0-clause-told g c = λ start is.
     let old = g.S.Source.source c.args.source.now in
     let mid = g.S.Source.source c.reading.source in
     let new = g.S.Source.source c.read.new.self in
-    subst (λ (l : List ℕ). Imports l start _ _ c.end.result _) c.reading.invariant.label
+    imports_as c.reading.invariant.label
     (imports_quietly start old new c.end.result (g.C.Committer.told c.end.new.committer) read.stream
     (read_last read.stream c.in-Ok.count c.read.new.into old mid new c.if-count-eq0.true read.reads gives) (no_fault c.in-Ok.count c.read.new.into old mid new read.faults gives)
     (c.end.ensures.comes start read.stream new.left (gives.ended c.if-count-eq0.true) (omega (arith, read.long, c.reading.invariant.below)) (subst P is read.cut))
@@ -75,7 +75,7 @@ returns-then-taken-eq-INPUT_LIMIT-clause-told g c = λ start is.
     let room = length-take c.room_behind.result c.reading.buffer in
     let P : Option Store → Type 0 = λ s. CutSoFar s read.stream (cuts_of_rest c.reading.cutter) c.reading.import told in
     let one : c.in-Ok.count ≡ 1 = one_read c.reading.taken c.room_behind.result c.in-Ok.count c.reading.invariant.below c.room_behind.ensures.last (omega (arith, gives.within, c.read.auto.into, room)) c.if-taken-eq-INPUT_LIMIT.true in
-    subst (λ (l : List ℕ). Imports l start _ _ c.cut_off-then-taken-eq-INPUT_LIMIT.result _) c.reading.invariant.label
+    imports_as c.reading.invariant.label
     (imports_bound start _ _ _ c.cut_off-then-taken-eq-INPUT_LIMIT.result told read.stream c.in-Ok.count (c.reading.taken + c.in-Ok.count) c.read.new.into c.cut_off-then-taken-eq-INPUT_LIMIT.ensures.end read.reads read.faults gives one
     (omega (arith, read.long, one, c.if-taken-eq-INPUT_LIMIT.true)) (omega (arith, c.if-taken-eq-INPUT_LIMIT.true))
     (c.cut_off-then-taken-eq-INPUT_LIMIT.ensures.settled start read.stream told (subst P is read.cut))
@@ -100,7 +100,7 @@ returns-in-Err-Fault-clause-told g c = λ start is.
     let old = g.S.Source.source c.args.source.now in
     let mid = g.S.Source.source c.reading.source in
     let new = g.S.Source.source c.read.new.self in
-    subst (λ (l : List ℕ). Imports l start _ _ c.stopped.result _) (c.feed.ensures.label ∙ c.reading.invariant.label)
+    imports_as (c.feed.ensures.label ∙ c.reading.invariant.label)
     (imports_quietly start old new c.stopped.result told stream (read_more read.stream c.in-Ok.count c.read.new.into old mid new read.reads gives) (no_fault c.in-Ok.count c.read.new.into old mid new read.faults gives)
     (c.stopped.ensures.within start stream new.left told below
     (subst (λ stopped. StopsWithin (Some (store_of start)) (read.stream ++ take c.in-Ok.count c.read.new.into) c.feed.new.self stopped told) (sym c.in-Err-Fault.stopped-is) stops))
@@ -125,7 +125,7 @@ returns-in-Err-OutOfMemory-clause-told g c = λ start is.
     let old = g.S.Source.source c.args.source.now in
     let mid = g.S.Source.source c.reading.source in
     let new = g.S.Source.source c.read.new.self in
-    subst (λ (l : List ℕ). Imports l start _ _ c.report.result _) (c.feed.ensures.label ∙ c.reading.invariant.label)
+    imports_as (c.feed.ensures.label ∙ c.reading.invariant.label)
     (imports_quietly start old new c.report.result told stream (read_more read.stream c.in-Ok.count c.read.new.into old mid new read.reads gives) (no_fault c.in-Ok.count c.read.new.into old mid new read.faults gives)
     (lacking_within start c.report.result stream new.left told c.feed.new.self c.report.ensures.end c.report.ensures.receipts c.report.ensures.refused below lacks)
     (lacking_within_beside stream new.left c.report.result c.feed.new.self c.report.ensures.receipts c.report.ensures.clashes below c.report.ensures.refused begin told c.report.ensures.end lacks_beside).comes.reports.repeats)
@@ -145,7 +145,7 @@ pub returns-in_default-clause-beside : goal.returns-in_default-clause-beside
 returns-in_default-clause-beside g c =
     let read = c.reading.invariant.read in
     let start = g.C.Committer.told c.args.committer.now in
-    subst (λ (l : List ℕ). ImportsBeside l _ _ c.cut_off.result) c.reading.invariant.label
+    imports_beside_as c.reading.invariant.label
     (imports_failed_beside _ (g.S.Source.source c.reading.source) _ c.cut_off.result read.stream c.read_faults-before.result c.read_faults-after.result c.cut_off.ensures.end
     c.read_faults-before.ensures c.read_faults-after.ensures read.faults read.reads c.in_default.ensures.fails (omega (arith, read.long, c.reading.invariant.below))
     (c.cut_off.ensures.beside start read.stream (g.C.Committer.told c.reading.committer) read.cut))
@@ -158,7 +158,7 @@ returns-then-count-eq0-clause-beside g c =
     let old = g.S.Source.source c.args.source.now in
     let mid = g.S.Source.source c.reading.source in
     let new = g.S.Source.source c.read.new.self in
-    subst (λ (l : List ℕ). ImportsBeside l _ _ c.end.result) c.reading.invariant.label
+    imports_beside_as c.reading.invariant.label
     (imports_quietly_beside old new c.end.result read.stream
     (read_last read.stream c.in-Ok.count c.read.new.into old mid new c.if-count-eq0.true read.reads gives) (no_fault c.in-Ok.count c.read.new.into old mid new read.faults gives)
     (c.end.ensures.beside start read.stream new.left (gives.ended c.if-count-eq0.true) (omega (arith, read.long, c.reading.invariant.below)) read.cut))
@@ -170,7 +170,7 @@ returns-then-taken-eq-INPUT_LIMIT-clause-beside g c =
     let start = g.C.Committer.told c.args.committer.now in
     let room = length-take c.room_behind.result c.reading.buffer in
     let one : c.in-Ok.count ≡ 1 = one_read c.reading.taken c.room_behind.result c.in-Ok.count c.reading.invariant.below c.room_behind.ensures.last (omega (arith, gives.within, c.read.auto.into, room)) c.if-taken-eq-INPUT_LIMIT.true in
-    subst (λ (l : List ℕ). ImportsBeside l _ _ c.cut_off-then-taken-eq-INPUT_LIMIT.result) c.reading.invariant.label
+    imports_beside_as c.reading.invariant.label
     (imports_bound_beside _ _ _ c.cut_off-then-taken-eq-INPUT_LIMIT.result read.stream c.in-Ok.count (c.reading.taken + c.in-Ok.count) c.read.new.into c.cut_off-then-taken-eq-INPUT_LIMIT.ensures.end read.reads read.faults gives one
     (omega (arith, read.long, one, c.if-taken-eq-INPUT_LIMIT.true)) (omega (arith, c.if-taken-eq-INPUT_LIMIT.true))
     (c.cut_off-then-taken-eq-INPUT_LIMIT.ensures.beside start read.stream (g.C.Committer.told c.reading.committer) read.cut))
@@ -190,7 +190,7 @@ returns-in-Err-Fault-clause-beside g c =
     let old = g.S.Source.source c.args.source.now in
     let mid = g.S.Source.source c.reading.source in
     let new = g.S.Source.source c.read.new.self in
-    subst (λ (l : List ℕ). ImportsBeside l _ _ c.stopped.result) (c.feed.ensures.label ∙ c.reading.invariant.label)
+    imports_beside_as (c.feed.ensures.label ∙ c.reading.invariant.label)
     (imports_quietly_beside old new c.stopped.result stream (read_more read.stream c.in-Ok.count c.read.new.into old mid new read.reads gives) (no_fault c.in-Ok.count c.read.new.into old mid new read.faults gives)
     (c.stopped.ensures.beside_within start stream new.left told below
     (subst (λ stopped. StopsWithin start (read.stream ++ take c.in-Ok.count c.read.new.into) c.feed.new.self stopped told) (sym c.in-Err-Fault.stopped-is) stops)))
@@ -210,6 +210,6 @@ returns-in-Err-OutOfMemory-clause-beside g c =
     let old = g.S.Source.source c.args.source.now in
     let mid = g.S.Source.source c.reading.source in
     let new = g.S.Source.source c.read.new.self in
-    subst (λ (l : List ℕ). ImportsBeside l _ _ c.report.result) (c.feed.ensures.label ∙ c.reading.invariant.label)
+    imports_beside_as (c.feed.ensures.label ∙ c.reading.invariant.label)
     (imports_quietly_beside old new c.report.result stream (read_more read.stream c.in-Ok.count c.read.new.into old mid new read.reads gives) (no_fault c.in-Ok.count c.read.new.into old mid new read.faults gives)
     (lacking_within_beside stream new.left c.report.result c.feed.new.self c.report.ensures.receipts c.report.ensures.clashes below c.report.ensures.refused start told c.report.ensures.end lacks))

@@ -4,7 +4,8 @@ use Rattle.explorer_model.specs.Cuts.{Cut}
 use Rattle.pgn_cut.specs.Cut.{cuts_in}
 use Rattle.pgn_cut.specs.Cutter.{cuts_of_rest}
 use Rattle.import_run.specs.Committing.{store_of}
-use Rattle.import_run.specs.Taking.{ComesQuietly, ComesQuietlyBeside, LacksAtEnd, StopsAtEnd, TakenAll}
+use Rattle.import_run.specs.Taking.{LacksAtEnd, StopsAtEnd, TakenAll}
+use Rattle.import_run.proofs.LabelLemmas.{quietly_as, quietly_beside_as}
 use Rattle.import_run.proofs.ComeBesideLemmas.{lacking_at_end_beside, whole_beside}
 use Rattle.import_run.proofs.ComeLemmas.{comes_whole, lacking_at_end}
 use Rattle.import_run.proofs.CutLemmas.{whole_cuts}
@@ -19,7 +20,7 @@ pub returns-in-Ok-clause-comes : goal.returns-in-Ok-clause-comes
 returns-in-Ok-clause-comes g c = λ start stream left at_end below so_far.
     let taken = so_far.taken ++ cuts_in c.end.result in
     let all = whole_cuts stream (cuts_of_rest c.args.cutter) so_far.taken (cuts_in c.end.result) so_far.cut c.end.ensures in
-    subst (λ (l : List ℕ). ComesQuietly l start stream left c.report.result (g.C.Committer.told c.finish.new.committer)) c.finish.ensures.label
+    quietly_as c.finish.ensures.label
     (comes_whole start c.report.result stream left (g.C.Committer.told c.finish.new.committer) c.finish.new.self c.report.ensures.end c.report.ensures.receipts c.report.ensures.refused at_end below taken all
     (c.in-Ok.ensures.done (Some (store_of start)) so_far.taken (ascend_of_stream so_far.taken (cuts_in c.end.result) stream all) so_far.so_far))
 
@@ -29,7 +30,7 @@ returns-in-Err-Fault-clause-comes g c = λ start stream left at_end below so_far
     let all = whole_cuts stream (cuts_of_rest c.args.cutter) so_far.taken (cuts_in c.end.result) so_far.cut c.end.ensures in
     let stops : StopsAtEnd (Some (store_of start)) (so_far.taken ++ cuts_in c.end.result) c.finish.new.self c.in-Err-Fault.stopped told =
     (rw c.in-Err-Fault.field-0-is at c.in-Err-Fault.ensures.stops) (Some (store_of start)) so_far.taken (ascend_of_stream so_far.taken (cuts_in c.end.result) stream all) so_far.so_far in
-    subst (λ (l : List ℕ). ComesQuietly l start stream left c.stopped.result (g.C.Committer.told c.finish.new.committer)) c.finish.ensures.label
+    quietly_as c.finish.ensures.label
     (c.stopped.ensures.at_end start stream left told at_end below (subst (λ (l : List Cut). StopsAtEnd (Some (store_of start)) l c.finish.new.self c.in-Err-Fault.stopped told) all stops))
 
 pub returns-in-Err-OutOfMemory-clause-comes : goal.returns-in-Err-OutOfMemory-clause-comes
@@ -38,7 +39,7 @@ returns-in-Err-OutOfMemory-clause-comes g c = λ start stream left at_end below 
     let all = whole_cuts stream (cuts_of_rest c.args.cutter) so_far.taken (cuts_in c.end.result) so_far.cut c.end.ensures in
     let lacks : LacksAtEnd (Some (store_of start)) (so_far.taken ++ cuts_in c.end.result) c.finish.new.self told =
     (rw c.in-Err-OutOfMemory.field-0-is at c.in-Err-OutOfMemory.ensures.lacks) (Some (store_of start)) so_far.taken (ascend_of_stream so_far.taken (cuts_in c.end.result) stream all) so_far.so_far in
-    subst (λ (l : List ℕ). ComesQuietly l start stream left c.report-in-Err-OutOfMemory.result (g.C.Committer.told c.finish.new.committer)) c.finish.ensures.label
+    quietly_as c.finish.ensures.label
     (lacking_at_end start c.report-in-Err-OutOfMemory.result stream left told c.finish.new.self c.report-in-Err-OutOfMemory.ensures.end c.report-in-Err-OutOfMemory.ensures.receipts c.report-in-Err-OutOfMemory.ensures.refused below at_end _ all lacks)
 
 pub returns-in-Ok-clause-beside : goal.returns-in-Ok-clause-beside
@@ -46,7 +47,7 @@ returns-in-Ok-clause-beside g c = λ start stream left at_end below so_far.
     let told = g.C.Committer.told c.finish.new.committer in
     let all = whole_cuts stream (cuts_of_rest c.args.cutter) so_far.taken (cuts_in c.end.result) so_far.cut c.end.ensures in
     let done = c.in-Ok.ensures.done start so_far.taken (ascend_of_stream so_far.taken (cuts_in c.end.result) stream all) so_far.so_far in
-    subst (λ (l : List ℕ). ComesQuietlyBeside l stream left c.report.result) c.finish.ensures.label
+    quietly_beside_as c.finish.ensures.label
     (whole_beside stream left c.report.result c.finish.new.self c.report.ensures.receipts c.report.ensures.clashes below c.report.ensures.refused start told c.report.ensures.end at_end
     (subst (λ (l : List Cut). TakenAll start l c.finish.new.self told) all done))
 
@@ -56,7 +57,7 @@ returns-in-Err-Fault-clause-beside g c = λ start stream left at_end below so_fa
     let all = whole_cuts stream (cuts_of_rest c.args.cutter) so_far.taken (cuts_in c.end.result) so_far.cut c.end.ensures in
     let stops : StopsAtEnd start (so_far.taken ++ cuts_in c.end.result) c.finish.new.self c.in-Err-Fault.stopped told =
     (rw c.in-Err-Fault.field-0-is at c.in-Err-Fault.ensures.stops) start so_far.taken (ascend_of_stream so_far.taken (cuts_in c.end.result) stream all) so_far.so_far in
-    subst (λ (l : List ℕ). ComesQuietlyBeside l stream left c.stopped.result) c.finish.ensures.label
+    quietly_beside_as c.finish.ensures.label
     (c.stopped.ensures.beside_at_end start stream left told at_end below (subst (λ (l : List Cut). StopsAtEnd start l c.finish.new.self c.in-Err-Fault.stopped told) all stops))
 
 pub returns-in-Err-OutOfMemory-clause-beside : goal.returns-in-Err-OutOfMemory-clause-beside
@@ -65,6 +66,6 @@ returns-in-Err-OutOfMemory-clause-beside g c = λ start stream left at_end below
     let all = whole_cuts stream (cuts_of_rest c.args.cutter) so_far.taken (cuts_in c.end.result) so_far.cut c.end.ensures in
     let lacks : LacksAtEnd start (so_far.taken ++ cuts_in c.end.result) c.finish.new.self told =
     (rw c.in-Err-OutOfMemory.field-0-is at c.in-Err-OutOfMemory.ensures.lacks) start so_far.taken (ascend_of_stream so_far.taken (cuts_in c.end.result) stream all) so_far.so_far in
-    subst (λ (l : List ℕ). ComesQuietlyBeside l stream left c.report-in-Err-OutOfMemory.result) c.finish.ensures.label
+    quietly_beside_as c.finish.ensures.label
     (lacking_at_end_beside stream left c.report-in-Err-OutOfMemory.result c.finish.new.self c.report-in-Err-OutOfMemory.ensures.receipts c.report-in-Err-OutOfMemory.ensures.clashes below c.report-in-Err-OutOfMemory.ensures.refused start told c.report-in-Err-OutOfMemory.ensures.end at_end
     (subst (λ (l : List Cut). LacksAtEnd start l c.finish.new.self told) all lacks))

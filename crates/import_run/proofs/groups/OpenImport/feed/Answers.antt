@@ -1,4 +1,4 @@
-use Rattle.std.proofs.Common.{◌≡◌, ◌+◌, ◌-◌, ℕ, List, Option, [], ◌++◌, take, drop, length, length-drop, ap, sym, ◌∙◌, arith}
+use Rattle.std.proofs.Common.{◌≡◌, ◌+◌, ◌-◌, ℕ, List, Option, [], ◌++◌, take, drop, length, length-drop, refl, ap, sym, ◌∙◌, arith}
 use Rattle.std.proofs.lemmas.List.{append-nil, take_rest}
 use Rattle.pgn_cut.specs.Cut.{cuts_in}
 use Rattle.pgn_cut.specs.Cutter.{cuts_of_rest}
@@ -15,6 +15,7 @@ feeding-init g c = record {
   within = omega arith;
   so_far = omega arith;
   ready = c.requires.ready;
+  label = refl;
   cut = λ start past so_far. cut_bytes start _ _ _ _ _ (sym (append-nil past)) so_far;
   since = g.met.C.Committer.since_then c.args.committer.now;
 }
@@ -32,6 +33,7 @@ feeding-preserved g c =
       within = omega (arith, whole, c.in_ok-fed.ensures.taken, before.within);
       so_far = omega (arith, c.in_ok-fed.ensures.came, before.so_far);
       ready = c.in-Ok.ensures.ready;
+      label = c.take.ensures.label ∙ before.label;
       cut = λ start past began.
           let so_far = before.cut start past began in
           let cut = next_cut past c.args.bytes.now c.feeding.at c.in_ok-fed.fed.taken so_far.taken (cuts_in c.in_ok-fed.fed.cut) (cuts_of_rest c.feeding.cutter) (cuts_of_rest c.feed.new.self) so_far.cut c.in_ok-fed.ensures.cuts in
@@ -71,6 +73,15 @@ returns-in-Err-clause-lacks g c = where_lacking c.in-Err.stop _ _ (λ lacks star
     lacks_within start (g.C.Committer.told c.take.new.committer) past c.args.bytes.now (c.feeding.at + c.in_ok-fed.fed.taken) (so_far.taken ++ cuts_in c.in_ok-fed.fed.cut) (cuts_of_rest c.feed.new.self) c.take.new.self cut
     (opens_more c.in_ok-fed.fed.cut c.feed.new.self so_far.taken (cuts_of_rest c.feeding.cutter) _ c.in_ok-fed.ensures.cuts c.in_ok-fed.ensures.stops so_far.begun)
     (lacks start so_far.taken (cut_ascends _ (cuts_of_rest c.feed.new.self) _ cut) so_far.so_far)) c.in-Err.ensures.lacks
+
+pub returns-in_err-fed-clause-label : goal.returns-in_err-fed-clause-label
+returns-in_err-fed-clause-label g c = c.feeding.invariant.label
+
+pub returns-in-Err-clause-label : goal.returns-in-Err-clause-label
+returns-in-Err-clause-label g c = c.take.ensures.label ∙ c.feeding.invariant.label
+
+pub returns-clause-label : goal.returns-clause-label
+returns-clause-label g c = c.feeding.invariant.label
 
 pub returns-in_err-fed-clause-since : goal.returns-in_err-fed-clause-since
 returns-in_err-fed-clause-since g c = c.feeding.invariant.since

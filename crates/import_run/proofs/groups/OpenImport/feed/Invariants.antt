@@ -9,6 +9,7 @@ invariant-feeding g l = record {
   within : l.at ≤ length l.bytes;
   so_far : came l.cutter ≡ came l.fn.cutter + l.at;
   ready : IsReady l.self;
+  label : l.self.group.label ≡ l.fn.self.group.label;
   cut : (start : Option Store) (past : List ℕ) → CutSoFar start past (cuts_of_rest l.fn.cutter) l.fn.self (g.C.Committer.told l.fn.committer)
       → CutSoFar start (past ++ take l.at l.bytes) (cuts_of_rest l.cutter) l.self (g.C.Committer.told l.committer);
   since : g.C.Committer.since l.fn.committer l.committer;

@@ -13,7 +13,7 @@ returns-in_err-push-clause-lacks g c =
     let told = g.C.Committer.told c.args.committer.now in
     lacking c.from_residual.result
     (λ (start : Option Store) (taken : List Cut) (ascend : Ascend (taken ++ meaning c.args.cut ∷ [])) (so_far : TakenSoFar start taken c.args.self.now told).
-    lacks_open start taken (meaning c.args.cut ∷ []) c.args.self.now _ told refl refl refl refl so_far)
+    lacks_open start taken (meaning c.args.cut ∷ []) c.args.self.now _ told c.push.ensures.label refl refl refl so_far)
 
 pub returns-clause-taken : goal.returns-clause-taken
 returns-clause-taken g c = on_ok_both c.close.result _ _ _ (λ none closes start taken.

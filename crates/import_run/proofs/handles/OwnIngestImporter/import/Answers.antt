@@ -1,5 +1,6 @@
 use Rattle.explorer_model.specs.Imports.{groups}
 use Rattle.explorer_model.specs.Cuts.{cuts}
+use Rattle.explorer_model.specs.Labels.{no_label}
 use Rattle.import_run.proofs.BodyLemmas.{imports_body}
 use Rattle.import_run.proofs.ComeBesideLemmas.{ends_in_memory, few_games, marked_so}
 use Rattle.import_run.proofs.handles.OwnIngestImporter.import.Goals as goal
@@ -7,7 +8,7 @@ use Rattle.import_run.proofs.handles.OwnIngestImporter.import.Goals as goal
 pub add-requires : goal.add-requires
 add-requires g c =
     let r = c.import_bytes-report.ensures.beside.comes.reports in
-    marked_so c.import_bytes-report.result.end (groups (cuts c.args.body.now)) r.batches c.import_bytes-report.result.refused.items r.accounts
+    marked_so no_label c.import_bytes-report.result.end (groups (cuts c.args.body.now)) r.batches c.import_bytes-report.result.refused.items r.accounts
 
 pub returns-clause-reports : goal.returns-clause-reports
 returns-clause-reports g c = c.import_bytes-report.ensures.beside.comes.reports
