@@ -219,7 +219,7 @@ all_stored label one stored (cuts ∷ groups) (group ∷ examinations) texts gam
     let later = all_stored label one (and_games stored group) groups examinations s.behind g.more each.1 s.back_is g.more_are (subst I (sym after) (subst H (sym (append_assoc stored g.first g.more)) apart)) in
     record {
       texts_are =
-          texts_first label (candidates (verdicts_behind (numbers_of stored) group)) (batches_behind (and_games stored group) examinations)
+          texts_first label (candidates (verdicts_behind (numbers_of stored) group)) (batches_behind label (and_games stored group) examinations)
           ∙ (λ i. map (λ (c : Candidate). c.text) (here.candidates_are i) ++ later.texts_are i)
           ∙ ap (λ (l : List (List ℕ)). l ++ bytes_of s.behind) (cands_texts s.before g.first g.first_are)
           ∙ sym (ap bytes_of s.is ∙ map-append (λ (text : Placed). text.bytes) s.before s.behind);

@@ -6,10 +6,11 @@ use Rattle.import_run.specs.Committing.{Store}
 use Rattle.import_run.specs.Grouping.{Ascend, IsGroupOf}
 use Rattle.import_run.specs.Rounds.{AnswerDecided, Settles}
 use Rattle.import_run.specs.Taking.{IsSettledSo}
-use Rattle.import_run.specs.declared.text_group.TextGroup.{TextGroup}
 use Rattle.import_run.proofs.BesideLemmas.{none_beside, one_beside, stops_beside}
 use Rattle.import_run.proofs.CloseLemmas.{above_last, extended, few_refused, lacks_behind, notes_same, stops_behind}
 use Rattle.import_run.proofs.HandLemmas.{lacks_still}
+use Rattle.import_run.specs.declared.text_group.TextGroup.{TextGroup}
+use Rattle.import_run.proofs.LabelLemmas.{progress_as}
 use Rattle.import_run.proofs.NextLemmas.{lacking, lacks_none, lacks_one, no_batch, one_batch}
 use Rattle.import_run.proofs.groups.OpenImport.close.Goals as goal
 
@@ -18,14 +19,14 @@ returns-in_err-reserve-clause-lacks g c =
     let told = g.C.Committer.told c.args.committer.now in
     lacking c.from_residual.result
     (λ (start : Option Store) (closed : List (List Cut)) (hand : List Cut) (ascend : Ascend hand) (holds : IsGroupOf hand c.args.self.now.group) (s : IsSettledSo start closed c.args.self.now told).
-    lacks_behind start closed c.args.self.now _ c.reserve.ensures.items refl (ap (λ (t : TextGroup). t.label) c.replace-group.ensures.after ∙ c.new-next.ensures.label ∙ c.copy_of.ensures) (notes_same _ _ refl) told told hand s (λ known is. lacks_still c.args.self.now.group.label known (hand ∷ []) told is))
+    lacks_behind start closed c.args.self.now _ c.reserve.ensures.items refl (ap (λ (group : TextGroup). group.label) c.replace-group.ensures.after ∙ c.new-next.ensures.label ∙ c.copy_of.ensures) (notes_same _ _ refl) told told hand s (λ known is. lacks_still c.args.self.now.group.label known (hand ∷ []) told is))
 
 pub returns-in_err-reserve-2-clause-lacks : goal.returns-in_err-reserve-2-clause-lacks
 returns-in_err-reserve-2-clause-lacks g c =
     let told = g.C.Committer.told c.args.committer.now in
     lacking c.from_residual-in_err-reserve-2.result
     (λ (start : Option Store) (closed : List (List Cut)) (hand : List Cut) (ascend : Ascend hand) (holds : IsGroupOf hand c.args.self.now.group) (s : IsSettledSo start closed c.args.self.now told).
-    lacks_behind start closed c.args.self.now _ c.reserve.ensures.items c.reserve-2.ensures.items (ap (λ (t : TextGroup). t.label) c.replace-group.ensures.after ∙ c.new-next.ensures.label ∙ c.copy_of.ensures) (notes_same _ _ refl) told told hand s (λ known is. lacks_still c.args.self.now.group.label known (hand ∷ []) told is))
+    lacks_behind start closed c.args.self.now _ c.reserve.ensures.items c.reserve-2.ensures.items (ap (λ (group : TextGroup). group.label) c.replace-group.ensures.after ∙ c.new-next.ensures.label ∙ c.copy_of.ensures) (notes_same _ _ refl) told told hand s (λ known is. lacks_still c.args.self.now.group.label known (hand ∷ []) told is))
 
 pub returns-in_err-answer-clause-lacks : goal.returns-in_err-answer-clause-lacks
 returns-in_err-answer-clause-lacks g c =
@@ -33,7 +34,7 @@ returns-in_err-answer-clause-lacks g c =
     let told = g.C.Committer.told c.args.committer.now in
     lacking c.from_residual-in_err-answer.result
     (λ (start : Option Store) (closed : List (List Cut)) (hand : List Cut) (ascend : Ascend hand) (holds : IsGroupOf hand c.args.self.now.group) (s : IsSettledSo start closed c.args.self.now told).
-    lacks_behind start closed c.args.self.now _ c.reserve.ensures.items c.reserve-2.ensures.items (ap (λ (t : TextGroup). t.label) c.replace-group.ensures.after ∙ c.new-next.ensures.label ∙ c.copy_of.ensures) c.settle.ensures.notes told (g.C.Committer.told c.settle.new.committer) hand s
+    lacks_behind start closed c.args.self.now _ c.reserve.ensures.items c.reserve-2.ensures.items (ap (λ (group : TextGroup). group.label) c.replace-group.ensures.after ∙ c.new-next.ensures.label ∙ c.copy_of.ensures) c.settle.ensures.notes told (g.C.Committer.told c.settle.new.committer) hand s
     (λ known is. memory known hand ascend holds is))
 
 pub returns-in_err-extend_from_slice-clause-lacks : goal.returns-in_err-extend_from_slice-clause-lacks
@@ -44,7 +45,7 @@ returns-in_err-extend_from_slice-clause-lacks g c =
     let told' = g.C.Committer.told c.settle.new.committer in
     lacking c.from_residual-in_err-extend_from_slice.result
     (λ (start : Option Store) (closed : List (List Cut)) (hand : List Cut) (ascend : Ascend hand) (holds : IsGroupOf hand c.args.self.now.group) (s : IsSettledSo start closed c.args.self.now told).
-    lacks_behind start closed c.args.self.now _ c.reserve.ensures.items (c.in_err-extend_from_slice.ensures.items ∙ c.reserve-2.ensures.items) (ap (λ (t : TextGroup). t.label) c.replace-group.ensures.after ∙ c.new-next.ensures.label ∙ c.copy_of.ensures) c.settle.ensures.notes told told' hand s
+    lacks_behind start closed c.args.self.now _ c.reserve.ensures.items (c.in_err-extend_from_slice.ensures.items ∙ c.reserve-2.ensures.items) (ap (λ (group : TextGroup). group.label) c.replace-group.ensures.after ∙ c.new-next.ensures.label ∙ c.copy_of.ensures) c.settle.ensures.notes told told' hand s
     (λ known is. lacks_none known hand d.field-0 told' (settles known hand ascend holds is) c.in_default.is))
 
 pub returns-in_default-clause-closes : goal.returns-in_default-clause-closes
@@ -57,11 +58,12 @@ returns-in_default-clause-closes g c = λ start closed hand ascend holds s.
     let told' = g.C.Committer.told c.settle.new.committer in
     let refused = extended c.extend_from_slice.new.self.items c.reserve-2.new.self.items c.as_slice.result.now old.refused.items d.field-0.refused.items c.in_ok-extend_from_slice.ensures.items c.reserve-2.ensures.items c.as_slice.ensures.value in
     record {
-      beside = none_beside closed old _ hand d.field-0 s.beside (beside hand ascend holds) (ap (λ (t : TextGroup). t.label) c.replace-group.ensures.after ∙ c.new-next.ensures.label ∙ c.copy_of.ensures) c.settle.ensures.notes refused c.in_default.is c.reserve.ensures.items;
+      beside = none_beside closed old _ hand d.field-0 s.beside (beside hand ascend holds) (ap (λ (group : TextGroup). group.label) c.replace-group.ensures.after ∙ c.new-next.ensures.label ∙ c.copy_of.ensures) c.settle.ensures.notes refused c.in_default.is c.reserve.ensures.items;
       alone = λ known is.
           let p = s.alone known is in
-          no_batch known closed old.receipts.items c.reserve.new.self.items old.refused.items c.extend_from_slice.new.self.items told told' hand p
-          d.field-0 (settles p.known hand ascend holds p.still) c.in_default.is refused c.reserve.ensures.items;
+          progress_as (sym (ap (λ (group : TextGroup). group.label) c.replace-group.ensures.after ∙ c.new-next.ensures.label ∙ c.copy_of.ensures))
+          (no_batch known closed old.receipts.items c.reserve.new.self.items old.refused.items c.extend_from_slice.new.self.items told told' hand p
+          d.field-0 (settles p.known hand ascend holds p.still) c.in_default.is refused c.reserve.ensures.items);
     }
 
 pub returns-then-batches-last_batches-clause-lacks : goal.returns-then-batches-last_batches-clause-lacks
@@ -71,7 +73,7 @@ returns-then-batches-last_batches-clause-lacks g c =
     let told = g.C.Committer.told c.args.committer.now in
     let told' = g.C.Committer.told c.settle.new.committer in
     λ start closed hand ascend holds s.
-    lacks_behind start closed c.args.self.now _ c.reserve.ensures.items c.reserve-2.ensures.items (ap (λ (t : TextGroup). t.label) c.replace-group.ensures.after ∙ c.new-next.ensures.label ∙ c.copy_of.ensures) c.settle.ensures.notes told told' hand s
+    lacks_behind start closed c.args.self.now _ c.reserve.ensures.items c.reserve-2.ensures.items (ap (λ (group : TextGroup). group.label) c.replace-group.ensures.after ∙ c.new-next.ensures.label ∙ c.copy_of.ensures) c.settle.ensures.notes told told' hand s
     (λ known is. lacks_one known hand d.field-0 c.in-Ok.receipt told' (settles known hand ascend holds is) (c.in-Some.is ∙ ap Some c.in-Ok.is))
 
 pub returns-in_err-extend_from_slice-in-Ok-clause-lacks : goal.returns-in_err-extend_from_slice-in-Ok-clause-lacks
@@ -82,7 +84,7 @@ returns-in_err-extend_from_slice-in-Ok-clause-lacks g c =
     let told' = g.C.Committer.told c.settle.new.committer in
     lacking c.from_residual-in_err-extend_from_slice-in-Ok.result
     (λ (start : Option Store) (closed : List (List Cut)) (hand : List Cut) (ascend : Ascend hand) (holds : IsGroupOf hand c.args.self.now.group) (s : IsSettledSo start closed c.args.self.now told).
-    lacks_behind start closed c.args.self.now _ c.reserve.ensures.items (c.in_err-extend_from_slice-in-Ok.ensures.items ∙ c.reserve-2.ensures.items) (ap (λ (t : TextGroup). t.label) c.replace-group.ensures.after ∙ c.new-next.ensures.label ∙ c.copy_of.ensures) c.settle.ensures.notes told told' hand s
+    lacks_behind start closed c.args.self.now _ c.reserve.ensures.items (c.in_err-extend_from_slice-in-Ok.ensures.items ∙ c.reserve-2.ensures.items) (ap (λ (group : TextGroup). group.label) c.replace-group.ensures.after ∙ c.new-next.ensures.label ∙ c.copy_of.ensures) c.settle.ensures.notes told told' hand s
     (λ known is. lacks_one known hand d.field-0 c.in-Ok.receipt told' (settles known hand ascend holds is) (c.in-Some.is ∙ ap Some c.in-Ok.is)))
 
 pub returns-in-Ok-clause-closes : goal.returns-in-Ok-clause-closes
@@ -99,11 +101,12 @@ returns-in-Ok-clause-closes g c = λ start closed hand ascend holds s.
     let last = c.last_batches.ensures ∙ ap (λ l. last_batches 0 l) (c.as_slice-in-Ok.ensures.value ∙ c.reserve.ensures.items) in
     let above : last_batches 0 old.receipts.items < c.in-Ok.receipt.batches = above_last c.batches.result c.last_batches.result c.in-Ok.receipt.batches (last_batches 0 old.receipts.items) c.if-batches-last_batches.false c.batches.ensures last in
     record {
-      beside = one_beside closed old _ hand d.field-0 s.beside (beside hand ascend holds) (ap (λ (t : TextGroup). t.label) c.replace-group.ensures.after ∙ c.new-next.ensures.label ∙ c.copy_of.ensures) c.settle.ensures.notes refused c.in-Ok.receipt answer above receipts;
+      beside = one_beside closed old _ hand d.field-0 s.beside (beside hand ascend holds) (ap (λ (group : TextGroup). group.label) c.replace-group.ensures.after ∙ c.new-next.ensures.label ∙ c.copy_of.ensures) c.settle.ensures.notes refused c.in-Ok.receipt answer above receipts;
       alone = λ known is.
           let p = s.alone known is in
-          one_batch known closed old.receipts.items c.push_reserved.new.self.items old.refused.items c.extend_from_slice-in-Ok.new.self.items told told' hand p
-          d.field-0 c.in-Ok.receipt (settles p.known hand ascend holds p.still) answer refused receipts;
+          progress_as (sym (ap (λ (group : TextGroup). group.label) c.replace-group.ensures.after ∙ c.new-next.ensures.label ∙ c.copy_of.ensures))
+          (one_batch known closed old.receipts.items c.push_reserved.new.self.items old.refused.items c.extend_from_slice-in-Ok.new.self.items told told' hand p
+          d.field-0 c.in-Ok.receipt (settles p.known hand ascend holds p.still) answer refused receipts);
     }
 
 pub returns-clause-stops : goal.returns-clause-stops
@@ -119,7 +122,7 @@ returns-clause-stops g c = λ start closed hand ascend holds s.
     let decided = subst (λ a. AnswerDecided a) answer d.ensures.decided in
     let few = few_refused hand c.replace-group.result judged.examinations judged.number mine judged.are_examinations in
     let long = ap (λ (l : List Refusal). length l) judged.refused in
-    stops_behind start closed c.args.self.now _ c.reserve.ensures.items c.reserve-2.ensures.items (ap (λ (t : TextGroup). t.label) c.replace-group.ensures.after ∙ c.new-next.ensures.label ∙ c.copy_of.ensures) c.settle.ensures.notes told told' hand _ s
+    stops_behind start closed c.args.self.now _ c.reserve.ensures.items c.reserve-2.ensures.items (ap (λ (group : TextGroup). group.label) c.replace-group.ensures.after ∙ c.new-next.ensures.label ∙ c.copy_of.ensures) c.settle.ensures.notes told told' hand _ s
     (stops_beside hand d.field-0 c.settle.new.clashes.items judged c.in-Err.fault _ answer decided c.end_of.ensures refl)
     (λ known is.
     let settled = settles known hand ascend holds is in
