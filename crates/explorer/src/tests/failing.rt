@@ -117,6 +117,8 @@ const IMPORT: &[&str] = &["import", "s", "f"];
 
 const QUERY: &[&str] = &["query", "s"];
 
+const BATCHES: &[&str] = &["batches", "s"];
+
 const SERVE: &[&str] = &["serve", "s", "a", "f", "--readers", "1", "--connections", "1"];
 
 const NOTHING_STORED: &str = "stored 0\nbatches 0\njournal 0\n";
@@ -140,12 +142,13 @@ type Row = (
     Option<u64>,
 );
 
-const ROWS: [Row; 15] = [
+const ROWS: [Row; 16] = [
     (CREATE, Device::EmptyDisk, 0, 2, 6, "", "disk fault\n", None),
     (CREATE, Device::Output, 0, 0, 5, "", "write fault\n", EMPTY),
     // An opening makes the calls 3 to 7, and a batch the next four.
     (QUERY, Device::Disk, 3, 7, 6, "", "disk fault\n", None),
     (QUERY, Device::Output, 0, 0, 5, "", "write fault\n", EMPTY),
+    (BATCHES, Device::Disk, 3, 7, 6, "", "disk fault\n", None),
     (IMPORT, Device::Disk, 3, 7, 6, "", "disk fault\n", None),
     (IMPORT, Device::Disk, 8, 11, 6, NOTHING_STORED, "disk fault\n", None),
     (IMPORT, Device::File, 0, 1, 4, NOTHING_STORED, "read fault\n", EMPTY),
