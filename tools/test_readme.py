@@ -36,11 +36,12 @@ class Commands(unittest.TestCase):
         self.assertEqual(self.output_of(command), f"{answer}\n")
 
     def test_a_store_is_made_filled_asked_and_served(self):
-        create, import_file, query, serve, get, post = [line for line in LINES if "games.store" in line or "curl " in line]
+        create, import_file, query, batches, serve, get, post = [line for line in LINES if "games.store" in line or "curl " in line]
         self.assertEqual(self.output_of(create), "created\n")
         self.assertEqual(self.output_of(import_file), "stored 5\nbatches 1\njournal 1\n")
         answer = self.output_of(query)
         self.assertEqual(answer.encode().rstrip(), support.count("play=e2e4", support.GAMES.read_bytes())[1])
+        self.assertEqual(self.output_of(batches), "1 5 five\n")
         words = ["bash", "-c", f"exec {self.here(serve.removesuffix(' &'))}"]
         server = subprocess.Popen(words, cwd=self.folder, stdout=subprocess.PIPE)
         try:

@@ -1,3 +1,4 @@
 pub mod Writing
 pub mod Values
+pub mod Unnamed
 pub mod PlainFound

@@ -1,5 +1,5 @@
--- The values of lists, and that no value of an answer is a float.
-use Rattle.std.proofs.Common.{◌≡◌, ◌∙◌, refl, sym, ap, arith, ℕ, ◌+◌, ◌<◌, ◌≤◌, min, List, [], ◌∷◌, ◌++◌, map, take, length, get_or, false, Option, None, Some, Vec}
+-- The values of lists, moves with their openings, and that no value of an answer is a float.
+use Rattle.std.proofs.Common.{◌≡◌, ◌∙◌, refl, sym, ap, arith, ℕ, zero, suc, ◌+◌, ◌<◌, ◌≤◌, min, List, [], ◌∷◌, ◌++◌, map, take, length, get_or, false, Option, None, Some, Vec}
 use Rattle.std.proofs.lemmas.List.{take_more, take_min, map-append}
 use Rattle.std.proofs.Math.Seq.{take-length}
 use Rattle.std.specs.declared.alloc.Global.{Global}
@@ -15,7 +15,9 @@ use Rattle.explorer_model.specs.declared.answer.MoveLine.{MoveLine}
 use Rattle.explorer_model.specs.declared.archive.Outcome.{Outcome}
 use Rattle.explorer_model.specs.declared.archive.Outcome.TheVariants as outcomes
 use Rattle.explorer_model.specs.declared.fault.Refusal.{Refusal}
-use Rattle.explorer_model.specs.Answer.{items_by, array_by, winner_value, listed_value, game_value, move_value, move_items, month_value, answer_value, unnamed}
+use Rattle.explorer_model.specs.declared.opening.Naming.{Naming}
+use Rattle.explorer_model.specs.declared.opening.Opening.{Opening}
+use Rattle.explorer_model.specs.Answer.{items_by, array_by, winner_value, listed_value, game_value, opening_value, move_value, move_items, month_value, answer_value}
 use Rattle.explorer_model.specs.Replies.{refusal_value}
 
 items_of-map : {A : Type 0} (value : A → Data) (xs : List A) → items_of (map value xs) ≡ items_by value xs
@@ -41,6 +43,52 @@ all_valued value values xs n all are =
     view-Array values
     ∙ ap (λ (items : Items). array items) (ap items_of (are ∙ ap (λ ys. map value ys) (take_whole n xs all)) ∙ items_of-map value xs)
 
+-- ---- moves with their openings
+
+-- the value of each move with its opening; a move that the openings do not reach has none
+abbrev pub move_values : List MoveLine → List (Option Opening) → List Data
+move_values [] openings = []
+move_values (line ∷ lines) [] = move_value line None ∷ move_values lines []
+move_values (line ∷ lines) (opening ∷ openings) = move_value line opening ∷ move_values lines openings
+
+items_of-moves : (lines : List MoveLine) (openings : List (Option Opening)) → items_of (move_values lines openings) ≡ move_items lines openings
+items_of-moves [] openings = refl
+items_of-moves (line ∷ lines) [] = ap (λ (items : Items). item (move_value line None) items) (items_of-moves lines [])
+items_of-moves (line ∷ lines) (opening ∷ openings) = ap (λ (items : Items). item (move_value line opening) items) (items_of-moves lines openings)
+
+length-moves : (lines : List MoveLine) (openings : List (Option Opening)) → length (move_values lines openings) ≡ length lines
+length-moves [] openings = refl
+length-moves (line ∷ lines) [] = ap suc (length-moves lines [])
+length-moves (line ∷ lines) (opening ∷ openings) = ap suc (length-moves lines openings)
+
+get_or-moves : (lines : List MoveLine) (openings : List (Option Opening)) (i : ℕ) (d : MoveLine) (e : Data) → i < length lines
+    → get_or (move_values lines openings) i e ≡ move_value (get_or lines i d) (get_or openings i None)
+get_or-moves [] openings i d e within = absurd (omega (arith, within))
+get_or-moves (line ∷ lines) [] zero d e within = refl
+get_or-moves (line ∷ lines) [] (suc i) d e within = get_or-moves lines [] i d e (omega (arith, within))
+get_or-moves (line ∷ lines) (opening ∷ openings) zero d e within = refl
+get_or-moves (line ∷ lines) (opening ∷ openings) (suc i) d e within = get_or-moves lines openings i d e (omega (arith, within))
+
+-- one more of the moves has its value
+pub one_more_move : (values new : List Value) (one : Value) (lines : List MoveLine) (openings : List (Option Opening)) (i : ℕ) (d : MoveLine)
+    → map view values ≡ take i (move_values lines openings) → i < length lines
+    → view one ≡ move_value (get_or lines i d) (get_or openings i None) → new ≡ values ++ one ∷ [] → map view new ≡ take (i + 1) (move_values lines openings)
+one_more_move values new one lines openings i d before within is pushed =
+    let value : Data = move_value (get_or lines i d) (get_or openings i None) in
+    let inside : i < length (move_values lines openings) = rw (length-moves lines openings) within in
+    let more : take (i + 1) (move_values lines openings) ≡ take i (move_values lines openings) ++ get_or (move_values lines openings) i value ∷ [] =
+        take_more (move_values lines openings) i value inside in
+    rw (pushed, more, map-append view values (one ∷ []), before, is, get_or-moves lines openings i d value within) refl
+
+-- all of the moves have their values
+pub all_moves_valued : (values : Vec Value Global) (lines : List MoveLine) (openings : List (Option Opening)) (n : ℕ) → length lines ≤ n
+    → map view values.items ≡ take n (move_values lines openings) → view (Array values) ≡ array (move_items lines openings)
+all_moves_valued values lines openings n all are =
+    let whole : take n (move_values lines openings) ≡ move_values lines openings = take_whole n (move_values lines openings) (rw (length-moves lines openings) all) in
+    view-Array values ∙ ap (λ (items : Items). array items) (ap items_of (are ∙ whole) ∙ items_of-moves lines openings)
+
+-- ---- no value is a float
+
 no_float_in : {A : Type 0} (value : A → Data) → ((x : A) → has_float (value x) ≡ false) → (xs : List A) → items_have_float (items_by value xs) ≡ false
 no_float_in value none [] = refl
 no_float_in value none (x ∷ xs) = rw (none x) (no_float_in value none xs)
@@ -57,17 +105,12 @@ no_float-game : (game : Option Listed) → has_float (game_value game) ≡ false
 no_float-game None = refl
 no_float-game (Some game) = no_float-listed game
 
--- a move without an opening
-abbrev pub plain_move : MoveLine → Data
-plain_move line = move_value line None
+pub no_float-opening : (opening : Option Opening) → has_float (opening_value opening) ≡ false
+no_float-opening None = refl
+no_float-opening (Some opening) = refl
 
-no_float-move : (line : MoveLine) → has_float (plain_move line) ≡ false
-no_float-move line = rw (no_float-game line.game) refl
-
--- where no opening is known, no move has one
-pub moves-unnamed : (lines : List MoveLine) → items_by plain_move lines ≡ move_items lines (unnamed lines).moves
-moves-unnamed [] = refl
-moves-unnamed (line ∷ lines) = ap (λ (items : Items). item (plain_move line) items) (moves-unnamed lines)
+no_float-move : (line : MoveLine) (opening : Option Opening) → has_float (move_value line opening) ≡ false
+no_float-move line opening = rw (no_float-game line.game, no_float-opening opening) refl
 
 pub no_float-month : (line : MonthLine) → has_float (month_value line) ≡ false
 no_float-month line = refl
@@ -75,18 +118,19 @@ no_float-month line = refl
 pub no_float-games : (games : List Listed) → items_have_float (items_by listed_value games) ≡ false
 no_float-games games = no_float_in listed_value no_float-listed games
 
-pub no_float-moves : (lines : List MoveLine) → items_have_float (move_items lines (unnamed lines).moves) ≡ false
-no_float-moves lines = ap items_have_float (sym (moves-unnamed lines)) ∙ no_float_in plain_move no_float-move lines
+pub no_float-moves : (lines : List MoveLine) (openings : List (Option Opening)) → items_have_float (move_items lines openings) ≡ false
+no_float-moves [] openings = refl
+no_float-moves (line ∷ lines) [] = rw (no_float-move line None) (no_float-moves lines [])
+no_float-moves (line ∷ lines) (opening ∷ openings) = rw (no_float-move line opening) (no_float-moves lines openings)
 
-with_months : (found : Found) (history : Option (List MonthLine))
-    → has_float (answer_value (record found { history = history }) (unnamed found.moves)) ≡ false
-with_months found None =
-    rw (no_float-moves found.moves, no_float_in listed_value no_float-listed found.recent, no_float_in listed_value no_float-listed found.top) refl
-with_months found (Some months) =
-    rw (no_float_in month_value no_float-month months, no_float-moves found.moves, no_float_in listed_value no_float-listed found.recent, no_float_in listed_value no_float-listed found.top) refl
+with_months : (found : Found) (naming : Naming) (history : Option (List MonthLine)) → has_float (answer_value (record found { history = history }) naming) ≡ false
+with_months found naming None =
+    rw (no_float-moves found.moves naming.moves, no_float-opening naming.whole, no_float_in listed_value no_float-listed found.recent, no_float_in listed_value no_float-listed found.top) refl
+with_months found naming (Some months) =
+    rw (no_float_in month_value no_float-month months, no_float-moves found.moves naming.moves, no_float-opening naming.whole, no_float_in listed_value no_float-listed found.recent, no_float_in listed_value no_float-listed found.top) refl
 
-pub no_float-answer : (found : Found) → has_float (answer_value found (unnamed found.moves)) ≡ false
-no_float-answer found = with_months found found.history
+pub no_float-answer : (found : Found) (naming : Naming) → has_float (answer_value found naming) ≡ false
+no_float-answer found naming = with_months found naming found.history
 
 pub no_float-refusal : (refusal : Refusal) → has_float (refusal_value refusal) ≡ false
 no_float-refusal refusal = refl

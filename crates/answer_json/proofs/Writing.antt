@@ -2,7 +2,7 @@
 use Rattle.std.proofs.Common.{◌≡◌, refl, sym, ap, ◌∙◌, arith, ℕ, ◌+◌, ◌<◌, ◌≤◌, Bool, true, false, List, [], ◌∷◌, ◌++◌, take, length, get_or, codes, decimal, append_assoc}
 use Rattle.std.proofs.lemmas.List.{append-nil, take_all, take_more}
 use Rattle.serde_json.proofs.OnLiterals.{serde_json_on_literals}
-use Rattle.serde_json.specs.Data.{Data, array, Items, no_items, item, object, member, no_members, null}
+use Rattle.serde_json.specs.Data.{Data, array, Items, no_items, item, object, member, no_members}
 use Rattle.serde_json.specs.View.{view}
 use Rattle.serde_json.specs.Written.{comma_if, compact_text, items_text}
 use Rattle.serde_json.specs.declared.value.Value.{Value}
@@ -89,20 +89,20 @@ stored-pieces batches stored refused =
 
 -- ---- an answer
 
-pub lists-regroup : (start m v o r t g : List ℕ)
-    → ((start ++ (m ++ v)) ++ (o ++ r)) ++ (t ++ g) ≡ start ++ (m ++ v ++ o ++ r ++ t ++ g)
-lists-regroup start m v o r t g = simp append_assoc
+pub lists-regroup : (start m v n o k r t g : List ℕ)
+    → (((start ++ (m ++ v)) ++ (n ++ o)) ++ (k ++ r)) ++ (t ++ g) ≡ start ++ (m ++ v ++ n ++ o ++ k ++ r ++ t ++ g)
+lists-regroup start m v n o k r t g = simp append_assoc
 
-answer-regroup : (a b c d k h m v o r t g w n e : List ℕ)
-    → ((([] ++ (a ++ b)) ++ (c ++ d)) ++ k) ++ h ++ (m ++ v ++ o ++ r ++ t ++ g) ++ (w ++ n) ++ e
-    ≡ a ++ (b ++ (c ++ (d ++ (k ++ (h ++ (m ++ (v ++ (o ++ (r ++ (t ++ (g ++ (w ++ (n ++ e)))))))))))))
-answer-regroup a b c d k h m v o r t g w n e = simp append_assoc
+answer-regroup : (a b c d i h m v n o k r t g w l e : List ℕ)
+    → ((([] ++ (a ++ b)) ++ (c ++ d)) ++ i) ++ h ++ (m ++ v ++ n ++ o ++ k ++ r ++ t ++ g) ++ (w ++ l) ++ e
+    ≡ a ++ (b ++ (c ++ (d ++ (i ++ (h ++ (m ++ (v ++ (n ++ (o ++ (k ++ (r ++ (t ++ (g ++ (w ++ (l ++ e)))))))))))))))
+answer-regroup a b c d i h m v n o k r t g w l e = simp append_assoc
 
-pub answer-pieces : (black draws white : ℕ) (months moves recent top : Data)
+pub answer-pieces : (black draws white : ℕ) (months moves opening recent top : Data)
     → ((([] ++ (codes "{\"black\":" ++ decimal black)) ++ (codes ",\"draws\":" ++ decimal draws)) ++ codes ",\"history\":")
     ++ compact_text months
-    ++ (codes ",\"moves\":" ++ compact_text moves ++ codes ",\"opening\":null,\"recentGames\":" ++ compact_text recent
-    ++ codes ",\"topGames\":" ++ compact_text top)
+    ++ (codes ",\"moves\":" ++ compact_text moves ++ codes ",\"opening\":" ++ compact_text opening
+    ++ codes ",\"recentGames\":" ++ compact_text recent ++ codes ",\"topGames\":" ++ compact_text top)
     ++ (codes ",\"white\":" ++ decimal white)
     ++ 125 ∷ []
     ≡ compact_text (object
@@ -110,13 +110,14 @@ pub answer-pieces : (black draws white : ℕ) (months moves recent top : Data)
     (member (codes "draws") (count_value draws)
     (member (codes "history") months
     (member (codes "moves") moves
-    (member (codes "opening") null
+    (member (codes "opening") opening
     (member (codes "recentGames") recent
     (member (codes "topGames") top
     (member (codes "white") (count_value white)
     no_members)))))))))
 unfolding serde_json_on_literals
-answer-pieces black draws white months moves recent top =
+answer-pieces black draws white months moves opening recent top =
     answer-regroup (codes "{\"black\":") (decimal black) (codes ",\"draws\":") (decimal draws) (codes ",\"history\":")
-    (compact_text months) (codes ",\"moves\":") (compact_text moves) (codes ",\"opening\":null,\"recentGames\":")
-    (compact_text recent) (codes ",\"topGames\":") (compact_text top) (codes ",\"white\":") (decimal white) (125 ∷ [])
+    (compact_text months) (codes ",\"moves\":") (compact_text moves) (codes ",\"opening\":") (compact_text opening)
+    (codes ",\"recentGames\":") (compact_text recent) (codes ",\"topGames\":") (compact_text top)
+    (codes ",\"white\":") (decimal white) (125 ∷ [])

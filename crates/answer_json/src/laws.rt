@@ -1,13 +1,23 @@
-//! The law of answers. It is the contract of a function that has nothing to do.
-ghost use Rattle.std.specs.Prelude.{List};
+//! The laws of answers. Each is the contract of a function that has nothing to do.
+ghost use Rattle.std.specs.Prelude.{◌≡◌, List, [], map};
 ghost use Rattle.explorer_model.specs.declared.answer.Found.{Found};
 ghost use Rattle.explorer_model.specs.declared.archive.Batch.{Batch};
+ghost use Rattle.explorer_model.specs.declared.opening.Naming.{Naming};
 ghost use Rattle.explorer_model.specs.declared.query.Query.{Query};
+ghost use Rattle.explorer_model.specs.Answer.{answer_body, named_body};
 ghost use Rattle.explorer_model.specs.Finds.{IsFound};
+ghost use Rattle.explorer_model.specs.Openings.{IsNaming};
 ghost use Rattle.answer_json.specs.Plain.{IsPlainFound};
 
 /// What is found in a journal has a body: its SAN texts and the ids of its games are ASCII.
 pub fn what_is_found_is_plain()
     ensures { (journal : List Batch) (query : Query) (found : Found) → IsFound journal query found
         → IsPlainFound found }
+{}
+
+/// By a book without a line an answer is written as where no opening is known.
+pub fn an_empty_book_names_nothing()
+    ensures { (query : Query) (found : Found) (naming : Naming)
+        → IsNaming [] query (map (λ line. line.next) found.moves) naming
+        → named_body found naming ≡ answer_body found }
 {}

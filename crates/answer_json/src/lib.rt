@@ -5,6 +5,7 @@ pub mod answer;
 mod game;
 pub mod laws;
 mod line;
+mod opening;
 mod pieces;
 pub mod refusal;
 mod stored;

@@ -1,23 +1,31 @@
 //! The lines of an answer: one for a move, and one for a month.
-ghost use Rattle.std.specs.Prelude.{◌≡◌, ◌++◌, IfOk, OnOk, None};
+ghost use Rattle.std.specs.Prelude.{◌≡◌, ◌++◌, IfOk, OnOk};
 ghost use Rattle.std.specs.List.{All};
+ghost use Rattle.std.specs.Option.{option_copied};
 ghost use Rattle.serde_json.specs.Data.{array};
 ghost use Rattle.serde_json.specs.View.{view};
 ghost use Rattle.serde_json.specs.Written.{compact_text};
-ghost use Rattle.explorer_model.specs.Answer.{array_by, move_items, move_value, month_value, unnamed};
+ghost use Rattle.explorer_model.specs.Answer.{array_by, move_items, move_value, month_value};
 ghost use Rattle.answer_json.specs.Plain.{IsPlainLine};
 
 use crate::game::game_value;
+use crate::opening::{opening_at, opening_value};
 use crate::pieces::push_value;
 use crate::texts::{month_text, text_of};
 use explorer_model::answer::{MonthLine, MoveLine};
+use explorer_model::opening::Opening;
 use fen_uci::write_uci;
 use serde_json::{Value, json};
 use std::alloc::{AllocError, Global};
 
-fn move_value(alloc: Global, line: &MoveLine) -> Result<Value, AllocError>
+fn move_value(
+    alloc: Global,
+    line: &MoveLine,
+    opening: Option<&Opening>,
+) -> Result<Value, AllocError>
     requires { IsPlainLine line.now }
-    ensures { IfOk result (λ value. view value ≡ move_value line.now None) }
+    ensures { IfOk result (λ value. view value
+        ≡ move_value line.now (option_copied opening.entry)) }
 {
     let uci = write_uci(line.next);
     json!(in alloc; {
@@ -25,21 +33,25 @@ fn move_value(alloc: Global, line: &MoveLine) -> Result<Value, AllocError>
         "black": line.totals.black,
         "draws": line.totals.draws,
         "game": game_value(alloc, line.game.as_ref())?,
-        "opening": null,
+        "opening": opening_value(alloc, opening)?,
         "san": text_of(line.san.as_slice()),
         "uci": text_of(uci.as_slice()),
         "white": line.totals.white
     })
 }
 
-pub fn moves_value(alloc: Global, lines: &[MoveLine]) -> Result<Value, AllocError>
+/// The moves, each with its opening; a move that the openings do not reach has none.
+pub fn moves_value(
+    alloc: Global,
+    lines: &[MoveLine],
+    openings: &[Option<Opening>],
+) -> Result<Value, AllocError>
     requires { All IsPlainLine lines.now }
-    ensures { IfOk result (λ value. view value
-        ≡ array (move_items lines.now (unnamed lines.now).moves)) }
+    ensures { IfOk result (λ value. view value ≡ array (move_items lines.now openings.now)) }
 {
     let mut values = Vec::with_capacity(alloc, lines.len())?;
-    for line in lines {
-        values.push(move_value(alloc, line)?)?;
+    for (place, line) in lines.iter().enumerate() {
+        values.push(move_value(alloc, line, opening_at(openings, place))?)?;
     }
     Ok(Value::Array(values))
 }

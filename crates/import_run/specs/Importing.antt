@@ -1,5 +1,5 @@
 -- Bridge: how a group ends an import.
-use Rattle.std.specs.Prelude.{◌≡◌, List, Option, Some, Err}
+use Rattle.std.specs.Prelude.{◌≡◌, ℕ, List, Option, Some, Err}
 use Rattle.explorer_model.specs.declared.fault.Stop.{Stop}
 use Rattle.explorer_model.specs.declared.fault.Stop.TheVariants as stops
 use Rattle.explorer_model.specs.Cuts.{Cut}

@@ -1,5 +1,5 @@
 -- How far an import has come, where the store at its beginning is known.
-use Rattle.std.specs.Prelude.{◌≡◌, ⊤, List, [], ◌∷◌, ◌++◌, map, IsSome, Option, Some}
+use Rattle.std.specs.Prelude.{◌≡◌, ⊤, ℕ, List, [], ◌∷◌, ◌++◌, map, IsSome, Option, Some}
 use Rattle.std.specs.List.{AllByRecursion}
 use Rattle.explorer_model.specs.declared.archive.Batch.{Batch}
 use Rattle.explorer_model.specs.declared.archive.Game.{Game}

@@ -266,24 +266,35 @@ fn second_reader_finds_what_the_first_posted(rt: HostRuntime) -> Result<(), Fail
     Ok(())
 }
 
-/// An import whose reply can't be written, and a question of the other reader.
-fn broken_talk_and_another(alloc: Global) -> Result<Vec<Talk>, AllocError> {
+/// An import whose reply can't be written, and two connections of the other reader: a question, and
+/// one of HTTP/1.0 with another question behind it.
+fn broken_talk_and_others(alloc: Global) -> Result<Vec<Talk>, AllocError> {
     let mut broken = talk_of(0, post_of(alloc, "aaaaaaa1")?);
     broken.is_broken = true;
     let mut talks = vec![in alloc; broken]?;
     talks.push(talk_of(1, GET.as_bytes().to_vec(alloc)?))?;
+    let mut requests = b"GET /lichess HTTP/1.0\r\n\r\n".to_vec(alloc)?;
+    requests.extend_from_slice(GET.as_bytes())?;
+    talks.push(talk_of(1, requests))?;
     Ok(talks)
 }
+
+/// One game is found, and the connection is closed.
+const LAST: &[u8] =
+    b"HTTP/1.1 200 OK\r\nContent-Type: application/json\r\nContent-Length: 88\r\n\
+X-Explorer-Batches: 1\r\nConnection: close\r\n\r\n\
+{\"black\":0,\"draws\":0,\"moves\":[],\"opening\":null,\"recentGames\":[],\"topGames\":[],\"white\":1}";
 
 #[test]
 fn import_stands_whose_reply_is_not_written(rt: HostRuntime) -> Result<(), Fail> {
     let alloc: Global = rt.alloc();
-    let written = replies(&rt, alloc, Vec::new(alloc), broken_talk_and_another(alloc)?)?;
-    let wanted: [&[(u32, &str)]; 2] = [&[], &[(1, ONE_GAME)]];
-    assert_eq!(rt; written.len(), 2);
-    for (written, replies) in written.iter().zip(wanted) {
-        assert!(rt; are_found(alloc, written.as_slice(), replies)?);
-    }
+    let written = replies(&rt, alloc, Vec::new(alloc), broken_talk_and_others(alloc)?)?;
+    let [broken, other, last] = written.as_slice() else {
+        return Err(Fail::from("there are three connections"));
+    };
+    assert_eq!(rt; broken.len(), 0);
+    assert!(rt; are_found(alloc, other.as_slice(), &[(1, ONE_GAME)])?);
+    assert_eq!(rt; last.as_slice(), LAST);
     Ok(())
 }
 

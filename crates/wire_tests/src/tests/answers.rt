@@ -3,7 +3,7 @@ ghost use Rattle.std.specs.Prelude.{◌≡◌, ◌∷◌, [], IfOk};
 ghost use Rattle.std.specs.List.{All};
 ghost use Rattle.answer_json.specs.Plain.{HasPlainId, IsPlainLine, IsPlainFound};
 
-use answer_json::answer::body;
+use answer_json::answer::{body, named_body};
 use answer_json::refusal::why_text;
 use answer_json::stored_body;
 use explorer_model::answer::{Found, Listed, MonthLine, MoveLine, Totals};
@@ -11,6 +11,7 @@ use explorer_model::archive::{Bytes, Classes, GameId, Group, Mode, Month, Outcom
 use explorer_model::chess::{Move, Role};
 use explorer_model::fault::{GameFault, Refusal, TagFault, TagName, Why};
 use explorer_model::list::Items;
+use explorer_model::opening::{Naming, Opening};
 use explorer_model::square::Square;
 use explorer_model::text::Name;
 use std::alloc::{AllocError, Global};
@@ -87,15 +88,16 @@ fn line(alloc: Global, white: &str) -> Result<MoveLine, AllocError>
     })
 }
 
-/// The answer for the start, after one game that White won by the move e4.
-fn answer(
-    alloc: Global,
-    white: &str,
-    history: Option<Items<MonthLine>>,
-) -> Result<Found, AllocError>
+/// The answer for the start, after one game that White won by the move e4, with a history of so many
+/// months if there is one.
+fn answer(alloc: Global, white: &str, count: Option<u32>) -> Result<Found, AllocError>
     ensures { IfOk result IsPlainFound }
 {
     let line = line(alloc, white)?;
+    let history = match count {
+        Some(count) => Some(months(alloc, count)?),
+        None => None,
+    };
     Ok(Found {
         totals: WHITE_WON,
         moves: one(alloc, line)?,
@@ -114,13 +116,19 @@ fn game_text(alloc: Global, white: &str) -> Result<String, AllocError> {
     )
 }
 
-/// What is written for the answer.
-fn answer_text(alloc: Global, white: &str, history: &str) -> Result<String, AllocError> {
+/// What is written for the answer, with the openings of the whole and of the move.
+fn answer_text(
+    alloc: Global,
+    white: &str,
+    history: &str,
+    whole: &str,
+    step: &str,
+) -> Result<String, AllocError> {
     let game = game_text(alloc, white)?;
     format!(in alloc;
         "{{\"black\":0,\"draws\":0,{history}\"moves\":[{{\"averageRating\":1500,\
-         \"black\":0,\"draws\":0,\"game\":{game},\"opening\":null,\"san\":\"e4\",\
-         \"uci\":\"e2e4\",\"white\":1}}],\"opening\":null,\"recentGames\":[{game}],\
+         \"black\":0,\"draws\":0,\"game\":{game},\"opening\":{step},\"san\":\"e4\",\
+         \"uci\":\"e2e4\",\"white\":1}}],\"opening\":{whole},\"recentGames\":[{game}],\
          \"topGames\":[{game}],\"white\":1}}"
     )
 }
@@ -144,27 +152,86 @@ fn is_written(
     count: Option<u32>,
     text: &str,
 ) -> Result<bool, AllocError> {
-    let history = match count {
-        Some(count) => Some(months(alloc, count)?),
-        None => None,
-    };
-    let found = answer(alloc, white, history)?;
+    let found = answer(alloc, white, count)?;
     Ok(body(alloc, &found)?.as_slice() == text.as_bytes())
 }
+
+const HISTORY: &str = "\"history\":[{\"black\":0,\"draws\":0,\"month\":\"2020-01\",\"white\":1}],";
 
 #[test]
 fn writes_worked_answers(rt: HostRuntime) -> Result<(), Fail> {
     let alloc = rt.alloc();
-    let history = "\"history\":[{\"black\":0,\"draws\":0,\"month\":\"2020-01\",\"white\":1}],";
     let table = [
         ("Ann", "Ann", None, ""),
-        ("Ann", "Ann", Some(1), history),
+        ("Ann", "Ann", Some(1), HISTORY),
         ("Ann", "Ann", Some(0), "\"history\":[],"),
         ("\"Ann\" \u{dc}nal\n", "\\\"Ann\\\" \u{dc}nal\\n", None, ""),
     ];
     for (white, written, count, history) in table {
-        let text = answer_text(alloc, written, history)?;
+        let text = answer_text(alloc, written, history, "null", "null")?;
         assert!(rt; is_written(alloc, white, count, text.as_str())?, "{text}");
+    }
+    Ok(())
+}
+
+/// The opening B00 of this name.
+fn opening(alloc: Global, name: Option<&str>) -> Result<Option<Opening>, AllocError> {
+    let Some(name) = name else {
+        return Ok(None);
+    };
+    Ok(Some(Opening {
+        eco: Name::from_string(String::from_str(alloc, "B00")?),
+        name: Name::from_string(String::from_str(alloc, name)?),
+    }))
+}
+
+/// The naming of the answer's whole and of its move, by the names of openings.
+fn naming(alloc: Global, whole: Option<&str>, step: Option<&str>) -> Result<Naming, AllocError> {
+    let step = opening(alloc, step)?;
+    let mut moves = Vec::new(alloc);
+    moves.push(step)?;
+    Ok(Naming {
+        whole: opening(alloc, whole)?,
+        moves: Items::from_vec(moves),
+    })
+}
+
+/// Whether the answer with these openings is written so.
+fn is_named(
+    alloc: Global,
+    count: Option<u32>,
+    naming: &Naming,
+    text: &str,
+) -> Result<bool, AllocError> {
+    let found = answer(alloc, "Ann", count)?;
+    Ok(named_body(alloc, &found, naming)?.as_slice() == text.as_bytes())
+}
+
+const KINGS_PAWN: &str = "{\"eco\":\"B00\",\"name\":\"King's Pawn Game\"}";
+
+/// The opening of the whole, as it is written, the opening of the move, as it is written, and whether
+/// there is a history.
+const OPENINGS: [(Option<&str>, &str, Option<&str>, &str, Option<u32>); 4] = [
+    (None, "null", Some("King's Pawn Game"), KINGS_PAWN, None),
+    (Some("King's Pawn Game"), KINGS_PAWN, None, "null", None),
+    (None, "null", Some("King's Pawn Game"), KINGS_PAWN, Some(1)),
+    (
+        Some("\"a\\b\"\t\u{41d}"),
+        "{\"eco\":\"B00\",\"name\":\"\\\"a\\\\b\\\"\\t\u{41d}\"}",
+        Some(""),
+        "{\"eco\":\"B00\",\"name\":\"\"}",
+        Some(1),
+    ),
+];
+
+#[test]
+fn writes_openings(rt: HostRuntime) -> Result<(), Fail> {
+    let alloc = rt.alloc();
+    for (whole, whole_text, step, step_text, count) in OPENINGS {
+        let history = if count.is_some() { HISTORY } else { "" };
+        let text = answer_text(alloc, "Ann", history, whole_text, step_text)?;
+        let naming = naming(alloc, whole, step)?;
+        assert!(rt; is_named(alloc, count, &naming, text.as_str())?, "{text}");
     }
     Ok(())
 }

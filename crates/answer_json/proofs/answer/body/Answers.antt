@@ -1,12 +1,8 @@
-use Rattle.std.proofs.Common.{◌∙◌, ap, arith}
-use Rattle.serde_json.specs.Written.{has_float}
-use Rattle.explorer_model.specs.Answer.{named_body}
-use Rattle.answer_json.proofs.Values.{no_float-answer}
+use Rattle.std.proofs.Common.{◌≡◌, ◌∙◌, ℕ, List, IfOk, subst}
+use Rattle.answer_json.proofs.Unnamed.{nothing-reached}
 use Rattle.answer_json.proofs.answer.body.Goals as goal
 
-pub returns-in_ok-value_without_history-in-None : goal.returns-in_ok-value_without_history-in-None
-unfolding named_body
-returns-in_ok-value_without_history-in-None c =
-    let is = c.in_ok-value_without_history-in-None.ensures in
-    let sound = ap has_float is ∙ no_float-answer c.args.found.now in
-    grind (arith, c.to_vec.ensures.text, is, sound)
+pub returns : goal.returns
+returns c =
+    let Gives : List ℕ → Type 0 = λ body. IfOk c.named_body.result (λ bytes. bytes.items ≡ body) in
+    subst Gives (nothing-reached c.args.found.now c.from_vec.result (c.from_vec.ensures ∙ c.new.ensures.items)) c.named_body.ensures

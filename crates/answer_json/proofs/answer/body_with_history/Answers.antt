@@ -1,6 +1,6 @@
 use Rattle.std.proofs.Common.{◌≡◌}
 use Rattle.serde_json.specs.Data.{array}
-use Rattle.explorer_model.specs.Answer.{array_by, listed_value, month_value, move_items, named_body, unnamed}
+use Rattle.explorer_model.specs.Answer.{array_by, listed_value, month_value, move_items, named_body, opening_value}
 use Rattle.answer_json.proofs.Writing.{answer-pieces}
 use Rattle.answer_json.proofs.answer.body_with_history.Goals as goal
 
@@ -8,6 +8,7 @@ pub returns : goal.returns
 unfolding named_body
 returns c =
     let found = c.args.found.now in
+    let naming = c.args.naming.now in
     rw (
       c.in_ok-push.ensures.items,
       c.in_ok-push_value-3.ensures,
@@ -24,5 +25,5 @@ returns c =
       c.requires.with,
     )
     (answer-pieces found.totals.black found.totals.draws found.totals.white
-    (array_by month_value c.args.months.now) (array (move_items found.moves (unnamed found.moves).moves))
+    (array_by month_value c.args.months.now) (array (move_items found.moves naming.moves)) (opening_value naming.whole)
     (array_by listed_value found.recent) (array_by listed_value found.top))

@@ -1,7 +1,7 @@
 use Rattle.std.proofs.Common.{◌≡◌, map, take}
 use Rattle.serde_json.specs.View.{view}
-use Rattle.answer_json.proofs.Values.{plain_move}
+use Rattle.answer_json.proofs.Values.{move_values}
 use Rattle.answer_json.proofs.line.moves_value.Given as goal
 
-abbrev pub invariant-loop-line : goal.invariant-loop-line
-invariant-loop-line l = map view l.values.items ≡ map plain_move (take l.line-index l.lines)
+abbrev pub invariant-loop-place : goal.invariant-loop-place
+invariant-loop-place l = map view l.values.items ≡ take l.place (move_values l.lines l.openings)

@@ -8,4 +8,4 @@ returns-in_default g c = λ input.
 pub returns : goal.returns
 returns g c = λ input.
     let is = rw c.as_bytes.ensures.value at c.in-Some.ensures.some in
-    inr (is.1, rw is.0 (c.import_labelled.ensures input))
+    inr (is.1, rw is.0 at (c.import_labelled.ensures input))
