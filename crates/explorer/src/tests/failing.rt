@@ -121,6 +121,8 @@ const IMPORT: &[&str] = &["import", "s", "f"];
 
 const QUERY: &[&str] = &["query", "s"];
 
+const BATCHES: &[&str] = &["batches", "s"];
+
 const SERVE: &[&str] = &[
     "serve",
     "s",
@@ -153,12 +155,13 @@ type Row = (
     Option<u64>,
 );
 
-const ROWS: [Row; 15] = [
+const ROWS: [Row; 16] = [
     (CREATE, Device::EmptyDisk, 0, 2, 6, "", "disk fault\n", None),
     (CREATE, Device::Output, 0, 0, 5, "", "write fault\n", EMPTY),
     // An opening makes the calls 3 to 7, and a batch the next four.
     (QUERY, Device::Disk, 3, 7, 6, "", "disk fault\n", None),
     (QUERY, Device::Output, 0, 0, 5, "", "write fault\n", EMPTY),
+    (BATCHES, Device::Disk, 3, 7, 6, "", "disk fault\n", None),
     (IMPORT, Device::Disk, 3, 7, 6, "", "disk fault\n", None),
     (
         IMPORT,
