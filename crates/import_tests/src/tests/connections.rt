@@ -280,8 +280,7 @@ fn broken_talk_and_others(alloc: Global) -> Result<Vec<Talk>, AllocError> {
 }
 
 /// One game is found, and the connection is closed.
-const LAST: &[u8] =
-    b"HTTP/1.1 200 OK\r\nContent-Type: application/json\r\nContent-Length: 88\r\n\
+const LAST: &[u8] = b"HTTP/1.1 200 OK\r\nContent-Type: application/json\r\nContent-Length: 88\r\n\
 X-Explorer-Batches: 1\r\nConnection: close\r\n\r\n\
 {\"black\":0,\"draws\":0,\"moves\":[],\"opening\":null,\"recentGames\":[],\"topGames\":[],\"white\":1}";
 
