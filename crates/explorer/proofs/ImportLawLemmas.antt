@@ -393,7 +393,7 @@ unchanged store status after other is = subst (λ (w : World). ImportAlike store
 })
 
 never_both : (b : Bool) → b ≡ false → b ≡ true → ⊥
-never_both b no yes = cc
+never_both b is_false is_true = cc
 
 pub one_import : (store image file stream label : List ℕ) (before after other : World) (ending ending' : Ending) → OneGame → OneAccount → OneOpening → IsToldStore store image before → IsToldFile file stream before → IsToldErrors before
     → GoesWell before after → ReadsWell before after → ReportsWell before after → GoesWell before other → ReadsWell before other → ReportsWell before other → HasMemory (status_of ending) before after → HasMemory (status_of ending') before other
@@ -410,7 +410,7 @@ one_import store image file stream label before after other ending ending' one a
         (comes store image file stream label all groups_are before other told told_file told_errors well' reads' reports' ending' fed' by')
 
     by_label : ImportsBy store file label before after ending → ImportsBy store file label before other ending' → Alike store after other ending ending'
-    by_label (inl (no, is, same)) (inl (no', is', same')) = (is ∙ sym is', unchanged store (status_of ending) after other (same ∙ sym same'))
-    by_label (inl (no, is, same)) (inr (yes, by)) = absurd (never_both (is_label label) no yes)
-    by_label (inr (yes, by)) (inl (no, is, same)) = absurd (never_both (is_label label) no yes)
-    by_label (inr (yes, by)) (inr (yes', by')) = both by by'
+    by_label (inl (none, is, same)) (inl (none', is', same')) = (is ∙ sym is', unchanged store (status_of ending) after other (same ∙ sym same'))
+    by_label (inl (none, is, same)) (inr (given, by)) = absurd (never_both (is_label label) none given)
+    by_label (inr (given, by)) (inl (none, is, same)) = absurd (never_both (is_label label) none given)
+    by_label (inr (given, by)) (inr (given', by')) = both by by'

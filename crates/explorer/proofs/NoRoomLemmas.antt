@@ -112,7 +112,7 @@ module _ (label : List ℕ) where
   games_are journal games (cuts ∷ groups) (group ∷ examinations) are each =
       let batch = batch_of label (candidates (verdicts_behind (numbers_of games) group)) in
       let rest = batches_behind label (and_games games group) examinations in
-      let later = games_are (journal ++ cons_option batch []) (and_games games group) groups examinations (by_batch {label = label} journal games cuts group are each.0 batch refl) each.1 in
+      let later = games_are (journal ++ cons_option batch []) (and_games games group) groups examinations (by_batch label journal games cuts group are each.0 batch refl) each.1 in
       let P : List Batch → Type 0 = λ j. AreGamesOf j (games_after (and_games games group) examinations) in
       subst P (append_assoc journal (cons_option batch []) rest ∙ ap (λ (l : List Batch). journal ++ l) (sym (cons_more batch rest))) later
 

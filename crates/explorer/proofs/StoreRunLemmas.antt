@@ -232,8 +232,8 @@ labelled_errors store file label before after (Stopped (faults.NotEmpty size)) b
 labelled_errors store file label before after (Stopped faults.CannotAccept) by = absurd by
 
 imported_errors : (store file label : List ℕ) (before after : World) (ending : Ending) → ImportsBy store file label before after ending → Grew before after
-imported_errors store file label before after ending (inl (no, is, same)) = ([], no_more before.errors after.errors (ap (λ (w : World). w.errors) same))
-imported_errors store file label before after ending (inr (yes, by)) = labelled_errors store file label before after ending by
+imported_errors store file label before after ending (inl (none, is, same)) = ([], no_more before.errors after.errors (ap (λ (w : World). w.errors) same))
+imported_errors store file label before after ending (inr (given, by)) = labelled_errors store file label before after ending by
 
 -- no report failed before the ending was told
 reports_before : (ending : Ending) (before ended after : World) (bytes : List ℕ) → ReportsWell before after → Grows bytes before.errors ended.errors → Tells ending ended after → ReportsWell before ended
@@ -252,8 +252,8 @@ no_usage_asked store text before after ending (inr (r, reads, by)) usage = no_us
 
 -- nor does an import
 no_usage_imported : (store file label : List ℕ) (before after : World) (ending : Ending) → ImportsBy store file label before after ending → ending ≡ Stopped faults.Usage → ⊥
-no_usage_imported store file label before after ending (inl (no, is, same)) usage = let other : Stopped faults.BadLabel ≡ Stopped faults.Usage = sym is ∙ usage in cc
-no_usage_imported store file label before after ending (inr (yes, by)) usage = subst (λ (e : Ending). ImportsLabelled store file label before after e) usage by
+no_usage_imported store file label before after ending (inl (none, is, same)) usage = let other : Stopped faults.BadLabel ≡ Stopped faults.Usage = sym is ∙ usage in cc
+no_usage_imported store file label before after ending (inr (given, by)) usage = subst (λ (e : Ending). ImportsLabelled store file label before after e) usage by
 
 -- ---- runs
 

@@ -42,6 +42,6 @@ returns g c = λ input errors.
     let after = g.H.Host.host c.close.new.self in
     let hands = rw c.as_str.ensures.value at c.in-Ok.ensures.hands in
     let takes = rw c.as_str-2.ensures.value at c.close.ensures in
-    let lists = rw c.in-Err-lines.is at c.list_at-disk.ensures.lists in
+    let lists = rw c.in-Err.is at c.list_at-disk.ensures.lists in
     subst (λ (f : Fault). ListsBy store (world input old errors before) (world input old errors after) (Stopped f)) (sym c.fault_of_opening.ensures)
-    (unlisted store input old errors before (g.H.Host.host c.disk.new.self) after _ _ c.list_at-disk.ensures.sized hands takes c.in-Err-lines.fault lists)
+    (unlisted store input old errors before (g.H.Host.host c.disk.new.self) after _ _ c.list_at-disk.ensures.sized hands takes c.in-Err.fault lists)
