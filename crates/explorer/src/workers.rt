@@ -11,7 +11,7 @@ use crate::fault::Fault;
 use crate::listening::Told;
 use crate::report::push_file_lines;
 use disk_model::Disk;
-use ingest_desk::{End, Ingest, Report};
+use ingest_desk::{Desk, End, Ingest, Report};
 use outside::{Door, Source};
 use published_index::{Index, Pass};
 use session::DoorEnd;
@@ -165,7 +165,7 @@ pub fn work_all<
 {
     let mut list = list;
     let desk = Mutex::new(ingest);
-    work_each(rt, alloc, &Access::new(&desk, workers), list.as_mut_slice());
+    work_each(rt, alloc, &desk, list.as_mut_slice(), workers);
     (desk.into_inner(), list)
 }
 
@@ -176,7 +176,9 @@ fn work_each<
     G: Door + Send,
     D: Disk + Send,
     J: Index + Send + Sync,
->(rt: &R, alloc: Global, access: &Access<'_, D, J>, list: &mut [Worker<F, G, J>])
+>(rt: &R, alloc: Global, desk: &Desk<D, J>, list: &mut [Worker<F, G, J>], workers: usize)
+    requires some_workers { 1 ≤ workers }
+    requires few_workers { workers ≤ 16 }
     ensures { AllZip (Works F.source G.door) list.old list.new }
 {
     let threads = list.len().max(1);
@@ -185,7 +187,8 @@ fn work_each<
         list,
         threads,
         &|_, worker: &mut Worker<F, G, J>|
+            requires { (1 ≤ workers) × (workers ≤ 16) }
             ensures { Works F.source G.door worker.old worker.new }
-        { worker.work(rt, alloc, access) },
+        { worker.work(rt, alloc, &Access::new(desk, workers)) },
     );
 }
