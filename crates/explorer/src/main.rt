@@ -4,7 +4,6 @@
 ghost use Rattle.std.specs.Prelude.{◌≡◌, ◌⊎◌, IfErr};
 ghost use Rattle.explorer.specs.declared.fault.Fault.{Fault as AFault};
 
-mod access;
 mod answer;
 mod byte_source;
 mod count;

@@ -6,15 +6,16 @@ ghost use Rattle.explorer.specs.Served.{fault_of_import};
 ghost use Rattle.explorer.specs.Workers.{Works, fault_in, fault_of, lines_in, lines_of};
 ghost use Rattle.ingest_desk.specs.Importers.{ending_of};
 
-use crate::access::Access;
 use crate::fault::Fault;
 use crate::listening::Told;
 use crate::report::push_file_lines;
 use disk_model::Disk;
-use ingest_desk::{Desk, End, Ingest, Report};
-use outside::{Door, Source};
+use explorer_model::label::Label;
+use import_run::{DeskHandle, drain, import};
+use ingest_desk::{Desk, End, Ingest, MergeDesk, Report};
+use outside::{Door, FreeGate, Source};
 use published_index::{Index, Pass};
-use session::DoorEnd;
+use session::{DoorEnd, serve_door};
 use std::alloc::{AllocError, Global};
 use std::sync::{Mutex, Wait};
 use std::thread;
@@ -50,14 +51,39 @@ impl<F: Source, G: Door, J: Index> Worker<F, G, J> {
         &mut self,
         rt: &R,
         alloc: Global,
-        access: &Access<'_, D, J>,
+        desk: &Desk<D, J>,
+        workers: usize,
     )
+        requires some_workers { 1 ≤ workers }
+        requires few_workers { workers ≤ 16 }
         ensures { Works F.source G.door self.old self.new }
     {
         match self {
-            Worker::File(file) => access.import_file(rt, alloc, file),
-            Worker::Reader(reader) => access.serve_reader(rt, alloc, reader),
-            Worker::Merger => access.merge(rt, alloc),
+            Worker::File(file) => {
+                let report = import(
+                    rt,
+                    alloc,
+                    &mut file.source,
+                    desk,
+                    Label::none(),
+                    workers,
+                    &FreeGate,
+                );
+                file.report = Some(report);
+            }
+            Worker::Reader(reader) => {
+                let mut importer = DeskHandle::new(desk, workers);
+                let ReaderWork {
+                    door,
+                    pass,
+                    end,
+                    told: _,
+                } = reader;
+                *end = serve_door(rt, alloc, door, pass, &mut importer);
+            }
+            Worker::Merger => {
+                let _ = drain(rt, alloc, &MergeDesk::of(desk), workers);
+            }
         }
     }
 }
@@ -189,6 +215,6 @@ fn work_each<
         &|_, worker: &mut Worker<F, G, J>|
             requires { (1 ≤ workers) × (workers ≤ 16) }
             ensures { Works F.source G.door worker.old worker.new }
-        { worker.work(rt, alloc, &Access::new(desk, workers)) },
+        { worker.work(rt, alloc, desk, workers) },
     );
 }
