@@ -287,7 +287,10 @@ fn store_that_failed_takes_a_shorter_batch_once_it_is_opened_again(
     // finds no room; its write fails and is torn; its sync fails, and it is torn.
     for (room, call, choice) in [(40, 1000, 0), (ROOM, 10, 7), (ROOM, 11, 7)] {
         let survived = survive(rt.alloc(), room, call, choice)?;
-        assert_eq!(rt; survived.long, Err(AppendFault::DiskFault { before, after }));
+        assert_eq!(rt;
+            survived.long,
+            Err(AppendFault::DiskFault { before, after })
+        );
         assert_eq!(rt; survived.again, Err(AppendFault::Closed { before, after }));
         assert_eq!(rt; (survived.shorter, survived.count), (Ok(()), 2));
     }

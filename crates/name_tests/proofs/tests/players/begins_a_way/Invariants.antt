@@ -1,4 +1,4 @@
-use Rattle.name_tests.proofs.tests.players.index_tells_the_same_ranges_however_it_was_extended.Given as goal
+use Rattle.name_tests.proofs.tests.players.begins_a_way.Given as goal
 
 -- the index that was just opened
 abbrev pub ghosts-goes_a_way : goal.ghosts-goes_a_way
