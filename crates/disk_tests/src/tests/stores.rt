@@ -196,16 +196,16 @@ struct Stopped {
     count: usize,
 }
 
-/// The store `ONE` on a disk whose call of this number fails.
-fn store_of_one(alloc: Global, call: u64) -> Result<Manifest<MemDisk>, Fail> {
-    match open(alloc, disk_with(alloc, ROOM, &ONE, &[call])?) {
+/// The store on a disk.
+fn store_on(alloc: Global, disk: MemDisk) -> Result<Manifest<MemDisk>, Fail> {
+    match open(alloc, disk) {
         Ok(opened) => Ok(opened.manifest),
         Err(_) => Err(Fail::from("not opened")),
     }
 }
 
 fn stop_at(alloc: Global, call: u64, choice: u64) -> Result<Stopped, Fail> {
-    let mut manifest = store_of_one(alloc, call)?;
+    let mut manifest = store_on(alloc, disk_with(alloc, ROOM, &ONE, &[call])?)?;
     let stored = store_text(alloc, &mut manifest, b"abc");
     let again = if manifest.fault().is_none() {
         Ok(())
@@ -222,14 +222,14 @@ fn stop_at(alloc: Global, call: u64, choice: u64) -> Result<Stopped, Fail> {
 
 #[test]
 fn crash_leaves_the_batch_or_not(rt: HostRuntime) -> Result<(), Fail> {
-    // The gate's write is torn to 1, 0, 1 and 1.
-    let torn = [2, 1, 2, 2];
+    // The gate's write is torn to 1, 0, 1, 1, 1, 2, 1 and 3.
+    let torn = [2, 1, 2, 2, 2, 1, 2, 1];
     let table = [
-        (10, [1; 4]),
-        (11, [1; 4]),
+        (10, [1; 8]),
+        (11, [1; 8]),
         (12, torn),
         (13, torn),
-        (14, [2; 4]),
+        (14, [2; 8]),
     ];
     let before = 0;
     let after = 1;
@@ -247,6 +247,71 @@ fn crash_leaves_the_batch_or_not(rt: HostRuntime) -> Result<(), Fail> {
                 assert_eq!(rt; stopped.again, Err(AppendFault::Closed { before, after }));
             }
         }
+    }
+    Ok(())
+}
+
+/// What a batch of twenty bytes behind `ONE` answers on a disk with so much room, whose call of this
+/// number fails, and one more batch; what a shorter one answers once a crash is behind, and how many
+/// batches there are then.
+#[derive(Drop)]
+struct Survived {
+    long: Result<(), AppendFault>,
+    again: Result<(), AppendFault>,
+    shorter: Result<(), AppendFault>,
+    count: usize,
+}
+
+fn survive(alloc: Global, room: usize, call: u64, choice: u64) -> Result<Survived, Fail> {
+    let mut manifest = store_on(alloc, disk_with(alloc, room, &ONE, &[call])?)?;
+    let long = store_text(alloc, &mut manifest, b"a text of 20 bytes..");
+    let again = store_text(alloc, &mut manifest, b"y");
+    let mut reopened = store_on(alloc, manifest.into_disk().crashed(choice))?;
+    let shorter = store_text(alloc, &mut reopened, b"z");
+    let (_gate, journal) = journal_on(alloc, reopened.into_disk())?;
+    Ok(Survived {
+        long,
+        again,
+        shorter,
+        count: journal.len(),
+    })
+}
+
+#[test]
+fn store_that_failed_takes_a_shorter_batch_once_it_is_opened_again(
+    rt: HostRuntime,
+) -> Result<(), Fail> {
+    let before = 0;
+    let after = 1;
+    // The record of the long batch takes 32 bytes behind 26, and that of the short one 13. The long one
+    // finds no room; its write fails and is torn; its sync fails, and it is torn.
+    for (room, call, choice) in [(40, 1000, 0), (ROOM, 10, 7), (ROOM, 11, 7)] {
+        let survived = survive(rt.alloc(), room, call, choice)?;
+        assert_eq!(rt;
+            survived.long,
+            Err(AppendFault::DiskFault { before, after })
+        );
+        assert_eq!(rt; survived.again, Err(AppendFault::Closed { before, after }));
+        assert_eq!(rt; (survived.shorter, survived.count), (Ok(()), 2));
+    }
+    Ok(())
+}
+
+#[test]
+fn store_is_cut_at_each_byte(rt: HostRuntime) -> Result<(), Fail> {
+    // Two batches, whose gates stand at 12 and 25.
+    let bytes = bytes_behind_one(rt.alloc(), b"\x00\x01\x00\x01\x00\x00\x00y")?;
+    for size in 0..bytes.len() + 1 {
+        let answer = if size < 13 {
+            Err(OpenFault::Log(LogFault::NotALog))
+        } else if size == bytes.len() {
+            Ok(2)
+        } else {
+            let at = if size < 26 { 12 } else { 25 };
+            Err(OpenFault::Log(LogFault::Damaged { at }))
+        };
+        let disk = disk_with(rt.alloc(), ROOM, &bytes[..size], &[])?;
+        assert_eq!(rt; count_of(rt.alloc(), disk), answer, "at {size}");
     }
     Ok(())
 }

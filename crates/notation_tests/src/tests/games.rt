@@ -108,6 +108,19 @@ fn long_movetext(alloc: Global, more: &str) -> Result<String, AllocError> {
     Ok(movetext)
 }
 
+/// A move, so many variations, each within the one before, and a result.
+fn nested_movetext(alloc: Global, pairs: u32) -> Result<String, AllocError> {
+    let mut movetext = String::from_str(alloc, "1. e4 ")?;
+    for _ in 0..pairs {
+        movetext.push_str("(")?;
+    }
+    for _ in 0..pairs {
+        movetext.push_str(")")?;
+    }
+    movetext.push_str(" 1-0")?;
+    Ok(movetext)
+}
+
 #[test]
 fn takes_as_many_as_1024_plies(rt: HostRuntime) -> Result<(), Fail> {
     for (more, plies, fault) in [
@@ -118,6 +131,75 @@ fn takes_as_many_as_1024_plies(rt: HostRuntime) -> Result<(), Fail> {
         let movetext = movetext.as_str();
         assert_eq!(rt; plies_of(rt.alloc(), movetext)?, plies);
         assert_eq!(rt; fault_of(rt.alloc(), "1-0", movetext)?, fault);
+    }
+    let movetext = nested_movetext(rt.alloc(), 30_000)?;
+    assert_eq!(rt; plies_of(rt.alloc(), movetext.as_str())?, Some(1));
+    Ok(())
+}
+
+/// What is wrong with a text that is cut.
+#[derive(Clone, Copy)]
+enum Loss {
+    Tag(TagName),
+    /// The end of the pair that begins at this byte.
+    PairAt(u32),
+    Termination,
+}
+
+/// Up to which byte each loss is the first of the worked game where it is cut there. Its result ends
+/// at byte 199, and it has 200 bytes.
+const LOSSES: [(usize, Loss); 19] = [
+    (1, Loss::Tag(TagName::Event)),
+    (26, Loss::PairAt(0)),
+    (28, Loss::Tag(TagName::Site)),
+    (64, Loss::PairAt(27)),
+    (66, Loss::Tag(TagName::White)),
+    (78, Loss::PairAt(65)),
+    (80, Loss::Tag(TagName::Black)),
+    (92, Loss::PairAt(79)),
+    (94, Loss::Tag(TagName::Result)),
+    (107, Loss::PairAt(93)),
+    (109, Loss::Tag(TagName::WhiteElo)),
+    (130, Loss::PairAt(108)),
+    (132, Loss::Tag(TagName::WhiteElo)),
+    (148, Loss::PairAt(131)),
+    (150, Loss::Tag(TagName::BlackElo)),
+    (166, Loss::PairAt(149)),
+    (168, Loss::Tag(TagName::TimeControl)),
+    (188, Loss::PairAt(167)),
+    (199, Loss::Termination),
+];
+
+/// What the worked game is refused for where it is cut at this byte.
+fn fault_at(end: usize) -> Option<GameFault> {
+    for (until, loss) in LOSSES {
+        if end < until {
+            return Some(match loss {
+                Loss::Tag(name) => GameFault::Tag(TagFault::Missing { name }),
+                Loss::PairAt(place) => GameFault::Lex { place },
+                Loss::Termination => GameFault::NoTermination,
+            });
+        }
+    }
+    None
+}
+
+/// What the front of a text up to this byte is refused for.
+fn cut_fault(alloc: Global, text: &str, end: usize) -> Result<Option<GameFault>, Fail> {
+    let front = text.get(..end).ok_or("a shorter text")?;
+    match replayed(alloc, front) {
+        Some(Ok(_)) => Ok(None),
+        Some(Err(Stop::Fault(fault))) => Ok(Some(fault)),
+        _ => Err(Fail::from("not read")),
+    }
+}
+
+#[test]
+fn game_is_cut_at_each_byte(rt: HostRuntime) -> Result<(), Fail> {
+    let text = game(rt.alloc(), "1-0", "1. e4 1-0")?;
+    for end in 0..text.len() + 1 {
+        let fault = cut_fault(rt.alloc(), text.as_str(), end)?;
+        assert_eq!(rt; fault, fault_at(end), "at {end}");
     }
     Ok(())
 }

@@ -9,15 +9,17 @@ use query_params::query;
 use std::alloc::Global;
 
 /// Query strings, and the parameter that is malformed first.
-const MALFORMED: [(&str, Parameter); 29] = [
+const MALFORMED: [(&str, Parameter); 31] = [
     ("variant=chess960", Parameter::Variant),
     ("variant=standard&variant=standard", Parameter::Variant),
     ("moves=x&variant=Standard", Parameter::Variant),
     ("fen=8/8/8/8/8/8/8/8+w+-+-", Parameter::Fen),
     ("fen=+", Parameter::Fen),
+    ("fen=%ff", Parameter::Fen),
     ("play=e2e5&fen=x", Parameter::Fen),
     ("play=e2e5", Parameter::Play),
     ("play=e2e4,", Parameter::Play),
+    ("play=e2e4,,e7e5", Parameter::Play),
     ("play=e2e4,e2e4", Parameter::Play),
     ("speeds=x&play=e2e4&play=e2e4", Parameter::Play),
     ("speeds=blitz,slow&ratings=5", Parameter::Speeds),
@@ -80,7 +82,8 @@ fn takes_defaults(rt: HostRuntime) {
     for text in [
         "",
         "&&",
-        "colour=red&topGames=9&Moves=x",
+        "colour=red&topGames=9&Moves=x&MOVES=x",
+        "speeds=blitz,blitz,ultraBullet,bullet,rapid,classical,correspondence",
         "variant=&fen=&play=&speeds=&ratings=&since=&until=&moves=&topGames=&recentGames=&history=",
         "variant=standard&moves=12&topGames=999999&recentGames=4&history=false",
     ] {
@@ -148,7 +151,7 @@ fn reads_positions(rt: HostRuntime) {
 
 #[test]
 fn reads_lines(rt: HostRuntime) {
-    for text in ["play=e2e4,c7c5", "pl%61y=e2e4%2Cc7c5"] {
+    for text in ["play=e2e4,c7c5", "pl%61y=e2e4%2Cc7c5", "play=%65%32e4,c7c5"] {
         let sicilian = accepted(rt.alloc(), text);
         assert!(rt;
             matches!(&sicilian, Some(query) if query.plays.len() == 2
