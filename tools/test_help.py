@@ -5,8 +5,8 @@ import unittest
 
 import support
 
-TOOLS = {"gather": [], "nine-tags": ["--rating", "x"], "repertoire": ["--side", "x"], "board/board": ["--port", "x"],
-         "package": ["--colour"]}
+TOOLS = {"gather": [], "nine-tags": ["--rating", "x"], "openings": [], "repertoire": ["--side", "x"],
+         "board/board": ["--port", "x"], "package": ["--colour"]}
 
 
 class Style(unittest.TestCase):
