@@ -39,3 +39,4 @@ mod DoorLawLemmas
 mod SizeLemmas
 mod TrialLawLemmas
 mod StoreRunLemmas
+pub mod SendLemmas

@@ -1,2 +1,3 @@
 mod NoReports
 mod RouteExamples
+mod SendLemmas

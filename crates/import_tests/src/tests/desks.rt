@@ -3,7 +3,7 @@ ghost use Rattle.std.specs.Prelude.{◌≡◌};
 ghost use Rattle.std.specs.Thread.{IsSync};
 
 use super::{Told, games, named, new_store, summary_of};
-use disk_model::MemDisk;
+use disk_model::{Disk, MemDisk};
 use explorer_model::fault::{Refusal, Why};
 use explorer_model::label::Label;
 use import_run::{DeskHandle, DrainEnd, Drained, OwnIngest, drain, import};
@@ -69,25 +69,37 @@ fn import_two<J: Index + Send + Sync, R: Threads + Wait + Abort + Sync>(
 {
     let (ingest, _passes) = named::<J, R>(rt, alloc, unnamed)?;
     let desk = Mutex::new(ingest);
+    let told = import_both(rt, alloc, &desk, first, second);
+    let drained = drain(rt, alloc, &MergeDesk::of(&desk), 2);
+    let _disk = desk.into_inner().into_disk(rt);
+    assert_eq!(rt; drained.end, DrainEnd::Idle);
+    Ok(told?)
+}
+
+/// Both streams at once, each from a thread of its own.
+fn import_both<J: Index + Send + Sync, D: Disk + Send, R: Threads + Wait + Sync>(
+    rt: &R,
+    alloc: Global,
+    desk: &Desk<D, J>,
+    first: (usize, usize),
+    second: (usize, usize),
+) -> Result<(Told, Told), AllocError> {
     let (one, two) = join(
         rt,
         || -> Result<Told, AllocError>
             requires { IsSync R.row }
-        { import_one(rt, alloc, &desk, first) },
+        { import_one(rt, alloc, desk, first) },
         || -> Result<Told, AllocError>
             requires { IsSync R.row }
-        { import_one(rt, alloc, &desk, second) },
+        { import_one(rt, alloc, desk, second) },
     );
-    let drained = drain(rt, alloc, &MergeDesk::of(&desk), 2);
-    let _disk = desk.into_inner().into_disk(rt);
-    assert_eq!(rt; drained.end, DrainEnd::Idle);
     Ok((one?, two?))
 }
 
-fn import_one<J: Index, R: Threads + Wait + Sync>(
+fn import_one<J: Index, D: Disk, R: Threads + Wait + Sync>(
     rt: &R,
     alloc: Global,
-    desk: &Desk<MemDisk, J>,
+    desk: &Desk<D, J>,
     (first, count): (usize, usize),
 ) -> Result<Told, AllocError> {
     let mut source = MemSource::new(games(alloc, first, count)?, 4096, Vec::new(alloc));
