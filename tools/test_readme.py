@@ -1,6 +1,6 @@
 #!/usr/bin/env python3
 """Runs the commands of README.md in their order, and compares their answers with the one that stands there and with one another; and
-looks whether the tests are there that docs/PROOFS.md names."""
+looks whether the tests are there that docs/CASES.md names."""
 import json
 import pathlib
 import re
@@ -57,9 +57,8 @@ class Commands(unittest.TestCase):
 
 class Cases(unittest.TestCase):
     def test_each_test_that_is_named_is_there(self):
-        text = (support.TOP / "docs/PROOFS.md").read_text(encoding="utf-8")
-        chapter = text.partition("\n## Which test shows which case\n")[2].partition("\n## ")[0]
-        lines = [line for line in chapter.splitlines() if line.startswith("| ")][1:]
+        text = (support.TOP / "docs/CASES.md").read_text(encoding="utf-8")
+        lines = [line for line in text.splitlines() if line.startswith("| ")][1:]
         self.assertEqual([line for line in lines if "`" not in line.rpartition(" | ")[2]], [])
         for line in lines:
             crate = None
