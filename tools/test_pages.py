@@ -187,6 +187,21 @@ class Names(unittest.TestCase):
                         self.assertTrue(span in words_of_sources() or span in ELSEWHERE)
 
 
+    def test_the_rooms_of_the_tour_are_there(self):
+        rows = [line.split(" | ")[0] for _, _, line in prose(TOP / "docs/TOUR.md") if line.startswith("| `")]
+        self.assertGreater(len(rows), 20)
+        for row in rows:
+            passed = []
+            for span in re.findall(r"`([^`]+)`", row):
+                with self.subTest(row, name=span):
+                    if "/" in span:
+                        passed.append(span.partition("/")[0])
+                    elif span.endswith(".rt"):
+                        self.assertTrue((CRATES / passed[-1] / "src" / span).exists())
+                    else:
+                        self.assertTrue(any(is_in_crate(crate, span.split("::")) for crate in passed))
+
+
 def is_of_the_library(parts):
     """Names that the sources use and the library defines."""
     return parts[0] in ("Mutex", "Snapshot") and set(parts) <= words_of_sources()
@@ -252,7 +267,7 @@ class Statement(unittest.TestCase):
         # What the contract says comes first; then definitions, of which one is cut short.
         for piece in re.split(r"\n(?=[^\s-])|\n\n(?=-- )", quoted.strip())[1:]:
             if ".." not in piece:
-                self.assertIn(flat(piece), found)
+                self.assertIn(f" {flat(piece)} ", f" {found} ")
 
 
 def flat(text):
