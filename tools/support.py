@@ -153,6 +153,17 @@ def serving(words):
         server.stdout.close()
 
 
+def plain_site(port, address):
+    """The example of nginx in front of an explorer, over the page of this checkout, at a port of this machine and without TLS."""
+    text = (TOP / "package/nginx.conf").read_text(encoding="utf-8")
+    for old, new in {r"listen 443 ssl[^;]*": f"listen 127.0.0.1:{port}", r"    ssl_certificate.*\n": "", r"127\.0\.0\.1:9000": address,
+                     r"/usr/share/explorer/tools": f"{TOP}/tools"}.items():
+        text, found = re.subn(old, new, text)
+        if not found:
+            raise RuntimeError(f"package/nginx.conf has no {old}")
+    return text
+
+
 @contextlib.contextmanager
 def nginx(site, port):
     """Runs nginx with the configuration of a site, until it answers at a port of this machine."""
