@@ -122,8 +122,8 @@ class CannedExplorer(StandIn):
 
 
 @contextlib.contextmanager
-def explorer(games=b""):
-    """The address of a server over a new store of some games."""
+def explorer(games=b"", *words):
+    """The address of a server over a new store of some games, which are imported with these words."""
     folder = tempfile.mkdtemp()
     store, archive = os.path.join(folder, "store"), os.path.join(folder, "games.pgn")
     address = f"127.0.0.1:{free_port()}"
@@ -131,7 +131,7 @@ def explorer(games=b""):
         subprocess.run([program(), "create", store], check=True, stdout=subprocess.DEVNULL)
         if games:
             pathlib.Path(archive).write_bytes(games)
-            subprocess.run([program(), "import", store, archive], check=True, stdout=subprocess.DEVNULL)
+            subprocess.run([program(), "import", store, archive, *words], check=True, stdout=subprocess.DEVNULL)
         with serving([program(), "serve", store, address]):
             yield address
     finally:

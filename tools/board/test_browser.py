@@ -64,7 +64,10 @@ class Page(unittest.TestCase):
 
     def open(self, address, **look):
         _, line = self.own.enter_context(test_board.board_for(address, "--timeout", "300"))
-        self.place = test_board.place_of(line)
+        self.open_at(test_board.place_of(line), **look)
+
+    def open_at(self, place, **look):
+        self.place = place
         self.browser.show(self.place + "/", **look)
         self.browser.wait(SETTLED)
 
@@ -341,6 +344,25 @@ class Imports(Page):
         self.assertEqual([asked for asked in stand_in.asked if asked[0] == "POST"], [])
 
 
+class Site(Page):
+    def test_nginx_serves_the_page(self):
+        support.needs("nginx")
+        port = support.free_port()
+        stand_in = support.CannedExplorer(200, EMPTY, (200, b'{"batches":1,"refused":[],"stored":1}'))
+        with stand_in.running() as address, support.nginx(support.plain_site(port, address), port):
+            self.open_at(f"http://127.0.0.1:{port}")
+            self.play("e2", "e4")
+            self.assertIn("play=e2e4", stand_in.asked[-1][1])
+            self.file(game(1).encode())
+            self.browser.click("#send")
+            self.see("#imported", "Done: 1 game stored")
+        with support.nginx(support.plain_site(port, f"127.0.0.1:{support.free_port()}"), port):
+            self.browser.click("#start")
+            self.see("#error", "The web server reaches no explorer. Is it running?")
+        self.browser.click("#clear")
+        self.see("#error", "The server of this page does not answer any more.")
+
+
 class Faults(Page):
     def test_a_refused_position(self):
         self.open_with_games(support.GAMES.read_bytes())
@@ -358,7 +380,7 @@ class Faults(Page):
         self.see("#import-error", f"No explorer answers at {address}.")
 
     def test_a_web_server_in_front_is_told(self):
-        for status, words in [(502, "The web server reaches no explorer."), (418, "The explorer answered with status 418.")]:
+        for status, words in [(414, "longer than the web server takes"), (418, "The explorer answered with status 418.")]:
             self.open_canned(status, b"<html>")
             self.see("#error", words)
 
