@@ -122,8 +122,8 @@ class CannedExplorer(StandIn):
 
 
 @contextlib.contextmanager
-def explorer(games=b""):
-    """The address of a server over a new store of some games."""
+def explorer(games=b"", *words):
+    """The address of a server over a new store of some games, which are imported with these words."""
     folder = tempfile.mkdtemp()
     store, archive = os.path.join(folder, "store"), os.path.join(folder, "games.pgn")
     address = f"127.0.0.1:{free_port()}"
@@ -131,7 +131,7 @@ def explorer(games=b""):
         subprocess.run([program(), "create", store], check=True, stdout=subprocess.DEVNULL)
         if games:
             pathlib.Path(archive).write_bytes(games)
-            subprocess.run([program(), "import", store, archive], check=True, stdout=subprocess.DEVNULL)
+            subprocess.run([program(), "import", store, archive, *words], check=True, stdout=subprocess.DEVNULL)
         with serving([program(), "serve", store, address]):
             yield address
     finally:
@@ -151,6 +151,17 @@ def serving(words):
         server.terminate()
         server.wait()
         server.stdout.close()
+
+
+def plain_site(port, address):
+    """The example of nginx in front of an explorer, over the page of this checkout, at a port of this machine and without TLS."""
+    text = (TOP / "package/nginx.conf").read_text(encoding="utf-8")
+    for old, new in {r"listen 443 ssl[^;]*": f"listen 127.0.0.1:{port}", r"    ssl_certificate.*\n": "", r"127\.0\.0\.1:9000": address,
+                     r"/usr/share/explorer/tools": f"{TOP}/tools"}.items():
+        text, found = re.subn(old, new, text)
+        if not found:
+            raise RuntimeError(f"package/nginx.conf has no {old}")
+    return text
 
 
 @contextlib.contextmanager

@@ -1,6 +1,7 @@
 #!/usr/bin/env python3
 """Tests of what docs/BACKUP.md says: that each front of a store's file is a store of its first batches or is refused at a known place,
-and that a copy which is made while the store is served has all that was acknowledged before."""
+that a copy which is made while the store is served has all that was acknowledged before, and that two stores are joined."""
+import contextlib
 import http.client
 import json
 import pathlib
@@ -28,7 +29,9 @@ def gates_of(content):
     return found
 
 
-class Backup(unittest.TestCase):
+class Stored(unittest.TestCase):
+    """A store in a folder of its own, and what the page's commands are there."""
+
     def setUp(self):
         self.folder = pathlib.Path(tempfile.mkdtemp())
         self.addCleanup(shutil.rmtree, self.folder)
@@ -40,12 +43,15 @@ class Backup(unittest.TestCase):
         return run.returncode, run.stdout.decode(), run.stderr.decode()
 
     def here(self, command):
-        words = command.replace("/var/lib/explorer/games.store", str(self.store)).replace("games.copy", str(self.folder / "games.copy"))
-        return re.sub("^explorer ", f"{support.program()} ", words)
+        words = command.replace("/var/lib/explorer/games.store", str(self.store)).replace("runuser -u explorer -- ", "")
+        words = re.sub(r"\b(?=games\.copy|second\.pgn)", f"{self.folder}/", words)
+        return re.sub("^explorer-", f"{support.TOP}/tools/", re.sub("^explorer ", f"{support.program()} ", words))
 
     def bash(self, command):
         return subprocess.run(["bash", "-c", self.here(command)], capture_output=True, check=True, timeout=60).stdout
 
+
+class Copies(Stored):
     def filled(self, games):
         """The content of the store with a batch for each game."""
         for number in range(games):
@@ -129,6 +135,49 @@ class Backup(unittest.TestCase):
             self.assertEqual(self.run_program("query", copy)[1].rstrip("\n").encode(), support.count("", games)[1])
         self.assertEqual(numbers, sorted(numbers))
         self.assertGreater(len(set(numbers)), 1)
+
+
+class Joined(Stored):
+    """Two stores of three games each, the last of one and the first of the other being the same."""
+
+    def setUp(self):
+        super().setUp()
+        games = [game(number, "1-0", "1. e4 1-0") for number in range(5)]
+        self.whole, first, second = b"".join(games), b"".join(games[:3]), b"".join(games[2:])
+        self.run_program("create", self.folder / "games.copy")
+        for store, archive in ((self.store, first), (self.folder / "games.copy", second)):
+            (self.folder / "archive").write_bytes(archive)
+            self.assertEqual(self.run_program("import", store, self.folder / "archive")[0], 0)
+
+    def command(self, beginning):
+        [found] = [line for line in COMMANDS if beginning in line]
+        return found
+
+    def test_the_games_of_one_are_imported_into_the_other(self):
+        self.bash(self.command("explorer-export "))
+        self.assertEqual(self.bash(self.command("explorer import ")).decode(), "stored 2\nbatches 1\njournal 2\n")
+        self.assertEqual(self.run_program("batches", self.store)[1], "1 3 \n2 2 second\n")
+        for query in ("", "play=e2e4&history=true"):
+            self.assertEqual(self.run_program("query", self.store, query)[1].rstrip("\n").encode(), support.count(query, self.whole)[1])
+
+    def test_one_that_is_served_takes_the_games_of_the_other(self):
+        self.bash(self.command("explorer-export "))
+        address = f"127.0.0.1:{support.free_port()}"
+        with support.serving([support.program(), "serve", str(self.store), address]):
+            tool = str(support.TOP / "tools/repertoire")
+            words = ["--explorer", address, "--plies", "0", str(self.folder / "second.pgn")]
+            status, output, errors = support.run_tool(tool, *words)
+            self.assertEqual((status, output), (0, ""))
+            self.assertRegex(errors, r" 0 Repeated 2\nrepertoire: .*: 2 games stored\n$")
+        self.assertEqual(self.run_program("query", self.store)[1].rstrip("\n").encode(), support.count("", self.whole)[1])
+
+    def test_where_answers_are_joined_a_game_in_both_counts_twice(self):
+        addresses = [f"127.0.0.1:{support.free_port()}" for _ in range(2)]
+        with contextlib.ExitStack() as running:
+            for store, address in zip((self.store, self.folder / "games.copy"), addresses):
+                running.enter_context(support.serving([support.program(), "serve", str(store), address]))
+            status, output, _ = support.run_tool(str(support.TOP / "tools/gather"), *addresses)
+        self.assertEqual((status, json.loads(output)["white"]), (0, 6))
 
 
 if __name__ == "__main__":

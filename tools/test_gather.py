@@ -2,6 +2,7 @@
 """Tests of gather: one archive cut in four answers as the whole does."""
 import contextlib
 import json
+import re
 import unittest
 
 import support
@@ -31,6 +32,16 @@ def game(number):
     return f"{''.join(lines)}\n{LINES[number * 7 % len(LINES)]} {result}\n\n".encode()
 
 
+SET_UP = "4k3/8/8/8/8/8/4P3/4K3 w - - 0 1"
+
+
+def set_up(number, movetext="1. e4 Ke7 1-0"):
+    """A game of a month of its own that begins in a position that it sets up."""
+    tags, _, _ = game(number).decode().partition("\n\n")
+    tags = re.sub(r'\[Result .*', f'[Result "{movetext.rpartition(" ")[2]}"]', tags)
+    return f'{tags}\n[SetUp "1"]\n[FEN "{SET_UP}"]\n\n{movetext}\n\n'.encode()
+
+
 EMPTY = {"black": 0, "draws": 0, "moves": [], "opening": None, "recentGames": [], "topGames": [], "white": 0}
 PARTS = [b"".join(map(game, range(start, start + 15))) for start in range(0, 60, 15)]
 
@@ -45,8 +56,8 @@ class Joining(unittest.TestCase):
         self.contexts = contextlib.ExitStack()
         self.addCleanup(self.contexts.close)
 
-    def stores(self, parts):
-        return [self.contexts.enter_context(support.explorer(part)) for part in parts]
+    def stores(self, parts, *words):
+        return [self.contexts.enter_context(support.explorer(part, *words)) for part in parts]
 
     def test_four_parts_answer_as_the_whole(self):
         addresses = self.stores(PARTS)
@@ -58,6 +69,14 @@ class Joining(unittest.TestCase):
                 self.assertEqual(without_averages(answer), without_averages(whole))
                 for move, wanted in zip(answer["moves"], whole["moves"]):
                     self.assertIn(wanted["averageRating"] - move["averageRating"], (0, 1) if "about" in move else (0,))
+
+    def test_games_from_set_up_positions_and_labels_pass_through(self):
+        parts = [set_up(1), set_up(2, "1. e3 Kd7 1/2-1/2"), set_up(3, "1. Kd2 0-1") + game(4)]
+        addresses = self.stores(parts, "--label", "a part")
+        for query in (f"fen={SET_UP}&history=true", f"fen={SET_UP}&play=e2e4", "", "play=d2d4"):
+            output = support.run_tool(TOOL, *addresses, "--query", query.replace(" ", "%20"))[1]
+            answer, whole = json.loads(output), json.loads(support.count(query, b"".join(parts))[1])
+            self.assertEqual(without_averages(answer), without_averages(whole))
 
     def test_one_store_is_printed_as_it_answers(self):
         addresses = self.stores(PARTS[:1])
@@ -89,6 +108,21 @@ class Averages(unittest.TestCase):
             for addresses, about in [((first,), {}), ((first, second), {"e2e4": (["averageRating"], 1999)})]:
                 moves = json.loads(support.run_tool(TOOL, *addresses)[1])["moves"]
                 self.assertEqual({move["uci"]: (move["about"], move["averageRating"]) for move in moves if "about" in move}, about)
+
+
+class Openings(unittest.TestCase):
+    def test_they_are_those_of_an_explorer_that_names_them(self):
+        def answer(whole, name):
+            move = {"averageRating": 1500, "black": 0, "draws": 0, "game": None, "opening": name, "san": "e4", "uci": "e2e4", "white": 2}
+            return json.dumps({**EMPTY, "moves": [move], "opening": whole}).encode()
+
+        whole, name = {"eco": "A00", "name": "Start"}, {"eco": "B00", "name": "King's Pawn"}
+        replies = [answer(None, None), answer(whole, name), answer(None, name)]
+        with contextlib.ExitStack() as running:
+            addresses = [running.enter_context(support.CannedExplorer(200, reply).running()) for reply in replies]
+            for asked, wanted in ((addresses, (whole, name)), (addresses[:1], (None, None)), (addresses[2:], (None, name))):
+                joined = json.loads(support.run_tool(TOOL, *asked)[1])
+                self.assertEqual((joined["opening"], joined["moves"][0]["opening"]), wanted)
 
 
 class Faults(unittest.TestCase):

@@ -6,7 +6,7 @@ import unittest
 import support
 
 TOOLS = {"gather": [], "nine-tags": ["--rating", "x"], "openings": [], "repertoire": ["--side", "x"],
-         "board/board": ["--port", "x"], "package": ["--colour"]}
+         "board/board": ["--port", "x"], "package": ["--colour"], "export": [], "run-tests": ["no-such-test"]}
 
 
 class Style(unittest.TestCase):

@@ -139,6 +139,8 @@ class Package(unittest.TestCase):
             self.assertEqual(run.stdout, "1. e4  (3 games, 100%)\n")
             gathered = output_of(str(self.root / "usr/bin/explorer-gather"), self.address, "--query", "history=true")
             self.assertEqual(gathered.rstrip("\n").encode(), ask(self.address)[1])
+            given_back = output_of(str(self.root / "usr/bin/explorer-export"), self.store)
+            self.assertEqual(given_back.encode(), support.GAMES.read_bytes())
         tagged = output_of(str(self.root / "usr/bin/explorer-nine-tags"), str(support.GAMES))
         self.assertEqual(tagged.count("[Event "), 5)
         with support.tool_running(str(self.root / "usr/bin/explorer-board"), "--port", "0") as (_, line):

@@ -122,8 +122,8 @@ class Command(unittest.TestCase):
 
 @unittest.skipUnless(shutil.which("node"), "node is not installed")
 class Page(unittest.TestCase):
-    def test_rules_of_chess_and_cutting(self):
-        for name in ("test_chess.mjs", "test_cutting.mjs"):
+    def test_rules_of_chess_cutting_and_links(self):
+        for name in ("test_chess.mjs", "test_cutting.mjs", "test_link.mjs"):
             run = subprocess.run(["node", "--test", name], cwd=HERE, capture_output=True, check=False)
             self.assertEqual(run.returncode, 0, run.stdout.decode())
 

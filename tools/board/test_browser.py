@@ -11,6 +11,7 @@ import pathlib
 import sys
 import tempfile
 import unittest
+import urllib.parse
 
 HERE = pathlib.Path(__file__).resolve().parent
 sys.path[:0] = [str(HERE), str(HERE.parent)]
@@ -25,6 +26,10 @@ SETTLED = "document.querySelector('#answer').getAttribute('aria-busy') === 'fals
 
 def game(number, moves="1. e4 e5 1-0", white="Ann", event="Rated game", time="300+0"):
     return TAGS.format(event=event, id=f"{number:08}", white=white, moves=moves, time=time)
+
+
+def set_up(number, fen, moves="1. e4 1-0"):
+    return game(number, moves).replace("\n\n", f'\n[SetUp "1"]\n[FEN "{fen}"]\n\n', 1)
 
 
 def total(entry):
@@ -59,7 +64,10 @@ class Page(unittest.TestCase):
 
     def open(self, address, **look):
         _, line = self.own.enter_context(test_board.board_for(address, "--timeout", "300"))
-        self.place = test_board.place_of(line)
+        self.open_at(test_board.place_of(line), **look)
+
+    def open_at(self, place, **look):
+        self.place = place
         self.browser.show(self.place + "/", **look)
         self.browser.wait(SETTLED)
 
@@ -67,6 +75,12 @@ class Page(unittest.TestCase):
         stand_in = support.CannedExplorer(*replies)
         self.open(self.own.enter_context(stand_in.running()))
         return stand_in
+
+    def open_answering(self, answer):
+        """Opens the page over an explorer whose replies to queries a function gives, of their parameters."""
+        stand_in = support.CannedExplorer(200, EMPTY)
+        stand_in.reply_to = lambda _, target, *__: answer(dict(urllib.parse.parse_qsl(target.partition("?")[2])))
+        self.open(self.own.enter_context(stand_in.running()))
 
     def open_with_games(self, games=None, **look):
         archive = os.environ.get("ARCHIVE", support.GAMES)
@@ -90,6 +104,12 @@ class Page(unittest.TestCase):
         self.browser.click(f"[data-square={start}]")
         self.browser.click(f"[data-square={end}]")
         self.settled()
+
+    def set_fen(self, fen):
+        """Sets a position of four fields, which the page shows with six once it has taken it."""
+        self.browser.write("#fen", fen)
+        self.browser.key("Enter")
+        self.browser.wait(f"document.querySelector('#fen').value === {json.dumps(fen + ' 0 1')}")
 
     def rows(self, selector):
         """The texts of the cells of a table, by row."""
@@ -178,9 +198,7 @@ class Answers(Page):
     def test_special_moves(self):
         self.open_canned(200, EMPTY)
         for fen, moves, line in SPECIAL:
-            self.browser.write("#fen", fen)
-            self.browser.key("Enter")
-            self.browser.wait(f"document.querySelector('#fen').value === {json.dumps(fen + ' 0 1')}")
+            self.set_fen(fen)
             for move in moves:
                 if len(move) == 1:
                     self.browser.click(f"#promotion [aria-label={PROMOTED[move]}]")
@@ -188,10 +206,64 @@ class Answers(Page):
                     self.play(*move.split())
             self.see("#line", line)
 
+    def test_openings_are_named(self):
+        bodies = {"": named(None, ("e4", "e2e4", opening("B00", "King's Pawn Game")), ("d4", "d2d4", None)),
+                  "e2e4": named(opening("B00", "King's Pawn Game"), ("c5", "c7c5", opening("B20", "<b>Sicilian</b> Defense")))}
+        self.open_answering(lambda asked: (200, support.compact(bodies[asked.get("play", "")])))
+        self.assertEqual(self.text("#opening"), "")
+        self.assertEqual([row[3] for row in self.rows("#moves")], ["100%B00 King's Pawn Game", "100%"])
+        self.browser.click("[data-uci=e2e4] button")
+        self.settled()
+        self.assertEqual(self.text("#opening"), "B00 King's Pawn Game")
+        self.assertEqual([row[3] for row in self.rows("#moves")], ["100%B20 <b>Sicilian</b> Defense"])
+        self.browser.call("Emulation.setDeviceMetricsOverride", width=390, height=800, deviceScaleFactor=1, mobile=True)
+        self.assertTrue(self.browser.evaluate("document.documentElement.scrollWidth <= innerWidth"))
+
+    def test_a_link_leads_to_what_is_shown(self):
+        stand_in = self.open_canned(200, EMPTY)
+        self.set_fen(SPECIAL[0][0])
+        self.play("e1", "g1")
+        self.browser.click("#speeds [value=blitz] + span")
+        self.browser.on("#since", "node.value = '2020-01'; node.dispatchEvent(new Event('change'));")
+        self.settled()
+        self.browser.click("#link")
+        self.browser.wait("document.querySelector('#linked').textContent !== ''")
+        link, asked = self.browser.evaluate("location.href"), stand_in.asked[-1][1]
+        wanted = "/#fen=r3k2r/8/8/8/8/8/8/R3K2R+w+KQkq+-&play=e1g1&speeds=blitz&since=2020-01"
+        self.assertEqual(link, self.place + wanted)
+        for place in ("about:blank", link, self.place + "/#play=e2e4", link):
+            self.browser.show(place)
+        self.settled()
+        self.assertEqual((self.text("#line"), stand_in.asked[-1][1]), ("1. O-O", asked))
+        self.browser.click("#start")
+        self.browser.click("#clear")
+        self.settled()
+        self.browser.evaluate("history.back()")
+        self.see("#line", "1. e4")
+
+    def test_a_faulty_link_is_told(self):
+        self.open_canned(200, EMPTY)
+        for asked, line, words in [("play=e2e4,e7e6,e4e6", "1. e4e6", "The link goes on with “e4e6”, which is no legal move here."),
+                                   ("fen=8/8", "", "The link has no position. The board has 2 ranks, not 8.")]:
+            self.browser.show(f"{self.place}/#{asked}")
+            self.see("#error", words)
+            self.assertEqual(self.text("#line"), line)
+
     def test_names_are_texts(self):
         name = "<img src=x onerror=alert(1)><b>Ann</b>"
         self.open_with_games(game(1, white=name).encode())
         self.see("#top-games", f"{name} (1500)")
+
+
+def opening(code, name):
+    return {"eco": code, "name": name}
+
+
+def named(whole, *moves):
+    """An answer with the openings of its whole and of its moves, each of which has one game."""
+    won = {"averageRating": 1500, "black": 0, "draws": 0, "game": None, "white": 1}
+    return {**json.loads(EMPTY), "moves": [{**won, "opening": name, "san": san, "uci": uci} for san, uci, name in moves],
+            "opening": whole, "white": len(moves)}
 
 
 EMPTY = b'{"black":0,"draws":0,"history":[],"moves":[],"opening":null,"recentGames":[],"topGames":[],"white":0}'
@@ -232,6 +304,32 @@ class Imports(Page):
         self.see("#imported", f"{7 * len(parts)} games stored, {len(parts)} refused")
         self.see("#imported", f"{len(games):,} of {len(games):,} bytes sent.")
 
+    def test_games_from_set_up_positions(self):
+        stored = b'{"batches":1,"refused":[{"place":0,"why":"BadSetUp 1"}],"stored":3}'
+        self.open_canned(200, EMPTY, (200, stored))
+        ending, other = "4k3/8/8/8/8/8/4P3/4K3 w - - 0 1", "4k3/4p3/8/8/8/8/8/4K3 b - - 7 30"
+        games = [set_up(1, "8/8/8/8/8/8/8/8 w - -"), set_up(2, other), set_up(3, ending), game(4), set_up(5, ending.replace("0 1", "3 9"))]
+        self.file("".join(games).encode())
+        self.browser.click("#send")
+        self.see("#imported", "Done: 3 games stored, 1 refused")
+        self.assertEqual(self.rows("#report")[0][2], "the tag FEN sets up no position: the pieces on the board (field 1)")
+        self.assertEqual(self.text("#report mark"), '[FEN "8/8/8/8/8/8/8/8 w - -"]')
+        listed = self.browser.on("#set-ups", "return [...node.querySelectorAll('li')].map((item) => item.textContent);")
+        self.assertEqual(listed, [f"{ending} 2 games", f"{other.replace('7 30', '0 1')} 1 game"])
+        self.browser.click("#set-ups button")
+        self.browser.wait(f"document.querySelector('#fen').value === {json.dumps(ending)}")
+        self.settled()
+        self.play("e2", "e4")
+        self.assertEqual(self.text("#line"), "1. e4")
+
+    def test_a_game_from_a_set_up_position_is_counted_there(self):
+        self.open_with_games(set_up(1, "4k3/8/8/8/8/8/4P3/4K3 w - - 0 1", "1. e3 Kd7 1-0").encode())
+        self.see("#totals", "No game of the store comes to this position")
+        self.browser.show(f"{self.place}/#fen=4k3/8/8/8/8/8/4P3/4K3+w+-+-+0+1")
+        self.see("#totals", "1 game")
+        self.browser.click("[data-uci=e2e3] button")
+        self.see("#moves", "Kd7")
+
     def test_files_that_are_no_games(self):
         stand_in = self.open_canned(200, EMPTY)
         for data, place, words in [
@@ -244,6 +342,25 @@ class Imports(Page):
             self.see(place, words)
             self.assertTrue(self.browser.evaluate("document.querySelector('#progress').hidden"))
         self.assertEqual([asked for asked in stand_in.asked if asked[0] == "POST"], [])
+
+
+class Site(Page):
+    def test_nginx_serves_the_page(self):
+        support.needs("nginx")
+        port = support.free_port()
+        stand_in = support.CannedExplorer(200, EMPTY, (200, b'{"batches":1,"refused":[],"stored":1}'))
+        with stand_in.running() as address, support.nginx(support.plain_site(port, address), port):
+            self.open_at(f"http://127.0.0.1:{port}")
+            self.play("e2", "e4")
+            self.assertIn("play=e2e4", stand_in.asked[-1][1])
+            self.file(game(1).encode())
+            self.browser.click("#send")
+            self.see("#imported", "Done: 1 game stored")
+        with support.nginx(support.plain_site(port, f"127.0.0.1:{support.free_port()}"), port):
+            self.browser.click("#start")
+            self.see("#error", "The web server reaches no explorer. Is it running?")
+        self.browser.click("#clear")
+        self.see("#error", "The server of this page does not answer any more.")
 
 
 class Faults(Page):
@@ -261,6 +378,11 @@ class Faults(Page):
         self.file(game(1).encode())
         self.browser.click("#send")
         self.see("#import-error", f"No explorer answers at {address}.")
+
+    def test_a_web_server_in_front_is_told(self):
+        for status, words in [(414, "longer than the web server takes"), (418, "The explorer answered with status 418.")]:
+            self.open_canned(status, b"<html>")
+            self.see("#error", words)
 
     def test_no_memory_and_a_full_store(self):
         self.open_canned(503, b'{"error":"out of memory"}')

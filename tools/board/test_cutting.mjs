@@ -1,7 +1,8 @@
 // Tests of how a file is cut into bodies. Run: node --test test_cutting.mjs
 import assert from "node:assert/strict";
+import { readFile, readdir } from "node:fs/promises";
 import { test } from "node:test";
-import { BODY_LIMIT, NotGames, bodies, causeInWords, countLines, movedCause, textAround } from "./page/cutting.mjs";
+import { BODY_LIMIT, NotGames, bodies, causeInWords, countLines, movedCause, setUps, textAround } from "./page/cutting.mjs";
 
 const game = (number, filling = 0) =>
   `[Event "Game ${number}"]\n[White "Ann"]\n\n1. e4 {${"x".repeat(filling)}} [Event is no line here 1-0\n\n`;
@@ -70,8 +71,31 @@ test("a refusal is told in words, with the text around it", () => {
 test("what is amiss with a position that is set up is told, with its tag", () => {
   const text = '[Event "x"]\n[SetUp "1"]\n[FEN "8/8/8/8/8/8/8/8 w - -"]\n\n1. e4 1-0\n';
   const bytes = new TextEncoder().encode(text);
-  assert.equal(causeInWords("BadSetUp 1"), "the tag FEN sets up no position: its field 1 is faulty");
+  assert.equal(causeInWords("BadSetUp 1"), "the tag FEN sets up no position: the pieces on the board (field 1)");
+  assert.equal(causeInWords("BadSetUp 6"), "the tag FEN sets up no position: the number of the move, or the number of fields (field 6)");
   assert.equal(textAround(bytes, 0, "BadSetUp 1").at, '[FEN "8/8/8/8/8/8/8/8 w - -"]');
   assert.equal(causeInWords("SetUp"), "the tag SetUp does not say whether there is a tag FEN");
   assert.equal(textAround(bytes, 0, "SetUp").at, '[SetUp "1"]');
+});
+
+const PAGES = new URL("../../docs/", import.meta.url);
+
+test("each refusal of the explorer has words", async () => {
+  const names = (await readdir(PAGES)).filter((name) => name.endsWith(".md"));
+  const pages = await Promise.all(names.map((name) => readFile(new URL(name, PAGES), "utf8")));
+  const rows = pages.join("\n\n").split("| Refusal | Words |")[1].split("\n\n")[0].split("\n").slice(2);
+  const causes = rows.flatMap((row) => row.split(" | ").at(-1).match(/(?<=`)[A-Z]\w+/g));
+  assert.ok(causes.length > 15);
+  for (const cause of causes) assert.notEqual(causeInWords(`${cause} 1 1`), `${cause} 1 1`, cause);
+});
+
+test("the positions that games are set up from are found", () => {
+  const setUp = (fen, movetext = "1. Kd2 1-0") => `[Event "x"]\n[SetUp "1"]\n[FEN "${fen}"]\n\n${movetext}\n\n`;
+  const texts = [setUp("one"), game(1), setUp("two"), setUp("three"), `[Event "x"]\n\n1. e4 {\n\n[FEN "none"]\n} 1-0\n`, setUp("four")];
+  const bytes = new TextEncoder().encode(`\ufeff${texts.join("")}`);
+  const place = (number) => 3 + texts.slice(0, number).join("").length;
+  assert.deepEqual(setUps(bytes, []), ["one", "two", "three", "four"]);
+  const refused = [{ place: 3, why: "BadSetUp 1" }, { place: place(2), why: "Repeated 7" }, { place: place(3), why: "Twice 3" }];
+  assert.deepEqual(setUps(bytes, refused), ["two", "four"]);
+  assert.deepEqual(setUps(new TextEncoder().encode("x"), []), []);
 });

@@ -21,6 +21,13 @@ export function totalsInWords(answer) {
   return `${counted(total, "game", "games")}: ${parts.join(", ")}`;
 }
 
+// The code and the name of an opening, as parts of a text; none where the position has no name.
+export function openingInWords(opening) {
+  if (!opening) return [];
+  const { eco, name } = opening;
+  return [element("span", { class: "code" }, eco), name && ` ${name}`];
+}
+
 // A bar of white, draws and black, with the shares as its text.
 function resultBar(totals) {
   const total = totalOf(totals);
@@ -34,6 +41,8 @@ function resultBar(totals) {
   return element("div", { class: "bar", role: "img", title: label, "aria-label": label }, ...parts);
 }
 
+const openingLine = (opening) => (opening ? [element("div", { class: "opening" }, ...openingInWords(opening))] : []);
+
 function moveRow(entry, whole, { onPlay, onPoint }) {
   const total = totalOf(entry);
   const point = (uci) => () => onPoint(uci);
@@ -43,7 +52,7 @@ function moveRow(entry, whole, { onPlay, onPoint }) {
     }, entry.san)),
     element("td", { class: "number" }, grouped(total)),
     element("td", { class: "number share" }, percent(total, whole)),
-    element("td", { class: "results" }, resultBar(entry)),
+    element("td", { class: "results" }, resultBar(entry), ...openingLine(entry.opening)),
     element("td", { class: "number" }, String(entry.averageRating)));
 }
 

@@ -35,11 +35,13 @@ export function lastGame(bytes) {
 
 export class NotGames extends Error {}
 
+// The length of the byte order mark that a file may begin with.
+const markLength = (bytes) => (startsWith(bytes, 0, [0xef, 0xbb, 0xbf]) ? 3 : 0);
+
 function checkBeginning(bytes) {
   const packed = PACKED.find(([, mark]) => startsWith(bytes, 0, mark));
   if (packed) throw new NotGames(`The file is packed (${packed[0]}). Unpack it first: the explorer takes plain text.`);
-  const mark = startsWith(bytes, 0, [0xef, 0xbb, 0xbf]) ? 3 : 0;
-  if (firstGame(bytes.subarray(mark), 0) === -1) {
+  if (firstGame(bytes.subarray(markLength(bytes)), 0) === -1) {
     throw new NotGames("This is no file of games in PGN: no line begins with “[Event ”.");
   }
 }
@@ -76,6 +78,12 @@ export async function* bodies(file) {
   }
 }
 
+// What is wrong where a field of a FEN is faulty.
+const FIELDS = [
+  "the pieces on the board", "the side to move, or the other one is in check", "the castling rights", "the en passant square",
+  "the count of half-moves", "the number of the move, or the number of fields",
+];
+
 const CAUSES = {
   Preamble: () => "this stands before the first game",
   TooLong: ([length]) => `the text has ${length} bytes, more than 65,536`,
@@ -84,7 +92,7 @@ const CAUSES = {
   Bad: ([name]) => `the tag ${name} has a value that is not taken`,
   NotStandard: () => "the game is no standard chess",
   SetUp: () => "the tag SetUp does not say whether there is a tag FEN",
-  BadSetUp: ([field]) => `the tag FEN sets up no position: its field ${field} is faulty`,
+  BadSetUp: ([field]) => `the tag FEN sets up no position: ${FIELDS[field - 1]} (field ${field})`,
   UnknownResult: () => "the result is not known",
   NoTermination: () => "the moves end without a result",
   ResultDiffers: () => "the moves end with another result than the tags tell",
@@ -136,6 +144,29 @@ export function textAround(bytes, start, why) {
     at: words(from, Math.min(to, from + 3 * AROUND)),
     after: words(to, to + AROUND),
   };
+}
+
+// The texts of some bytes, as [start, end].
+function* textsOf(bytes) {
+  const mark = markLength(bytes);
+  let at = firstGame(bytes.subarray(mark), 0) + mark;
+  while (at >= mark) {
+    const next = firstGame(bytes.subarray(at + 1), 0);
+    yield [at, next === -1 ? bytes.length : at + 1 + next];
+    at = next === -1 ? -1 : at + 1 + next;
+  }
+}
+
+const FEN_TAG = /\[\s*FEN\s*"([^"\n]*)"\s*\]/;
+
+// The positions that the games of some bytes begin in, by their tags FEN. A refused text is no game, but where the game is stored.
+export function setUps(bytes, refused) {
+  const noGames = new Set(refused.filter(({ why }) => !why.startsWith("Repeated ")).map(({ place }) => place));
+  return [...textsOf(bytes)].filter(([start]) => !noGames.has(start)).flatMap(([start, end]) => {
+    const [tags] = new TextDecoder().decode(bytes.subarray(start, end)).split(/\n\s*\n/, 1);
+    const tag = tags.match(FEN_TAG);
+    return tag ? [tag[1]] : [];
+  });
 }
 
 // A cause with the places of the stream moved by `by`.

@@ -16,7 +16,7 @@ const stored = (body) => `${counted(body.stored, "game of this part was", "games
 
 // By status and, where one status has several causes, the word of the body.
 const CAUSES = {
-  "0 no board": () => "The board's own server does not answer any more. Start tools/board/board again.",
+  "0 no board": () => "The server of this page does not answer any more. Where it is tools/board/board, start it again.",
   "0 other answer": () => "What answers is no explorer.",
   "400 malformed parameter": ({ parameter }) =>
     PARAMETERS[parameter] ?? `The explorer does not take the parameter ${parameter}.`,
@@ -42,10 +42,22 @@ const CAUSES = {
     + ` ${stored(body)}`,
 };
 
+// By status, where the body is none of the explorer's: a web server in front of it has answered.
+const IN_FRONT = {
+  403: "The web server in front of the explorer takes no games from here.",
+  413: "The part of the file is larger than the web server takes at once.",
+  414: "The line of moves is longer than the web server takes in a request.",
+  429: "The web server takes no more requests from here just now. Try again.",
+  502: "The web server reaches no explorer. Is it running?",
+  503: "The web server takes no more requests just now. Try again.",
+  504: "The explorer did not answer the web server in time.",
+};
+
 export class ExplorerFault extends Error {
   constructor(status, body) {
     const words = CAUSES[`${status} ${body.error}`];
-    super(words ? words(body) : `The explorer answered with status ${status}.`);
+    const others = (body.error === undefined && IN_FRONT[status]) || `The explorer answered with status ${status}.`;
+    super(words ? words(body) : others);
     this.status = status;
     this.parameter = body.parameter;
   }

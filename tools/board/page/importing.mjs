@@ -1,17 +1,20 @@
 // The import of a file: sends it part by part, and shows how far it is and what was refused.
 
 import { tableHead } from "./answer.mjs";
-import { NotGames, bodies, causeInWords, countLines, movedCause, textAround } from "./cutting.mjs";
+import { readFen, writeFen } from "./chess.mjs";
+import { NotGames, bodies, causeInWords, countLines, movedCause, setUps, textAround } from "./cutting.mjs";
 import { byId, counted, element, grouped, showText } from "./dom.mjs";
 import { ExplorerFault, send } from "./explorer.mjs";
 
 const ROWS_SHOWN = 500;
+const SET_UPS_SHOWN = 20;
 
 class Report {
   constructor() {
     this.stored = 0;
     this.refused = 0;
     this.lines = 1;
+    this.setUps = new Map();
     this.rows = element("tbody");
     const head = tableHead([["Byte", "number"], ["Line", "number"], ["Cause"], ["Text around it"]]);
     this.table = element("table", { class: "refusals" }, head, this.rows);
@@ -34,6 +37,26 @@ class Report {
       this.addRow(start + place, line, movedCause(why, start), textAround(bytes, place, why));
     }
     this.lines += countLines(bytes, bytes.length);
+    for (const fen of setUps(bytes, refused)) this.countSetUp(readFen(fen).position);
+  }
+
+  countSetUp(position) {
+    if (!position) return;
+    const fen = writeFen(position);
+    this.setUps.set(fen, 1 + (this.setUps.get(fen) ?? 0));
+  }
+
+  // The positions that games of the file begin in; a click puts one on the board.
+  showSetUps(node, onPlace) {
+    node.replaceChildren();
+    if (this.setUps.size === 0) return;
+    const most = [...this.setUps].sort(([, one], [, other]) => other - one);
+    const items = most.slice(0, SET_UPS_SHOWN).map(([fen, games]) => element("li", {},
+      element("button", { type: "button", title: "Put it on the board", onclick: () => onPlace(fen) }, fen),
+      ` ${counted(games, "game", "games")}`));
+    const rest = most.length - items.length;
+    node.append(element("h3", {}, "Games of the file begin in these positions"), element("ul", { class: "set-ups" }, ...items));
+    if (rest > 0) node.append(element("p", {}, `There are ${grouped(rest)} more.`));
   }
 
   show(node) {
@@ -76,11 +99,12 @@ function faultInWords(error) {
   throw error;
 }
 
-// Imports a file and answers whether any game was stored.
-export async function importFile(file, signal) {
+// Imports a file and answers whether any game was stored. `onPlace` takes a position that games of it begin in.
+export async function importFile(file, signal, onPlace) {
   const report = new Report();
   showText(byId("import-error"), null);
   byId("report").replaceChildren();
+  byId("set-ups").replaceChildren();
   showProgress(file, 0, report, "Importing");
   try {
     const sent = await sendAll(file, report, signal);
@@ -91,5 +115,6 @@ export async function importFile(file, signal) {
     byId("imported").textContent = `Not all was imported: ${counted(report.stored, "game", "games")} stored before.`;
   }
   report.show(byId("report"));
+  report.showSetUps(byId("set-ups"), onPlace);
   return report.stored > 0;
 }

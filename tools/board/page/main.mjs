@@ -1,11 +1,12 @@
 // The page: where the game stands, what is asked, and what is shown.
 
 import * as chess from "./chess.mjs";
-import { gamesList, historyChart, movesTable, totalsInWords, unitsOf } from "./answer.mjs";
+import { gamesList, historyChart, movesTable, openingInWords, totalsInWords, unitsOf } from "./answer.mjs";
 import { BoardView } from "./boardview.mjs";
 import { byId, counted, element, showText } from "./dom.mjs";
 import { ExplorerFault, ask } from "./explorer.mjs";
 import { importFile } from "./importing.mjs";
+import { askedBy, gameOf, hashOf, made } from "./link.mjs";
 
 const SPEEDS = ["ultraBullet", "bullet", "blitz", "rapid", "classical", "correspondence"];
 const RATINGS = ["0", "1000", "1200", "1400", "1600", "1800", "2000", "2200", "2500"];
@@ -44,6 +45,7 @@ function showAnswer({ body, batches }) {
   showText(byId("error"), null);
   byId("answer").classList.remove("faulty");
   byId("batches").textContent = counted(batches, "batch of games", "batches of games");
+  byId("opening").replaceChildren(...openingInWords(body.opening));
   byId("totals").textContent = totalsInWords(body);
   const actions = { onPlay: playUci, onPoint: (uci) => board.hint(uci && chess.moveOfUci(here(), uci)) };
   const isByKeys = byId("moves").querySelector(":focus-visible") !== null;
@@ -59,8 +61,7 @@ function showAnswer({ body, batches }) {
 function showFault(error) {
   showText(byId("error"), error.message);
   byId("answer").classList.add("faulty");
-  byId("batches").textContent = byId("totals").textContent = "";
-  for (const id of ["moves", "history", "top-games", "recent-games"]) byId(id).replaceChildren();
+  for (const id of ["batches", "opening", "totals", "moves", "history", "top-games", "recent-games"]) byId(id).replaceChildren();
 }
 
 // Asks for the position on the board; an answer that comes after a later question is dropped.
@@ -68,6 +69,8 @@ async function refresh() {
   asking.abort();
   asking = new AbortController();
   const { signal } = asking;
+  byId("link").hash = hashOf(parameters());
+  byId("linked").textContent = "";
   byId("answer").setAttribute("aria-busy", "true");
   try {
     const answer = await ask(parameters(), signal);
@@ -102,7 +105,7 @@ function show() {
   showLine();
   byId("first").disabled = byId("back").disabled = game.played === 0;
   byId("forward").disabled = byId("last").disabled = game.played === game.moves.length;
-  refresh();
+  return refresh();
 }
 
 function goTo(played) {
@@ -112,11 +115,7 @@ function goTo(played) {
 
 // Plays a legal move. The moves that were taken back are kept where it is the first of them.
 function play(move) {
-  const uci = chess.uciOf(move);
-  if (game.moves[game.played]?.uci !== uci) {
-    const made = { move, uci, san: chess.sanOf(here(), move), position: chess.play(here(), move) };
-    game.moves = [...playedMoves(), made];
-  }
+  if (game.moves[game.played]?.uci !== chess.uciOf(move)) game.moves = [...playedMoves(), made(here(), move)];
   goTo(game.played + 1);
 }
 
@@ -144,6 +143,32 @@ async function setFen(text) {
     if (!(error instanceof ExplorerFault)) throw error;
     showText(byId("error"), `${error.message} ${fault ?? ""}`.trim());
   }
+}
+
+// Shows what the address links to. What is amiss with it is told above the answer.
+async function followLink() {
+  const asked = askedBy(location.hash);
+  const { fault, ...linked } = gameOf(asked);
+  Object.assign(game, linked, { played: linked.moves.length });
+  for (const name of ["speeds", "ratings"]) {
+    for (const box of byId(name).querySelectorAll("input")) box.checked = asked[name].split(",").includes(box.value);
+  }
+  for (const name of ["since", "until"]) byId(name).value = asked[name];
+  await show();
+  if (fault && byId("error").hidden) showText(byId("error"), fault);
+}
+
+// The click also puts the link into the address, as that of any page.
+async function copyLink() {
+  const text = byId("link").href;
+  let isCopied = true;
+  try {
+    await navigator.clipboard.writeText(text);
+  } catch {
+    // A browser gives the clipboard to pages of this machine and of HTTPS alone.
+    isCopied = false;
+  }
+  byId("linked").textContent = isCopied ? "Copied." : "It stands in the address.";
 }
 
 const KEYS = {
@@ -176,7 +201,7 @@ async function startImport(event) {
   byId("send").disabled = true;
   byId("stop").hidden = false;
   try {
-    if (await importFile(file, importing.signal)) refresh();
+    if (await importFile(file, importing.signal, setFen)) refresh();
   } finally {
     importing = null;
     byId("send").disabled = false;
@@ -194,6 +219,10 @@ function listen() {
   byId("back").addEventListener("click", KEYS.ArrowLeft);
   byId("forward").addEventListener("click", KEYS.ArrowRight);
   byId("last").addEventListener("click", KEYS.End);
+  byId("link").addEventListener("click", copyLink);
+  window.addEventListener("hashchange", () => {
+    if (location.hash !== byId("link").hash) followLink();
+  });
   byId("flip").addEventListener("click", KEYS.f);
   byId("start").addEventListener("click", () => setRoot(chess.START, chess.readFen(chess.START).position));
   byId("clear").addEventListener("click", clearFilters);
@@ -212,4 +241,4 @@ function listen() {
 chips(byId("speeds"), SPEEDS);
 chips(byId("ratings"), RATINGS);
 listen();
-show();
+followLink();
