@@ -2,25 +2,29 @@
 use super::stores::file_of;
 use super::{ends, games, named, two_moves};
 use disk_model::MemDisk;
-use host::MemHost;
+use host::{MemFile, MemHost};
 use std::alloc::{AllocError, Global};
 use std::test::Fail;
 
 /// A host with the empty disks `s` and `t`, and files of 513, two, and three times one game.
 fn host_with_files(alloc: Global) -> Result<MemHost, AllocError> {
     let mut host = MemHost::new(alloc);
-    for name in ["s", "t"] {
-        host.add_disk(name, MemDisk::new(alloc, 1 << 20, Vec::new(alloc))?)?;
-    }
+    host.add_disk("s", MemDisk::new(alloc, 1 << 20, Vec::new(alloc))?)?;
+    host.add_disk("t", MemDisk::new(alloc, 1 << 20, Vec::new(alloc))?)?;
     let many = games(alloc, 513)?;
     host.add_file("many", file_of(alloc, many.as_str())?)?;
     let (two, _answer) = two_moves(alloc)?;
     host.add_file("two", file_of(alloc, two.as_str())?)?;
-    for (name, id) in [("x", "bbbbbbb1"), ("y", "bbbbbbb2"), ("z", "bbbbbbb3")] {
-        let one = named(alloc, id, "1-0", "1-0")?;
-        host.add_file(name, file_of(alloc, one.as_str())?)?;
-    }
+    host.add_file("x", file_of_one(alloc, "bbbbbbb1")?)?;
+    host.add_file("y", file_of_one(alloc, "bbbbbbb2")?)?;
+    host.add_file("z", file_of_one(alloc, "bbbbbbb3")?)?;
     Ok(host)
+}
+
+/// A file of one game with this id.
+fn file_of_one(alloc: Global, id: &str) -> Result<MemFile, AllocError> {
+    let one = named(alloc, id, "1-0", "1-0")?;
+    file_of(alloc, one.as_str())
 }
 
 /// A text of 64 bytes, of letters that have two each.
