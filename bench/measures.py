@@ -32,6 +32,8 @@ exit
 """
 # How many games callgrind reads, and how many positions are asked for.
 INSTRUCTED, POSITIONS = 500, 1000
+# What is asked by a book and without one: positions in which twelve moves and more were played.
+NAMED_TARGETS = {"start": {}, "after 1. e4": {"play": "e2e4"}, "after 1. e4 c5": {"play": "e2e4,c7c5"}}
 # How often an answer that is kept is asked for under callgrind, and how many answers a reader keeps.
 KEPT_ROUNDS, KEPT_ANSWERS = 100, 128
 START = "rnbqkbnr/pppppppp/8/8/8/8/PPPPPPPP/RNBQKBNR w KQkq -"
@@ -122,13 +124,17 @@ def imports(options):
     return tables
 
 
+def instructed(*words, stdin=None, noted="/dev/null"):
+    """Instructions of a run of the explorer."""
+    ran = Ran(["valgrind", "--tool=callgrind", f"--callgrind-out-file={noted}", measuring.explorer(), *words], stdin=stdin)
+    return int(re.search(r"Collected : (\d+)", ran.output)[1])
+
+
 def instructions(options):
     """Instructions of `explorer count` for a game, by valgrind."""
     measuring.need("valgrind", "valgrind")
     pgn = measuring.games(options.archive, INSTRUCTED)
-    words = ["valgrind", "--tool=callgrind", "--callgrind-out-file=/dev/null", measuring.explorer(), "count", "",
-             "--workers", "1"]
-    counted = [int(re.search(r"Collected : (\d+)", Ran(words, stdin=stdin).output)[1]) for stdin in (pgn, None)]
+    counted = [instructed("count", "", "--workers", "1", stdin=stdin) for stdin in (pgn, None)]
     return [table(f"Instructions of `explorer count` for a game of {INSTRUCTED}, without those of an empty input",
                   ["instructions a game"], [[f"{(counted[0] - counted[1]) / INSTRUCTED:,.0f}"]])]
 
@@ -148,8 +154,7 @@ def shares(options):
     measuring.need("valgrind", "valgrind")
     pgn = measuring.games(options.archive, options.few)
     noted = measuring.work_folder() / "callgrind.out"
-    Ran(["valgrind", "--tool=callgrind", f"--callgrind-out-file={noted}", measuring.explorer(), "count", "", "--workers",
-         "1"], stdin=pgn)
+    instructed("count", "", "--workers", "1", stdin=pgn, noted=noted)
     listed = Ran(["callgrind_annotate", "--inclusive=yes", "--threshold=100", noted]).output
     found = re.findall(r"^ *([\d,]+) \(.*?\)  [^:\s]*:(\S+)", listed, re.MULTILINE)
     # A function that is generic has a name for each of its forms; one that calls itself, a second one with a mark.
@@ -463,16 +468,25 @@ def held_after(port, process, targets):
     return int(re.search(r"VmRSS:\s+(\d+)", status)[1])
 
 
-def kept_instructions(store):
-    """Instructions of replies that are looked up and that are kept. The server counts once its store is open."""
+@contextlib.contextmanager
+def counting(store, *more):
+    """A server that counts its instructions once its store is open, by its process and port."""
     port = measuring.free_port()
     words = ["valgrind", "--tool=callgrind", "--instr-atstart=no", "--callgrind-out-file=/dev/null", measuring.explorer()]
-    words += ["serve", store, f"127.0.0.1:{port}", "--readers", "1", "--connections", "1000000", "--workers", "1"]
+    words += ["serve", store, f"127.0.0.1:{port}", "--readers", "1", "--connections", "1000000", "--workers", "1", *more]
     with measuring.running(words) as process:
         settle(process)
         Ran(["callgrind_control", "--instr=on", process.pid])
-        # What is malformed is told without a look-up. The first one also pays for what is done once.
-        base = [instructions_of(process, port, [target(moves="x")]) for _ in range(2)][1]
+        # The first request also pays for what is done once.
+        instructions_of(process, port, [target(moves="x")])
+        yield process, port
+
+
+def kept_instructions(store):
+    """Instructions of replies that are looked up and that are kept."""
+    with counting(store) as (process, port):
+        # What is malformed is told without a look-up.
+        base = instructions_of(process, port, [target(moves="x")])
         for name, asked in KEPT_TARGETS.items():
             looked_up = instructions_of(process, port, [target(**asked)]) - base
             once, often = (instructions_of(process, port, [target(**asked)] * times) for times in (1, KEPT_ROUNDS + 1))
@@ -495,6 +509,38 @@ def kept(options):
             held.append([f"{last:,}", f"{held_after(port, process, targets) - before:,}"])
     title = "KB that a server with one reader holds more than after one query, once it was asked different query strings"
     return [*tables, table(title, ["query strings", "KB"], held)]
+
+
+def book_of(table_of_openings):
+    """A file of openings, made of a table of them."""
+    if not os.path.isfile(table_of_openings):
+        raise Trouble(f"there is no table of openings {table_of_openings} (Debian: apt-get install scid-data)")
+    place = measuring.work_folder() / "openings"
+    place.write_text(Ran([measuring.TOP / "tools/openings", table_of_openings]).output, encoding="utf-8")
+    return place
+
+
+def named_replies(store, *more):
+    """Instructions of replies, each the second time that it is looked up."""
+    with counting(store, *more) as (process, port):
+        return {name: [instructions_of(process, port, [target(**asked, round=number)]) for number in range(2)][1]
+                for name, asked in NAMED_TARGETS.items()}
+
+
+def openings(options):
+    """A book of openings: its reading, and what it adds to a reply, by valgrind."""
+    measuring.need("valgrind", "valgrind")
+    book = book_of(options.openings)
+    kinds = [["count", "", "--workers", "1", *more] for more in ((), ("--openings", book))]
+    counts = [instructed(*words) for words in kinds]
+    peaks = [measuring.best(options.rounds, lambda words=words: Ran([measuring.explorer(), *words])).peak for words in kinds]
+    read = [f"{counts[1] - counts[0]:,}", f"{(peaks[1] - peaks[0]) * 1024:,.0f}"]
+    store = measuring.store_of(measuring.games(options.archive, options.many))
+    without, named = named_replies(store), named_replies(store, "--openings", book)
+    rows = [[name, f"{without[name]:,}", f"{named[name]:,}", f"{named[name] - without[name]:,}"] for name in NAMED_TARGETS]
+    lines = book.read_bytes().count(b"\n")
+    return [table(f"Reading a file of openings of {lines:,} lines", ["instructions", "KB more at the peak"], [read]),
+            table(f"Instructions of a reply over {options.many:,} games", ["", "without a book", "by the book", "more"], rows)]
 
 
 def perft(options):
@@ -580,13 +626,13 @@ def lookup(options):
 MEASURES = {
     "count": count, "instructions": instructions, "shares": shares, "import": imports, "query": query, "tally": tally,
     "segments": segments, "steps": steps, "store": store, "lookup": lookup, "lookups": lookups, "replies": replies,
-    "kept": kept,
+    "kept": kept, "openings": openings,
     "perft": perft, "wire": wire, "gate": gate,
 }
 # Those that are taken by a script with a program of its own, that ask for positions, and that read a store.
 SCRIPTS = ("tally", "segments", "steps", "store", "lookup", "perft", "wire")
 ASKING = ("lookup", "lookups", "replies")
-READING = ("query", "kept", *ASKING)
+READING = ("query", "kept", "openings", *ASKING)
 
 
 def file_sizes(name, options):

@@ -253,17 +253,18 @@ class Crates(unittest.TestCase):
             waiting += [one for one in crates()[waiting.pop()] if one not in found and not found.add(one)]
         self.assertIn(f"with the {len(found)} crates that it stands on", text_of(TOP / "docs/RUNNING.md"))
 
-    def test_each_has_six_wrong_bodies(self):
+    def test_each_has_six_wrong_bodies_or_more(self):
         inside = collections.Counter(path.parts[-3] for path in CRATES.glob("*/must-fail/*.edit"))
         outside = collections.Counter(path.parent.name for path in (TOP / "bench/wrong").glob("*/*.edit"))
         self.assertEqual((sum(inside.values()), len(inside)), (16, 12))
-        self.assertEqual(inside + outside, collections.Counter({name: 6 for name in crates() if not name.endswith("_tests")}))
+        self.assertEqual({name for name, count in (inside + outside).items() if count >= 6}, {name for name in crates() if not name.endswith("_tests")})
 
 
 class Statement(unittest.TestCase):
     def test_what_is_quoted_stands_in_the_specs(self):
-        quoted = text_of(TOP / "docs/PROOFS.md").partition("\n## The statement\n")[2].split("```")[1]
-        found = flat("\n".join(text_of(CRATES / f"explorer/specs/{name}.antt") for name in ("Run", "Lines", "Count", "Report", "Imported")))
+        head, quoted = text_of(TOP / "docs/PROOFS.md").partition("\n## The statement\n")[2].split("```")[:2]
+        [modules] = re.findall(r"word for word in `explorer/specs` \((.*?)\)", head)
+        found = flat("\n".join(text_of(CRATES / f"explorer/specs/{name}.antt") for name in re.findall(r"\w+", modules)))
         # What the contract says comes first; then definitions, of which one is cut short.
         for piece in re.split(r"\n(?=[^\s-])|\n\n(?=-- )", quoted.strip())[1:]:
             if ".." not in piece:

@@ -55,6 +55,10 @@ option_rule name bounds default = record (new_rule name) {
 abbrev pub text_rule : Text → Rule
 text_rule name = record (optional_rule name) { long = Some name }
 
+-- `--openings FILE`
+abbrev pub openings_rule : Rule
+openings_rule = text_rule (codes "openings")
+
 -- `NAME`, which is a number within bounds
 abbrev pub number_rule : Text → Bounds → Rule
 number_rule name bounds = record (required_rule name) {
@@ -82,10 +86,10 @@ abbrev pub batches_shape : Shape
 batches_shape = (with_rules (new_app (codes "batches"))
     (required_rule (codes "store") ∷ workers_rule ∷ [])).top
 
--- `count [QUERY] [--workers N]`
+-- `count [QUERY] [--workers N] [--openings FILE]`
 abbrev pub count_shape : Shape
 count_shape = (with_rules (new_app (codes "count"))
-    (optional_rule (codes "query") ∷ workers_rule ∷ [])).top
+    (optional_rule (codes "query") ∷ workers_rule ∷ openings_rule ∷ [])).top
 
 -- `create STORE`
 abbrev pub create_shape : Shape
@@ -102,17 +106,19 @@ abbrev pub migrate_shape : Shape
 migrate_shape = (with_rules (new_app (codes "migrate"))
     (required_rule (codes "old") ∷ required_rule (codes "new") ∷ [])).top
 
--- `query STORE [QUERY] [--workers N]`
+-- `query STORE [QUERY] [--workers N] [--openings FILE]`
 abbrev pub query_shape : Shape
 query_shape = (with_rules (new_app (codes "query"))
-    (required_rule (codes "store") ∷ optional_rule (codes "query") ∷ workers_rule ∷ [])).top
+    (required_rule (codes "store") ∷ optional_rule (codes "query") ∷ workers_rule
+    ∷ openings_rule ∷ [])).top
 
--- `serve STORE ADDRESS [FILE]... [--workers N] [--readers N] [--connections N]`
+-- `serve STORE ADDRESS [FILE]... [--workers N] [--readers N] [--connections N] [--openings FILE]`
 abbrev pub serve_shape : Shape
 serve_shape = (with_rules (new_app (codes "serve"))
     (required_rule (codes "store") ∷ required_rule (codes "address") ∷ files_rule ∷ workers_rule
     ∷ option_rule (codes "readers") readers_bounds (codes "4")
-    ∷ option_rule (codes "connections") connections_bounds (codes "1000") ∷ [])).top
+    ∷ option_rule (codes "connections") connections_bounds (codes "1000")
+    ∷ openings_rule ∷ [])).top
 
 -- `trial GAMES SEED [--workers N]`
 abbrev pub trial_shape : Shape
@@ -140,8 +146,9 @@ explorer_app = with_shapes bare_app
 pub data Task : Type 0 where
   -- list the batches of a store
   Batches : (store : List ℕ) (workers : ℕ) → Task
-  -- count the games of the input, and answer the query
-  Count : (query : List ℕ) (workers : ℕ) → Task
+  -- count the games of the input, and answer the query; here and below, openings is the name of a
+  -- file of them, where one is given
+  Count : (query : List ℕ) (workers : ℕ) (openings : Option (List ℕ)) → Task
   -- make a store without a game
   Create : (store : List ℕ) → Task
   -- import a file into a store under a label, which is empty where none is given
@@ -149,9 +156,10 @@ pub data Task : Type 0 where
   -- make a store of the batches of a store in the first format
   Migrate : (old new : List ℕ) → Task
   -- answer a query over a store
-  Query : (store query : List ℕ) (workers : ℕ) → Task
+  Query : (store query : List ℕ) (workers : ℕ) (openings : Option (List ℕ)) → Task
   -- serve a store at an address while files are imported into it
-  Serve : (store address : List ℕ) (files : List (List ℕ)) (workers readers connections : ℕ) → Task
+  Serve : (store address : List ℕ) (files : List (List ℕ)) (workers readers connections : ℕ)
+      (openings : Option (List ℕ)) → Task
   -- store sample games that are drawn from the seed, and count them
   Trial : (games seed workers : ℕ) → Task
 
@@ -175,15 +183,26 @@ number_in name bounds default rows = number_of bounds default (one_of name rows)
 abbrev pub workers_in : List Row → ℕ
 workers_in = number_in (codes "workers") workers_bounds 4
 
+-- the name of a file of openings, where one is given
+abbrev pub openings_in : List Row → Option (List ℕ)
+openings_in = first_of (codes "openings")
+
+abbrev pub count_task : List Row → Task
+count_task rows = Count (word_in (codes "query") rows) (workers_in rows) (openings_in rows)
+
 abbrev pub import_task : List Row → Task
 import_task rows = Import (word_in (codes "store") rows) (word_in (codes "file") rows)
     (workers_in rows) (word_in (codes "label") rows)
+
+abbrev pub query_task : List Row → Task
+query_task rows = Query (word_in (codes "store") rows) (word_in (codes "query") rows)
+    (workers_in rows) (openings_in rows)
 
 abbrev pub serve_task : List Row → Task
 serve_task rows = Serve (word_in (codes "store") rows) (word_in (codes "address") rows)
     (words_in (codes "file") rows) (workers_in rows)
     (number_in (codes "readers") readers_bounds 4 rows)
-    (number_in (codes "connections") connections_bounds 1000 rows)
+    (number_in (codes "connections") connections_bounds 1000 rows) (openings_in rows)
 
 abbrev pub trial_task : List Row → Task
 trial_task rows = Trial (number_in (codes "games") games_bounds 1 rows)
@@ -194,14 +213,12 @@ abbrev pub task_named : Text → List Row → Option Task
 task_named name rows =
     if bytes_eq name (codes "batches") then
     Some (Batches (word_in (codes "store") rows) (workers_in rows))
-    else if bytes_eq name (codes "count") then
-    Some (Count (word_in (codes "query") rows) (workers_in rows))
+    else if bytes_eq name (codes "count") then Some (count_task rows)
     else if bytes_eq name (codes "create") then Some (Create (word_in (codes "store") rows))
     else if bytes_eq name (codes "import") then Some (import_task rows)
     else if bytes_eq name (codes "migrate") then
     Some (Migrate (word_in (codes "old") rows) (word_in (codes "new") rows))
-    else if bytes_eq name (codes "query") then
-    Some (Query (word_in (codes "store") rows) (word_in (codes "query") rows) (workers_in rows))
+    else if bytes_eq name (codes "query") then Some (query_task rows)
     else if bytes_eq name (codes "serve") then Some (serve_task rows)
     else if bytes_eq name (codes "trial") then Some (trial_task rows)
     else None

@@ -1,5 +1,5 @@
 -- Bridge: what the code holds of the words of a command line.
-use Rattle.std.specs.Prelude.{◌≡◌, ◌≢◌, ◌≤◌, ℕ, ◌++◌, List, map, Option, None, Some, codes, nat_le, ◌&&◌, if◌then◌else◌, string_bytes}
+use Rattle.std.specs.Prelude.{◌≡◌, ◌≢◌, ◌≤◌, ℕ, ◌++◌, List, map, Option, None, Some, option_map, codes, nat_le, ◌&&◌, if◌then◌else◌, string_bytes}
 use Rattle.clap.specs.Walk.{Row, Text}
 use Rattle.explorer_model.specs.declared.fault.Stop.{Stop}
 use Rattle.explorer_model.specs.declared.fault.Stop.TheVariants as stops
@@ -10,16 +10,17 @@ use Rattle.command_line.specs.Task.{Batches, Bounds, Count, Create, Import, Migr
 
 abbrev pub task_in : Command → Task
 task_in (commands.Batches store workers) = Batches (string_bytes store) workers
-task_in (commands.Count query workers) = Count (string_bytes query) workers
+task_in (commands.Count query workers openings) =
+    Count (string_bytes query) workers (option_map string_bytes openings)
 task_in (commands.Create store) = Create (string_bytes store)
 task_in (commands.Import store file workers label) =
     Import (string_bytes store) (string_bytes file) workers (string_bytes label)
 task_in (commands.Migrate old new) = Migrate (string_bytes old) (string_bytes new)
-task_in (commands.Query store query workers) =
-    Query (string_bytes store) (string_bytes query) workers
-task_in (commands.Serve store address files workers readers connections) =
+task_in (commands.Query store query workers openings) =
+    Query (string_bytes store) (string_bytes query) workers (option_map string_bytes openings)
+task_in (commands.Serve store address files workers readers connections openings) =
     Serve (string_bytes store) (string_bytes address) (map string_bytes files.items)
-    workers readers connections
+    workers readers connections (option_map string_bytes openings)
 task_in (commands.Trial games seed workers) = Trial games seed workers
 
 -- ---- bounds
@@ -30,12 +31,12 @@ IsIn bounds number = (bounds.least ≤ number) × (number ≤ bounds.most)
 -- all numbers that are asked for stand within their bounds
 abbrev pub IsInBounds : Task → Type 0
 IsInBounds (Batches store workers) = IsIn workers_bounds workers
-IsInBounds (Count query workers) = IsIn workers_bounds workers
+IsInBounds (Count query workers openings) = IsIn workers_bounds workers
 IsInBounds (Create store) = Unit {0}
 IsInBounds (Import store file workers label) = IsIn workers_bounds workers
 IsInBounds (Migrate old new) = Unit {0}
-IsInBounds (Query store query workers) = IsIn workers_bounds workers
-IsInBounds (Serve store address files workers readers connections) =
+IsInBounds (Query store query workers openings) = IsIn workers_bounds workers
+IsInBounds (Serve store address files workers readers connections openings) =
     IsIn workers_bounds workers × IsIn readers_bounds readers
     × IsIn connections_bounds connections
 IsInBounds (Trial games seed workers) =

@@ -14,6 +14,7 @@ ghost use Rattle.command_line.specs.Task.{
   import_shape,
   migrate_shape,
   number_rule,
+  openings_rule,
   option_rule,
   optional_rule,
   query_shape,
@@ -98,7 +99,7 @@ fn count_command<'a>(alloc: Global) -> Result<Command<'a>, AllocError>
         "Count the games of standard input, and answer a query",
     );
     let command = with_arg(command, query_arg(alloc))?;
-    with_arg(command, workers_arg(alloc))
+    with_args(command, workers_arg(alloc), openings_arg(alloc))
 }
 
 fn create_command<'a>(alloc: Global) -> Result<Command<'a>, AllocError>
@@ -134,7 +135,7 @@ fn query_command<'a>(alloc: Global) -> Result<Command<'a>, AllocError>
 {
     let command = Command::new(alloc, "query").about("Answer a query over the games of a store");
     let command = with_args(command, store_arg(alloc), query_arg(alloc))?;
-    with_arg(command, workers_arg(alloc))
+    with_args(command, workers_arg(alloc), openings_arg(alloc))
 }
 
 fn serve_command<'a>(alloc: Global) -> Result<Command<'a>, AllocError>
@@ -142,11 +143,11 @@ fn serve_command<'a>(alloc: Global) -> Result<Command<'a>, AllocError>
     ensures globals { IfOk result (λ command. (fields_of command).has_globals ≡ false) }
 {
     let command = serve_command_of_texts(alloc)?;
-    let command = with_arg(command, workers_arg(alloc))?;
-    with_args(command, readers_arg(alloc), connections_arg(alloc))
+    let command = with_args(command, workers_arg(alloc), readers_arg(alloc))?;
+    with_args(command, connections_arg(alloc), openings_arg(alloc))
 }
 
-/// The same without its numbers.
+/// The same without its options.
 fn serve_command_of_texts<'a>(alloc: Global) -> Result<Command<'a>, AllocError>
     ensures app { IfOk result (λ command.
         app_of command ≡ with_rules (new_app (codes "serve"))
@@ -282,6 +283,16 @@ fn label_arg<'a>(alloc: Global) -> Arg<'a>
         .long("label")
         .value_name("TEXT")
         .help("The label of the batches that are stored, at most 64 bytes")
+}
+
+fn openings_arg<'a>(alloc: Global) -> Arg<'a>
+    ensures rule { rule_of result ≡ openings_rule }
+    ensures local { result.global ≡ false }
+{
+    Arg::new(alloc, "openings")
+        .long("openings")
+        .value_name("FILE")
+        .help("A file of openings, by which answers are named")
 }
 
 fn readers_arg<'a>(alloc: Global) -> Arg<'a>

@@ -1,5 +1,6 @@
 //! What a run is asked to do.
-ghost use Rattle.std.specs.Prelude.{◌≡◌, ◌≤◌, ◌<◌, ◌^◌, Some, IfOk, codes, map, string_bytes};
+ghost use Rattle.std.specs.Prelude.{◌≡◌, ◌≤◌, ◌<◌, ◌^◌, Some, IfOk, codes, map, option_map, string_bytes};
+ghost use Rattle.clap.specs.Walk.{first_of};
 ghost use Rattle.clap.specs.Words.{found_of, rows_of, subcommand_rows_of};
 ghost use Rattle.command_line.specs.Task.{Bounds, number_in, task_named, task_said, word_in, words_in, workers_in as workers_given};
 ghost use Rattle.command_line.specs.Words.{IsInBounds, IsTaken, task_in};
@@ -15,10 +16,12 @@ pub enum Command {
         store: String,
         workers: u8,
     },
-    /// Count the games of the input, and answer the query, which is empty where none is given.
+    /// Count the games of the input, and answer the query, which is empty where none is given. Here
+    /// and below, answers are named by the file of openings of this name, where one is given.
     Count {
         query: String,
         workers: u8,
+        openings: Option<String>,
     },
     /// Make a store without a game.
     Create {
@@ -41,6 +44,7 @@ pub enum Command {
         store: String,
         query: String,
         workers: u8,
+        openings: Option<String>,
     },
     /// Serve a store at an address by 1 to 64 readers, each for 1 to 1,000,000 connections, while
     /// files are imported into it.
@@ -51,6 +55,7 @@ pub enum Command {
         workers: u8,
         readers: u8,
         connections: u32,
+        openings: Option<String>,
     },
     /// Store 1 to 131,072 sample games that are drawn from the seed, and count them.
     Trial {
@@ -113,6 +118,7 @@ fn count_of(alloc: Global, given: &ArgMatches<'_>) -> Result<Command, AllocError
     Ok(Command::Count {
         query: word_of(alloc, given, "query")?,
         workers: workers_of(given),
+        openings: optional_word_of(alloc, given, "openings")?,
     })
 }
 
@@ -159,6 +165,7 @@ fn query_of(alloc: Global, given: &ArgMatches<'_>) -> Result<Command, AllocError
         store: word_of(alloc, given, "store")?,
         query: word_of(alloc, given, "query")?,
         workers: workers_of(given),
+        openings: optional_word_of(alloc, given, "openings")?,
     })
 }
 
@@ -174,6 +181,7 @@ fn serve_of(alloc: Global, given: &ArgMatches<'_>) -> Result<Command, AllocError
         workers: workers_of(given),
         readers: number_of(given, "readers", 1, 64, 4) as u8,
         connections: number_of(given, "connections", 1, 1_000_000, 1000) as u32,
+        openings: optional_word_of(alloc, given, "openings")?,
     })
 }
 
@@ -194,6 +202,22 @@ fn word_of(alloc: Global, given: &ArgMatches<'_>, name: &str) -> Result<String, 
         string_bytes word ≡ word_in name.now (rows_of (found_of given.now))) }
 {
     String::from_str(alloc, given.get_str(name).unwrap_or(""))
+}
+
+/// What is given under a name, where something is.
+fn optional_word_of(
+    alloc: Global,
+    given: &ArgMatches<'_>,
+    name: &str,
+) -> Result<Option<String>, AllocError>
+    ensures { IfOk result (λ word.
+        option_map string_bytes word ≡ first_of name.now (rows_of (found_of given.now))) }
+{
+    let Some(text) = given.get_str(name) else {
+        return Ok(None);
+    };
+    let word = String::from_str(alloc, text)?;
+    Ok(Some(word))
 }
 
 /// All that is given under a name.

@@ -475,14 +475,14 @@ module _ {F G J : Type 0} (source : F → Stream) (service : Service) (workers :
       (λ thing. due thing service.files service.readers) outs-hand (λ thing. omega (arith, outs-due thing)) outs-are
 
   pub doors-worked : (opening journal : List Batch) (first : Option Fault) (lines : Option (List ℕ)) (after : HostState)
-      → WorksOver service.files opening journal doors first lines now after
+      → WorksOver service.book service.files opening journal doors first lines now after
       → HasWorked service opening journal first lines before after × GivesBack before after
   doors-worked opening journal first lines after over =
       let backs = files_back service.files (map (λ (run : FileRun). run.file) over.files) ++ map (λ (run : DoorRun). DoorBack run.connections) over.doors in
       let even : length (map (λ (run : FileRun). run.file) over.files) ≡ length service.files =
       length-map over.files (λ (run : FileRun). run.file)
       ∙ (zip-length IsImported (map (file_at now) service.files) over.files over.imported ∙ length-map service.files (file_at now)) in
-      let count : length over.doors ≡ service.readers = zip-length (IsServedFrom opening) doors over.doors over.served ∙ hands.fresh.number in (
+      let count : length over.doors ≡ service.readers = zip-length (IsServedFrom service.book opening) doors over.doors over.served ∙ hands.fresh.number in (
         record {
           handed = doors;
           are_fresh = subst (λ (ls : List ℕ → ℕ → Option (List Stream)). AreFresh service.readers service.connections (ls service.address) doors)

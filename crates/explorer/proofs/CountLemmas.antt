@@ -15,6 +15,7 @@ use Rattle.explorer_model.specs.declared.query.BadParameter.{BadParameter}
 use Rattle.explorer_model.specs.declared.query.Query.{Query}
 use Rattle.explorer_model.specs.Journal.{IsSound, input_limit}
 use Rattle.explorer_model.specs.Labels.{no_label}
+use Rattle.explorer_model.specs.Openings.{NamedPosition}
 use Rattle.explorer_model.specs.Query.{QueryReads}
 use Rattle.explorer_model.specs.Stop as model
 use Rattle.ingest_desk.specs.declared.report.ImportEnding.{ImportEnding}
@@ -25,12 +26,11 @@ use Rattle.explorer.specs.declared.fault.Fault.{Fault}
 use Rattle.explorer.specs.declared.fault.Fault.TheVariants as faults
 use Rattle.explorer.specs.declared.importing.Came.{Came}
 use Rattle.explorer.specs.Answer.{IsAnswer, answer_line}
-use Rattle.explorer.specs.Count.{Answers, BreaksOff, CountedBy, CountedTo, Counts, CountsBy, ImportsNew, ReadsBelow}
+use Rattle.explorer.specs.Count.{Answers, BreaksOff, CountedBy, CountedTo, Counts, CountsBy, CountsOver, ImportsNew, ReadsBelow, Starves}
 use Rattle.explorer.specs.Faults.{fault_by, fault_of_query}
 use Rattle.explorer.specs.Imported.{FaultsBy, ImportedIn, IsAllSettled, IsFullAt, StandsBy, StoredBy, new_store}
 use Rattle.explorer.specs.Lines.{AreLinesOf, Ending, Stopped, ending_of}
 use Rattle.explorer.specs.Report.{MayReport, report}
-use Rattle.explorer.specs.Run.{Starves}
 use Rattle.explorer.specs.World.{World, WriteFails, world}
 use Rattle.explorer.proofs.NewStoreLemmas.{known_is_new}
 
@@ -82,13 +82,13 @@ pub below_lacking : (label : List ℕ) (journal stored : List Batch) (disk disk_
 below_lacking label journal stored disk disk_after source source_after came is memory = below_of label journal stored disk disk_after source source_after came is (inr memory)
 
 -- where memory is wanting for the report of an input that was read to its end
-pub below_counted : (query : Query) (faults faults_after : ℕ) (before after : Stream) (refused : List Refusal) (line : Vec ℕ Global) → CountedTo query faults faults_after before after refused (Ok line) → ReadsBelow before after
-below_counted query faults faults_after before after refused line (batches, (imports, answer, came)) =
+pub below_counted : (book : List NamedPosition) (query : Query) (faults faults_after : ℕ) (before after : Stream) (refused : List Refusal) (line : Vec ℕ Global) → CountedTo book query faults faults_after before after refused (Ok line) → ReadsBelow before after
+below_counted book query faults faults_after before after refused line (batches, (imports, answer, came)) =
     record { stream = imports.stream; reads = imports.reads; below = imports.stands.below; came = came }
 
 -- ---- an import into a new store
 
-module _ (query : Query) (label : List ℕ) (unlabelled : label ≡ no_label) (journal stored : List Batch) (empty : journal ≡ []) (disk disk_after : DiskState) (source source_after : Stream) (came : Came) (is : ImportedIn label journal stored disk disk_after source source_after came) where
+module _ (book : List NamedPosition) (query : Query) (label : List ℕ) (unlabelled : label ≡ no_label) (journal stored : List Batch) (empty : journal ≡ []) (disk disk_after : DiskState) (source source_after : Stream) (came : Came) (is : ImportedIn label journal stored disk disk_after source source_after came) where
   started : is.start ≡ new_store
   started = known_is_new is.start (is.journal_is ∙ empty) is.sound is.none_failed
 
@@ -121,14 +121,14 @@ module _ (query : Query) (label : List ℕ) (unlabelled : label ≡ no_label) (j
   some_none fault e = cc
 
   -- the input was read to its end
-  pub counted_all : (after published : List Batch) (line : Vec ℕ Global) → fault_by came.ending ≡ None → after ≡ stored → published ≡ after → IsAnswer query published line
-      → CountedTo query disk.faults disk_after.faults source source_after came.refused.items (Ok line)
+  pub counted_all : (after published : List Batch) (line : Vec ℕ Global) → fault_by came.ending ≡ None → after ≡ stored → published ≡ after → IsAnswer book query published line
+      → CountedTo book query disk.faults disk_after.faults source source_after came.refused.items (Ok line)
   counted_all after published line none same told answer = by_ending came.ending refl none
     where
-      by_ending : (ending : ImportEnding) → came.ending ≡ ending → fault_by ending ≡ None → CountedTo query disk.faults disk_after.faults source source_after came.refused.items (Ok line)
+      by_ending : (ending : ImportEnding) → came.ending ≡ ending → fault_by ending ≡ None → CountedTo book query disk.faults disk_after.faults source source_after came.refused.items (Ok line)
       by_ending endings.Whole e none =
           let stored_is : stored ≡ is.batches = stored_by_ending endings.Whole e in
-          let A : List Batch → Type 0 = λ j. IsAnswer query j line in (
+          let A : List Batch → Type 0 = λ j. IsAnswer book query j line in (
             is.batches,
             (
               new_by (λ stream. IsAllSettled no_label new_store stream source_after.left) (stands_at endings.Whole e) stored_is,
@@ -144,19 +144,19 @@ module _ (query : Query) (label : List ℕ) (unlabelled : label ≡ no_label) (j
       by_ending endings.OutOfMemory e none = absurd (some_none _ none)
 
   -- the import ended early
-  pub counted_early : (fault : Fault) → fault_by came.ending ≡ Some fault → (fault ≡ faults.OutOfMemory → ⊥) → CountedTo query disk.faults disk_after.faults source source_after came.refused.items (Err fault)
+  pub counted_early : (fault : Fault) → fault_by came.ending ≡ Some fault → (fault ≡ faults.OutOfMemory → ⊥) → CountedTo book query disk.faults disk_after.faults source source_after came.refused.items (Err fault)
   counted_early fault ends differs = by_ending came.ending refl ends
     where
-      so : (other : Fault) → Some other ≡ Some fault → CountedTo query disk.faults disk_after.faults source source_after came.refused.items (Err other)
-          → CountedTo query disk.faults disk_after.faults source source_after came.refused.items (Err fault)
+      so : (other : Fault) → Some other ≡ Some fault → CountedTo book query disk.faults disk_after.faults source source_after came.refused.items (Err other)
+          → CountedTo book query disk.faults disk_after.faults source source_after came.refused.items (Err fault)
       so other e counted =
           let same : other ≡ fault = cc in
-          subst (λ (f : Fault). CountedTo query disk.faults disk_after.faults source source_after came.refused.items (Err f)) same counted
+          subst (λ (f : Fault). CountedTo book query disk.faults disk_after.faults source source_after came.refused.items (Err f)) same counted
 
       none_some : None ≡ Some fault → ⊥
       none_some e = cc
 
-      by_ending : (ending : ImportEnding) → came.ending ≡ ending → fault_by ending ≡ Some fault → CountedTo query disk.faults disk_after.faults source source_after came.refused.items (Err fault)
+      by_ending : (ending : ImportEnding) → came.ending ≡ ending → fault_by ending ≡ Some fault → CountedTo book query disk.faults disk_after.faults source source_after came.refused.items (Err fault)
       by_ending endings.Whole e ends = absurd (none_some ends)
       by_ending (endings.ReadFault first last) e ends =
           so faults.ReadFault ends (
@@ -188,18 +188,18 @@ by_residual (Ok x) P Q is step = absurd is
 by_residual (Err fault) P Q is step = step fault is
 
 -- memory was refused
-pub starved_by : {A : Type 0} (r : Result A Fault) (text : List ℕ) (before after : World) → IsErrAnd r (λ fault. fault ≡ faults.OutOfMemory) → Starves before after (Stopped faults.OutOfMemory)
-    → Starves before after (ending_of r) ⊎ Counts text before after (ending_of r)
-starved_by r text before after is starves =
-    by_residual r (λ fault. fault ≡ faults.OutOfMemory) (λ ending. Starves before after ending ⊎ Counts text before after ending) is
+pub starved_by : {A : Type 0} (r : Result A Fault) (query : Query) (book : List NamedPosition) (before after : World) → IsErrAnd r (λ fault. fault ≡ faults.OutOfMemory) → Starves before after (Stopped faults.OutOfMemory)
+    → CountsOver query book before after (ending_of r)
+starved_by r query book before after is starves =
+    by_residual r (λ fault. fault ≡ faults.OutOfMemory) (λ ending. CountsOver query book before after ending) is
     (λ fault so. inl (subst (λ (f : Fault). Starves before after (Stopped f)) (sym so) starves))
 
 -- a write failed, though all was tried
-pub unwritten_by : {A : Type 0} (r : Result A Fault) (text : List ℕ) (query : Query) (before after : World) → IsErrAnd r (λ fault. fault ≡ faults.WriteFault) → QueryReads text (Ok query) → Answers query before after → WriteFails before after
-    → Starves before after (ending_of r) ⊎ Counts text before after (ending_of r)
-unwritten_by r text query before after is reads answers fails =
-    by_residual r (λ fault. fault ≡ faults.WriteFault) (λ ending. Starves before after ending ⊎ Counts text before after ending) is
-    (λ fault so. inr (subst (λ (f : Fault). Counts text before after (Stopped f)) (sym so) (Ok query, reads, (answers, fails))))
+pub unwritten_by : {A : Type 0} (r : Result A Fault) (query : Query) (book : List NamedPosition) (before after : World) → IsErrAnd r (λ fault. fault ≡ faults.WriteFault) → Answers book query before after → WriteFails before after
+    → CountsOver query book before after (ending_of r)
+unwritten_by r query book before after is answers fails =
+    by_residual r (λ fault. fault ≡ faults.WriteFault) (λ ending. CountsOver query book before after ending) is
+    (λ fault so. inr (subst (λ (f : Fault). CountsBy query book before after (Stopped f)) (sym so) (answers, fails)))
 
 -- ---- lines
 
@@ -209,11 +209,10 @@ usage_line fault line front is ends = subst (λ (f : Fault). AreLinesOf f (line 
 -- ---- the query
 
 -- a query that is malformed, or for which there is no memory
-pub unread_query : (text : List ℕ) (before : World) (stop : Stop BadParameter) (fault : Fault) → fault ≡ fault_of_query stop
-    → model.Answers {A = Query} {F = BadParameter} (Err stop) (QueryReads text) → Starves before before (Stopped fault) ⊎ Counts text before before (Stopped fault)
-unread_query text before (stops.Fault bad) fault is reads = inr (Err bad, reads, (ap Stopped is, refl))
-unread_query text before stops.OutOfMemory fault is reads =
-    inl (subst (λ (f : Fault). Starves before before (Stopped f)) (sym is) (starves_at_once before))
+pub unread_query : (text : List ℕ) (openings : Option (List ℕ)) (before : World) (stop : Stop BadParameter) (fault : Fault) → fault ≡ fault_of_query stop
+    → model.Answers {A = Query} {F = BadParameter} (Err stop) (QueryReads text) → Counts text openings before before (Stopped fault)
+unread_query text openings before (stops.Fault bad) fault is reads = inr (Err bad, reads, (ap Stopped is, refl))
+unread_query text openings before stops.OutOfMemory fault is reads = inl (ap Stopped is, refl)
 
 -- ---- writes
 
@@ -229,12 +228,11 @@ writes_as chunk other old new is writes = subst (λ (l : List ℕ). Writes (l �
 no_rise : Rises 0 0 → ⊥
 no_rise rises = ⊎_elim (λ (less : 0 < 0). omega (arith, less)) (λ (most : 0 ≡ 2 ^ 64 - 1). omega (arith, most)) rises.rose
 
-pub broken : {E : Type 0} (text : List ℕ) (query : Query) (input input' output errors errors' : Stream) (host : HostState) (refused : List Refusal) (fault : Fault) (made : Result (Vec ℕ Global) E) → QueryReads text (Ok query)
-    → CountedTo query 0 0 input input' refused (Err fault) → IfOk made (λ lines. lines.items ≡ report refused)
+pub broken : {E : Type 0} (book : List NamedPosition) (query : Query) (input input' output errors errors' : Stream) (host : HostState) (refused : List Refusal) (fault : Fault) (made : Result (Vec ℕ Global) E)
+    → CountedTo book query 0 0 input input' refused (Err fault) → IfOk made (λ lines. lines.items ≡ report refused)
     → MatchResult made (λ lines. Writes (lines.items ∷ []) errors errors') (λ none. errors' ≡ errors)
-    → Counts text (world input output errors host) (world input' output errors' host) (Stopped fault)
-broken {E} text query input input' output errors errors' host refused fault made reads (batches, counted) lines_are writes =
-    (Ok query, reads, by_fault fault counted)
+    → CountsBy query book (world input output errors host) (world input' output errors' host) (Stopped fault)
+broken {E} book query input input' output errors errors' host refused fault made (batches, counted) lines_are writes = by_fault fault counted
   where
     by_made : (r : Result (Vec ℕ Global) E) → IfOk r (λ lines. lines.items ≡ report refused)
         → MatchResult r (λ lines. Writes (lines.items ∷ []) errors errors') (λ none. errors' ≡ errors) → MayReport (report refused) errors errors'
@@ -253,7 +251,7 @@ broken {E} text query input input' output errors errors' host refused fault made
     off : (Stands : List ℕ → List Batch → List Refusal → Type 0) → ImportsNew Stands input input' batches refused → BreaksOff Stands before after
     off Stands imports = record { batches = batches; refused = refused; imports = imports; output = refl; errors = told; host = refl }
 
-    by_fault : (fault : Fault) → CountedBy query 0 0 input input' batches refused (Err fault) → CountsBy (Ok query) before after (Stopped fault)
+    by_fault : (fault : Fault) → CountedBy book query 0 0 input input' batches refused (Err fault) → CountsBy query book before after (Stopped fault)
     by_fault faults.ReadFault (imports, rises) = (off (IsCutOff no_label new_store) imports, rises)
     by_fault faults.TooMuchInput (imports, came) = (off (IsTooMuch no_label new_store) imports, came)
     by_fault (faults.Full games bytes) (imports, came) = (off (λ stream. IsFullAt no_label games bytes new_store stream input'.left) imports, came)
@@ -261,6 +259,8 @@ broken {E} text query input input' output errors errors' host refused fault made
     by_fault faults.Usage counted = absurd counted
     by_fault (faults.BadParameter parameter) counted = absurd counted
     by_fault faults.BadLabel counted = absurd counted
+    by_fault faults.OpeningsTooLong counted = absurd counted
+    by_fault (faults.BadOpenings row cause) counted = absurd counted
     by_fault faults.WriteFault counted = absurd counted
     by_fault (faults.NotEmpty size) counted = absurd counted
     by_fault faults.NotAStore counted = absurd counted
@@ -272,20 +272,22 @@ broken {E} text query input input' output errors errors' host refused fault made
 
 -- ---- an import to the end of the input
 
-pub answered : (query : Query) (input input' output output' errors errors' : Stream) (host : HostState) (refused : List Refusal) (line : Vec ℕ Global) (lines chunk : List ℕ) → CountedTo query 0 0 input input' refused (Ok line)
+pub answered : (book : List NamedPosition) (query : Query) (input input' output output' errors errors' : Stream) (host : HostState) (refused : List Refusal) (line : Vec ℕ Global) (lines chunk : List ℕ) → CountedTo book query 0 0 input input' refused (Ok line)
     → lines ≡ report refused → Writes (lines ∷ []) errors errors' → chunk ≡ line.items
-    → Writes (chunk ∷ []) output output' → Answers query (world input output errors host) (world input' output' errors' host)
-answered query input input' output output' errors errors' host refused line lines chunk (batches, (imports, (found, is_found, line_is), came)) lines_are told chunk_is writes = record {
+    → Writes (chunk ∷ []) output output' → Answers book query (world input output errors host) (world input' output' errors' host)
+answered book query input input' output output' errors errors' host refused line lines chunk (batches, (imports, (found, naming, is_found, is_naming, line_is), came)) lines_are told chunk_is writes = record {
   batches = batches;
   refused = refused;
   imports = imports;
   found = found;
   is_found = is_found;
-  output = writes_as chunk (answer_line found) output output' (chunk_is ∙ line_is) writes;
+  naming = naming;
+  is_naming = is_naming;
+  output = writes_as chunk (answer_line found naming) output output' (chunk_is ∙ line_is) writes;
   errors = writes_as lines (report refused) errors errors' lines_are told;
   host = refl;
 }
 
 -- no read failed
-pub all_came : (query : Query) (input input' : Stream) (refused : List Refusal) (line : Vec ℕ Global) → CountedTo query 0 0 input input' refused (Ok line) → input'.read_faults ≡ input.read_faults
-all_came query input input' refused line (batches, counted) = counted.2
+pub all_came : (book : List NamedPosition) (query : Query) (input input' : Stream) (refused : List Refusal) (line : Vec ℕ Global) → CountedTo book query 0 0 input input' refused (Ok line) → input'.read_faults ≡ input.read_faults
+all_came book query input input' refused line (batches, counted) = counted.2

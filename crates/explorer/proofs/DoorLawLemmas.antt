@@ -6,83 +6,84 @@ use Rattle.outside.specs.Stream.{Stream}
 use Rattle.explorer_model.specs.declared.archive.Batch.{Batch}
 use Rattle.explorer_model.specs.declared.wire.Reply.{Reply}
 use Rattle.explorer_model.specs.declared.wire.Reply.TheVariants as replies
-use Rattle.explorer_model.specs.Replies.{IsFoundIn}
+use Rattle.explorer_model.specs.Openings.{NamedPosition}
+use Rattle.explorer_model.specs.Replies.{IsNamedFoundIn}
 use Rattle.explorer_model.specs.Timeline.{IsPrefix}
 use Rattle.explorer_model.proofs.Timelines.{prefix-self, prefix-trans}
 use Rattle.published_index.specs.States.{watching}
 use Rattle.session.specs.Doors.{AreServed}
 use Rattle.session.specs.Exchanges.{Backend, Exchange, backend, moment_of}
 use Rattle.session.specs.Laws.{IsOverFront, IsTold}
-use Rattle.session.specs.Replies.{Answer, AnswersQuery, Readings, Route, route_of}
+use Rattle.session.specs.Replies.{Answer, AnswersQuery, Offer, Readings, Route, by_book, route_of}
 use Rattle.session.proofs.FrontLemmas.{prefix-length, take-prefix}
 use Rattle.session.proofs.LawLemmas.{all-over-fronts}
 use Rattle.explorer.specs.Laws.{IsAnswered, IsExchangedIn}
 use Rattle.explorer.specs.Served.{DoorRun, new_importer}
 
 -- no connection that is served makes the pass see less
-grew : (before : Backend) (came went : List Stream) (after : Backend) → AreServed before came went after
+grew : (offer : Offer) (before : Backend) (came went : List Stream) (after : Backend) → AreServed offer before came went after
     → IsPrefix before.pass.seen after.pass.seen
-grew before [] [] after is =
+grew offer before [] [] after is =
     subst (λ (b : Backend). IsPrefix before.pass.seen b.pass.seen) (sym is) (prefix-self before.pass.seen)
-grew before [] (back ∷ went) after served = absurd served
-grew before (link ∷ came) [] after served = absurd served
-grew before (link ∷ came) (back ∷ went) after served =
+grew offer before [] (back ∷ went) after served = absurd served
+grew offer before (link ∷ came) [] after served = absurd served
+grew offer before (link ∷ came) (back ∷ went) after served =
     let middle : Backend = served.1 in
-    prefix-trans before.pass.seen middle.pass.seen after.pass.seen served.2.grew (grew middle came went after served.3)
+    prefix-trans before.pass.seen middle.pass.seen after.pass.seen served.2.grew (grew offer middle came went after served.3)
 
 -- what is over a front of a front is over one of the whole
-over_longer : (front whole : List Batch) (route : Route) (reply : Reply) → IsPrefix front whole
-    → IsOverFront front route reply → IsOverFront whole route reply
-over_longer front whole (Answer text) (replies.Found batches body) prefix over = (
+over_longer : (book : List NamedPosition) (front whole : List Batch) (route : Route) (reply : Reply) → IsPrefix front whole
+    → IsOverFront book front route reply → IsOverFront book whole route reply
+over_longer book front whole (Answer text) (replies.Found batches body) prefix over = (
   omega (arith, over.0, prefix-length front whole prefix),
-  subst (λ (l : List Batch). IsFoundIn text l batches body) (sym (take-prefix batches front whole over.0 prefix)) over.1,
+  subst (λ (l : List Batch). IsNamedFoundIn book text l batches body) (sym (take-prefix batches front whole over.0 prefix)) over.1,
 )
-over_longer front whole _ _ prefix over = tt
+over_longer book front whole _ _ prefix over = tt
 
 -- each reply to a connection is over a front of what was seen in the end
-over_last : (exchange : Exchange) (before : Backend) (came went : List Stream) (after : Backend)
-    → (served : AreServed before came went after) → IsExchangedIn exchange before came went after served
-    → IsOverFront after.pass.seen (route_of exchange.asked) exchange.reply
-over_last exchange before [] [] after served among = absurd among
-over_last exchange before [] (back ∷ went) after served among = absurd among
-over_last exchange before (link ∷ came) [] after served among = absurd among
-over_last exchange before (link ∷ came) (back ∷ went) after served (inl here) =
+over_last : (offer : Offer) (exchange : Exchange) (before : Backend) (came went : List Stream) (after : Backend)
+    → (served : AreServed offer before came went after) → IsExchangedIn offer exchange before came went after served
+    → IsOverFront offer.book after.pass.seen (route_of offer exchange.asked) exchange.reply
+over_last offer exchange before [] [] after served among = absurd among
+over_last offer exchange before [] (back ∷ went) after served among = absurd among
+over_last offer exchange before (link ∷ came) [] after served among = absurd among
+over_last offer exchange before (link ∷ came) (back ∷ went) after served (inl here) =
     let middle : Backend = served.1 in
-    let P : Exchange → Type 0 = λ x. IsOverFront middle.pass.seen (route_of x.asked) x.reply in
-    let all = all-over-fronts middle.pass.seen (moment_of before) (moment_of middle) served.2.exchanges served.2.served in
-    over_longer middle.pass.seen after.pass.seen (route_of exchange.asked) exchange.reply (grew middle came went after served.3)
+    let P : Exchange → Type 0 = λ x. IsOverFront offer.book middle.pass.seen (route_of offer x.asked) x.reply in
+    let all = all-over-fronts offer middle.pass.seen (moment_of before) (moment_of middle) served.2.exchanges served.2.served in
+    over_longer offer.book middle.pass.seen after.pass.seen (route_of offer exchange.asked) exchange.reply (grew offer middle came went after served.3)
     (All-contains P served.2.exchanges exchange (All-from_recursion P served.2.exchanges all) here)
-over_last exchange before (link ∷ came) (back ∷ went) after served (inr later) =
-    over_last exchange served.1 came went after served.3 later
+over_last offer exchange before (link ∷ came) (back ∷ went) after served (inr later) =
+    over_last offer exchange served.1 came went after served.3 later
 
-pub over_journal : (text : List ℕ) (batches : ℕ) (body : List ℕ) (opening journal : List Batch) (door : Connections) (run : DoorRun)
-    → IsAnswered text batches body opening journal door run
-    → (batches ≤ length journal) × IsFoundIn text (take batches journal) batches body
-over_journal text batches body opening journal door run answered =
+pub over_journal : (book : List NamedPosition) (text : List ℕ) (batches : ℕ) (body : List ℕ) (opening journal : List Batch) (door : Connections) (run : DoorRun)
+    → IsAnswered book text batches body opening journal door run
+    → (batches ≤ length journal) × IsNamedFoundIn book text (take batches journal) batches body
+over_journal book text batches body opening journal door run answered =
     let from = answered.seen.from in
     let seen : List Batch = from.last.pass.seen in
     let x = answered.exchange in
-    let over = over_last x (backend (watching opening) new_importer) from.served.came from.served.went from.last from.served.served answered.among in
-    let asked = subst (λ (route : Route). IsOverFront seen route x.reply) answered.asked over in
-    let replied = subst (λ (reply : Reply). IsOverFront seen (Answer text) reply) answered.replied asked in
-    over_longer seen journal (Answer text) (replies.Found batches body) answered.seen.front replied
+    let over = over_last (by_book book) x (backend (watching opening) new_importer) from.served.came from.served.went from.last from.served.served answered.among in
+    let asked = subst (λ (route : Route). IsOverFront book seen route x.reply) answered.asked over in
+    let replied = subst (λ (reply : Reply). IsOverFront book seen (Answer text) reply) answered.replied asked in
+    over_longer book seen journal (Answer text) (replies.Found batches body) answered.seen.front replied
 
 -- what a lower crate says: a query string has one reply over a journal
 abbrev pub OneReply : Type 0
-OneReply = (text : List ℕ) (journal : List Batch) (before after later : Readings) (reply other : Reply) → IsTold reply → IsTold other
-    → AnswersQuery text journal before after reply → AnswersQuery text journal before later other → reply ≡ other
+OneReply = (book : List NamedPosition) (text : List ℕ) (journal : List Batch) (before after later : Readings) (reply other : Reply) → IsTold reply → IsTold other
+    → AnswersQuery book text journal before after reply → AnswersQuery book text journal before later other → reply ≡ other
 
-pub one_body : (text : List ℕ) (batches : ℕ) (body body' : List ℕ) (opening journal opening' journal' : List Batch)
+pub one_body : (book : List NamedPosition) (text : List ℕ) (batches : ℕ) (body body' : List ℕ) (opening journal opening' journal' : List Batch)
     (door door' : Connections) (run run' : DoorRun) → OneReply → take batches journal ≡ take batches journal'
-    → IsAnswered text batches body opening journal door run
-    → IsAnswered text batches body' opening' journal' door' run' → body ≡ body'
-one_body text batches body body' opening journal opening' journal' door door' run run' one same first second =
-    let over = over_journal text batches body opening journal door run first in
-    let over' = over_journal text batches body' opening' journal' door' run' second in
-    let there = subst (λ (l : List Batch). IsFoundIn text l batches body) same over.1 in
+    → IsAnswered book text batches body opening journal door run
+    → IsAnswered book text batches body' opening' journal' door' run' → body ≡ body'
+one_body book text batches body body' opening journal opening' journal' door door' run run' one same first second =
+    let over = over_journal book text batches body opening journal door run first in
+    let over' = over_journal book text batches body' opening' journal' door' run' second in
+    let there = subst (λ (l : List Batch). IsNamedFoundIn book text l batches body) same over.1 in
     let none : Readings = record { entered = 0; unread = 0 } in
     let entered : Readings = record { entered = 1; unread = 0 } in
     let replied : replies.Found batches body ≡ replies.Found batches body' =
-    one text (take batches journal') none entered entered (replies.Found batches body) (replies.Found batches body') tt tt
+    one book text (take batches journal') none entered entered (replies.Found batches body) (replies.Found batches body') tt tt
     (there, refl) (over'.1, refl) in
     cc

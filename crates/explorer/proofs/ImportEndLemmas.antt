@@ -1,5 +1,5 @@
 -- How a run of the command `import` ends.
-use Rattle.std.proofs.Common.{◌≡◌, ◌⊎◌, inl, inr, ℕ, ◌<◌, List, [], ◌∷◌, Option, None, Some, length, refl, sym, ap, subst, ◌∙◌, arith}
+use Rattle.std.proofs.Common.{◌≡◌, ◌⊎◌, inl, inr, ℕ, ◌<◌, ◌≤◌, List, [], ◌∷◌, Option, None, Some, length, refl, sym, ap, subst, ◌∙◌, arith}
 use Rattle.std.specs.Prelude.{IfSome, unwrap_or}
 use Rattle.disk_model.specs.Disk.{DiskState, IsQuiet}
 use Rattle.outside.specs.Stream.{Rises, Stream, Writes}
@@ -15,12 +15,12 @@ use Rattle.ingest_desk.specs.declared.report.ImportEnding.TheVariants as endings
 use Rattle.explorer.specs.declared.fault.Fault.{Fault}
 use Rattle.explorer.specs.declared.fault.Fault.TheVariants as faults
 use Rattle.explorer.specs.declared.importing.Came.{Came}
-use Rattle.explorer.specs.Faults.{fault_by, fault_of_opening}
+use Rattle.explorer.specs.Faults.{FirstCause, fault_by, fault_of_opening}
 use Rattle.explorer.specs.Imported.{FaultsBy, ImportedTo}
 use Rattle.explorer.specs.ImportStore.{ImportsInto, ImportsLabelled, ImportsTo, IsTold, LacksMemory, OutcomeBy, UsesBoth, totals}
 use Rattle.explorer.specs.Lines.{Ending, Done, Stopped}
 use Rattle.ingest_desk.specs.Openings.{IsNotOpened}
-use Rattle.explorer.specs.Opened.{NotOpened, OpensTo}
+use Rattle.explorer.specs.Opened.{IsUnchanged, NotOpened, OpensTo}
 use Rattle.explorer.specs.Stores.{IsSized, OnlyHost, UsesDisk}
 use Rattle.explorer.specs.World.{World}
 
@@ -41,13 +41,26 @@ module _ {D : Type 0} (disk : D → DiskState) (left_since : D → ℕ → List 
   pub opens_to : (journal : List Batch) → IfSome (disk old).content (HasJournal journal) → IsSound journal → (disk new).faults ≡ (disk old).faults → OpensTo journal (disk old) (disk new)
   opens_to journal read sound no_fault = record { read = read; sound = sound; kept = kept; no_fault = no_fault }
 
-  pub refused_by : (fault : OpenFault) → IsNotOpened disk fault old new → NotOpened fault (disk old) (disk new)
-  refused_by (opening.Log fault) is = record { wrong = is; kept = kept }
-  refused_by (opening.DiskFault first last) is =
+  same_count : (disk new).faults ≤ (disk old).faults → (disk new).faults ≡ (disk old).faults
+  same_count most = let least = quiet.never_falls.least in omega (arith, least, most)
+
+  as_found : (found : OpenFault) → IsNotOpened disk found old new → (disk new).faults ≤ (disk old).faults
+      → NotOpened found (disk old) (disk new)
+  as_found (opening.Log fault) is most = record { wrong = is; kept = kept; no_fault = same_count most }
+  as_found (opening.DiskFault first last) is most =
       let P : ℕ → Type 0 = λ n. Rises n (disk new).faults in
       let Q : ℕ → Type 0 = λ n. Rises first n in
       record { kept = kept; rises = subst P is.before_is (subst Q is.after_is is.rises) }
-  refused_by opening.OutOfMemory is = kept
+  as_found opening.OutOfMemory is most = record { kept = kept; no_fault = same_count most }
+
+  pub refused_by : (found told : OpenFault) → IsNotOpened disk found old new
+      → FirstCause (disk old).faults (disk new).faults found told → NotOpened told (disk old) (disk new)
+  refused_by found told is (inl (more, cause)) =
+      let P : OpenFault → Type 0 = λ f. NotOpened f (disk old) (disk new) in
+      subst P (sym cause) (record { kept = kept; rises = record { rose = inl more; never_falls = quiet.never_falls } })
+  refused_by found told is (inr (most, same)) =
+      let P : OpenFault → Type 0 = λ f. NotOpened f (disk old) (disk new) in
+      subst P (sym same) (as_found found is most)
 
 -- ---- an import that was told
 
@@ -104,10 +117,10 @@ uses_both store file disk disk_after source source_after before opened given tak
 
 -- memory was wanting before the import began
 pub in_vain : (store file label : List ℕ) (disk disk_after : DiskState) (source source_after : Stream) (before after : World) → UsesBoth store file disk disk_after source source_after before.host after.host
-    → disk_after.content ≡ disk.content → source_after ≡ source → OnlyHost before after → LacksMemory store file label before after
-in_vain store file label disk disk_after source source_after before after uses kept same only =
+    → IsUnchanged disk disk_after → source_after ≡ source → OnlyHost before after → LacksMemory store file label before after
+in_vain store file label disk disk_after source source_after before after uses unchanged same only =
     let U : Stream → Type 0 = λ s. UsesBoth store file disk disk_after source s before.host after.host in
-    inl (inr (record { disk = disk; disk_after = disk_after; source = source; uses = subst U same uses; kept = kept }), only)
+    inl (inr (record { disk = disk; disk_after = disk_after; source = source; uses = subst U same uses; unchanged = unchanged }), only)
 
 -- memory was wanting for what the import came to
 pub untold : (store file label : List ℕ) (before after : World) (ending : ImportEnding) → ImportsInto ending store file label before.host after.host → OnlyHost before after
@@ -152,6 +165,8 @@ module _ (store file label : List ℕ) (before after : World) where
   imports_by endings.Whole (Stopped faults.Usage) to outcome = absurd outcome
   imports_by endings.Whole (Stopped (faults.BadParameter parameter)) to outcome = absurd outcome
   imports_by endings.Whole (Stopped faults.BadLabel) to outcome = absurd outcome
+  imports_by endings.Whole (Stopped faults.OpeningsTooLong) to outcome = absurd outcome
+  imports_by endings.Whole (Stopped (faults.BadOpenings row cause)) to outcome = absurd outcome
   imports_by endings.Whole (Stopped faults.ReadFault) to outcome = absurd outcome
   imports_by endings.Whole (Stopped faults.DiskFault) to outcome = absurd outcome
   imports_by endings.Whole (Stopped (faults.NotEmpty size)) to outcome = absurd outcome

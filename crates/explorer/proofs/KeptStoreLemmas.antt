@@ -13,7 +13,7 @@ use Rattle.explorer.specs.declared.fault.Fault.TheVariants as faults
 use Rattle.explorer.specs.Create.{IsNotEmpty}
 use Rattle.explorer.specs.Lines.{Ending, Done, Stopped}
 use Rattle.explorer.specs.Migrate.{FailsToMake, IsNoFirst, LacksRest, MakesOf, MigratesBy, ReadsFirst, ReadsThen}
-use Rattle.explorer.specs.Opened.{FailsUnread, KeepsBytes}
+use Rattle.explorer.specs.Opened.{FailsUnread, IsUnchanged}
 use Rattle.explorer.specs.Stores.{UsesDisk}
 use Rattle.explorer.specs.World.{World}
 use Rattle.explorer.proofs.HostCalls.{bytes_same, same_bytes}
@@ -109,9 +109,9 @@ module _ (old : List ℕ) (file : List ℕ) where
         by_disk (inl uses) = kept FailsUnread before.host after.host uses uses.does.kept told
         by_disk (inr reads) = failed reads
 
-        by_memory : UsesDisk old KeepsBytes before.host after.host ⊎ ReadsThen old (λ journal. UsesDisk new (LacksRest journal)) before.host after.host
+        by_memory : UsesDisk old IsUnchanged before.host after.host ⊎ ReadsThen old (λ journal. UsesDisk new (LacksRest journal)) before.host after.host
             → after.host.disks old ≡ Some file
-        by_memory (inl uses) = kept KeepsBytes before.host after.host uses uses.does told
+        by_memory (inl uses) = kept IsUnchanged before.host after.host uses uses.does.kept told
         by_memory (inr reads) = lacked reads
 
         by_name : (name : List ℕ) → ((name ≡ old) × RefusesDisk old before.host after.host)
@@ -134,6 +134,8 @@ module _ (old : List ℕ) (file : List ℕ) where
         of_ending (Stopped faults.Usage) by = absurd by
         of_ending (Stopped (faults.BadParameter name)) by = absurd by
         of_ending (Stopped faults.BadLabel) by = absurd by
+        of_ending (Stopped faults.OpeningsTooLong) by = absurd by
+        of_ending (Stopped (faults.BadOpenings row cause)) by = absurd by
         of_ending (Stopped faults.ReadFault) by = absurd by
         of_ending (Stopped faults.TooMuchInput) by = absurd by
         of_ending (Stopped (faults.Full games bytes)) by = absurd by

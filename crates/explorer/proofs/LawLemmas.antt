@@ -6,13 +6,16 @@ use Rattle.std.proofs.lemmas.List.{append-nil}
 use Rattle.explorer_model.specs.declared.answer.Found.{Found}
 use Rattle.explorer_model.specs.declared.archive.Batch.{Batch}
 use Rattle.explorer_model.specs.declared.archive.Game.{Game}
+use Rattle.explorer_model.specs.declared.chess.Move.{Move}
 use Rattle.explorer_model.specs.declared.fault.Refusal.{Refusal}
+use Rattle.explorer_model.specs.declared.opening.Naming.{Naming}
 use Rattle.explorer_model.specs.declared.query.Query.{Query}
 use Rattle.explorer_model.specs.Cuts.{Cut, cuts}
 use Rattle.explorer_model.specs.Finds.{IsFound}
 use Rattle.explorer_model.specs.Labels.{no_label}
 use Rattle.explorer_model.specs.Imports.{Accounted, Candidate, groups}
 use Rattle.explorer_model.specs.Journal.{IsSound, byte_count, game_count}
+use Rattle.explorer_model.specs.Openings.{IsNaming, NamedPosition}
 use Rattle.explorer_model.specs.Visits.{AreGamesOf, texts_of}
 use Rattle.ingest_desk.specs.Reporting.{FindsNoRoom}
 use Rattle.import_run.specs.Committing.{Known}
@@ -22,6 +25,7 @@ use Rattle.import_run.proofs.AccountLemmas.{refused_behind, batches_behind}
 use Rattle.import_run.proofs.AloneLemmas.{same_games}
 use Rattle.import_run.proofs.LawLemmas.{same_front, same_settled}
 use Rattle.import_run.proofs.VerdictLemmas.{OneGame}
+use Rattle.explorer.specs.Answer.{IsNamingOf}
 use Rattle.explorer.specs.Count.{Answers}
 use Rattle.explorer.specs.Imported.{new_store}
 use Rattle.explorer.specs.World.{World}
@@ -122,9 +126,13 @@ all_read (Some bytes) (Some left) stream told reads ended = ap Some (reads ∙ a
 abbrev pub OneAnswer : Type 0
 OneAnswer = (journal : List Batch) (query : Query) (found other : Found) → IsFound journal query found → IsFound journal query other → found ≡ other
 
-pub one_answer : (query : Query) (before after other : World) → OneAccount → OneAnswer → IsSome before.input.left → (first : Answers query before after) → (second : Answers query before other)
-    → (first.found ≡ second.found) × (first.refused ≡ second.refused)
-one_answer query before after other one_account one told first second =
+abbrev pub OneNaming : Type 0
+OneNaming = (book : List NamedPosition) (query : Query) (played : List Move) (naming other : Naming)
+    → IsNaming book query played naming → IsNaming book query played other → naming ≡ other
+
+pub one_answer : (book : List NamedPosition) (query : Query) (before after other : World) → OneAccount → OneAnswer → OneNaming → IsSome before.input.left → (first : Answers book query before after) → (second : Answers book query before other)
+    → (first.found ≡ second.found) × (first.naming ≡ second.naming) × (first.refused ≡ second.refused)
+one_answer book query before after other one_account one one_naming told first second =
     let stream = first.imports.stream in
     let streams : first.imports.stream ≡ second.imports.stream =
     let both = sym (all_read before.input.left after.input.left first.imports.stream told first.imports.reads.next first.imports.stands.at_end) ∙ all_read before.input.left other.input.left second.imports.stream told second.imports.reads.next second.imports.stands.at_end in cc in
@@ -133,4 +141,6 @@ one_answer query before after other one_account one told first second =
     let all = groups (cuts second.imports.stream) in
     let batches = one_account.batches no_label [] all first.batches second.batches first.refused second.refused moved second.imports.stands.settled.accounted in
     let refused = one_account.refused no_label [] all first.batches second.batches first.refused second.refused moved second.imports.stands.settled.accounted in
-    (one second.batches query first.found second.found (subst (λ (l : List Batch). IsFound l query first.found) batches first.is_found) second.is_found, refused)
+    let found = one second.batches query first.found second.found (subst (λ (l : List Batch). IsFound l query first.found) batches first.is_found) second.is_found in
+    let named : IsNamingOf book query second.found first.naming = subst (λ (f : Found). IsNamingOf book query f first.naming) found first.is_naming in
+    (found, one_naming book query _ first.naming second.naming named second.is_naming, refused)

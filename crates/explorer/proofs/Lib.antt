@@ -8,6 +8,9 @@ mod PrefixLemmas
 mod RunLawLemmas
 mod RunLemmas
 mod StoreLemmas
+mod BookLemmas
+mod OpeningsLawLemmas
+mod CountLawLemmas
 mod ImportStoreLemmas
 mod ImportEndLemmas
 mod BracketLemmas

@@ -18,10 +18,10 @@ use Rattle.host.specs.Hosts.{HandsDisk, HostState, TakesDisk}
 use Rattle.explorer.specs.Faults.{fault_of_opening}
 use Rattle.explorer.specs.Lines.{Stopped}
 use Rattle.explorer.specs.ListBatches.{Lists, ListsAt, ListsBy, ListsIn, batch_line, batch_lines}
-use Rattle.explorer.specs.Opened.{FailsUnread, IsRefusedBy, KeepsBytes, OpensTo}
+use Rattle.explorer.specs.Opened.{FailsUnread, IsRefusedBy, IsUnchanged, OpensTo}
 use Rattle.explorer.specs.Stores.{IsSized}
 use Rattle.explorer.specs.World.{world}
-use Rattle.explorer.proofs.StoreLemmas.{rose, uses}
+use Rattle.explorer.proofs.StoreLemmas.{rose, unchanged, uses}
 
 -- ---- lines
 
@@ -96,7 +96,7 @@ opened {D} disk old new out journal is opens (Ok lines) lists =
     (journal, subst P (sym is) opens, lists)
 opened {D} disk old new out journal is opens (Err fault) lists =
     let P : OpenFault → Type 0 = λ f. ListsAt old (disk out) (Err f) in
-    subst P (sym lists) (ap (λ (d : D). (disk d).content) is ∙ opens.kept)
+    subst P (sym lists) (unchanged disk old new out journal is opens)
 
 module _ (store : List ℕ) (input output errors : Stream) (before middle after : HostState) (handed returned : DiskState) (sized : IsSized handed) (hands : HandsDisk store handed before middle)
     (takes : TakesDisk store returned middle after) where
@@ -120,4 +120,4 @@ module _ (store : List ℕ) (input output errors : Stream) (before middle after 
       (uses store (IsRefusedBy (log.Damaged gate)) handed returned before middle after sized hands lists takes, refl)
   unlisted (opening.DiskFault first last) lists =
       (uses store FailsUnread handed returned before middle after sized hands lists takes, rose store handed returned before middle after hands takes lists.rises, refl)
-  unlisted opening.OutOfMemory lists = (uses store KeepsBytes handed returned before middle after sized hands lists takes, refl)
+  unlisted opening.OutOfMemory lists = (uses store IsUnchanged handed returned before middle after sized hands lists takes, refl)

@@ -23,10 +23,10 @@ use Rattle.host.specs.Hosts.{HandsDisk, HostState, RefusesDisk, TakesDisk}
 use Rattle.explorer.specs.declared.fault.Fault.{Fault}
 use Rattle.explorer.specs.declared.fault.Fault.TheVariants as faults
 use Rattle.explorer.specs.Create.{Faults, IsNotEmpty, IsNotMade, Makes}
-use Rattle.explorer.specs.Faults.{fault_of_append, fault_of_creation, fault_of_opening}
+use Rattle.explorer.specs.Faults.{FirstCause, fault_of_append, fault_of_creation, fault_of_opening}
 use Rattle.explorer.specs.Lines.{Ending, Done, Stopped}
 use Rattle.explorer.specs.Migrate.{Begins, BreaksOff, CannotHave, CannotRead, FailsToMake, IsMadeBy, IsMadeSafely, IsMadeUnder, IsNoFirst, IsSafe, LacksRest, MakesFrontOf, MakesOf, Migrates, MigratesBy, NotReadFirst, ReadsFirst, ReadsThen, migrated_line}
-use Rattle.explorer.specs.Opened.{FailsUnread, KeepsBytes}
+use Rattle.explorer.specs.Opened.{FailsUnread, IsUnchanged}
 use Rattle.explorer.specs.Stores.{IsSized, OnlyHost, UsesDisk}
 use Rattle.explorer.specs.World.{World, world}
 use Rattle.explorer.proofs.StoreLemmas.{rose, told_has, uses}
@@ -56,13 +56,26 @@ module _ {D : Type 0} (disk : D → DiskState) (left_since : D → ℕ → List 
       → ReadsFirst journal (disk old) (disk new)
   reads_first journal read within no_fault = record { read = read; within = within; kept = kept; no_fault = no_fault }
 
-  pub not_read : (fault : OpenFault) → IsNotOpenedFirst disk fault old new → NotReadFirst fault (disk old) (disk new)
-  not_read (opening.Log fault) is = record { wrong = is; kept = kept }
-  not_read (opening.DiskFault first last) is =
+  same_count : (disk new).faults ≤ (disk old).faults → (disk new).faults ≡ (disk old).faults
+  same_count most = let least = quiet.never_falls.least in omega (arith, least, most)
+
+  as_found : (found : OpenFault) → IsNotOpenedFirst disk found old new → (disk new).faults ≤ (disk old).faults
+      → NotReadFirst found (disk old) (disk new)
+  as_found (opening.Log fault) is most = record { wrong = is; kept = kept; no_fault = same_count most }
+  as_found (opening.DiskFault first last) is most =
       let P : ℕ → Type 0 = λ n. Rises n (disk new).faults in
       let Q : ℕ → Type 0 = λ n. Rises first n in
       record { kept = kept; rises = subst P is.before_is (subst Q is.after_is is.rises) }
-  not_read opening.OutOfMemory is = kept
+  as_found opening.OutOfMemory is most = record { kept = kept; no_fault = same_count most }
+
+  pub not_read : (found told : OpenFault) → IsNotOpenedFirst disk found old new
+      → FirstCause (disk old).faults (disk new).faults found told → NotReadFirst told (disk old) (disk new)
+  not_read found told is (inl (more, cause)) =
+      let P : OpenFault → Type 0 = λ f. NotReadFirst f (disk old) (disk new) in
+      subst P (sym cause) (record { kept = kept; rises = record { rose = inl more; never_falls = quiet.never_falls } })
+  not_read found told is (inr (most, same)) =
+      let P : OpenFault → Type 0 = λ f. NotReadFirst f (disk old) (disk new) in
+      subst P (sym same) (as_found found is most)
 
 -- ---- the disk of the new store
 
@@ -141,6 +154,8 @@ module _ {D : Type 0} (disk : D → DiskState) (left_since : D → ℕ → List 
       of_ending (Stopped faults.Usage) by = safe
       of_ending (Stopped (faults.BadParameter name)) by = safe
       of_ending (Stopped faults.BadLabel) by = safe
+      of_ending (Stopped faults.OpeningsTooLong) by = safe
+      of_ending (Stopped (faults.BadOpenings row cause)) by = safe
       of_ending (Stopped faults.ReadFault) by = safe
       of_ending (Stopped faults.WriteFault) by = safe
       of_ending (Stopped faults.NotAStore) by = safe
@@ -205,6 +220,8 @@ module _ (old new : List ℕ) (before after : World) (only : OnlyHost before aft
     by_disk faults.Usage uses = absurd uses.does
     by_disk (faults.BadParameter name) uses = absurd uses.does
     by_disk faults.BadLabel uses = absurd uses.does
+    by_disk faults.OpeningsTooLong uses = absurd uses.does
+    by_disk (faults.BadOpenings row cause) uses = absurd uses.does
     by_disk faults.ReadFault uses = absurd uses.does
     by_disk faults.WriteFault uses = absurd uses.does
     by_disk faults.NotAStore uses = absurd uses.does

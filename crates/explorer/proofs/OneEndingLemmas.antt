@@ -10,12 +10,14 @@ use Rattle.explorer_model.specs.declared.answer.Found.{Found}
 use Rattle.explorer_model.specs.declared.archive.Batch.{Batch}
 use Rattle.explorer_model.specs.declared.fault.Refusal.{Refusal}
 use Rattle.explorer_model.specs.declared.fault.Why.TheVariants as causes
+use Rattle.explorer_model.specs.declared.opening.Naming.{Naming}
 use Rattle.explorer_model.specs.declared.query.BadParameter.{BadParameter}
 use Rattle.explorer_model.specs.declared.query.Query.{Query}
 use Rattle.explorer_model.specs.Cuts.{Cut, Preamble, Text, TooLong, cuts}
 use Rattle.explorer_model.specs.Labels.{no_label}
 use Rattle.explorer_model.specs.Imports.{Accounted, Examination, IsExaminationOf, Unread, groups}
 use Rattle.explorer_model.specs.Journal.{IsSound, IsWithin}
+use Rattle.explorer_model.specs.Openings.{NamedPosition}
 use Rattle.explorer_model.specs.Query.{QueryReads}
 use Rattle.import_run.specs.Committing.{Known}
 use Rattle.import_run.specs.SoFar.{AreAllGroups, AreGroupsSoFar, AreInGroups, IsWhole, ended_cuts}
@@ -26,13 +28,13 @@ use Rattle.import_run.proofs.SoFarLemmas.{each-append, in_groups, in_groups_behi
 use Rattle.import_run.proofs.VerdictLemmas.{OneGame}
 use Rattle.explorer.specs.declared.fault.Fault.TheVariants as faults
 use Rattle.explorer.specs.Answer.{answer_line}
-use Rattle.explorer.specs.Count.{Answers, Counts, CountsBy}
+use Rattle.explorer.specs.Count.{Answers, CountsBy}
 use Rattle.explorer.specs.Imported.{IsFullAt, new_store}
 use Rattle.explorer.specs.Lines.{Ending, Done, Stopped}
 use Rattle.explorer.specs.Report.{MayReport, report}
 use Rattle.explorer.specs.Laws.{IsTold, WroteAlike}
 use Rattle.explorer.specs.World.{World, IsFaultless}
-use Rattle.explorer.proofs.LawLemmas.{IsFullBehind, OneAnswer, one_answer, one_full_behind}
+use Rattle.explorer.proofs.LawLemmas.{IsFullBehind, OneAnswer, OneNaming, one_answer, one_full_behind}
 use Rattle.explorer.proofs.NoRoomLemmas.{OneAccount, not_ended, not_stored}
 use Rattle.explorer.proofs.PrefixLemmas.{ended_stay}
 
@@ -204,26 +206,26 @@ wrote chunk old new told low same writes = ap (λ (s : Stream). s.written) (wrot
 -- ---- endings
 
 -- a count that ends as an answer, or at a group that finds no room
-abbrev Comes : List ℕ → List (List Cut) → Query → World → World → Ending → Type 0
-Comes stream all query before after ending = ((ending ≡ Done) × Answers query before after)
+abbrev Comes : List ℕ → List (List Cut) → List NamedPosition → Query → World → World → Ending → Type 0
+Comes stream all book query before after ending = ((ending ≡ Done) × Answers book query before after)
     ⊎ ((games : ℕ) × (bytes : ℕ) × (batches : List Batch) × (refused : List Refusal) × (ending ≡ Stopped (faults.Full games bytes)) × IsFullBehind no_label new_store games bytes all batches refused × IsSound batches
     × (after.output ≡ before.output) × MayReport (report refused) before.errors after.errors)
 
-comes : (stream : List ℕ) (all : List (List Cut)) (query : Query) (before after : World) (ending : Ending) → IsTold stream before → AreAllGroups (cuts stream) all → IsFaultless before after
-    → CountsBy (Ok query) before after ending → Comes stream all query before after ending
-comes stream all query before after Done told groups_are faultless counts = inl (refl, counts.0)
-comes stream all query before after (Stopped faults.WriteFault) told groups_are faultless counts = by_rise counts.1.rises
+comes : (stream : List ℕ) (all : List (List Cut)) (book : List NamedPosition) (query : Query) (before after : World) (ending : Ending) → IsTold stream before → AreAllGroups (cuts stream) all → IsFaultless before after
+    → CountsBy query book before after ending → Comes stream all book query before after ending
+comes stream all book query before after Done told groups_are faultless counts = inl (refl, counts.0)
+comes stream all book query before after (Stopped faults.WriteFault) told groups_are faultless counts = by_rise counts.1.rises
   where
-    by_rise : Rises before.output.write_faults after.output.write_faults ⊎ Rises before.errors.write_faults after.errors.write_faults → Comes stream all query before after (Stopped faults.WriteFault)
+    by_rise : Rises before.output.write_faults after.output.write_faults ⊎ Rises before.errors.write_faults after.errors.write_faults → Comes stream all book query before after (Stopped faults.WriteFault)
     by_rise (inl rises) = absurd (no_rise before.output.write_faults after.output.write_faults faultless.output told.writes rises)
     by_rise (inr rises) = absurd (no_rise before.errors.write_faults after.errors.write_faults faultless.errors told.reports rises)
-comes stream all query before after (Stopped faults.ReadFault) told groups_are faultless counts = absurd (no_rise before.input.read_faults after.input.read_faults faultless.reads told.reads counts.1)
-comes stream all query before after (Stopped faults.TooMuchInput) told groups_are faultless counts =
+comes stream all book query before after (Stopped faults.ReadFault) told groups_are faultless counts = absurd (no_rise before.input.read_faults after.input.read_faults faultless.reads told.reads counts.1)
+comes stream all book query before after (Stopped faults.TooMuchInput) told groups_are faultless counts =
     let imports = counts.0.imports in
     let rest = told_rest before.input.left after.input.left stream imports.stream told.input imports.reads.next in
     let long = ap (λ (l : List ℕ). length l) rest.1 in
     absurd (omega (arith, told.below, imports.stands.at, long, length-append imports.stream rest.0))
-comes stream all query before after (Stopped (faults.Full games bytes)) told groups_are faultless counts =
+comes stream all book query before after (Stopped (faults.Full games bytes)) told groups_are faultless counts =
     let imports = counts.0.imports in
     let rest = told_rest before.input.left after.input.left stream imports.stream told.input imports.reads.next in
     inr (
@@ -237,21 +239,23 @@ comes stream all query before after (Stopped (faults.Full games bytes)) told gro
       counts.0.output,
       counts.0.errors,
     )
-comes stream all query before after (Stopped faults.Usage) told groups_are faultless counts = absurd counts
-comes stream all query before after (Stopped (faults.BadParameter name)) told groups_are faultless counts = absurd counts
-comes stream all query before after (Stopped faults.BadLabel) told groups_are faultless counts = absurd counts
-comes stream all query before after (Stopped faults.DiskFault) told groups_are faultless counts = absurd counts
-comes stream all query before after (Stopped (faults.NotEmpty size)) told groups_are faultless counts = absurd counts
-comes stream all query before after (Stopped faults.NotAStore) told groups_are faultless counts = absurd counts
-comes stream all query before after (Stopped (faults.OtherFormat number)) told groups_are faultless counts = absurd counts
-comes stream all query before after (Stopped (faults.Damaged gate)) told groups_are faultless counts = absurd counts
-comes stream all query before after (Stopped faults.OutOfMemory) told groups_are faultless counts = absurd counts
-comes stream all query before after (Stopped (faults.CannotOpen name)) told groups_are faultless counts = absurd counts
-comes stream all query before after (Stopped faults.CannotAccept) told groups_are faultless counts = absurd counts
+comes stream all book query before after (Stopped faults.Usage) told groups_are faultless counts = absurd counts
+comes stream all book query before after (Stopped (faults.BadParameter name)) told groups_are faultless counts = absurd counts
+comes stream all book query before after (Stopped faults.BadLabel) told groups_are faultless counts = absurd counts
+comes stream all book query before after (Stopped faults.OpeningsTooLong) told groups_are faultless counts = absurd counts
+comes stream all book query before after (Stopped (faults.BadOpenings row cause)) told groups_are faultless counts = absurd counts
+comes stream all book query before after (Stopped faults.DiskFault) told groups_are faultless counts = absurd counts
+comes stream all book query before after (Stopped (faults.NotEmpty size)) told groups_are faultless counts = absurd counts
+comes stream all book query before after (Stopped faults.NotAStore) told groups_are faultless counts = absurd counts
+comes stream all book query before after (Stopped (faults.OtherFormat number)) told groups_are faultless counts = absurd counts
+comes stream all book query before after (Stopped (faults.Damaged gate)) told groups_are faultless counts = absurd counts
+comes stream all book query before after (Stopped faults.OutOfMemory) told groups_are faultless counts = absurd counts
+comes stream all book query before after (Stopped (faults.CannotOpen name)) told groups_are faultless counts = absurd counts
+comes stream all book query before after (Stopped faults.CannotAccept) told groups_are faultless counts = absurd counts
 
 -- an answer is one over the groups of the whole stream
-whole_stored : (stream : List ℕ) (query : Query) (before after : World) → IsTold stream before → (answers : Answers query before after) → Accounted no_label [] (groups (cuts stream)) answers.batches answers.refused
-whole_stored stream query before after told answers =
+whole_stored : (stream : List ℕ) (book : List NamedPosition) (query : Query) (before after : World) → IsTold stream before → (answers : Answers book query before after) → Accounted no_label [] (groups (cuts stream)) answers.batches answers.refused
+whole_stored stream book query before after told answers =
     let read = answers.imports.stream in
     let rest = told_rest before.input.left after.input.left stream answers.imports.stream told.input answers.imports.reads.next in
     let same : answers.imports.stream ≡ stream = sym (rest.1 ∙ ap (λ (l : List ℕ). answers.imports.stream ++ l) (end_is after.input.left rest.0 rest.2 answers.imports.stands.at_end) ∙ append-nil answers.imports.stream) in
@@ -280,25 +284,26 @@ reported : (lines : List ℕ) (old new : Stream) → IsSome old.written → old.
 reported lines old new told low same (inl writes) = inl (wrote lines old new told low same writes)
 reported lines old new told low same (inr none) = inr (ap (λ (s : Stream). s.written) none)
 
-one_of_two : (stream : List ℕ) (all : List (List Cut)) (query : Query) (before after other : World) (ending ending' : Ending) → OneGame → OneAccount → OneAnswer → IsTold stream before → AreAllGroups (cuts stream) all
-    → IsFaultless before after → IsFaultless before other → Comes stream all query before after ending → Comes stream all query before other ending' → Alike before after other ending ending'
-one_of_two stream all query before after other ending ending' game one answer told groups_are fine fine' (inl (is, first)) (inl (is', second)) =
-    let same = one_answer query before after other one answer (told_some before.input.left stream told.input) first second in (
+one_of_two : (stream : List ℕ) (all : List (List Cut)) (book : List NamedPosition) (query : Query) (before after other : World) (ending ending' : Ending) → OneGame → OneAccount → OneAnswer → OneNaming → IsTold stream before → AreAllGroups (cuts stream) all
+    → IsFaultless before after → IsFaultless before other → Comes stream all book query before after ending → Comes stream all book query before other ending' → Alike before after other ending ending'
+one_of_two stream all book query before after other ending ending' game one answer one_naming told groups_are fine fine' (inl (is, first)) (inl (is', second)) =
+    let same = one_answer book query before after other one answer one_naming (told_some before.input.left stream told.input) first second in (
       is ∙ sym is',
       subst (λ (e : Ending). WroteBy before after other e) (sym is) (record {
         output =
-            wrote _ before.output after.output told.output told.writes fine.output first.output ∙ ap (λ (f : Found). append_known before.output.written (answer_line f)) same.0
+            wrote _ before.output after.output told.output told.writes fine.output first.output ∙ ap (λ (f : Found). append_known before.output.written (answer_line f first.naming)) same.0
+            ∙ ap (λ (n : Naming). append_known before.output.written (answer_line second.found n)) same.1
             ∙ sym (wrote _ before.output other.output told.output told.writes fine'.output second.output);
         errors =
-            wrote _ before.errors after.errors told.errors told.reports fine.errors first.errors ∙ ap (λ (l : List Refusal). append_known before.errors.written (report l)) same.1
+            wrote _ before.errors after.errors told.errors told.reports fine.errors first.errors ∙ ap (λ (l : List Refusal). append_known before.errors.written (report l)) same.2
             ∙ sym (wrote _ before.errors other.errors told.errors told.reports fine'.errors second.errors);
       }),
     )
-one_of_two stream all query before after other ending ending' game one answer told groups_are fine fine' (inl (is, first)) (inr (games, bytes, batches, refused, is', full, sound, output, errors)) =
-    absurd (done_or_full no_label new_store refl stream all games bytes batches first.batches refused first.refused game one (whole_stored stream query before after told first) first.imports.sound.within groups_are full)
-one_of_two stream all query before after other ending ending' game one answer told groups_are fine fine' (inr (games, bytes, batches, refused, is, full, sound, output, errors)) (inl (is', second)) =
-    absurd (done_or_full no_label new_store refl stream all games bytes batches second.batches refused second.refused game one (whole_stored stream query before other told second) second.imports.sound.within groups_are full)
-one_of_two stream all query before after other ending ending' game one answer told groups_are fine fine' (inr (games, bytes, batches, refused, is, full, sound, output, errors)) (inr (games', bytes', batches', refused', is', full', sound', output', errors')) =
+one_of_two stream all book query before after other ending ending' game one answer one_naming told groups_are fine fine' (inl (is, first)) (inr (games, bytes, batches, refused, is', full, sound, output, errors)) =
+    absurd (done_or_full no_label new_store refl stream all games bytes batches first.batches refused first.refused game one (whole_stored stream book query before after told first) first.imports.sound.within groups_are full)
+one_of_two stream all book query before after other ending ending' game one answer one_naming told groups_are fine fine' (inr (games, bytes, batches, refused, is, full, sound, output, errors)) (inl (is', second)) =
+    absurd (done_or_full no_label new_store refl stream all games bytes batches second.batches refused second.refused game one (whole_stored stream book query before other told second) second.imports.sound.within groups_are full)
+one_of_two stream all book query before after other ending ending' game one answer one_naming told groups_are fine fine' (inr (games, bytes, batches, refused, is, full, sound, output, errors)) (inr (games', bytes', batches', refused', is', full', sound', output', errors')) =
     let same = one_full_behind no_label new_store refl games bytes games' bytes' all batches batches' refused refused' game one full full' sound sound' in (
       is ∙ ap₂ (λ (g : ℕ) (b : ℕ). Stopped (faults.Full g b)) same.0 same.1 ∙ sym is',
       subst (λ (e : Ending). WroteBy before after other e) (sym is) (record {
@@ -313,25 +318,13 @@ one_of_two stream all query before after other ending ending' game one answer to
 abbrev pub OneQuery : Type 0
 OneQuery = (text : List ℕ) (r s : Result Query BadParameter) → QueryReads text r → QueryReads text s → r ≡ s
 
-pub one_ending : (text stream : List ℕ) (before after other : World) (ending ending' : Ending) → OneGame → OneAccount → OneAnswer → OneQuery → IsTold stream before → IsFaultless before after → IsFaultless before other
-    → Counts text before after ending → Counts text before other ending' → (ending ≡ ending') × WroteBy before after other ending
-one_ending text stream before after other ending ending' game one answer query told fine fine' first second = by_query first.0 second.0 (query text first.0 second.0 first.1 second.1) first.2 second.2
-  where
-    by_query : (r s : Result Query BadParameter) → r ≡ s → CountsBy r before after ending → CountsBy s before other ending' → (ending ≡ ending') × WroteBy before after other ending
-    by_query (Err bad) (Ok asked) is counts counts' = cc
-    by_query (Ok asked) (Err bad) is counts counts' = cc
-    by_query (Err bad) (Err worse) is counts counts' =
-        let same : bad ≡ worse = cc in (
-          counts.0 ∙ ap (λ (b : BadParameter). Stopped (faults.BadParameter b.name)) same ∙ sym counts'.0,
-          subst (λ (e : Ending). WroteBy before after other e) (sym counts.0) (record {
-            output = ap (λ (w : World). w.output.written) (counts.1 ∙ sym counts'.1);
-            errors = ap (λ (w : World). w.errors.written) (counts.1 ∙ sym counts'.1);
-          }),
-        )
-    by_query (Ok asked) (Ok also) is counts counts' =
-        let same : asked ≡ also = cc in
-        let all = in_groups (cuts stream) in
-        let groups_are : AreAllGroups (cuts stream) (all.whole ++ all.hand ∷ []) = record { whole = all.whole; hand = all.hand; in_groups = all.are; all_are = refl } in
-        one_of_two stream (all.whole ++ all.hand ∷ []) also before after other ending ending' game one answer told groups_are fine fine'
-        (comes stream (all.whole ++ all.hand ∷ []) also before after ending told groups_are fine (subst (λ (q : Query). CountsBy (Ok q) before after ending) same counts))
-        (comes stream (all.whole ++ all.hand ∷ []) also before other ending' told groups_are fine' counts')
+-- counts by one book end alike
+pub counted_alike : (stream : List ℕ) (book : List NamedPosition) (query : Query) (before after other : World) (ending ending' : Ending)
+    → OneGame → OneAccount → OneAnswer → OneNaming → IsTold stream before → IsFaultless before after → IsFaultless before other
+    → CountsBy query book before after ending → CountsBy query book before other ending' → (ending ≡ ending') × WroteBy before after other ending
+counted_alike stream book query before after other ending ending' game one answer one_naming told fine fine' counts counts' =
+    let all = in_groups (cuts stream) in
+    let groups_are : AreAllGroups (cuts stream) (all.whole ++ all.hand ∷ []) = record { whole = all.whole; hand = all.hand; in_groups = all.are; all_are = refl } in
+    one_of_two stream (all.whole ++ all.hand ∷ []) book query before after other ending ending' game one answer one_naming told groups_are fine fine'
+    (comes stream (all.whole ++ all.hand ∷ []) book query before after ending told groups_are fine counts)
+    (comes stream (all.whole ++ all.hand ∷ []) book query before other ending' told groups_are fine' counts')

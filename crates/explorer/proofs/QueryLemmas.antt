@@ -1,5 +1,5 @@
 -- What a query over a store comes to.
-use Rattle.std.proofs.Common.{◌≡◌, inl, inr, ℕ, List, Ok, Err, Result, refl, sym, ap, ◌∙◌, subst}
+use Rattle.std.proofs.Common.{◌≡◌, inl, inr, ℕ, List, Option, Ok, Err, Result, refl, sym, ap, ◌∙◌, subst}
 use Rattle.std.specs.Prelude.{Vec}
 use Rattle.std.specs.Global.{Global}
 use Rattle.outside.specs.Stream.{Stream}
@@ -10,6 +10,7 @@ use Rattle.explorer_model.specs.declared.fault.Stop.TheVariants as stops
 use Rattle.explorer_model.specs.declared.query.BadParameter as query_fault
 use Rattle.explorer_model.specs.declared.query.Query.{Query}
 use Rattle.explorer_model.specs.declared.store.LogFault.TheVariants as log
+use Rattle.explorer_model.specs.Openings.{NamedPosition}
 use Rattle.explorer_model.specs.Query.{QueryReads}
 use Rattle.record_log.specs.declared.fault.OpenFault.{OpenFault}
 use Rattle.record_log.specs.declared.fault.OpenFault.TheVariants as opening
@@ -18,55 +19,57 @@ use Rattle.host.specs.Hosts.{HandsDisk, HostState, TakesDisk}
 use Rattle.explorer.specs.declared.fault.Fault.{Fault}
 use Rattle.explorer.specs.Faults.{fault_of_opening, fault_of_query}
 use Rattle.explorer.specs.Lines.{Stopped}
-use Rattle.explorer.specs.Opened.{FailsUnread, IsRefusedBy, KeepsBytes, OpensTo}
-use Rattle.explorer.specs.QueryStore.{Answers, LooksAt, LooksIn, QueriesBy}
+use Rattle.explorer.specs.Opened.{FailsUnread, IsRefusedBy, IsUnchanged, OpensTo}
+use Rattle.explorer.specs.QueryStore.{Answers, AsksBy, LooksAt, LooksIn, QueriesBy}
 use Rattle.explorer.specs.Stores.{IsSized}
 use Rattle.explorer.specs.World.{World, world}
-use Rattle.explorer.proofs.StoreLemmas.{rose, uses}
+use Rattle.explorer.proofs.StoreLemmas.{rose, unchanged, uses}
 
 -- the store was opened, and a line was made or memory was refused
-pub opened : {D : Type 0} (disk : D → DiskState) (query : Query) (old : DiskState) (new out : D) (journal : List Batch) → out ≡ new → OpensTo journal old (disk new) → (line : Result (Vec ℕ Global) OpenFault) → LooksIn query journal line
-    → LooksAt query old (disk out) line
-opened {D} disk query old new out journal is opens (Ok line) looks =
+pub opened : {D : Type 0} (disk : D → DiskState) (book : List NamedPosition) (query : Query) (old : DiskState) (new out : D) (journal : List Batch) → out ≡ new → OpensTo journal old (disk new) → (line : Result (Vec ℕ Global) OpenFault) → LooksIn book query journal line
+    → LooksAt book query old (disk out) line
+opened {D} disk book query old new out journal is opens (Ok line) looks =
     let P : D → Type 0 = λ d. OpensTo journal old (disk d) in
     (journal, subst P (sym is) opens, looks)
-opened {D} disk query old new out journal is opens (Err fault) looks =
-    let P : OpenFault → Type 0 = λ f. LooksAt query old (disk out) (Err f) in
-    subst P (sym looks) (ap (λ (d : D). (disk d).content) is ∙ opens.kept)
+opened {D} disk book query old new out journal is opens (Err fault) looks =
+    let P : OpenFault → Type 0 = λ f. LooksAt book query old (disk out) (Err f) in
+    subst P (sym looks) (unchanged disk old new out journal is opens)
 
-module _ (store text : List ℕ) (query : Query) (reads : QueryReads text (Ok query)) (input output errors : Stream) (before middle after : HostState) (handed returned : DiskState)
+module _ (store : List ℕ) (query : Query) (book : List NamedPosition) (input output errors : Stream) (before middle after : HostState) (handed returned : DiskState)
     (sized : IsSized handed) (hands : HandsDisk store handed before middle) (takes : TakesDisk store returned middle after) where
   -- the line was made, and its writing came to this
-  pub answered : (Wrote : List ℕ → Type 0) (written : Stream) (line : Vec ℕ Global) → LooksAt query handed returned (Ok line) → Wrote line.items
-      → Answers Wrote store query (world input output errors before) (world input written errors after)
+  pub answered : (Wrote : List ℕ → Type 0) (written : Stream) (line : Vec ℕ Global) → LooksAt book query handed returned (Ok line) → Wrote line.items
+      → Answers Wrote store query book (world input output errors before) (world input written errors after)
   answered Wrote written line looks wrote = record {
     journal = looks.0;
     read = uses store (OpensTo looks.0) handed returned before middle after sized hands looks.1 takes;
     found = looks.2.0;
-    is_found = looks.2.1;
-    wrote = subst Wrote looks.2.2 wrote;
+    is_found = looks.2.2;
+    naming = looks.2.1;
+    is_naming = looks.2.3;
+    wrote = subst Wrote looks.2.4 wrote;
     rest = refl;
   }
 
   -- there is no line
-  pub unanswered : (fault : OpenFault) → LooksAt query handed returned (Err fault)
-      → QueriesBy store text (world input output errors before) (world input output errors after) (Stopped (fault_of_opening fault))
-  unanswered (opening.Log log.NotALog) looks = inr (Ok query, reads, (uses store (IsRefusedBy log.NotALog) handed returned before middle after sized hands looks takes, refl))
+  pub unanswered : (fault : OpenFault) → LooksAt book query handed returned (Err fault)
+      → AsksBy store query book (world input output errors before) (world input output errors after) (Stopped (fault_of_opening fault))
+  unanswered (opening.Log log.NotALog) looks = (uses store (IsRefusedBy log.NotALog) handed returned before middle after sized hands looks takes, refl)
   unanswered (opening.Log (log.OtherFormat number)) looks =
-      inr (Ok query, reads, (uses store (IsRefusedBy (log.OtherFormat number)) handed returned before middle after sized hands looks takes, refl))
+      (uses store (IsRefusedBy (log.OtherFormat number)) handed returned before middle after sized hands looks takes, refl)
   unanswered (opening.Log (log.Damaged gate)) looks =
-      inr (Ok query, reads, (uses store (IsRefusedBy (log.Damaged gate)) handed returned before middle after sized hands looks takes, refl))
+      (uses store (IsRefusedBy (log.Damaged gate)) handed returned before middle after sized hands looks takes, refl)
   unanswered (opening.DiskFault first last) looks =
-      inr (Ok query, reads, (uses store FailsUnread handed returned before middle after sized hands looks takes, rose store handed returned before middle after hands takes looks.rises, refl))
-  unanswered opening.OutOfMemory looks = inl (refl, inr (uses store KeepsBytes handed returned before middle after sized hands looks takes, refl))
+      (uses store FailsUnread handed returned before middle after sized hands looks takes, rose store handed returned before middle after hands takes looks.rises, refl)
+  unanswered opening.OutOfMemory looks = (uses store IsUnchanged handed returned before middle after sized hands looks takes, refl)
 
 -- the query is not read
-pub unread : (store text : List ℕ) (before : World) (stop : Stop query_fault.BadParameter) (fault : Fault) → fault ≡ fault_of_query stop → model.Answers {A = Query} {F = query_fault.BadParameter} (Err stop) (QueryReads text)
-    → QueriesBy store text before before (Stopped fault)
-unread store text before stop fault is gives =
-    let P : Fault → Type 0 = λ f. QueriesBy store text before before (Stopped f) in
+pub unread : (store text : List ℕ) (openings : Option (List ℕ)) (before : World) (stop : Stop query_fault.BadParameter) (fault : Fault) → fault ≡ fault_of_query stop → model.Answers {A = Query} {F = query_fault.BadParameter} (Err stop) (QueryReads text)
+    → QueriesBy store text openings before before (Stopped fault)
+unread store text openings before stop fault is gives =
+    let P : Fault → Type 0 = λ f. QueriesBy store text openings before before (Stopped f) in
     subst P (sym is) (by_stop stop gives)
   where
-    by_stop : (stop : Stop query_fault.BadParameter) → model.Answers {A = Query} {F = query_fault.BadParameter} (Err stop) (QueryReads text) → QueriesBy store text before before (Stopped (fault_of_query stop))
+    by_stop : (stop : Stop query_fault.BadParameter) → model.Answers {A = Query} {F = query_fault.BadParameter} (Err stop) (QueryReads text) → QueriesBy store text openings before before (Stopped (fault_of_query stop))
     by_stop (stops.Fault bad) gives = inr (Err bad, gives, (refl, refl))
-    by_stop stops.OutOfMemory gives = inl (refl, inl refl)
+    by_stop stops.OutOfMemory gives = inl (refl, refl)

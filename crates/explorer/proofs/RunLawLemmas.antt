@@ -4,21 +4,25 @@ use Rattle.std.specs.Prelude.{IsSome}
 use Rattle.std.specs.Io.KnownBytes.{Appends, append_known}
 use Rattle.outside.specs.Stream.{Grows, Stream, Writes}
 use Rattle.outside.proofs.StreamLemmas.{grows-none, writes-grows}
+use Rattle.explorer_model.specs.Openings.{NamedPosition}
 use Rattle.explorer_model.specs.declared.query.BadParameter.{BadParameter}
 use Rattle.explorer_model.specs.declared.query.Query.{Query as AQuery}
 use Rattle.explorer.specs.declared.fault.Fault.{Fault}
 use Rattle.explorer.specs.declared.fault.Fault.TheVariants as faults
-use Rattle.explorer.specs.Count.{Counts, CountsBy}
-use Rattle.explorer.specs.Laws.{CountsAtMost, IsTold, WroteAlike, WroteAlikeButReport, WroteBehind}
+use Rattle.explorer.specs.Book.{LacksBook, NamedBy, StopsAtBook}
+use Rattle.explorer.specs.Count.{Counts, CountsBy, CountsFor, CountsOver}
+use Rattle.explorer.specs.Laws.{CountsAtMost, IsTold, IsToldOpenings, OpensWell, WroteAlike, WroteAlikeButReport, WroteBehind, openings_of}
 use Rattle.explorer.specs.Lines.{AreLinesOf, Ending, Done, Stopped, Tells, full_line, status_of}
 use Rattle.explorer.specs.Report.{MayReport, report}
 use Rattle.explorer.specs.Run.{Meets, Runs, StartsWithout}
 use Rattle.command_line.specs.Task.{Task, Batches, Count, Create, Import, Migrate, Query, Serve, Trial, task_of}
 use Rattle.explorer.specs.World.{World, IsFaultless}
 use Rattle.import_run.proofs.VerdictLemmas.{OneGame}
-use Rattle.explorer.proofs.LawLemmas.{OneAnswer}
+use Rattle.explorer.proofs.CountLawLemmas.{one_ending}
+use Rattle.explorer.proofs.LawLemmas.{OneAnswer, OneNaming}
 use Rattle.explorer.proofs.NoRoomLemmas.{OneAccount}
-use Rattle.explorer.proofs.OneEndingLemmas.{FoundNoRoom, OneQuery, Reported, WroteBy, one_ending, wrote}
+use Rattle.explorer.proofs.OneEndingLemmas.{FoundNoRoom, OneQuery, Reported, WroteBy, wrote}
+use Rattle.explorer.proofs.OpeningsLawLemmas.{OneBook}
 
 -- ---- what a count writes to the errors
 
@@ -26,24 +30,45 @@ grew_may : (lines : List ℕ) (old new : Stream) → MayReport lines old new →
 grew_may lines old new (inl writes) = writes-grows (lines ∷ []) old new writes
 grew_may lines old new (inr same) = ([], subst (λ (s : Stream). Grows [] old s) (sym same) (grows-none old))
 
-grew_by : (query : Result AQuery BadParameter) (before after : World) (ending : Ending) → CountsBy query before after ending → (bytes : List ℕ) × Grows bytes before.errors after.errors
-grew_by (Err bad) before after ending counts = ([], subst (λ (w : World). Grows [] before.errors w.errors) (sym counts.1) (grows-none before.errors))
-grew_by (Ok query) before after Done counts = writes-grows (report counts.0.refused ∷ []) before.errors after.errors counts.0.errors
-grew_by (Ok query) before after (Stopped faults.WriteFault) counts = writes-grows (report counts.0.refused ∷ []) before.errors after.errors counts.0.errors
-grew_by (Ok query) before after (Stopped faults.ReadFault) counts = grew_may (report counts.0.refused) before.errors after.errors counts.0.errors
-grew_by (Ok query) before after (Stopped faults.TooMuchInput) counts = grew_may (report counts.0.refused) before.errors after.errors counts.0.errors
-grew_by (Ok query) before after (Stopped (faults.Full games bytes)) counts = grew_may (report counts.0.refused) before.errors after.errors counts.0.errors
-grew_by (Ok query) before after (Stopped faults.Usage) counts = absurd counts
-grew_by (Ok query) before after (Stopped (faults.BadParameter name)) counts = absurd counts
-grew_by (Ok query) before after (Stopped faults.BadLabel) counts = absurd counts
-grew_by (Ok query) before after (Stopped faults.DiskFault) counts = absurd counts
-grew_by (Ok query) before after (Stopped (faults.NotEmpty size)) counts = absurd counts
-grew_by (Ok query) before after (Stopped faults.NotAStore) counts = absurd counts
-grew_by (Ok query) before after (Stopped (faults.OtherFormat number)) counts = absurd counts
-grew_by (Ok query) before after (Stopped (faults.Damaged gate)) counts = absurd counts
-grew_by (Ok query) before after (Stopped faults.OutOfMemory) counts = absurd counts
-grew_by (Ok query) before after (Stopped (faults.CannotOpen name)) counts = absurd counts
-grew_by (Ok query) before after (Stopped faults.CannotAccept) counts = absurd counts
+grew_by : (query : AQuery) (book : List NamedPosition) (before after : World) (ending : Ending) → CountsBy query book before after ending → (bytes : List ℕ) × Grows bytes before.errors after.errors
+grew_by query book before after Done counts = writes-grows (report counts.0.refused ∷ []) before.errors after.errors counts.0.errors
+grew_by query book before after (Stopped faults.WriteFault) counts = writes-grows (report counts.0.refused ∷ []) before.errors after.errors counts.0.errors
+grew_by query book before after (Stopped faults.ReadFault) counts = grew_may (report counts.0.refused) before.errors after.errors counts.0.errors
+grew_by query book before after (Stopped faults.TooMuchInput) counts = grew_may (report counts.0.refused) before.errors after.errors counts.0.errors
+grew_by query book before after (Stopped (faults.Full games bytes)) counts = grew_may (report counts.0.refused) before.errors after.errors counts.0.errors
+grew_by query book before after (Stopped faults.Usage) counts = absurd counts
+grew_by query book before after (Stopped (faults.BadParameter name)) counts = absurd counts
+grew_by query book before after (Stopped faults.BadLabel) counts = absurd counts
+grew_by query book before after (Stopped faults.OpeningsTooLong) counts = absurd counts
+grew_by query book before after (Stopped (faults.BadOpenings row cause)) counts = absurd counts
+grew_by query book before after (Stopped faults.DiskFault) counts = absurd counts
+grew_by query book before after (Stopped (faults.NotEmpty size)) counts = absurd counts
+grew_by query book before after (Stopped faults.NotAStore) counts = absurd counts
+grew_by query book before after (Stopped (faults.OtherFormat number)) counts = absurd counts
+grew_by query book before after (Stopped (faults.Damaged gate)) counts = absurd counts
+grew_by query book before after (Stopped faults.OutOfMemory) counts = absurd counts
+grew_by query book before after (Stopped (faults.CannotOpen name)) counts = absurd counts
+grew_by query book before after (Stopped faults.CannotAccept) counts = absurd counts
+
+grew_none : (before after : World) → after.errors ≡ before.errors → (bytes : List ℕ) × Grows bytes before.errors after.errors
+grew_none before after same = ([], subst (λ (t : Stream). Grows [] before.errors t) (sym same) (grows-none before.errors))
+
+grew_named : (query : AQuery) (openings : Option (List ℕ)) (before after : World) (ending : Ending) → NamedBy openings (CountsOver query) before after ending
+    → (bytes : List ℕ) × Grows bytes before.errors after.errors
+grew_named query openings before after ending (inl (book, read, has, inl starves)) = grew_none before after (ap (λ (w : World). w.errors) starves.rest)
+grew_named query openings before after ending (inl (book, read, has, inr counts)) = grew_by query book (record before { host = read }) after ending counts
+grew_named query None before after ending (inr stops) = absurd stops
+grew_named query (Some name) before after ending (inr (fault, is, lacks, only)) = grew_none before after (ap (λ (w : World). w.errors) only)
+
+grew_for : (query : Result AQuery BadParameter) (openings : Option (List ℕ)) (before after : World) (ending : Ending) → CountsFor openings query before after ending
+    → (bytes : List ℕ) × Grows bytes before.errors after.errors
+grew_for (Err bad) openings before after ending counts = grew_none before after (ap (λ (w : World). w.errors) counts.1)
+grew_for (Ok query) openings before after ending counts = grew_named query openings before after ending counts
+
+grew_in : (text : List ℕ) (openings : Option (List ℕ)) (before after : World) (ending : Ending) → Counts text openings before after ending
+    → (bytes : List ℕ) × Grows bytes before.errors after.errors
+grew_in text openings before after ending (inl starves) = grew_none before after (ap (λ (w : World). w.errors) starves.1)
+grew_in text openings before after ending (inr counts) = grew_for counts.0 openings before after ending counts.2
 
 still_told : (old new : Option (List ℕ)) (bytes : List ℕ) → IsSome old → Appends old new bytes → IsSome new
 still_told None new bytes told appends = cc
@@ -56,6 +81,8 @@ pub same_lines : (fault : Fault) (lines others : List (List ℕ)) → (fault ≡
 same_lines faults.Usage lines others differs are are' = absurd (differs refl)
 same_lines (faults.BadParameter name) lines others differs are are' = are ∙ sym are'
 same_lines faults.BadLabel lines others differs are are' = are ∙ sym are'
+same_lines faults.OpeningsTooLong lines others differs are are' = are ∙ sym are'
+same_lines (faults.BadOpenings row cause) lines others differs are are' = are ∙ sym are'
 same_lines faults.ReadFault lines others differs are are' = are ∙ sym are'
 same_lines faults.WriteFault lines others differs are are' = are ∙ sym are'
 same_lines faults.DiskFault lines others differs are are' = are ∙ sym are'
@@ -136,6 +163,8 @@ alike_by Done before after other differs alike = alike
 alike_by (Stopped faults.Usage) before after other differs alike = alike
 alike_by (Stopped (faults.BadParameter name)) before after other differs alike = alike
 alike_by (Stopped faults.BadLabel) before after other differs alike = alike
+alike_by (Stopped faults.OpeningsTooLong) before after other differs alike = alike
+alike_by (Stopped (faults.BadOpenings row cause)) before after other differs alike = alike
 alike_by (Stopped faults.ReadFault) before after other differs alike = alike
 alike_by (Stopped faults.WriteFault) before after other differs alike = alike
 alike_by (Stopped faults.DiskFault) before after other differs alike = alike
@@ -160,6 +189,8 @@ full_by Done eight = absurd (omega (arith, eight))
 full_by (Stopped faults.Usage) eight = absurd (omega (arith, eight))
 full_by (Stopped (faults.BadParameter name)) eight = absurd (omega (arith, eight))
 full_by (Stopped faults.BadLabel) eight = absurd (omega (arith, eight))
+full_by (Stopped faults.OpeningsTooLong) eight = absurd (omega (arith, eight))
+full_by (Stopped (faults.BadOpenings row cause)) eight = absurd (omega (arith, eight))
 full_by (Stopped faults.ReadFault) eight = absurd (omega (arith, eight))
 full_by (Stopped faults.WriteFault) eight = absurd (omega (arith, eight))
 full_by (Stopped faults.DiskFault) eight = absurd (omega (arith, eight))
@@ -196,17 +227,32 @@ abbrev OneRun : World → World → World → ℕ → ℕ → Type 0
 OneRun before after other status status' =
     (status ≡ status') × ((status ≡ 2 → ⊥) → (status ≡ 8 → ⊥) → WroteAlike after other) × (status ≡ 8 → WroteAlikeButReport before after other)
 
-pub one_run : (words : List (List ℕ)) (stream : List ℕ) (before after other : World) (status status' : ℕ) → CountsAtMost (task_of words) → OneGame → OneAccount → OneAnswer → OneQuery → IsTold stream before → IsFaultless before after → IsFaultless before other
+-- what was asked of the host before the ending was told
+pub opens_before : (openings : Option (List ℕ)) (ending : Ending) (before ended after : World) → Tells ending ended after → OpensWell openings before after
+    → OpensWell openings before ended
+opens_before None ending before ended after tells well = tt
+opens_before (Some name) Done before ended after tells well = subst (λ (w : World). OpensWell (Some name) before w) tells well
+opens_before (Some name) (Stopped fault) before ended after (lines, rest) well = record {
+  refusals = sym (ap (λ (w : World). w.host.own_faults) rest) ∙ well.refusals;
+  files = sym (ap (λ (w : World). w.host.file_faults) rest) ∙ well.files;
+}
+
+pub one_run : (words : List (List ℕ)) (stream : List ℕ) (before after other : World) (status status' : ℕ) → CountsAtMost (task_of words) → OneGame → OneAccount → OneAnswer → OneNaming → OneQuery → OneBook
+    → IsToldOpenings (openings_of (task_of words)) before → IsTold stream before → IsFaultless before after → IsFaultless before other
+    → OpensWell (openings_of (task_of words)) before after → OpensWell (openings_of (task_of words)) before other
     → (status ≡ 9 → ⊥) → (status' ≡ 9 → ⊥) → Runs words before after status → Runs words before other status' → OneRun before after other status status'
-one_run words stream before after other status status' counts_only game one answer query told fine fine' fed fed' first second = by_meets first.meets second.meets
+one_run words stream before after other status status' counts_only game one answer one_naming query book_once opens told fine fine' well well' fed fed' first second = by_meets first.meets second.meets
   where
-    by_counts : (text : List ℕ) → Counts text before first.ended first.ending → Counts text before second.ended second.ending → OneRun before after other status status'
-    by_counts text counts counts' =
-        let grows = grew_by counts.0 before first.ended first.ending counts.2 in
-        let grows' = grew_by counts'.0 before second.ended second.ending counts'.2 in
+    by_counts : (text : List ℕ) (openings : Option (List ℕ)) → IsToldOpenings openings before → OpensWell openings before after → OpensWell openings before other
+        → Counts text openings before first.ended first.ending → Counts text openings before second.ended second.ending → OneRun before after other status status'
+    by_counts text openings opens well well' counts counts' =
+        let grows = grew_in text openings before first.ended first.ending counts in
+        let grows' = grew_in text openings before second.ended second.ending counts' in
         let was = fine_by first.ending before first.ended after grows.1.never_falls.least first.tells fine in
         let was' = fine_by second.ending before second.ended other grows'.1.never_falls.least second.tells fine' in
-        let both = one_ending text stream before first.ended second.ended first.ending second.ending game one answer query told was.0 was'.0 counts counts' in
+        let both = one_ending text stream openings before first.ended second.ended first.ending second.ending game one answer one_naming book_once told opens
+        (opens_before openings first.ending before first.ended after first.tells well) (opens_before openings second.ending before second.ended other second.tells well')
+        was.0 was'.0 (λ nine. fed (first.status_is ∙ nine)) (λ nine. fed' (second.status_is ∙ nine)) query counts counts' in
         let tells : Tells first.ending second.ended other = subst (λ (e : Ending). Tells e second.ended other) (sym both.0) second.tells in
         let known = still_told before.errors.written first.ended.errors.written grows.0 told.errors grows.1.appended in
         let known' = still_told before.errors.written second.ended.errors.written grows'.0 told.errors grows'.1.appended in
@@ -221,22 +267,21 @@ one_run words stream before after other status status' counts_only game one answ
               (full_by first.ending (sym first.status_is ∙ eight)) both.1 first.tells tells,
         )
 
-    by_task : (task : Option Task) → CountsAtMost task → Meets task before first.ended first.ending → Meets task before second.ended second.ending → OneRun before after other status status'
-    by_task None only meets meets' =
+    by_task : (task : Option Task) → CountsAtMost task → IsToldOpenings (openings_of task) before → OpensWell (openings_of task) before after → OpensWell (openings_of task) before other
+        → Meets task before first.ended first.ending → Meets task before second.ended second.ending → OneRun before after other status status'
+    by_task None only opens well well' meets meets' =
         let status_is : status ≡ 2 = first.status_is ∙ ap status_of meets.0 in
         (status_is ∙ sym (second.status_is ∙ ap status_of meets'.0), λ differs other_than. absurd (differs status_is), λ eight. absurd (omega (arith, status_is, eight)))
-    by_task (Some (Count text workers)) only (inl starves) meets' = absurd (no_memory status first.ending fed first.status_is starves.ending_is)
-    by_task (Some (Count text workers)) only (inr counts) (inl starves) = absurd (no_memory status' second.ending fed' second.status_is starves.ending_is)
-    by_task (Some (Count text workers)) only (inr counts) (inr counts') = by_counts text counts counts'
-    by_task (Some (Batches store workers)) only meets meets' = absurd only
-    by_task (Some (Create store)) only meets meets' = absurd only
-    by_task (Some (Import store file workers label)) only meets meets' = absurd only
-    by_task (Some (Migrate old new)) only meets meets' = absurd only
-    by_task (Some (Query store query workers)) only meets meets' = absurd only
-    by_task (Some (Serve store address files workers readers connections)) only meets meets' = absurd only
-    by_task (Some (Trial games seed workers)) only meets meets' = absurd only
+    by_task (Some (Count text workers openings)) only opens well well' counts counts' = by_counts text openings opens well well' counts counts'
+    by_task (Some (Batches store workers)) only opens well well' meets meets' = absurd only
+    by_task (Some (Create store)) only opens well well' meets meets' = absurd only
+    by_task (Some (Import store file workers label)) only opens well well' meets meets' = absurd only
+    by_task (Some (Migrate old new)) only opens well well' meets meets' = absurd only
+    by_task (Some (Query store query workers openings)) only opens well well' meets meets' = absurd only
+    by_task (Some (Serve store address files workers readers connections openings)) only opens well well' meets meets' = absurd only
+    by_task (Some (Trial games seed workers)) only opens well well' meets meets' = absurd only
 
     by_meets : StartsWithout before first.ended first.ending ⊎ Meets (task_of words) before first.ended first.ending → StartsWithout before second.ended second.ending ⊎ Meets (task_of words) before second.ended second.ending → OneRun before after other status status'
     by_meets (inl starves) meets' = absurd (no_memory status first.ending fed first.status_is starves.0)
     by_meets (inr meets) (inl starves) = absurd (no_memory status' second.ending fed' second.status_is starves.0)
-    by_meets (inr meets) (inr meets') = by_task (task_of words) counts_only meets meets'
+    by_meets (inr meets) (inr meets') = by_task (task_of words) counts_only opens well well' meets meets'

@@ -1,6 +1,7 @@
 -- What a run comes to whose words are refused, or for which there is no memory.
 use Rattle.std.proofs.Common.{◌≡◌, inl, inr, ℕ, List, [], ◌∷◌, Option, None, Some, refl, sym, subst, ap, ◌∙◌}
 use Rattle.outside.specs.Stream.{Stream, Writes}
+use Rattle.explorer_model.specs.Openings.{NamedPosition}
 use Rattle.host.specs.Hosts.{HostState}
 use Rattle.outside.proofs.StreamLemmas.{writes-trans}
 use Rattle.explorer.specs.declared.fault.Fault.TheVariants as faults
@@ -52,17 +53,19 @@ ended_run words task before ended errors ending status asked ends is told = reco
 
 -- ---- what is asked of `serve`
 
-abbrev pub service : List ℕ → List ℕ → List (List ℕ) → ℕ → ℕ → ℕ → Service
-service store address files workers readers connections = record {
+abbrev pub service : List ℕ → List ℕ → List (List ℕ) → ℕ → ℕ → ℕ → List NamedPosition → Service
+service store address files workers readers connections book = record {
   store = store;
   address = address;
   files = files;
   workers = workers;
   readers = readers;
   connections = connections;
+  book = book;
 }
 
-pub same_service : (s s' a a' : List ℕ) (f f' : List (List ℕ)) (w w' r r' c : ℕ) → s ≡ s' → a ≡ a' → f ≡ f' → w ≡ w' → r ≡ r' → service s a f w r c ≡ service s' a' f' w' r' c
-same_service s s' a a' f f' w w' r r' c store address files workers readers =
-    ap (λ (x : List ℕ). service x a f w r c) store ∙ ap (λ (x : List ℕ). service s' x f w r c) address ∙ ap (λ (x : List (List ℕ)). service s' a' x w r c) files
-    ∙ ap (λ (x : ℕ). service s' a' f' x r c) workers ∙ ap (λ (x : ℕ). service s' a' f' w' x c) readers
+pub same_service : (s s' a a' : List ℕ) (f f' : List (List ℕ)) (w w' r r' c : ℕ) (b : List NamedPosition) → s ≡ s' → a ≡ a' → f ≡ f' → w ≡ w' → r ≡ r'
+    → service s a f w r c b ≡ service s' a' f' w' r' c b
+same_service s s' a a' f f' w w' r r' c b store address files workers readers =
+    ap (λ (x : List ℕ). service x a f w r c b) store ∙ ap (λ (x : List ℕ). service s' x f w r c b) address ∙ ap (λ (x : List (List ℕ)). service s' a' x w r c b) files
+    ∙ ap (λ (x : ℕ). service s' a' f' x r c b) workers ∙ ap (λ (x : ℕ). service s' a' f' w' x c b) readers

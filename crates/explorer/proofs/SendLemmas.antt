@@ -49,6 +49,11 @@ use Rattle.manifest.specs.contracts.manifest.Manifest
 use Rattle.ingest_desk.specs.contracts.receipt.Receipt
 use Rattle.ingest_desk.specs.contracts.report.End
 use Rattle.ingest_desk.specs.contracts.report.Report
+use Rattle.explorer_model.specs.contracts.text.Name
+use Rattle.explorer_model.specs.contracts.opening.Opening
+use Rattle.opening_names.specs.contracts.line.NamedLine
+use Rattle.opening_names.specs.contracts.book.Book
+use Rattle.explorer.specs.contracts.order.Order
 use Rattle.explorer.specs.contracts.workers.FileWork
 use Rattle.explorer.specs.contracts.workers.ReaderWork
 use Rattle.explorer.specs.contracts.workers.Worker
@@ -196,3 +201,18 @@ pub desk_sync : (D K : RattleType) (d : disks.Ghosts D.Denot) (g : Ghosts K.Deno
 desk_sync D K d g disk index =
     let ingest = ingest_send D K d g disk index in
     search (ingest, crosses) depth 20
+
+pub name_sync : IsSync Name.the_row
+name_sync = search (sendable, crosses, declared_sync, as_row_sync) depth 40 fits 40000
+
+pub opening_sync : IsSync Opening.the_row
+opening_sync = search (name_sync, sendable, crosses, declared_sync, as_row_sync) depth 40 fits 40000
+
+pub line_sync : IsSync NamedLine.the_row
+line_sync = search (opening_sync, sendable, crosses, declared_sync, as_row_sync) depth 40 fits 40000
+
+pub book_sync : IsSync Book.the_row
+book_sync = search (line_sync, maps, sendable, crosses, declared_sync, as_row_sync) depth 40 fits 40000
+
+pub order_sync : IsSync Order.the_row
+order_sync = search (book_sync, sendable, crosses, declared_sync, as_row_sync) depth 40 fits 40000

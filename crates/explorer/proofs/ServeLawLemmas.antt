@@ -49,6 +49,8 @@ refused_by service before after Done seven by = absurd (omega (arith, seven))
 refused_by service before after (Stopped faults.Usage) seven by = absurd by
 refused_by service before after (Stopped (faults.BadParameter name)) seven by = absurd by
 refused_by service before after (Stopped faults.BadLabel) seven by = absurd by
+refused_by service before after (Stopped faults.OpeningsTooLong) seven by = absurd by
+refused_by service before after (Stopped (faults.BadOpenings row cause)) seven by = absurd by
 refused_by service before after (Stopped faults.ReadFault) seven by = absurd (omega (arith, seven))
 refused_by service before after (Stopped faults.WriteFault) seven by = absurd (omega (arith, seven))
 refused_by service before after (Stopped faults.DiskFault) seven by = absurd (omega (arith, seven))
@@ -118,6 +120,8 @@ module _ (service : Service) (image : List ℕ) (before after : World)
   comes (Stopped faults.Usage) fed by = absurd by
   comes (Stopped (faults.BadParameter name)) fed by = absurd by
   comes (Stopped faults.BadLabel) fed by = absurd by
+  comes (Stopped faults.OpeningsTooLong) fed by = absurd by
+  comes (Stopped (faults.BadOpenings row cause)) fed by = absurd by
   comes (Stopped (faults.NotEmpty size)) fed by = absurd by
 
 -- ---- the calls of the host
@@ -169,7 +173,7 @@ files_long service before after worked =
 doors_long : (service : Service) (before after : HostState) (worked : IsWorked service before after)
     → length worked.doors ≡ service.readers
 doors_long service before after worked =
-    zip-length (IsServedFrom worked.opening) worked.handed worked.doors worked.served ∙ worked.are_fresh.number
+    zip-length (IsServedFrom service.book worked.opening) worked.handed worked.doors worked.served ∙ worked.are_fresh.number
 
 -- ---- two runs
 

@@ -18,6 +18,7 @@ use Rattle.explorer_model.specs.declared.fault.Why.{Why}
 use Rattle.explorer_model.specs.declared.fault.Why.TheVariants.{Game, Preamble, Repeated, TooLong, Twice}
 use Rattle.explorer_model.specs.Cuts.{Cut, cuts}
 use Rattle.explorer_model.specs.Journal.{IsSound}
+use Rattle.explorer_model.specs.Openings.{NamedPosition}
 use Rattle.explorer_model.specs.Timeline.{IsPrefix}
 use Rattle.explorer_model.specs.Visits.{texts_of}
 use Rattle.explorer_model.proofs.Timelines.{prefix-self, prefix-trans}
@@ -413,37 +414,37 @@ full-longer front journal (f ∷ fs) [] p all = absurd all
 full-longer front journal (f ∷ fs) (r ∷ rs) p all =
     (full-by-longer r.ending front journal f r p all.0, full-longer front journal fs rs p all.1)
 
-served-longer : (opening front journal : List Batch) (doors : List Connections) (runs : List DoorRun) → IsPrefix front journal
-    → AllZip (IsServedIn opening front) doors runs → AllZip (IsServedIn opening journal) doors runs
-served-longer opening front journal [] [] p all = tt
-served-longer opening front journal [] (r ∷ rs) p all = absurd all
-served-longer opening front journal (d ∷ ds) [] p all = absurd all
-served-longer opening front journal (d ∷ ds) (r ∷ rs) p all = (
+served-longer : (book : List NamedPosition) (opening front journal : List Batch) (doors : List Connections) (runs : List DoorRun) → IsPrefix front journal
+    → AllZip (IsServedIn book opening front) doors runs → AllZip (IsServedIn book opening journal) doors runs
+served-longer book opening front journal [] [] p all = tt
+served-longer book opening front journal [] (r ∷ rs) p all = absurd all
+served-longer book opening front journal (d ∷ ds) [] p all = absurd all
+served-longer book opening front journal (d ∷ ds) (r ∷ rs) p all = (
   record {
     from = all.0.from;
     whole = all.0.whole;
     none_left = all.0.none_left;
     front = prefix-trans all.0.from.last.pass.seen front journal all.0.front p;
   },
-  served-longer opening front journal ds rs p all.1,
+  served-longer book opening front journal ds rs p all.1,
 )
 
-seen-longer : (opening front journal : List Batch) (doors : List Connections) (runs : List DoorRun) → IsPrefix front journal
-    → AllZip (IsSeenIn opening front) doors runs → AllZip (IsSeenIn opening journal) doors runs
-seen-longer opening front journal [] [] p all = tt
-seen-longer opening front journal [] (r ∷ rs) p all = absurd all
-seen-longer opening front journal (d ∷ ds) [] p all = absurd all
-seen-longer opening front journal (d ∷ ds) (r ∷ rs) p all = (
+seen-longer : (book : List NamedPosition) (opening front journal : List Batch) (doors : List Connections) (runs : List DoorRun) → IsPrefix front journal
+    → AllZip (IsSeenIn book opening front) doors runs → AllZip (IsSeenIn book opening journal) doors runs
+seen-longer book opening front journal [] [] p all = tt
+seen-longer book opening front journal [] (r ∷ rs) p all = absurd all
+seen-longer book opening front journal (d ∷ ds) [] p all = absurd all
+seen-longer book opening front journal (d ∷ ds) (r ∷ rs) p all = (
   record { from = all.0.from; front = prefix-trans all.0.from.last.pass.seen front journal all.0.front p },
-  seen-longer opening front journal ds rs p all.1,
+  seen-longer book opening front journal ds rs p all.1,
 )
 
 -- what any reader saw begins with the opening
-begins-with : (opening journal : List Batch) (doors : List Connections) (runs : List DoorRun) → 1 ≤ length doors
-    → AllZip (IsSeenIn opening journal) doors runs → IsPrefix opening journal
-begins-with opening journal [] runs some all = absurd (omega (arith, some))
-begins-with opening journal (d ∷ ds) [] some all = absurd all
-begins-with opening journal (d ∷ ds) (r ∷ rs) some all =
+begins-with : (book : List NamedPosition) (opening journal : List Batch) (doors : List Connections) (runs : List DoorRun) → 1 ≤ length doors
+    → AllZip (IsSeenIn book opening journal) doors runs → IsPrefix opening journal
+begins-with book opening journal [] runs some all = absurd (omega (arith, some))
+begins-with book opening journal (d ∷ ds) [] some all = absurd all
+begins-with book opening journal (d ∷ ds) (r ∷ rs) some all =
     prefix-trans opening all.0.from.last.pass.seen journal all.0.from.begins all.0.front
 
 -- ---- the journal that a disk tells
@@ -523,7 +524,7 @@ of-workers (run ∷ runs) doors =
 pub record SeesAll (service : Service) (before after : HostState) (worked : IsWorked service before after) (first : Option Fault) : Type 0 where
   pub goes_on : GoesOn service before after worked
   pub stored : first ≡ None → AllZip (IsStoredIn goes_on.journal) (map (file_at before) service.files) worked.files
-  pub served : first ≡ None → AllZip (IsServedIn worked.opening goes_on.journal) worked.handed worked.doors
+  pub served : first ≡ None → AllZip (IsServedIn service.book worked.opening goes_on.journal) worked.handed worked.doors
 
 reported-by : (lines : List ℕ) (old new : Stream) → Wrote lines old new → Writes (lines ∷ []) old new
 reported-by lines old new (inl takes) = writes-takes lines old new takes
@@ -557,6 +558,8 @@ module _ (service : Service) (before after : World) (worked : IsWorked service b
   by-worker faults.Usage is first disk counted sees reports = absurd is
   by-worker (faults.BadParameter p) is first disk counted sees reports = absurd is
   by-worker faults.BadLabel is first disk counted sees reports = absurd is
+  by-worker faults.OpeningsTooLong is first disk counted sees reports = absurd is
+  by-worker (faults.BadOpenings row cause) is first disk counted sees reports = absurd is
   by-worker faults.WriteFault is first disk counted sees reports = absurd is
   by-worker faults.DiskFault is first disk counted sees reports = absurd is
   by-worker (faults.NotEmpty n) is first disk counted sees reports = absurd is
@@ -674,26 +677,26 @@ module _ (service : Service) (before lent used after : HostState) (given returns
   unfolding is-worked
   sees-all some l =
       let files : w.middle.files ≡ before.files = w.files ∙ ap (λ (h : HostState). h.files) hands.rest in
-      let seen : AllZip (IsSeenIn opening journal) w.handed w.over.doors = w.over.seen in
+      let seen : AllZip (IsSeenIn service.book opening journal) w.handed w.over.doors = w.over.seen in
       let count : 1 ≤ length w.handed = omega (arith, some, w.are_fresh.number) in
       record {
         goes_on = record {
           journal = l.longer;
           sound = l.sound;
           tells = subst (λ (c : Option (List ℕ)). IfSome c (HasJournal l.longer)) (sym (content-back service.store returns used after takes)) l.tells;
-          extends = prefix-trans opening journal l.longer (begins-with opening journal w.handed w.over.doors count seen) l.extends;
+          extends = prefix-trans opening journal l.longer (begins-with service.book opening journal w.handed w.over.doors count seen) l.extends;
           kept = kept-longer journal l.longer (map (file_at before) service.files) w.over.files l.extends
               (subst (λ (at : List ℕ → Option (List ℕ)). AllZip (IsKeptIn journal) (map (λ (name : List ℕ). source_alone (at name) 0 0) service.files) w.over.files)
               files w.over.kept);
           full = full-longer journal l.longer (map (file_at before) service.files) w.over.files l.extends
               (subst (λ (at : List ℕ → Option (List ℕ)). AllZip (FindsFull journal) (map (λ (name : List ℕ). source_alone (at name) 0 0) service.files) w.over.files)
               files w.over.full);
-          seen = seen-longer opening journal l.longer w.handed w.over.doors l.extends seen;
+          seen = seen-longer service.book opening journal l.longer w.handed w.over.doors l.extends seen;
         };
         stored = λ none. stored-longer journal l.longer (map (file_at before) service.files) w.over.files l.extends
             (subst (λ (at : List ℕ → Option (List ℕ)). AllZip (IsStoredIn journal) (map (λ (name : List ℕ). source_alone (at name) 0 0) service.files) w.over.files)
             files (w.over.stored none));
-        served = λ none. served-longer opening journal l.longer w.handed w.over.doors l.extends (w.over.served_in none);
+        served = λ none. served-longer service.book opening journal l.longer w.handed w.over.doors l.extends (w.over.served_in none);
       }
 
   -- a count that rose over the workers rose in the run

@@ -15,6 +15,7 @@ use Rattle.explorer_model.specs.declared.fault.Refusal.{Refusal}
 use Rattle.explorer_model.specs.Cuts.{Cut, cuts}
 use Rattle.explorer_model.specs.Imports.{groups}
 use Rattle.explorer_model.specs.Labels.{no_label}
+use Rattle.explorer_model.specs.Openings.{NamedPosition}
 use Rattle.explorer_model.specs.Timeline.{IsPrefix}
 use Rattle.explorer_model.proofs.Timelines.{prefix-self, prefix-trans}
 use Rattle.published_index.specs.States.{Watching, watching}
@@ -30,6 +31,7 @@ use Rattle.import_run.specs.EndingBeside.{ImportsBeside, StandsBeside}
 use Rattle.session.specs.declared.doors.DoorEnd.{DoorEnd}
 use Rattle.session.specs.declared.doors.DoorEnd.TheVariants as door_ends
 use Rattle.session.specs.Doors.{AreServed, DoorServed, EndsDoor}
+use Rattle.session.specs.Replies.{Offer, by_book}
 use Rattle.session.specs.Exchanges.{Backend, backend}
 use Rattle.session.specs.Steps.{KnowsEnd}
 use Rattle.session.proofs.StoredLemmas.{has-stored-body, receipts-stand, repeats-known}
@@ -170,7 +172,7 @@ no-lines : {F G J : Type 0} (workers : List (Worker F G J)) → lines_in [] work
 no-lines [] = refl
 no-lines (w ∷ ws) = refl
 
-module _ {F G J : Type 0} (source : F → Stream) (door : G → Connections) (all : List (List ℕ)) (host : HostState) where
+module _ {F G J : Type 0} (book : List NamedPosition) (source : F → Stream) (door : G → Connections) (all : List (List ℕ)) (host : HostState) where
   -- what the files of these names came to, which stand from this place on before other workers
   pub record FileRuns (names : List (List ℕ)) (at : ℕ) (files others : List (Worker F G J)) : Type 0 where
     pub runs : List FileRun
@@ -239,7 +241,7 @@ module _ {F G J : Type 0} (source : F → Stream) (door : G → Connections) (al
 
   pub file-runs : (front names : List (List ℕ)) (at : ℕ) (files files' others : List (Worker F G J))
       → all ≡ front ++ names → at ≡ length front
-      → AllZip (IsFileOf source host) names files → AllZip (Works source door) files files'
+      → AllZip (IsFileOf source host) names files → AllZip (Works book source door) files files'
       → FileRuns names at files' others
   file-runs front [] at [] [] others is place are works = no-files at others
   file-runs front [] at [] (w ∷ ws) others is place are works = absurd works
@@ -259,42 +261,42 @@ module _ {F G J : Type 0} (source : F → Stream) (door : G → Connections) (al
 -- ---- the doors
 
 -- what a pass has seen once connections were served begins with what it had seen before
-served-grows : (before : Backend) (came went : List Stream) (after : Backend) → AreServed before came went after
+served-grows : (offer : Offer) (before : Backend) (came went : List Stream) (after : Backend) → AreServed offer before came went after
     → IsPrefix before.pass.seen after.pass.seen
-served-grows before [] [] after are = subst (λ (b : Backend). IsPrefix before.pass.seen b.pass.seen) (sym are) (prefix-self before.pass.seen)
-served-grows before (x ∷ xs) (y ∷ ys) after are =
-    prefix-trans before.pass.seen are.1.pass.seen after.pass.seen are.2.grew (served-grows are.1 xs ys after are.3)
-served-grows before [] (y ∷ ys) after are = absurd are
-served-grows before (x ∷ xs) [] after are = absurd are
+served-grows offer before [] [] after are = subst (λ (b : Backend). IsPrefix before.pass.seen b.pass.seen) (sym are) (prefix-self before.pass.seen)
+served-grows offer before (x ∷ xs) (y ∷ ys) after are =
+    prefix-trans before.pass.seen are.1.pass.seen after.pass.seen are.2.grew (served-grows offer are.1 xs ys after are.3)
+served-grows offer before [] (y ∷ ys) after are = absurd are
+served-grows offer before (x ∷ xs) [] after are = absurd are
 
 whole-door : (end : DoorEnd) → fault_of_door end ≡ None → end ≡ door_ends.Whole
 whole-door door_ends.Whole none = refl
 whole-door door_ends.AcceptFault none = absurd (cc)
 
-module _ {F G J : Type 0} (source : F → Stream) (door : G → Connections) (all : List (List ℕ)) (opening : List Batch) where
+module _ {F G J : Type 0} (book : List NamedPosition) (source : F → Stream) (door : G → Connections) (all : List (List ℕ)) (opening : List Batch) where
   -- what doors came to, whose readers stand from this place on before the one that merges
   pub record DoorRuns (handed : List Connections) (at : ℕ) (readers : List (Worker F G J)) : Type 0 where
     pub runs : List DoorRun
-    pub served : AllZip (IsServedFrom opening) handed runs
+    pub served : AllZip (IsServedFrom book opening) handed runs
     pub calls : calls_of source door all at (readers ++ Merger ∷ []) ≡ map (λ run. DoorBack run.connections) runs
     pub first : fault_in (readers ++ Merger ∷ []) ≡ fault_of_doors runs
     pub served_in : (journal : List Batch) → AllByRecursion (IsTold journal) readers
-        → fault_in (readers ++ Merger ∷ []) ≡ None → AllZip (IsServedIn opening journal) handed runs
-    pub seen : (journal : List Batch) → AllByRecursion (IsTold journal) readers → AllZip (IsSeenIn opening journal) handed runs
+        → fault_in (readers ++ Merger ∷ []) ≡ None → AllZip (IsServedIn book opening journal) handed runs
+    pub seen : (journal : List Batch) → AllByRecursion (IsTold journal) readers → AllZip (IsSeenIn book opening journal) handed runs
 
   one-door : (handed : Connections) (others : List Connections) (at : ℕ) (reader reader' : ReaderWork G J) (readers : List (Worker F G J))
-      → door reader.door ≡ handed → reader.pass ≡ watching opening → ServesDoor door reader reader'
+      → door reader.door ≡ handed → reader.pass ≡ watching opening → ServesDoor book door reader reader'
       → DoorRuns others (at + 1) readers → DoorRuns (handed ∷ others) at (Reader reader' ∷ readers)
   one-door handed others at reader reader' readers door_is pass_is s rest =
       let run : DoorRun = record { connections = door reader'.door; end = reader'.end } in
-      let served = subst (λ (p : Watching). DoorServed handed (backend p new_importer) (door reader'.door) (backend reader'.pass s.importer)) pass_is
-      (subst (λ (d : Connections). DoorServed d (backend reader.pass new_importer) (door reader'.door) (backend reader'.pass s.importer)) door_is s.served) in
+      let served = subst (λ (p : Watching). DoorServed (by_book book) handed (backend p new_importer) (door reader'.door) (backend reader'.pass s.importer)) pass_is
+      (subst (λ (d : Connections). DoorServed (by_book book) d (backend reader.pass new_importer) (door reader'.door) (backend reader'.pass s.importer)) door_is s.served) in
       let ended = subst (λ (d : Connections). EndsDoor reader'.end d (door reader'.door)) door_is s.ends in
-      let from : IsServedFrom opening handed run = record {
+      let from : IsServedFrom book opening handed run = record {
         last = backend reader'.pass s.importer;
         served = served;
         ends = ended;
-        begins = served-grows (backend (watching opening) new_importer) served.came served.went (backend reader'.pass s.importer) served.served;
+        begins = served-grows (by_book book) (backend (watching opening) new_importer) served.came served.went (backend reader'.pass s.importer) served.served;
       } in
       record {
         runs = run ∷ rest.runs;
@@ -316,7 +318,7 @@ module _ {F G J : Type 0} (source : F → Stream) (door : G → Connections) (al
       }
 
   pub door-runs : (handed : List Connections) (at : ℕ) (readers readers' : List (Worker F G J))
-      → AllZip (IsReaderOf door opening) handed readers → AllZip (Works source door) readers readers'
+      → AllZip (IsReaderOf door opening) handed readers → AllZip (Works book source door) readers readers'
       → DoorRuns handed at readers'
   door-runs [] at [] [] are works = record { runs = []; served = tt; calls = refl; first = refl; served_in = λ journal told none. tt; seen = λ journal told. tt }
   door-runs [] at [] (w ∷ ws) are works = absurd works
@@ -453,12 +455,12 @@ door-accepts : (end : DoorEnd) (old new : Connections) → EndsDoor end old new 
 door-accepts door_ends.Whole old new e is = absurd (cc)
 door-accepts door_ends.AcceptFault old new e is = omega (arith, e.1.rose)
 
-module _ {F G J : Type 0} (source : F → Stream) (door : G → Connections) where
+module _ {F G J : Type 0} (book : List NamedPosition) (source : F → Stream) (door : G → Connections) where
   fault-is : (file file' : FileWork F J) (i : ImportsFile source file file')
       → fault_of {F = F} {G = G} {J = J} (File file') ≡ fault_of_import (ending_of i.report.end)
   fault-is file file' i = ap (λ (r : Option (Report J)). fault_of {F = F} {G = G} {J = J} (File (record { source = file'.source; report = r }))) i.report_is
 
-  read-failed : (workers returned : List (Worker F G J)) → AllZip (Works source door) workers returned
+  read-failed : (workers returned : List (Worker F G J)) → AllZip (Works book source door) workers returned
       → fault_in returned ≡ Some faults.ReadFault → ReadFailed source returned
   read-failed [] [] works is = absurd (cc)
   read-failed [] (w ∷ ws) works is = absurd works
@@ -477,7 +479,7 @@ module _ {F G J : Type 0} (source : F → Stream) (door : G → Connections) whe
   read-failed (Merger ∷ ws) (File f ∷ ws') works is = absurd works.0
   read-failed (Merger ∷ ws) (Reader r ∷ ws') works is = absurd works.0
 
-  accept-failed : (workers returned : List (Worker F G J)) → AllZip (Works source door) workers returned
+  accept-failed : (workers returned : List (Worker F G J)) → AllZip (Works book source door) workers returned
       → fault_in returned ≡ Some faults.CannotAccept → AcceptFailed door returned
   accept-failed [] [] works is = absurd (cc)
   accept-failed [] (w ∷ ws) works is = absurd works
@@ -517,13 +519,13 @@ all-both : {A : Type 0} (P : A → Type 0) (xs ys : List A) → AllByRecursion P
 all-both P [] ys all = (tt, all)
 all-both P (x ∷ xs) ys all = let rest = all-both P xs ys all.1 in ((all.0, rest.0), rest.1)
 
-merger-alone : {F G J : Type 0} (source : F → Stream) (door : G → Connections) (workers : List (Worker F G J))
-    → AllZip (Works source door) (Merger ∷ []) workers → workers ≡ Merger ∷ []
-merger-alone source door [] works = absurd works
-merger-alone source door (Merger ∷ []) works = refl
-merger-alone source door (Merger ∷ w ∷ ws) works = absurd works.1
-merger-alone source door (File f ∷ ws) works = absurd works.0
-merger-alone source door (Reader r ∷ ws) works = absurd works.0
+merger-alone : {F G J : Type 0} (book : List NamedPosition) (source : F → Stream) (door : G → Connections) (workers : List (Worker F G J))
+    → AllZip (Works book source door) (Merger ∷ []) workers → workers ≡ Merger ∷ []
+merger-alone book source door [] works = absurd works
+merger-alone book source door (Merger ∷ []) works = refl
+merger-alone book source door (Merger ∷ w ∷ ws) works = absurd works.1
+merger-alone book source door (File f ∷ ws) works = absurd works.0
+merger-alone book source door (Reader r ∷ ws) works = absurd works.0
 
 reader-behind : {F G J : Type 0} (workers others : List (Worker F G J)) → HasReader others → HasReader (workers ++ others)
 reader-behind [] others has = has
@@ -538,15 +540,15 @@ have-readers (File f ∷ ws) others has have = (reader-behind ws others has, hav
 have-readers (Reader r ∷ ws) others has have = have-readers ws others has have
 have-readers (Merger ∷ ws) others has have = have-readers ws others has have
 
-module _ {F G J : Type 0} (source : F → Stream) (door : G → Connections) (names : List (List ℕ)) (host : HostState)
+module _ {F G J : Type 0} (book : List NamedPosition) (source : F → Stream) (door : G → Connections) (names : List (List ℕ)) (host : HostState)
     (opening : List Batch) (handed : List Connections) where
   -- the workers when they have returned: those with the files, those with the doors, and the one that merges
   pub record Returned (workers : List (Worker F G J)) : Type 0 where
     pub files : List (Worker F G J)
     pub readers : List (Worker F G J)
     pub are : workers ≡ files ++ (readers ++ Merger ∷ [])
-    pub file_runs : FileRuns source door names host names 0 files (readers ++ Merger ∷ [])
-    pub door_runs : DoorRuns source door names opening handed (0 + length names) readers
+    pub file_runs : FileRuns book source door names host names 0 files (readers ++ Merger ∷ [])
+    pub door_runs : DoorRuns book source door names opening handed (0 + length names) readers
     pub named : AreNamed names 0 workers
     pub have : 1 ≤ length handed → HaveReaders workers
     pub long : length names ≤ length workers
@@ -554,7 +556,7 @@ module _ {F G J : Type 0} (source : F → Stream) (door : G → Connections) (na
     pub accept_failed : fault_in workers ≡ Some faults.CannotAccept → AcceptFailed door workers
 
   named-others : (at : ℕ) (readers readers' : List (Worker F G J)) (ds : List Connections) → AllZip (IsReaderOf door opening) ds readers
-      → AllZip (Works source door) readers readers' → AreNamed names at (readers' ++ Merger ∷ [])
+      → AllZip (Works book source door) readers readers' → AreNamed names at (readers' ++ Merger ∷ [])
   named-others at [] [] ds are works = tt
   named-others at [] (w ∷ ws) ds are works = absurd works
   named-others at (w ∷ ws) [] ds are works = absurd works
@@ -566,7 +568,7 @@ module _ {F G J : Type 0} (source : F → Stream) (door : G → Connections) (na
   named-others at (Merger ∷ ws) (w' ∷ ws') (d ∷ ds) are works = absurd are.0
 
   named-files : (at : ℕ) (rest : List (List ℕ)) (files files' others : List (Worker F G J)) → at + length rest ≡ length names
-      → AllZip (IsFileOf source host) rest files → AllZip (Works source door) files files'
+      → AllZip (IsFileOf source host) rest files → AllZip (Works book source door) files files'
       → ((n : ℕ) → AreNamed names n others) → AreNamed names at (files' ++ others)
   named-files at [] [] [] others is are works named = named at
   named-files at [] [] (w ∷ ws) others is are works named = absurd works
@@ -581,7 +583,7 @@ module _ {F G J : Type 0} (source : F → Stream) (door : G → Connections) (na
   named-files at (n ∷ ns) (Merger ∷ ws) (w' ∷ ws') others is are works named = absurd are.0
 
   reader-among : (readers readers' : List (Worker F G J)) (ds : List Connections) → AllZip (IsReaderOf door opening) ds readers
-      → AllZip (Works source door) readers readers' → 1 ≤ length ds → HasReader (readers' ++ Merger ∷ [])
+      → AllZip (Works book source door) readers readers' → 1 ≤ length ds → HasReader (readers' ++ Merger ∷ [])
   reader-among readers readers' [] are works some = absurd (omega (arith, some))
   reader-among [] readers' (d ∷ ds) are works some = absurd are
   reader-among (w ∷ ws) [] (d ∷ ds) are works some = absurd works
@@ -592,7 +594,7 @@ module _ {F G J : Type 0} (source : F → Stream) (door : G → Connections) (na
   reader-among (Merger ∷ ws) (w' ∷ ws') (d ∷ ds) are works some = absurd are.0
 
   have-others : (readers readers' : List (Worker F G J)) (ds : List Connections) → AllZip (IsReaderOf door opening) ds readers
-      → AllZip (Works source door) readers readers' → HaveReaders (readers' ++ Merger ∷ [])
+      → AllZip (Works book source door) readers readers' → HaveReaders (readers' ++ Merger ∷ [])
   have-others [] [] ds are works = tt
   have-others [] (w ∷ ws) ds are works = absurd works
   have-others (w ∷ ws) [] ds are works = absurd works
@@ -604,27 +606,27 @@ module _ {F G J : Type 0} (source : F → Stream) (door : G → Connections) (na
   have-others (Merger ∷ ws) (w' ∷ ws') (d ∷ ds) are works = absurd are.0
 
   pub returned-workers : (files all all' : List (Worker F G J)) → AllZip (IsFileOf source host) names files
-      → HasReaders door opening handed files all → AllZip (Works source door) all all' → Returned all'
+      → HasReaders door opening handed files all → AllZip (Works book source door) all all' → Returned all'
   returned-workers files all all' are h works =
-      let R : Worker F G J → Worker F G J → Type 0 = Works source door in
+      let R : Worker F G J → Worker F G J → Type 0 = Works book source door in
       let s = splits R files (h.readers ++ Merger ∷ []) all' (subst (λ (ws : List (Worker F G J)). AllZip R ws all') h.are works) in
       let t = splits R h.readers (Merger ∷ []) s.back s.backs in
-      let one = merger-alone source door t.back t.backs in
+      let one = merger-alone book source door t.back t.backs in
       let is : all' ≡ s.front ++ (t.front ++ Merger ∷ []) = s.is ∙ ap (λ (ws : List (Worker F G J)). s.front ++ ws) (t.is ∙ ap (λ (ws : List (Worker F G J)). t.front ++ ws) one) in
       let count : length s.front ≡ length names = zip-length R files s.front s.fronts ∙ zip-length (IsFileOf source host) names files are in
       record {
         files = s.front;
         readers = t.front;
         are = is;
-        file_runs = file-runs source door names host [] names 0 files s.front (t.front ++ Merger ∷ []) refl refl are s.fronts;
-        door_runs = door-runs source door names opening handed (0 + length names) h.readers t.front h.are_readers t.fronts;
+        file_runs = file-runs book source door names host [] names 0 files s.front (t.front ++ Merger ∷ []) refl refl are s.fronts;
+        door_runs = door-runs book source door names opening handed (0 + length names) h.readers t.front h.are_readers t.fronts;
         named = rw is (named-files 0 names files s.front (t.front ++ Merger ∷ []) (omega arith) are s.fronts
             (λ n. named-others n h.readers t.front handed h.are_readers t.fronts));
         have = λ some. rw is (have-readers s.front (t.front ++ Merger ∷ [])
             (reader-among h.readers t.front handed h.are_readers t.fronts some) (have-others h.readers t.front handed h.are_readers t.fronts));
         long = rw is (omega (arith, count, length-append s.front (t.front ++ Merger ∷ [])));
-        read_failed = read-failed source door all all' works;
-        accept_failed = accept-failed source door all all' works;
+        read_failed = read-failed book source door all all' works;
+        accept_failed = accept-failed book source door all all' works;
       }
 
 -- ---- what comes back
@@ -713,9 +715,9 @@ or-all : {F G J : Type 0} (xs ys : List (Worker F G J)) → fault_in (xs ++ ys) 
 or-all [] ys none = none
 or-all (x ∷ xs) ys none = or-all xs ys (or-none (fault_of x) (fault_in (xs ++ ys)) none).1
 
-module _ {F G J : Type 0} (source : F → Stream) (door : G → Connections) (names : List (List ℕ)) (host : HostState)
+module _ {F G J : Type 0} (book : List NamedPosition) (source : F → Stream) (door : G → Connections) (names : List (List ℕ)) (host : HostState)
     (opening : List Batch) (handed_doors : List Connections) (workers : List (Worker F G J))
-    (r : Returned source door names host opening handed_doors workers) where
+    (r : Returned book source door names host opening handed_doors workers) where
   pub returned-calls : calls_of source door names 0 workers
       ≡ files_back names (map (λ run. run.file) r.file_runs.runs) ++ map (λ run. DoorBack run.connections) r.door_runs.runs
   returned-calls =
@@ -726,14 +728,14 @@ module _ {F G J : Type 0} (source : F → Stream) (door : G → Connections) (na
   can-return now out = rw returned-calls (λ thing.
       let even : length (map (λ (run : FileRun). run.file) r.file_runs.runs) ≡ length names =
       length-map r.file_runs.runs (λ (run : FileRun). run.file) ∙ (zip-length IsImported (map (file_at host) names) r.file_runs.runs r.file_runs.imported ∙ length-map names (file_at host)) in
-      let count : length r.door_runs.runs ≡ length handed_doors = zip-length (IsServedFrom opening) handed_doors r.door_runs.runs r.door_runs.served in
+      let count : length r.door_runs.runs ≡ length handed_doors = zip-length (IsServedFrom book opening) handed_doors r.door_runs.runs r.door_runs.served in
       rw (due-is thing names (map (λ (run : FileRun). run.file) r.file_runs.runs) r.door_runs.runs (length handed_doors) even count) (out thing))
 
   pub works-over : (journal : List Batch) (after : HostState) (first : Option Fault) (lines : Option (List ℕ))
       → first ≡ fault_in workers → IfSome lines (λ l. l ≡ lines_in names workers)
       → AllByRecursion (IsTold journal) workers
       → GivenBack source door names 0 workers host after
-      → WorksOver names opening journal handed_doors first lines host after
+      → WorksOver book names opening journal handed_doors first lines host after
   works-over journal after first lines first_is lines_are told back =
       let given = given-rest source door names 0 workers host after back in
       let fault : fault_in workers ≡ fault_in (r.files ++ (r.readers ++ Merger ∷ [])) = ap (λ (ws : List (Worker F G J)). fault_in ws) r.are in

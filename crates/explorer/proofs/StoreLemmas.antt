@@ -1,8 +1,9 @@
 -- What commands do with the disk of a store.
-use Rattle.std.proofs.Common.{◌≡◌, ◌<◌, ℕ, List, length, Option, None, Some, refl, sym, ap, subst, arith}
+use Rattle.std.proofs.Common.{◌≡◌, ◌<◌, ℕ, List, length, Option, None, Some, refl, sym, ap, subst, ◌∙◌, arith}
 use Rattle.std.specs.Prelude.{IfSome}
 use Rattle.outside.specs.Stream.{Rises}
 use Rattle.disk_model.specs.Disk.{DiskState, MayLeave}
+use Rattle.explorer_model.specs.declared.archive.Batch.{Batch}
 use Rattle.explorer_model.specs.StoreFile.{store_format}
 use Rattle.record_log.specs.Log.{IsCreated, IsNotCreated, Log, empty_file}
 use Rattle.record_log.specs.declared.fault.CreateFault.{CreateFault}
@@ -10,6 +11,7 @@ use Rattle.record_log.specs.declared.fault.CreateFault.TheVariants as creation
 use Rattle.manifest.specs.Manifest.{batch_format}
 use Rattle.host.specs.Hosts.{HandsDisk, HostState, TakesDisk}
 use Rattle.explorer.specs.Create.{IsNotMade, Makes}
+use Rattle.explorer.specs.Opened.{IsUnchanged, OpensTo}
 use Rattle.explorer.specs.Stores.{IsSized, UsesDisk}
 
 -- what is told has P
@@ -68,3 +70,11 @@ not_made disk (creation.DiskFault from to) before after n = record {
 pub is_sized : {D : Type 0} (disk : D → DiskState)
     → ((it : D) (file : List ℕ) → (disk it).content ≡ Some file → length file ≡ (disk it).size) → (it : D) → IsSized (disk it)
 is_sized disk told it = told_has (λ bytes. length bytes ≡ (disk it).size) (disk it).content (told it)
+
+-- a store that was opened is left as it was
+pub unchanged : {D : Type 0} (disk : D → DiskState) (old : DiskState) (new out : D) (journal : List Batch) → out ≡ new
+    → OpensTo journal old (disk new) → IsUnchanged old (disk out)
+unchanged {D} disk old new out journal is opens = record {
+  kept = ap (λ (d : D). (disk d).content) is ∙ opens.kept;
+  no_fault = ap (λ (d : D). (disk d).faults) is ∙ opens.no_fault;
+}

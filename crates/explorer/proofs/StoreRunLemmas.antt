@@ -7,19 +7,21 @@ use Rattle.outside.proofs.StreamLemmas.{grows-none, writes-grows}
 use Rattle.explorer_model.specs.declared.query.BadParameter.{BadParameter}
 use Rattle.explorer_model.specs.declared.query.Query.{Query as AQuery}
 use Rattle.explorer_model.specs.declared.archive.Batch.{Batch}
+use Rattle.explorer_model.specs.Openings.{NamedPosition}
 use Rattle.manifest.specs.Manifest.{HasJournal}
 use Rattle.host.specs.Hosts.{HostState, put}
 use Rattle.ingest_desk.specs.declared.report.ImportEnding.{ImportEnding}
 use Rattle.ingest_desk.specs.declared.report.ImportEnding.TheVariants as endings
 use Rattle.explorer.specs.declared.fault.Fault.{Fault}
 use Rattle.explorer.specs.declared.fault.Fault.TheVariants as faults
+use Rattle.explorer.specs.Book.{HasBook, LacksBook, NamedBy, StopsAtBook}
 use Rattle.explorer.specs.Create.{CreatesBy}
 use Rattle.explorer.specs.ImportStore.{ImportsBy, ImportsLabelled, ImportsSo, ImportsTo}
-use Rattle.explorer.specs.Laws.{GoesWell, HasMemory, HoldAlike, ImportAlike, IsToldErrors, IsToldFile, IsToldOutput, IsToldStore, MigratedAlike, ReadsWell, RefusedAlike, ReportsWell, ServedAlike, ServesDoors, WritesWell, serving, with_workers}
+use Rattle.explorer.specs.Laws.{GoesWell, HasMemory, HoldAlike, ImportAlike, IsToldErrors, IsToldFile, IsToldOutput, IsToldStore, MigratedAlike, LacksOpenings, OpensWell, IsToldOpenings, ReadsWell, RefusedAlike, ReportsWell, ServedAlike, ServedAlikeBehind, ServesDoors, WritesWell, serving, with_book, with_workers}
 use Rattle.explorer.specs.Lines.{AreLinesOf, Ending, Done, Stopped, Tells, status_of}
 use Rattle.explorer.specs.ListBatches.{ListsBy}
 use Rattle.explorer.specs.Migrate.{MigratesBy}
-use Rattle.explorer.specs.QueryStore.{AsksBy, QueriesBy}
+use Rattle.explorer.specs.QueryStore.{AsksBy, AsksFor, QueriesBy}
 use Rattle.explorer.specs.Report.{report}
 use Rattle.explorer.specs.Run.{Ends, Meets, Runs, StartsWithout}
 use Rattle.explorer.specs.Serve.{Serves}
@@ -31,13 +33,14 @@ use Rattle.command_line.specs.Task.{Task, Batches, Create, Import, Migrate, Quer
 use Rattle.import_run.proofs.VerdictLemmas.{OneGame}
 use Rattle.explorer.proofs.CreationLemmas.{one_creation}
 use Rattle.explorer.proofs.ImportLawLemmas.{one_import}
-use Rattle.explorer.proofs.LawLemmas.{OneAnswer}
+use Rattle.explorer.proofs.LawLemmas.{OneAnswer, OneNaming}
 use Rattle.explorer.proofs.ListLawLemmas.{one_listing}
 use Rattle.explorer.proofs.MigrateLawLemmas.{one_migration}
 use Rattle.explorer.proofs.NoRoomLemmas.{OneAccount}
 use Rattle.explorer.proofs.OneEndingLemmas.{OneQuery, wrote_stream}
-use Rattle.explorer.proofs.QuestionLemmas.{OneOpening, one_question}
-use Rattle.explorer.proofs.RunLawLemmas.{append_all, no_memory, same_lines, told_behind}
+use Rattle.explorer.proofs.OpeningsLawLemmas.{OneBook, SameHost, one_book, same_host}
+use Rattle.explorer.proofs.QuestionLemmas.{OneOpening, one_question, told_since, well_since}
+use Rattle.explorer.proofs.RunLawLemmas.{append_all, no_memory, opens_before, same_lines, told_behind}
 use Rattle.explorer.proofs.ServeLawLemmas.{both_refused, both_served, refused_errors, refused_too}
 use Rattle.explorer.proofs.TrialLawLemmas.{OneSample, one_trial}
 
@@ -109,6 +112,8 @@ created_errors store before after (Stopped (faults.CannotOpen name)) by = by_hos
 created_errors store before after (Stopped faults.Usage) by = absurd by
 created_errors store before after (Stopped (faults.BadParameter name)) by = absurd by
 created_errors store before after (Stopped faults.BadLabel) by = absurd by
+created_errors store before after (Stopped faults.OpeningsTooLong) by = absurd by
+created_errors store before after (Stopped (faults.BadOpenings row cause)) by = absurd by
 created_errors store before after (Stopped faults.ReadFault) by = absurd by
 created_errors store before after (Stopped faults.TooMuchInput) by = absurd by
 created_errors store before after (Stopped (faults.Full games bytes)) by = absurd by
@@ -131,34 +136,50 @@ migrated_errors old new before after (Stopped faults.OutOfMemory) by = by_host b
 migrated_errors old new before after (Stopped faults.Usage) by = absurd by
 migrated_errors old new before after (Stopped (faults.BadParameter name)) by = absurd by
 migrated_errors old new before after (Stopped faults.BadLabel) by = absurd by
+migrated_errors old new before after (Stopped faults.OpeningsTooLong) by = absurd by
+migrated_errors old new before after (Stopped (faults.BadOpenings row cause)) by = absurd by
 migrated_errors old new before after (Stopped faults.ReadFault) by = absurd by
 migrated_errors old new before after (Stopped faults.TooMuchInput) by = absurd by
 migrated_errors old new before after (Stopped (faults.Full games bytes)) by = absurd by
 migrated_errors old new before after (Stopped faults.CannotAccept) by = absurd by
 
-asked_errors : (store : List ℕ) (r : Result AQuery BadParameter) (before after : World) (ending : Ending) → AsksBy store r before after ending → after.errors ≡ before.errors
-asked_errors store (Err bad) before after ending by = ap (λ (w : World). w.errors) by.1
-asked_errors store (Ok query) before after Done by = ap (λ (w : World). w.errors) by.rest
-asked_errors store (Ok query) before after (Stopped faults.WriteFault) by = ap (λ (w : World). w.errors) by.rest
-asked_errors store (Ok query) before after (Stopped faults.NotAStore) by = by_host before after by.1
-asked_errors store (Ok query) before after (Stopped (faults.OtherFormat number)) by = by_host before after by.1
-asked_errors store (Ok query) before after (Stopped (faults.Damaged gate)) by = by_host before after by.1
-asked_errors store (Ok query) before after (Stopped faults.DiskFault) by = by_host before after by.2
-asked_errors store (Ok query) before after (Stopped (faults.CannotOpen name)) by = by_host before after by.2
-asked_errors store (Ok query) before after (Stopped faults.Usage) by = absurd by
-asked_errors store (Ok query) before after (Stopped (faults.BadParameter name)) by = absurd by
-asked_errors store (Ok query) before after (Stopped faults.BadLabel) by = absurd by
-asked_errors store (Ok query) before after (Stopped faults.ReadFault) by = absurd by
-asked_errors store (Ok query) before after (Stopped faults.TooMuchInput) by = absurd by
-asked_errors store (Ok query) before after (Stopped (faults.Full games bytes)) by = absurd by
-asked_errors store (Ok query) before after (Stopped (faults.NotEmpty size)) by = absurd by
-asked_errors store (Ok query) before after (Stopped faults.OutOfMemory) by = absurd by
-asked_errors store (Ok query) before after (Stopped faults.CannotAccept) by = absurd by
+asked_errors : (store : List ℕ) (query : AQuery) (book : List NamedPosition) (before after : World) (ending : Ending) → AsksBy store query book before after ending → after.errors ≡ before.errors
+asked_errors store query book before after Done by = ap (λ (w : World). w.errors) by.rest
+asked_errors store query book before after (Stopped faults.WriteFault) by = ap (λ (w : World). w.errors) by.rest
+asked_errors store query book before after (Stopped faults.NotAStore) by = by_host before after by.1
+asked_errors store query book before after (Stopped (faults.OtherFormat number)) by = by_host before after by.1
+asked_errors store query book before after (Stopped (faults.Damaged gate)) by = by_host before after by.1
+asked_errors store query book before after (Stopped faults.DiskFault) by = by_host before after by.2
+asked_errors store query book before after (Stopped (faults.CannotOpen name)) by = by_host before after by.2
+asked_errors store query book before after (Stopped faults.Usage) by = absurd by
+asked_errors store query book before after (Stopped (faults.BadParameter name)) by = absurd by
+asked_errors store query book before after (Stopped faults.BadLabel) by = absurd by
+asked_errors store query book before after (Stopped faults.OpeningsTooLong) by = absurd by
+asked_errors store query book before after (Stopped (faults.BadOpenings row cause)) by = absurd by
+asked_errors store query book before after (Stopped faults.ReadFault) by = absurd by
+asked_errors store query book before after (Stopped faults.TooMuchInput) by = absurd by
+asked_errors store query book before after (Stopped (faults.Full games bytes)) by = absurd by
+asked_errors store query book before after (Stopped (faults.NotEmpty size)) by = absurd by
+asked_errors store query book before after (Stopped faults.OutOfMemory) by = by_host before after by.1
+asked_errors store query book before after (Stopped faults.CannotAccept) by = absurd by
 
-queried_errors : (store text : List ℕ) (before after : World) (ending : Ending) → QueriesBy store text before after ending → after.errors ≡ before.errors
-queried_errors store text before after ending (inl (is, inl same)) = ap (λ (w : World). w.errors) same
-queried_errors store text before after ending (inl (is, inr kept)) = by_host before after kept.1
-queried_errors store text before after ending (inr (r, reads, by)) = asked_errors store r before after ending by
+-- nothing is written behind the file of openings but what is written by its book
+named_errors : (openings : Option (List ℕ)) (Does : List NamedPosition → World → World → Ending → Type 0) (before after : World) (ending : Ending)
+    → ((book : List NamedPosition) (now : World) → Does book now after ending → after.errors ≡ now.errors) → NamedBy openings Does before after ending
+    → after.errors ≡ before.errors
+named_errors openings Does before after ending errors (inl (book, read, has, does)) = errors book (record before { host = read }) does
+named_errors None Does before after ending errors (inr stops) = absurd stops
+named_errors (Some name) Does before after ending errors (inr (fault, is, lacks, only)) = by_host before after only
+
+asked_for : (store : List ℕ) (openings : Option (List ℕ)) (r : Result AQuery BadParameter) (before after : World) (ending : Ending)
+    → AsksFor store openings r before after ending → after.errors ≡ before.errors
+asked_for store openings (Err bad) before after ending by = ap (λ (w : World). w.errors) by.1
+asked_for store openings (Ok query) before after ending by =
+    named_errors openings (AsksBy store query) before after ending (λ book now does. asked_errors store query book now after ending does) by
+
+queried_errors : (store text : List ℕ) (openings : Option (List ℕ)) (before after : World) (ending : Ending) → QueriesBy store text openings before after ending → after.errors ≡ before.errors
+queried_errors store text openings before after ending (inl (is, same)) = ap (λ (w : World). w.errors) same
+queried_errors store text openings before after ending (inr (r, reads, by)) = asked_for store openings r before after ending by
 
 listed_errors : (store : List ℕ) (before after : World) (ending : Ending) → ListsBy store before after ending → after.errors ≡ before.errors
 listed_errors store before after Done by = ap (λ (w : World). w.errors) by.rest
@@ -172,6 +193,8 @@ listed_errors store before after (Stopped faults.OutOfMemory) by = by_host befor
 listed_errors store before after (Stopped faults.Usage) by = absurd by
 listed_errors store before after (Stopped (faults.BadParameter name)) by = absurd by
 listed_errors store before after (Stopped faults.BadLabel) by = absurd by
+listed_errors store before after (Stopped faults.OpeningsTooLong) by = absurd by
+listed_errors store before after (Stopped (faults.BadOpenings row cause)) by = absurd by
 listed_errors store before after (Stopped faults.ReadFault) by = absurd by
 listed_errors store before after (Stopped faults.TooMuchInput) by = absurd by
 listed_errors store before after (Stopped (faults.Full games bytes)) by = absurd by
@@ -185,6 +208,8 @@ tried_errors games seed before after (Stopped faults.OutOfMemory) by = ap (λ (w
 tried_errors games seed before after (Stopped faults.Usage) by = absurd by
 tried_errors games seed before after (Stopped (faults.BadParameter name)) by = absurd by
 tried_errors games seed before after (Stopped faults.BadLabel) by = absurd by
+tried_errors games seed before after (Stopped faults.OpeningsTooLong) by = absurd by
+tried_errors games seed before after (Stopped (faults.BadOpenings row cause)) by = absurd by
 tried_errors games seed before after (Stopped faults.ReadFault) by = absurd by
 tried_errors games seed before after (Stopped faults.DiskFault) by = absurd by
 tried_errors games seed before after (Stopped (faults.NotEmpty size)) by = absurd by
@@ -228,6 +253,8 @@ labelled_errors store file label before after (Stopped faults.OutOfMemory) (inr 
 labelled_errors store file label before after (Stopped faults.Usage) by = absurd by
 labelled_errors store file label before after (Stopped (faults.BadParameter name)) by = absurd by
 labelled_errors store file label before after (Stopped faults.BadLabel) by = absurd by
+labelled_errors store file label before after (Stopped faults.OpeningsTooLong) by = absurd by
+labelled_errors store file label before after (Stopped (faults.BadOpenings row cause)) by = absurd by
 labelled_errors store file label before after (Stopped (faults.NotEmpty size)) by = absurd by
 labelled_errors store file label before after (Stopped faults.CannotAccept) by = absurd by
 
@@ -242,13 +269,21 @@ reports_before ending before ended after bytes well grows tells =
     omega (arith, grows.never_falls.least, later, well)
 
 -- a question does not end as words that are refused
-no_usage_by : (store : List ℕ) (r : Result AQuery BadParameter) (before after : World) (ending : Ending) → AsksBy store r before after ending → ending ≡ Stopped faults.Usage → ⊥
-no_usage_by store (Err bad) before after ending by usage = let same : Stopped (faults.BadParameter bad.name) ≡ Stopped faults.Usage = sym by.0 ∙ usage in cc
-no_usage_by store (Ok query) before after ending by usage = subst (λ (e : Ending). AsksBy store (Ok query) before after e) usage by
+stops_no_usage : (openings : Option (List ℕ)) (before after : World) (ending : Ending) → StopsAtBook openings before after ending → ending ≡ Stopped faults.Usage → ⊥
+stops_no_usage None before after ending stops usage = stops
+stops_no_usage (Some name) before after ending (fault, is, lacks, only) usage =
+    let same : Stopped fault ≡ Stopped faults.Usage = sym is ∙ usage in
+    let fault_is : fault ≡ faults.Usage = cc in
+    subst (λ (f : Fault). LacksBook name f before.host after.host) fault_is lacks
 
-no_usage_asked : (store text : List ℕ) (before after : World) (ending : Ending) → QueriesBy store text before after ending → ending ≡ Stopped faults.Usage → ⊥
-no_usage_asked store text before after ending (inl (is, starves)) usage = let same : Stopped faults.OutOfMemory ≡ Stopped faults.Usage = sym is ∙ usage in cc
-no_usage_asked store text before after ending (inr (r, reads, by)) usage = no_usage_by store r before after ending by usage
+no_usage_by : (store : List ℕ) (openings : Option (List ℕ)) (r : Result AQuery BadParameter) (before after : World) (ending : Ending) → AsksFor store openings r before after ending → ending ≡ Stopped faults.Usage → ⊥
+no_usage_by store openings (Err bad) before after ending by usage = let same : Stopped (faults.BadParameter bad.name) ≡ Stopped faults.Usage = sym by.0 ∙ usage in cc
+no_usage_by store openings (Ok query) before after ending (inl (book, read, has, by)) usage = subst (λ (e : Ending). AsksBy store query book (record before { host = read }) after e) usage by
+no_usage_by store openings (Ok query) before after ending (inr stops) usage = stops_no_usage openings before after ending stops usage
+
+no_usage_asked : (store text : List ℕ) (openings : Option (List ℕ)) (before after : World) (ending : Ending) → QueriesBy store text openings before after ending → ending ≡ Stopped faults.Usage → ⊥
+no_usage_asked store text openings before after ending (inl (is, starves)) usage = let same : Stopped faults.OutOfMemory ≡ Stopped faults.Usage = sym is ∙ usage in cc
+no_usage_asked store text openings before after ending (inr (r, reads, by)) usage = no_usage_by store openings r before after ending by usage
 
 -- nor does an import
 no_usage_imported : (store file label : List ℕ) (before after : World) (ending : Ending) → ImportsBy store file label before after ending → ending ≡ Stopped faults.Usage → ⊥
@@ -340,16 +375,18 @@ module _ (words words' : List (List ℕ)) (before after other : World) (status s
       (goes_before second.ending before second.ended other second.tells well') there there' meets meets')
 
   -- of a question
-  pub one_asking : (store text image : List ℕ) (workers workers' : ℕ) → OneAnswer → OneOpening → OneQuery → task_of words ≡ Some (Query store text workers) → task_of words' ≡ Some (Query store text workers') → IsToldStore store image before → GoesWell before after → GoesWell before other
-      → status ≢ 9 → status' ≢ 9 → (status ≡ status') × (after ≡ other)
-  one_asking store text image workers workers' found once query asks asks' told well well' fed fed' =
-      let meets = meets_task (Query store text workers) words before first.ended first.ending status asks fed first.status_is first.meets in
-      let meets' = meets_task (Query store text workers') words' before second.ended second.ending status' asks' fed' second.status_is second.meets in
-      one_run_of ([], no_more before.errors first.ended.errors (queried_errors store text before first.ended first.ending meets))
-      ([], no_more before.errors second.ended.errors (queried_errors store text before second.ended second.ending meets'))
-      (no_usage_asked store text before first.ended first.ending meets)
-      (one_question store image text before first.ended second.ended first.ending second.ending found once query told (goes_before first.ending before first.ended after first.tells well)
-      (goes_before second.ending before second.ended other second.tells well') (fed_by status first.ending first.status_is fed) (fed_by status' second.ending second.status_is fed') meets meets')
+  pub one_asking : (store text image : List ℕ) (openings : Option (List ℕ)) (workers workers' : ℕ) → OneAnswer → OneNaming → OneOpening → OneBook → OneQuery → task_of words ≡ Some (Query store text workers openings) → task_of words' ≡ Some (Query store text workers' openings)
+      → IsToldStore store image before → IsToldOpenings openings before → GoesWell before after → OpensWell openings before after → GoesWell before other → OpensWell openings before other → status ≢ 9 → status' ≢ 9 → (status ≡ status') × (after ≡ other)
+  one_asking store text image openings workers workers' found one_naming once book_once query asks asks' told opens well read well' read' fed fed' =
+      let meets = meets_task (Query store text workers openings) words before first.ended first.ending status asks fed first.status_is first.meets in
+      let meets' = meets_task (Query store text workers' openings) words' before second.ended second.ending status' asks' fed' second.status_is second.meets in
+      one_run_of ([], no_more before.errors first.ended.errors (queried_errors store text openings before first.ended first.ending meets))
+      ([], no_more before.errors second.ended.errors (queried_errors store text openings before second.ended second.ending meets'))
+      (no_usage_asked store text openings before first.ended first.ending meets)
+      (one_question store image openings before first.ended second.ended first.ending second.ending found one_naming once book_once told opens
+      (goes_before first.ending before first.ended after first.tells well) (opens_before openings first.ending before first.ended after first.tells read)
+      (goes_before second.ending before second.ended other second.tells well') (opens_before openings second.ending before second.ended other second.tells read')
+      (fed_by status first.ending first.status_is fed) (fed_by status' second.ending second.status_is fed') text query meets meets')
 
   -- of a listing
   pub one_listed : (store image : List ℕ) (workers workers' : ℕ) → OneOpening → task_of words ≡ Some (Batches store workers) → task_of words' ≡ Some (Batches store workers') → IsToldStore store image before → GoesWell before after → GoesWell before other
@@ -451,57 +488,149 @@ module _ (words words' : List (List ℕ)) (before after other : World) (status s
         },
       )
 
-module _ (words words' : List (List ℕ)) (before after other : World) (status status' : ℕ) (first : Runs words before after status) (second : Runs words' before other status') (service : Service) (workers : ℕ) (image : List ℕ) (once : OneOpening)
-    (asks : task_of words ≡ Some (serving service)) (asks' : task_of words' ≡ Some (serving (with_workers workers service))) (told : IsToldStore service.store image before) (well' : GoesWell before other) where
-  abbrev again : Service
-  again = with_workers workers service
+-- a fault of the file of openings is none of a store
+stops_not_seven : (openings : Option (List ℕ)) (before after : World) (ending : Ending) → StopsAtBook openings before after ending → status_of ending ≡ 7 → ⊥
+stops_not_seven None before after ending stops seven = stops
+stops_not_seven (Some name) before after ending (fault, is, lacks, only) seven = by_fault fault lacks (sym (ap status_of is) ∙ seven)
+  where
+    by_fault : (fault : Fault) → LacksBook name fault before.host after.host → status_of (Stopped fault) ≡ 7 → ⊥
+    by_fault (faults.CannotOpen refused) lacks seven = omega (arith, seven)
+    by_fault faults.ReadFault lacks seven = omega (arith, seven)
+    by_fault faults.OpeningsTooLong lacks seven = omega (arith, seven)
+    by_fault (faults.BadOpenings row cause) lacks seven = omega (arith, seven)
+    by_fault faults.OutOfMemory lacks seven = omega (arith, seven)
+    by_fault faults.Usage lacks seven = lacks
+    by_fault (faults.BadParameter parameter) lacks seven = lacks
+    by_fault faults.BadLabel lacks seven = lacks
+    by_fault faults.WriteFault lacks seven = lacks
+    by_fault faults.DiskFault lacks seven = lacks
+    by_fault (faults.NotEmpty size) lacks seven = lacks
+    by_fault faults.NotAStore lacks seven = lacks
+    by_fault (faults.OtherFormat number) lacks seven = lacks
+    by_fault (faults.Damaged gate) lacks seven = lacks
+    by_fault (faults.Full games size) lacks seven = lacks
+    by_fault faults.CannotAccept lacks seven = lacks
+    by_fault faults.TooMuchInput lacks seven = lacks
 
-  serves_first : status ≢ 9 → Serves service before first.ended first.ending
-  serves_first fed = meets_task (serving service) words before first.ended first.ending status asks fed first.status_is first.meets
+-- what the file came to is seen once that was told
+lacks_told : (openings : Option (List ℕ)) (before ended after : World) (ending : Ending) → StopsAtBook openings before ended ending → Tells ending ended after
+    → LacksOpenings openings before after
+lacks_told None before ended after ending stops tells = absurd stops
+lacks_told (Some name) before ended after ending (fault, is, lacks, only) tells =
+    let host : after.host ≡ ended.host = ap (λ (w : World). w.host) (told_rest ending ended after tells) in
+    (fault, subst (λ (h : HostState). LacksBook name fault before.host h) (sym host) lacks)
 
-  serves_second : status' ≢ 9 → Serves again before second.ended second.ending
-  serves_second fed' = meets_task (serving again) words' before second.ended second.ending status' asks' fed' second.status_is second.meets
+module _ (words words' : List (List ℕ)) (before after other : World) (status status' : ℕ) (first : Runs words before after status) (second : Runs words' before other status') (service : Service) (workers : ℕ) (openings : Option (List ℕ)) (image : List ℕ)
+    (once : OneOpening) (book_once : OneBook) (asks : task_of words ≡ Some (serving openings service)) (asks' : task_of words' ≡ Some (serving openings (with_workers workers service))) (told : IsToldStore service.store image before) (opens : IsToldOpenings openings before)
+    (well' : GoesWell before other) where
+  serves_first : status ≢ 9 → NamedBy openings (λ book. Serves (with_book book service)) before first.ended first.ending
+  serves_first fed = meets_task (serving openings service) words before first.ended first.ending status asks fed first.status_is first.meets
+
+  serves_second : status' ≢ 9 → NamedBy openings (λ book. Serves (with_workers workers (with_book book service))) before second.ended second.ending
+  serves_second fed' = meets_task (serving openings (with_workers workers service)) words' before second.ended second.ending status' asks' fed' second.status_is second.meets
 
   still_well : GoesWell before second.ended
   still_well = goes_before second.ending before second.ended other second.tells well'
 
+  -- by a book that both read
+  module _ (book : List NamedPosition) (read : HostState) (has : HasBook openings book before.host read) where
+    abbrev named : Service
+    named = with_book book service
+
+    abbrev again : Service
+    again = with_workers workers named
+
+    abbrev behind : World
+    behind = record before { host = read }
+
+    kept : SameHost before.host read
+    kept = same_host openings book before.host read has
+
+    refusing : IsToldErrors before → ReportsWell before after → ReportsWell before other → status ≡ 7 → status' ≢ 9 → Serves named behind first.ended first.ending
+        → Serves again behind second.ended second.ending → (status ≡ status') × RefusedAlike service.store after other
+    refusing errors reports reports' is_seven fed' meets meets' =
+        let stays = told_since service.store image before read kept told in
+        let still = well_since before second.ended read kept still_well in
+        let seven : status_of first.ending ≡ 7 = sym first.status_is ∙ is_seven in
+        let seven' = refused_too named workers image behind first.ended second.ended first.ending second.ending once stays still (fed_by status' second.ending second.status_is fed') seven meets meets' in
+        let both = both_refused named workers image behind first.ended second.ended first.ending second.ending once stays seven seven' meets meets' in
+        let alike = both.1 in
+        let errors_are = no_more before.errors first.ended.errors (refused_errors named behind first.ended first.ending seven meets) in
+        let errors_are' = no_more before.errors second.ended.errors (refused_errors again behind second.ended second.ending seven' meets') in
+        let fine = calm first.ending before first.ended after [] errors reports errors_are first.tells in
+        let fine' = calm second.ending before second.ended other [] errors reports' errors_are' second.tells in
+        let moved = subst (λ (e : Ending). Tells e second.ended other) (sym both.0) second.tells in
+        let rest = told_rest first.ending first.ended after first.tells in
+        let rest' = told_rest second.ending second.ended other second.tells in (
+          first.status_is ∙ ap status_of both.0 ∙ sym second.status_is,
+          record {
+            streams = record {
+              input = ap (λ (w : World). w.input) rest' ∙ alike.streams.input ∙ sym (ap (λ (w : World). w.input) rest);
+              output = ap (λ (w : World). w.output) rest' ∙ alike.streams.output ∙ sym (ap (λ (w : World). w.output) rest);
+              errors = sym (told_alike first.ending before first.ended after second.ended other (λ usage. omega (arith, seven, ap status_of usage)) fine fine' (sym alike.streams.errors) first.tells moved);
+            };
+            disk = ap (λ (w : World). w.host.disks service.store) rest' ∙ alike.disk ∙ sym (ap (λ (w : World). w.host.disks service.store) rest);
+            calls = ap (λ (w : World). w.host.calls) rest' ∙ alike.calls ∙ sym (ap (λ (w : World). w.host.calls) rest);
+            faults = ap (λ (w : World). w.host.disk_faults) rest' ∙ alike.faults ∙ sym (ap (λ (w : World). w.host.disk_faults) rest);
+          },
+        )
+
+    serving_by : GoesWell before after → status ≢ 7 → status ≢ 9 → status' ≢ 9 → Serves named behind first.ended first.ending
+        → Serves again behind second.ended second.ending → ServedAlikeBehind named workers image behind after other
+    serving_by well differs fed fed' meets meets' =
+        let stays = told_since service.store image before read kept told in
+        let fine = well_since before first.ended read kept (goes_before first.ending before first.ended after first.tells well) in
+        let fine' = well_since before second.ended read kept still_well in
+        let both = both_served named workers image behind first.ended second.ended first.ending second.ending once stays fine fine'
+        (fed_by status first.ending first.status_is fed) (fed_by status' second.ending second.status_is fed') (λ seven. differs (first.status_is ∙ seven)) meets meets' in
+        let rest = told_rest first.ending first.ended after first.tells in
+        let rest' = told_rest second.ending second.ended other second.tells in
+        let there = told_last named again both.0 behind first.ended second.ended after.errors other.errors both.2 in
+        let P : World → Type 0 = λ w. ServedAlike named again both.0 behind w (record second.ended { errors = other.errors }) in
+        let Q : World → Type 0 = λ w. ServedAlike named again both.0 behind after w in
+        (both.0, both.1, subst Q (sym rest') (subst P (sym rest) there))
+
+  -- the second by the book that the first read
+  moved_to : (book book' : List NamedPosition) (read read' : HostState) → (book ≡ book') × (read ≡ read')
+      → Serves (with_workers workers (with_book book' service)) (record before { host = read' }) second.ended second.ending
+      → Serves (with_workers workers (with_book book service)) (record before { host = read }) second.ended second.ending
+  moved_to book book' read read' same serves =
+      let there = subst (λ (h : HostState). Serves (with_workers workers (with_book book' service)) (record before { host = h }) second.ended second.ending) (sym same.1) serves in
+      subst (λ (b : List NamedPosition). Serves (with_workers workers (with_book b service)) (record before { host = read }) second.ended second.ending) (sym same.0) there
+
   -- of a store that is refused
-  pub one_refusing : IsToldErrors before → ReportsWell before after → ReportsWell before other → status ≡ 7 → status' ≢ 9 → (status ≡ status') × RefusedAlike service.store after other
-  one_refusing errors reports reports' is_seven fed' =
-      let meets = serves_first (λ nine. omega (arith, is_seven, nine)) in
-      let meets' = serves_second fed' in
-      let seven : status_of first.ending ≡ 7 = sym first.status_is ∙ is_seven in
-      let seven' = refused_too service workers image before first.ended second.ended first.ending second.ending once told still_well (fed_by status' second.ending second.status_is fed') seven meets meets' in
-      let both = both_refused service workers image before first.ended second.ended first.ending second.ending once told seven seven' meets meets' in
-      let alike = both.1 in
-      let errors_are = no_more before.errors first.ended.errors (refused_errors service before first.ended first.ending seven meets) in
-      let errors_are' = no_more before.errors second.ended.errors (refused_errors again before second.ended second.ending seven' meets') in
-      let fine = calm first.ending before first.ended after [] errors reports errors_are first.tells in
-      let fine' = calm second.ending before second.ended other [] errors reports' errors_are' second.tells in
-      let moved = subst (λ (e : Ending). Tells e second.ended other) (sym both.0) second.tells in
-      let rest = told_rest first.ending first.ended after first.tells in
-      let rest' = told_rest second.ending second.ended other second.tells in (
-        first.status_is ∙ ap status_of both.0 ∙ sym second.status_is,
-        record {
-          streams = record {
-            input = ap (λ (w : World). w.input) rest' ∙ alike.streams.input ∙ sym (ap (λ (w : World). w.input) rest);
-            output = ap (λ (w : World). w.output) rest' ∙ alike.streams.output ∙ sym (ap (λ (w : World). w.output) rest);
-            errors = sym (told_alike first.ending before first.ended after second.ended other (λ usage. omega (arith, seven, ap status_of usage)) fine fine' (sym alike.streams.errors) first.tells moved);
-          };
-          disk = ap (λ (w : World). w.host.disks service.store) rest' ∙ alike.disk ∙ sym (ap (λ (w : World). w.host.disks service.store) rest);
-          calls = ap (λ (w : World). w.host.calls) rest' ∙ alike.calls ∙ sym (ap (λ (w : World). w.host.calls) rest);
-          faults = ap (λ (w : World). w.host.disk_faults) rest' ∙ alike.faults ∙ sym (ap (λ (w : World). w.host.disk_faults) rest);
-        },
-      )
+  pub one_refusing : IsToldErrors before → ReportsWell before after → ReportsWell before other → status ≡ 7 → status' ≢ 9
+      → LacksOpenings openings before other ⊎ ((status ≡ status') × RefusedAlike service.store after other)
+  one_refusing errors reports reports' is_seven fed' = by_first (serves_first (λ nine. omega (arith, is_seven, nine))) (serves_second fed')
+    where
+      by_first : NamedBy openings (λ book. Serves (with_book book service)) before first.ended first.ending
+          → NamedBy openings (λ book. Serves (with_workers workers (with_book book service))) before second.ended second.ending
+          → LacksOpenings openings before other ⊎ ((status ≡ status') × RefusedAlike service.store after other)
+      by_first (inr stops) second_by = absurd (stops_not_seven openings before first.ended first.ending stops (sym first.status_is ∙ is_seven))
+      by_first (inl (book, read, has, meets)) (inr stops') = inl (lacks_told openings before second.ended other second.ending stops' second.tells)
+      by_first (inl (book, read, has, meets)) (inl (book', read', has', meets')) =
+          inr (refusing book read has errors reports reports' is_seven fed' meets
+          (moved_to book book' read read' (one_book book_once openings book book' before read read' opens has has') meets'))
 
   -- of a store that is served
-  pub one_serving : GoesWell before after → status ≢ 7 → status ≢ 9 → status' ≢ 9 → (opening : List Batch) × HasJournal opening image × ServedAlike service (with_workers workers service) opening before after other
-  one_serving well differs fed fed' =
-      let both = both_served service workers image before first.ended second.ended first.ending second.ending once told (goes_before first.ending before first.ended after first.tells well) still_well
-      (fed_by status first.ending first.status_is fed) (fed_by status' second.ending second.status_is fed') (λ seven. differs (first.status_is ∙ seven)) (serves_first fed) (serves_second fed') in
-      let rest = told_rest first.ending first.ended after first.tells in
-      let rest' = told_rest second.ending second.ended other second.tells in
-      let there = told_last service again both.0 before first.ended second.ended after.errors other.errors both.2 in
-      let P : World → Type 0 = λ w. ServedAlike service again both.0 before w (record second.ended { errors = other.errors }) in
-      let Q : World → Type 0 = λ w. ServedAlike service again both.0 before after w in
-      (both.0, both.1, subst Q (sym rest') (subst P (sym rest) there))
+  pub one_serving : GoesWell before after → status ≢ 7 → status ≢ 9 → status' ≢ 9
+      → LacksOpenings openings before after ⊎ (LacksOpenings openings before other
+      ⊎ ((book : List NamedPosition) × (read : HostState) × HasBook openings book before.host read
+      × ServedAlikeBehind (with_book book service) workers image (record before { host = read }) after other))
+  one_serving well differs fed fed' = by_first (serves_first fed) (serves_second fed')
+    where
+      by_first : NamedBy openings (λ book. Serves (with_book book service)) before first.ended first.ending
+          → NamedBy openings (λ book. Serves (with_workers workers (with_book book service))) before second.ended second.ending
+          → LacksOpenings openings before after ⊎ (LacksOpenings openings before other
+          ⊎ ((book : List NamedPosition) × (read : HostState) × HasBook openings book before.host read
+          × ServedAlikeBehind (with_book book service) workers image (record before { host = read }) after other))
+      by_first (inr stops) second_by = inl (lacks_told openings before first.ended after first.ending stops first.tells)
+      by_first (inl (book, read, has, meets)) (inr stops') = inr (inl (lacks_told openings before second.ended other second.ending stops' second.tells))
+      by_first (inl (book, read, has, meets)) (inl (book', read', has', meets')) =
+          inr (inr (
+            book,
+            read,
+            has,
+            serving_by book read has well differs fed fed' meets
+                (moved_to book book' read read' (one_book book_once openings book book' before read read' opens has has') meets'),
+          ))

@@ -1,5 +1,5 @@
 -- Bridge: the faults that calls of other crates come to.
-use Rattle.std.specs.Prelude.{Option, None, Some}
+use Rattle.std.specs.Prelude.{◌≡◌, ◌⊎◌, ◌<◌, ◌≤◌, ℕ, Option, None, Some}
 use Rattle.explorer_model.specs.declared.fault.Stop.{Stop}
 use Rattle.explorer_model.specs.declared.fault.Stop.TheVariants as stops
 use Rattle.explorer_model.specs.declared.query.BadParameter as query_fault
@@ -47,3 +47,10 @@ fault_of_opening (opening.Log (log.OtherFormat number)) = OtherFormat number
 fault_of_opening (opening.Log (log.Damaged at)) = Damaged at
 fault_of_opening (opening.DiskFault before after) = DiskFault
 fault_of_opening opening.OutOfMemory = OutOfMemory
+
+-- Why a store is not opened, by how many calls of its disk have failed before and after: one failed,
+-- or else what was found.
+abbrev pub FirstCause : ℕ → ℕ → OpenFault → OpenFault → Type 0
+FirstCause before after found told =
+    ((before < after) × (told ≡ opening.DiskFault before after))
+    ⊎ ((after ≤ before) × (told ≡ found))

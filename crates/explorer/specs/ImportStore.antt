@@ -19,7 +19,7 @@ use Rattle.explorer.specs.declared.fault.Fault.TheVariants.{BadLabel, CannotOpen
 use Rattle.explorer.specs.Faults.{fault_by}
 use Rattle.explorer.specs.Imported.{FaultsBy, HoldsBy, StandsBy, StoredBy}
 use Rattle.explorer.specs.Lines.{Ending, Done, Stopped, ending_of}
-use Rattle.explorer.specs.Opened.{FailsUnread, KeepsBytes, RefusesStore}
+use Rattle.explorer.specs.Opened.{FailsUnread, IsUnchanged, RefusesStore}
 use Rattle.explorer.specs.Report.{report}
 use Rattle.explorer.specs.Stores.{IsSized, OnlyHost, UsesDisk}
 use Rattle.explorer.specs.World.{World}
@@ -58,7 +58,7 @@ pub record LacksFile (store file : List ℕ) (before after : HostState) : Type 0
   pub refused : HostState
   pub refuses : RefusesFile file opened refused
   pub disk_after : DiskState
-  pub kept : KeepsBytes disk disk_after
+  pub unchanged : IsUnchanged disk disk_after
   pub takes : TakesDisk store disk_after refused after
 
 -- a disk and a file were handed out, and given back as they were
@@ -67,7 +67,7 @@ pub record UsesInVain (store file : List ℕ) (before after : HostState) : Type 
   pub disk_after : DiskState
   pub source : Stream
   pub uses : UsesBoth store file disk disk_after source source before after
-  pub kept : KeepsBytes disk disk_after
+  pub unchanged : IsUnchanged disk disk_after
 
 -- ---- what the import comes to
 
@@ -120,7 +120,7 @@ ImportsSo ending store file label before after =
 
 -- memory was wanting when the store was opened, or before the import began
 abbrev pub LacksBy : List ℕ → List ℕ → HostState → HostState → Type 0
-LacksBy store file before after = UsesDisk store KeepsBytes before after
+LacksBy store file before after = UsesDisk store IsUnchanged before after
     ⊎ UsesInVain store file before after
 
 -- memory was wanting: before the import began, in it, or to tell of one that came to its end

@@ -12,6 +12,7 @@ use Rattle.explorer_model.specs.declared.fault.Why.TheVariants.{Repeated}
 use Rattle.explorer_model.specs.declared.wire.Reply.TheVariants.{Found}
 use Rattle.explorer_model.specs.Cuts.{Cut}
 use Rattle.explorer_model.specs.Imports.{Candidate}
+use Rattle.explorer_model.specs.Openings.{NamedPosition}
 use Rattle.manifest.specs.Manifest.{HasJournal}
 use Rattle.host.specs.Hosts.{DoorBack, FileBack, HostCall, put}
 use Rattle.published_index.specs.States.{watching}
@@ -19,8 +20,10 @@ use Rattle.ingest_desk.specs.Reporting.{FindsNoRoom}
 use Rattle.import_run.specs.Ending.{EndsIn}
 use Rattle.session.specs.Doors.{AreServed}
 use Rattle.session.specs.Exchanges.{Backend, Exchange, backend}
-use Rattle.session.specs.Replies.{Answer, route_of}
-use Rattle.command_line.specs.Task.{Task, Count, Serve}
+use Rattle.session.specs.Replies.{Answer, Offer, by_book, route_of}
+use Rattle.command_line.specs.Task.{Task, Count, Query, Serve}
+use Rattle.explorer.specs.declared.fault.Fault.{Fault}
+use Rattle.explorer.specs.Book.{LacksBook}
 use Rattle.explorer.specs.Imported.{new_store}
 use Rattle.explorer.specs.Serve.{GoesOn, Listens}
 use Rattle.explorer.specs.Served.{DoorRun, IsSeenIn, IsWorked, Service, new_importer, serve_calls}
@@ -58,8 +61,42 @@ pub record WroteAlikeButReport (before after other : World) : Type 0 where
 -- the words ask for a count, or for nothing
 abbrev pub CountsAtMost : Option Task → Type 0
 CountsAtMost None = ⊤
-CountsAtMost (Some (Count query workers)) = ⊤
+CountsAtMost (Some (Count query workers openings)) = ⊤
 CountsAtMost (Some _) = ⊥
+
+-- the name of the file of openings that is asked for, where one is
+abbrev pub openings_of : Option Task → Option (List ℕ)
+openings_of (Some (Count query workers openings)) = openings
+openings_of (Some (Query store query workers openings)) = openings
+openings_of (Some (Serve store address files workers readers connections openings)) = openings
+openings_of _ = None
+
+-- The file of a name is told. No count that its opening may raise stands at its greatest number.
+pub record IsToldBook (name : List ℕ) (world : World) : Type 0 where
+  pub file : IsSome (world.host.files name)
+  pub faults : world.host.file_faults < 2 ^ 64 - 1
+  pub refusals : world.host.own_faults < 2 ^ 64 - 1
+
+-- the same of the file of openings, where one is given
+abbrev pub IsToldOpenings : Option (List ℕ) → World → Type 0
+IsToldOpenings None world = ⊤
+IsToldOpenings (Some name) world = IsToldBook name world
+
+-- nothing was refused, and no file came back with faults
+pub record HostWell (before after : World) : Type 0 where
+  pub refusals : after.host.own_faults ≡ before.host.own_faults
+  pub files : after.host.file_faults ≡ before.host.file_faults
+
+-- the same, where a file of openings is given
+abbrev pub OpensWell : Option (List ℕ) → World → World → Type 0
+OpensWell None before after = ⊤
+OpensWell (Some name) before after = HostWell before after
+
+-- a file of openings was given, and gave no book
+abbrev pub LacksOpenings : Option (List ℕ) → World → World → Type 0
+LacksOpenings None before after = ⊥
+LacksOpenings (Some name) before after =
+    (fault : Fault) × LacksBook name fault before.host after.host
 
 -- an import under a label into a new store finds no room for one of these groups, by so many games
 -- and bytes that are stored
@@ -155,10 +192,14 @@ pub record MigratedAlike (new : List ℕ) (after other : World) : Type 0 where
 abbrev pub with_workers : ℕ → Service → Service
 with_workers workers service = record service { workers = workers }
 
--- what words ask for that ask for the service
-abbrev pub serving : Service → Task
-serving service = Serve service.store service.address service.files service.workers
-    service.readers service.connections
+-- what words ask for that ask for the service, with answers by the file of openings
+abbrev pub serving : Option (List ℕ) → Service → Task
+serving openings service = Serve service.store service.address service.files service.workers
+    service.readers service.connections openings
+
+-- the service with answers by the book
+abbrev pub with_book : List NamedPosition → Service → Service
+with_book book service = record service { book = book }
 
 -- Runs that refused the store of a name came to the same: with the streams, with the bytes under
 -- the name, and in all that was asked of the host.
@@ -195,23 +236,30 @@ pub record ServedAlike (service other_service : Service) (opening : List Batch)
   pub input : other.input ≡ after.input
   pub output : other.output ≡ after.output
 
+-- the same over a told store, of a service with so many workers beside it
+abbrev pub ServedAlikeBehind : Service → ℕ → List ℕ → World → World → World → Type 0
+ServedAlikeBehind service workers image before after other =
+    (opening : List Batch) × HasJournal opening image
+    × ServedAlike service (with_workers workers service) opening before after other
+
 -- the exchange is one of those of connections that were served one after another
-abbrev pub IsExchangedIn : Exchange → (before : Backend) → (came went : List Stream)
-    → (after : Backend) → AreServed before came went after → Type 0
-IsExchangedIn exchange before [] [] after served = ⊥
-IsExchangedIn exchange before [] (link ∷ went) after served = ⊥
-IsExchangedIn exchange before (link ∷ came) [] after served = ⊥
-IsExchangedIn exchange before (link ∷ came) (back ∷ went) after served =
+abbrev pub IsExchangedIn : (offer : Offer) → Exchange → (before : Backend)
+    → (came went : List Stream) → (after : Backend) → AreServed offer before came went after
+    → Type 0
+IsExchangedIn offer exchange before [] [] after served = ⊥
+IsExchangedIn offer exchange before [] (link ∷ went) after served = ⊥
+IsExchangedIn offer exchange before (link ∷ came) [] after served = ⊥
+IsExchangedIn offer exchange before (link ∷ came) (back ∷ went) after served =
     Contains served.2.exchanges exchange
-    ⊎ IsExchangedIn exchange served.1 came went after served.3
+    ⊎ IsExchangedIn offer exchange served.1 came went after served.3
 
 -- A connection of a door asked for an answer to the query string, and was replied this body over so
--- many batches. What was seen at the door is a front of the journal.
-pub record IsAnswered (text : List ℕ) (batches : ℕ) (body : List ℕ) (opening journal : List Batch)
-    (door : Connections) (run : DoorRun) : Type 0 where
-  pub seen : IsSeenIn opening journal door run
+-- many batches, with the openings of the book. What was seen at the door is a front of the journal.
+pub record IsAnswered (book : List NamedPosition) (text : List ℕ) (batches : ℕ) (body : List ℕ)
+    (opening journal : List Batch) (door : Connections) (run : DoorRun) : Type 0 where
+  pub seen : IsSeenIn book opening journal door run
   pub exchange : Exchange
-  pub among : IsExchangedIn exchange (backend (watching opening) new_importer)
+  pub among : IsExchangedIn (by_book book) exchange (backend (watching opening) new_importer)
       seen.from.served.came seen.from.served.went seen.from.last seen.from.served.served
-  pub asked : route_of exchange.asked ≡ Answer text
+  pub asked : route_of (by_book book) exchange.asked ≡ Answer text
   pub replied : exchange.reply ≡ Found batches body

@@ -2,6 +2,7 @@ pub mod World
 pub mod Lines
 pub mod Report
 pub mod Answer
+pub mod Book
 pub mod Bytes
 pub mod Imported
 pub mod Count

@@ -3,10 +3,12 @@ use Rattle.std.specs.Prelude.{◌≡◌, ⊤, ℕ, List, [], ◌∷◌, ◌++◌
 use Rattle.std.specs.Fmt.{decimal}
 use Rattle.outside.specs.Stream.{Stream, Writes}
 use Rattle.command_line.specs.Words.{EndsLine}
+use Rattle.explorer_model.specs.declared.opening.BookCause.{BookCause}
 use Rattle.explorer_model.specs.Query.{parameter_text}
+use Rattle.explorer_model.specs.Refusals.{book_cause_text}
 use Rattle.explorer.specs.World.{World}
 use Rattle.explorer.specs.declared.fault.Fault.{Fault}
-use Rattle.explorer.specs.declared.fault.Fault.TheVariants.{BadLabel, BadParameter, CannotAccept, CannotOpen, Damaged, DiskFault, Full, NotAStore, NotEmpty, OtherFormat, OutOfMemory, ReadFault, TooMuchInput, Usage, WriteFault}
+use Rattle.explorer.specs.declared.fault.Fault.TheVariants.{BadLabel, BadOpenings, BadParameter, CannotAccept, CannotOpen, Damaged, DiskFault, Full, NotAStore, NotEmpty, OpeningsTooLong, OtherFormat, OutOfMemory, ReadFault, TooMuchInput, Usage, WriteFault}
 
 -- all that the words ask for was done, or a fault stopped it
 pub data Ending : Type 0 where
@@ -30,11 +32,18 @@ status_of (Stopped OutOfMemory) = 9
 status_of (Stopped (CannotOpen name)) = 10
 status_of (Stopped CannotAccept) = 10
 status_of (Stopped TooMuchInput) = 11
+status_of (Stopped OpeningsTooLong) = 12
+status_of (Stopped (BadOpenings line cause)) = 12
 
 -- games and bytes that are stored, without the group that finds no room
 abbrev pub full_line : ℕ → ℕ → List ℕ
 full_line games bytes =
     codes "full " ++ decimal games ++ codes " games " ++ decimal bytes ++ codes " bytes\n"
+
+-- the first faulty line of a file of openings, and what is wrong with it
+abbrev pub openings_line : ℕ → BookCause → List ℕ
+openings_line line cause =
+    codes "openings line " ++ decimal line ++ codes " " ++ book_cause_text cause ++ codes "\n"
 
 -- What is written of a fault. What is told of words that are refused is left to the command line's
 -- parser.
@@ -59,6 +68,8 @@ AreLinesOf (CannotOpen name) lines =
     lines ≡ codes "cannot open " ∷ string_bytes name ∷ codes "\n" ∷ []
 AreLinesOf CannotAccept lines = lines ≡ codes "cannot accept\n" ∷ []
 AreLinesOf TooMuchInput lines = lines ≡ codes "too much input\n" ∷ []
+AreLinesOf OpeningsTooLong lines = lines ≡ codes "openings too long\n" ∷ []
+AreLinesOf (BadOpenings line cause) lines = lines ≡ openings_line line cause ∷ []
 
 -- what is written of it is one piece, since no name is in it
 abbrev pub HasOneLine : Fault → Type 0

@@ -11,7 +11,7 @@ use Rattle.record_log.specs.declared.fault.OpenFault.TheVariants as opening
 use Rattle.host.specs.Hosts.{RefusesDisk}
 use Rattle.explorer.specs.declared.fault.Fault.TheVariants.{CannotOpen, Damaged, DiskFault, NotAStore, OtherFormat, OutOfMemory, WriteFault}
 use Rattle.explorer.specs.Lines.{Ending, Done, Stopped}
-use Rattle.explorer.specs.Opened.{FailsUnread, KeepsBytes, NotOpened, OpensTo, RefusesStore}
+use Rattle.explorer.specs.Opened.{FailsUnread, IsUnchanged, NotOpened, OpensTo, RefusesStore}
 use Rattle.explorer.specs.Stores.{OnlyHost, UsesDisk}
 use Rattle.explorer.specs.World.{World}
 
@@ -54,7 +54,7 @@ ListsBy store before after (Stopped DiskFault) =
 ListsBy store before after (Stopped (CannotOpen name)) =
     (string_bytes name ≡ store) × RefusesDisk store before.host after.host × OnlyHost before after
 ListsBy store before after (Stopped OutOfMemory) =
-    UsesDisk store KeepsBytes before.host after.host × OnlyHost before after
+    UsesDisk store IsUnchanged before.host after.host × OnlyHost before after
 ListsBy store before after (Stopped _) = ⊥
 
 -- ---- bridge: what the code comes to on the way

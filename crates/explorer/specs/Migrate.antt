@@ -18,7 +18,7 @@ use Rattle.explorer.specs.declared.fault.Fault.TheVariants.{CannotOpen, Damaged,
 use Rattle.explorer.specs.Create.{Faults, IsNotEmpty, Makes}
 use Rattle.explorer.specs.Faults.{fault_of_opening}
 use Rattle.explorer.specs.Lines.{Ending, Done, Stopped}
-use Rattle.explorer.specs.Opened.{FailsUnread, KeepsBytes}
+use Rattle.explorer.specs.Opened.{FailsUnread, IsUnchanged}
 use Rattle.explorer.specs.Stores.{OnlyHost, UsesDisk}
 use Rattle.explorer.specs.World.{World}
 
@@ -38,10 +38,12 @@ pub record ReadsFirst (journal : List Batch) (handed returned : DiskState) : Typ
   pub kept : returned.content ≡ handed.content
   pub no_fault : returned.faults ≡ handed.faults
 
--- the disk is no store of the first format, by this fault, where it tells its bytes
+-- the disk is no store of the first format, by this fault, where it tells its bytes; no call of it
+-- failed
 pub record IsNoFirst (fault : LogFault) (handed returned : DiskState) : Type 0 where
   pub wrong : IfSome handed.content (IsWrongFirst fault)
   pub kept : returned.content ≡ handed.content
+  pub no_fault : returned.faults ≡ handed.faults
 
 -- ---- the new store
 
@@ -120,7 +122,7 @@ MigratesBy old new before after (Stopped (CannotOpen name)) =
     × ReadsThen old (λ _. RefusesDisk new) before.host after.host))
     × OnlyHost before after
 MigratesBy old new before after (Stopped OutOfMemory) =
-    (UsesDisk old KeepsBytes before.host after.host
+    (UsesDisk old IsUnchanged before.host after.host
     ⊎ ReadsThen old (λ journal. UsesDisk new (LacksRest journal)) before.host after.host)
     × OnlyHost before after
 MigratesBy old new before after (Stopped _) = ⊥
@@ -131,7 +133,7 @@ MigratesBy old new before after (Stopped _) = ⊥
 abbrev pub NotReadFirst : OpenFault → DiskState → DiskState → Type 0
 NotReadFirst (opening.Log fault) handed returned = IsNoFirst fault handed returned
 NotReadFirst (opening.DiskFault before after) handed returned = FailsUnread handed returned
-NotReadFirst opening.OutOfMemory handed returned = KeepsBytes handed returned
+NotReadFirst opening.OutOfMemory handed returned = IsUnchanged handed returned
 
 -- the host has no disk under the name, and that is the fault
 pub record CannotHave (name : List ℕ) (fault : Fault) (before after : HostState) : Type 0 where

@@ -12,14 +12,16 @@ use Rattle.ingest_desk.specs.Openings.{IsWrong}
 use Rattle.explorer.specs.Stores.{OnlyHost, UsesDisk}
 use Rattle.explorer.specs.World.{World}
 
--- the disk is no store, by this fault, where it tells its bytes, and keeps them
+-- the disk is no store, by this fault, where it tells its bytes, and keeps them; no call of it failed
 pub record IsRefusedBy (fault : LogFault) (handed returned : DiskState) : Type 0 where
   pub wrong : IfSome handed.content (IsWrong fault)
   pub kept : returned.content ≡ handed.content
+  pub no_fault : returned.faults ≡ handed.faults
 
--- nothing was written to the disk
-abbrev pub KeepsBytes : DiskState → DiskState → Type 0
-KeepsBytes handed returned = returned.content ≡ handed.content
+-- nothing was written to the disk, and no call of it failed
+pub record IsUnchanged (handed returned : DiskState) : Type 0 where
+  pub kept : returned.content ≡ handed.content
+  pub no_fault : returned.faults ≡ handed.faults
 
 -- a call of the disk failed, and nothing was written
 pub record FailsUnread (handed returned : DiskState) : Type 0 where
@@ -37,7 +39,7 @@ pub record OpensTo (journal : List Batch) (handed opened : DiskState) : Type 0 w
 abbrev pub NotOpened : OpenFault → DiskState → DiskState → Type 0
 NotOpened (opening.Log fault) handed returned = IsRefusedBy fault handed returned
 NotOpened (opening.DiskFault before after) handed returned = FailsUnread handed returned
-NotOpened opening.OutOfMemory handed returned = KeepsBytes handed returned
+NotOpened opening.OutOfMemory handed returned = IsUnchanged handed returned
 
 -- the store is refused, and nothing else is done
 abbrev pub RefusesStore : LogFault → List ℕ → World → World → Type 0

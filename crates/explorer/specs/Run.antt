@@ -1,9 +1,8 @@
 -- Statement: what a run comes to, from the words of its command line to its exit status.
-use Rattle.std.specs.Prelude.{◌≡◌, ◌⊎◌, ◌<◌, ℕ, List, length, Option, None, Some}
-use Rattle.outside.specs.Stream.{Reads}
-use Rattle.explorer_model.specs.Journal.{input_limit}
+use Rattle.std.specs.Prelude.{◌≡◌, ◌⊎◌, ℕ, List, Option, None, Some}
 use Rattle.explorer.specs.declared.fault.Fault.{Fault}
 use Rattle.explorer.specs.declared.fault.Fault.TheVariants.{Usage, OutOfMemory}
+use Rattle.explorer.specs.Book.{NamedBy}
 use Rattle.explorer.specs.Count.{Counts}
 use Rattle.explorer.specs.Create.{CreatesBy}
 use Rattle.explorer.specs.ImportStore.{ImportsBy}
@@ -14,38 +13,29 @@ use Rattle.explorer.specs.QueryStore.{QueriesBy}
 use Rattle.explorer.specs.Serve.{Serves}
 use Rattle.explorer.specs.Trial.{TriesBy}
 use Rattle.command_line.specs.Task.{Task, Batches, Count, Create, Import, Migrate, Query, Serve, Trial, task_of}
-use Rattle.explorer.specs.World.{World, AllReadsCame}
-
--- Memory was refused, which may come at any moment: some of the input may be read, of which no read
--- failed and which is not up to the bound, and nothing is written.
-pub record Starves (before after : World) (ending : Ending) : Type 0 where
-  pub ending_is : ending ≡ Stopped OutOfMemory
-  pub stream : List ℕ
-  pub reads : Reads stream before.input after.input
-  pub below : length stream < input_limit
-  pub came : AllReadsCame before after
-  pub rest : after ≡ record before { input = after.input }
+use Rattle.explorer.specs.World.{World}
 
 -- a run of a task, by its ending
 abbrev pub Ends : Task → World → World → Ending → Type 0
 Ends (Batches store workers) before after ending = ListsBy store before after ending
-Ends (Count query workers) before after ending =
-    Starves before after ending ⊎ Counts query before after ending
+Ends (Count query workers openings) before after ending =
+    Counts query openings before after ending
 Ends (Create store) before after ending = CreatesBy store before after ending
 Ends (Import store file workers label) before after ending =
     ImportsBy store file label before after ending
 Ends (Migrate old new) before after ending = MigratesBy old new before after ending
-Ends (Query store query workers) before after ending =
-    QueriesBy store query before after ending
-Ends (Serve store address files workers readers connections) before after ending =
-    Serves (record {
+Ends (Query store query workers openings) before after ending =
+    QueriesBy store query openings before after ending
+Ends (Serve store address files workers readers connections openings) before after ending =
+    NamedBy openings (λ book. Serves (record {
       store = store;
       address = address;
       files = files;
       workers = workers;
       readers = readers;
       connections = connections;
-    }) before after ending
+      book = book;
+    })) before after ending
 Ends (Trial games seed workers) before after ending = TriesBy games seed before after ending
 
 -- words that are refused touch nothing

@@ -53,7 +53,7 @@ pub record GoesOn (service : Service) (before after : HostState)
   pub extends : IsPrefix worked.opening journal
   pub kept : AllZip (IsKeptIn journal) (map (file_at before) service.files) worked.files
   pub full : AllZip (FindsFull journal) (map (file_at before) service.files) worked.files
-  pub seen : AllZip (IsSeenIn worked.opening journal) worked.handed worked.doors
+  pub seen : AllZip (IsSeenIn service.book worked.opening journal) worked.handed worked.doors
 
 -- doors were served, no call of the store's disk failed, and this was the first fault of the workers
 pub record IsWorkedTo (service : Service) (fault : Option Fault) (before after : World)
@@ -75,8 +75,8 @@ pub record IsServed (service : Service) (before after : World) : Type 0 where
   pub to : IsWorkedTo service None before after
   pub stored : AllZip (IsStoredIn to.goes_on.journal) (map (file_at before.host) service.files)
       to.worked.files
-  pub served : AllZip (IsServedIn to.worked.opening to.goes_on.journal) to.worked.handed
-      to.worked.doors
+  pub served : AllZip (IsServedIn service.book to.worked.opening to.goes_on.journal)
+      to.worked.handed to.worked.doors
 
 -- and what is refused of the files was reported
 pub record ServesAll (service : Service) (before after : World) : Type 0 where

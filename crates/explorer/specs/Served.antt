@@ -12,6 +12,7 @@ use Rattle.explorer_model.specs.Cuts.{cuts}
 use Rattle.explorer_model.specs.Labels.{no_label}
 use Rattle.explorer_model.specs.Imports.{AccountedBeside, Candidate, groups}
 use Rattle.explorer_model.specs.Journal.{IsSound, input_limit}
+use Rattle.explorer_model.specs.Openings.{NamedPosition}
 use Rattle.explorer_model.specs.Timeline.{IsPrefix}
 use Rattle.manifest.specs.Manifest.{HasJournal}
 use Rattle.published_index.specs.States.{watching}
@@ -26,13 +27,15 @@ use Rattle.session.specs.declared.doors.DoorEnd.TheVariants as ends
 use Rattle.session.specs.Doors.{DoorServed, EndsDoor}
 use Rattle.session.specs.Exchanges.{Backend, backend}
 use Rattle.session.specs.Imports.{HasNoRoom, HasStoredBody, IsRepeatOf}
+use Rattle.session.specs.Replies.{by_book}
 use Rattle.explorer.specs.declared.fault.Fault.{Fault}
 use Rattle.explorer.specs.declared.fault.Fault.TheVariants.{CannotAccept, Full, OutOfMemory, ReadFault, TooMuchInput}
 use Rattle.explorer.specs.Report.{report_line}
 
 -- ---- what is asked for
 
--- a store that is served at an address while files are imported into it
+-- a store that is served at an address while files are imported into it, and the book by which
+-- answers are named
 pub record Service : Type 0 where
   pub store : List ℕ
   pub address : List ℕ
@@ -40,6 +43,7 @@ pub record Service : Type 0 where
   pub workers : ℕ
   pub readers : ℕ
   pub connections : ℕ
+  pub book : List NamedPosition
 
 -- ---- files
 
@@ -155,24 +159,26 @@ pub record DoorRun : Type 0 where
 abbrev pub new_importer : ImporterState
 new_importer = record { counts = record { disk_faults = 0; closed = 0; full = 0 }; calls = None }
 
--- The connections of the door were served by a pass that had seen the journal, and what it had seen
--- in the end begins with that.
-pub record IsServedFrom (opening : List Batch) (door : Connections) (run : DoorRun) : Type 0 where
+-- The connections of the door were served with the openings of the book, by a pass that had seen the
+-- journal, and what it had seen in the end begins with that.
+pub record IsServedFrom (book : List NamedPosition) (opening : List Batch) (door : Connections)
+    (run : DoorRun) : Type 0 where
   pub last : Backend
-  pub served : DoorServed door (backend (watching opening) new_importer) run.connections last
+  pub served : DoorServed (by_book book) door (backend (watching opening) new_importer)
+      run.connections last
   pub ends : EndsDoor run.end door run.connections
   pub begins : IsPrefix opening last.pass.seen
 
 -- and what was seen is a front of the journal
-pub record IsSeenIn (opening journal : List Batch) (door : Connections) (run : DoorRun)
-    : Type 0 where
-  pub from : IsServedFrom opening door run
+pub record IsSeenIn (book : List NamedPosition) (opening journal : List Batch)
+    (door : Connections) (run : DoorRun) : Type 0 where
+  pub from : IsServedFrom book opening door run
   pub front : IsPrefix from.last.pass.seen journal
 
 -- and no connection is left
-pub record IsServedIn (opening journal : List Batch) (door : Connections) (run : DoorRun)
-    : Type 0 where
-  pub from : IsServedFrom opening door run
+pub record IsServedIn (book : List NamedPosition) (opening journal : List Batch)
+    (door : Connections) (run : DoorRun) : Type 0 where
+  pub from : IsServedFrom book opening door run
   pub whole : run.end ≡ ends.Whole
   pub none_left : run.connections.left ≡ 0
   pub front : IsPrefix from.last.pass.seen journal
@@ -228,7 +234,7 @@ pub record IsWorked (service : Service) (before after : HostState) : Type 0 wher
   pub handed : List Connections
   pub are_fresh : AreFresh service.readers service.connections (before.links service.address) handed
   pub doors : List DoorRun
-  pub served : AllZip (IsServedFrom opening) handed doors
+  pub served : AllZip (IsServedFrom service.book opening) handed doors
   pub called : after.calls ≡ added (serve_calls service files doors) before.calls
   pub others : KeepsOthers service.store before after
 

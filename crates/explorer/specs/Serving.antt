@@ -6,6 +6,7 @@ use Rattle.outside.specs.Doors.{Connections}
 use Rattle.outside.specs.Stream.{FailsToTake, Rises, Stream, Takes}
 use Rattle.host.specs.Hosts.{AreFresh, DoorBack, DoorsOut, DoorsRefused, FileOut, FileRefused, HostCall, HostState, Thing, added, handed, out}
 use Rattle.explorer_model.specs.declared.archive.Batch.{Batch}
+use Rattle.explorer_model.specs.Openings.{NamedPosition}
 use Rattle.explorer_model.specs.Timeline.{IsPrefix}
 use Rattle.explorer.specs.declared.fault.Fault.{Fault}
 use Rattle.explorer.specs.declared.fault.Fault.TheVariants.{CannotAccept, CannotOpen, OutOfMemory, ReadFault}
@@ -26,6 +27,7 @@ service_of order = record {
   workers = order.workers;
   readers = order.readers;
   connections = order.connections;
+  book = order.book;
 }
 
 -- ---- what is out
@@ -51,16 +53,17 @@ pub record AreCounted (first : Option Fault) (before after : HostState) : Type 0
   pub files : first ≡ Some ReadFault → Rises before.file_faults after.file_faults
   pub doors : first ≡ Some CannotAccept → Rises before.door_faults after.door_faults
 
--- The workers did what they had to with the files of these names and these doors, and all came back.
+-- The workers did what they had to with the files of these names and these doors, by the book, and
+-- all came back.
 -- These are the first fault and the lines of what is refused; and the journal, which begins with all
 -- that was told and seen.
-pub record WorksOver (names : List (List ℕ)) (opening journal : List Batch)
-    (handed : List Connections) (first : Option Fault) (lines : Option (List ℕ))
-    (before after : HostState) : Type 0 where
+pub record WorksOver (book : List NamedPosition) (names : List (List ℕ))
+    (opening journal : List Batch) (handed : List Connections) (first : Option Fault)
+    (lines : Option (List ℕ)) (before after : HostState) : Type 0 where
   pub files : List FileRun
   pub imported : AllZip IsImported (map (file_at before) names) files
   pub doors : List DoorRun
-  pub served : AllZip (IsServedFrom opening) handed doors
+  pub served : AllZip (IsServedFrom book opening) handed doors
   pub calls : after.calls ≡ added (files_back names (map (λ run. run.file) files)
       ++ map (λ run. DoorBack run.connections) doors) before.calls
   pub disks : after.disks ≡ before.disks
@@ -70,8 +73,8 @@ pub record WorksOver (names : List (List ℕ)) (opening journal : List Batch)
   pub lines_are : IfSome lines (λ lines. lines ≡ serve_report names files)
   pub kept : AllZip (IsKeptIn journal) (map (file_at before) names) files
   pub stored : first ≡ None → AllZip (IsStoredIn journal) (map (file_at before) names) files
-  pub served_in : first ≡ None → AllZip (IsServedIn opening journal) handed doors
-  pub seen : AllZip (IsSeenIn opening journal) handed doors
+  pub served_in : first ≡ None → AllZip (IsServedIn book opening journal) handed doors
+  pub seen : AllZip (IsSeenIn book opening journal) handed doors
   pub full : AllZip (FindsFull journal) (map (file_at before) names) files
 
 -- ---- files and doors are asked for, and come back
@@ -127,7 +130,7 @@ pub record HasWorked (service : Service) (opening journal : List Batch) (first :
   pub disk_faults : middle.disk_faults ≡ before.disk_faults
   pub file_faults : middle.file_faults ≡ before.file_faults
   pub door_faults : middle.door_faults ≡ before.door_faults
-  pub over : WorksOver service.files opening journal handed first lines middle after
+  pub over : WorksOver service.book service.files opening journal handed first lines middle after
 
 -- what became of files and doors that were asked for
 abbrev pub FilesServed : Service → List Batch → List Batch → Outcome

@@ -7,6 +7,7 @@ use Rattle.outside.specs.Stream.{Stream}
 use Rattle.host.specs.Hosts.{DoorBack, FileBack, HostCall, HostState, RefusesFile, TakesDoor, TakesFile, Thing, added, out, returned}
 use Rattle.explorer_model.specs.declared.archive.Batch.{Batch}
 use Rattle.explorer_model.specs.Labels.{no_label}
+use Rattle.explorer_model.specs.Openings.{NamedPosition}
 use Rattle.explorer_model.specs.Timeline.{IsPrefix}
 use Rattle.published_index.specs.States.{Watching, watching}
 use Rattle.ingest_desk.specs.declared.report.Report.{Report}
@@ -14,6 +15,7 @@ use Rattle.ingest_desk.specs.Importers.{ImporterState, ending_of}
 use Rattle.import_run.specs.EndingBeside.{ImportsBeside}
 use Rattle.session.specs.Doors.{DoorServed, EndsDoor}
 use Rattle.session.specs.Exchanges.{backend}
+use Rattle.session.specs.Replies.{by_book}
 use Rattle.session.specs.Steps.{KnowsEnd, KnowsNotes, KnowsReceipts}
 use Rattle.explorer.specs.declared.fault.Fault.{Fault}
 use Rattle.explorer.specs.declared.fault.Fault.TheVariants.{OutOfMemory}
@@ -32,21 +34,21 @@ pub record ImportsFile {F J : Type 0} (source : F → Stream) (before after : Fi
   pub report_is : after.report ≡ Some report
   pub imports : ImportsBeside no_label (source before.source) (source after.source) report
 
--- the connections of a door were served
-pub record ServesDoor {G J : Type 0} (door : G → Connections) (before after : ReaderWork G J)
-    : Type 0 where
+-- the connections of a door were served with the openings of the book
+pub record ServesDoor {G J : Type 0} (book : List NamedPosition) (door : G → Connections)
+    (before after : ReaderWork G J) : Type 0 where
   pub importer : ImporterState
-  pub served : DoorServed (door before.door) (backend before.pass new_importer)
+  pub served : DoorServed (by_book book) (door before.door) (backend before.pass new_importer)
       (door after.door) (backend after.pass importer)
   pub ends : EndsDoor after.end (door before.door) (door after.door)
 
 -- a worker did its work
-abbrev pub Works : {F G J : Type 0} → (F → Stream) → (G → Connections)
+abbrev pub Works : {F G J : Type 0} → List NamedPosition → (F → Stream) → (G → Connections)
     → Worker F G J → Worker F G J → Type 0
-Works source door (File before) (File after) = ImportsFile source before after
-Works source door (Reader before) (Reader after) = ServesDoor door before after
-Works source door Merger Merger = ⊤
-Works source door _ _ = ⊥
+Works book source door (File before) (File after) = ImportsFile source before after
+Works book source door (Reader before) (Reader after) = ServesDoor book door before after
+Works book source door Merger Merger = ⊤
+Works book source door _ _ = ⊥
 
 -- ---- the list
 

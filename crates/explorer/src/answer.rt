@@ -4,33 +4,40 @@ ghost use Rattle.explorer_model.specs.Chess.{IsValid};
 ghost use Rattle.explorer_model.specs.Finds.{IsFound};
 ghost use Rattle.published_index.specs.Cover.{journal_of};
 ghost use Rattle.explorer.specs.Answer.{IsAnswer};
+ghost use Rattle.session.specs.Naming.{IsPlayed};
 
-use answer_json::answer::body;
+use answer_json::answer::named_body;
 use answer_json::laws::what_is_found_is_plain;
 use explorer_model::answer::Found;
 use explorer_model::query::Query;
+use lookup::laws::found_moves_are_legal;
 use lookup::look;
+use opening_names::{Book, naming};
 use published_index::{Index, Publisher, Snapshot};
 use segment_blocks::Steps;
 use std::alloc::{AllocError, Global};
 use std::marker::Brand;
 use std::sync::ledger::{Blank, Ledger};
 
-/// The line that answers the query over what is published.
+/// The line that answers the query over what is published, with the openings that the book names.
 pub fn line_for<J: Index>(
     alloc: Global,
+    book: &Book,
     publisher: &Publisher<J>,
     query: &Query,
 ) -> Result<Vec<u8>, AllocError>
+    requires played { IsPlayed query.now }
     requires valid { IsValid query.now.at }
     requires top { query.now.top ≤ 4 }
     requires recent { query.now.recent ≤ 4 }
-    ensures { IfOk result (IsAnswer query.now (journal_of publisher.now.list)) }
+    ensures { IfOk result (IsAnswer book.now query.now (journal_of publisher.now.list)) }
 {
-    // law: what is found is written as plain JSON
+    // laws: what is found is written as plain JSON, and its moves are legal
     what_is_found_is_plain();
+    found_moves_are_legal();
     let found = found_in(alloc, publisher, query)?;
-    let mut line = body(alloc, &found)?;
+    let names = naming(alloc, book, query, &found)?;
+    let mut line = named_body(alloc, &found, &names)?;
     line.push(b'\n')?;
     Ok(line)
 }

@@ -1,11 +1,11 @@
 //! The command `count`: stores the games of a stream in a new store, and answers a query over them.
-ghost use Rattle.std.specs.Prelude.{◌≡◌, ◌≢◌, ◌⊎◌, ◌≤◌, [], None, IfErr, IfOk};
+ghost use Rattle.std.specs.Prelude.{◌≡◌, ◌≢◌, ◌≤◌, [], None, IfErr, IfOk, option_map, string_bytes};
 ghost use Rattle.host.specs.Hosts.{HostState};
 ghost use Rattle.explorer_model.specs.Chess.{IsValid};
 ghost use Rattle.ingest_desk.specs.Stored.{journal};
-ghost use Rattle.explorer.specs.Count.{CountedTo, Counts, ReadsBelow};
+ghost use Rattle.session.specs.Naming.{IsPlayed};
+ghost use Rattle.explorer.specs.Count.{CountedTo, Counts, CountsOver, ReadsBelow};
 ghost use Rattle.explorer.specs.Lines.{ending_of};
-ghost use Rattle.explorer.specs.Run.{Starves};
 ghost use Rattle.explorer.specs.World.{world};
 ghost use Rattle.explorer.specs.declared.fault.Fault.{Fault as AFault};
 
@@ -13,26 +13,64 @@ use crate::answer::line_for;
 use crate::fault::Fault;
 use crate::importing::import_into;
 use crate::opening::new_store;
+use crate::openings::book_of;
 use crate::report::{report, write_lines, write_made};
 use disk_model::{Disk, Unkept};
 use explorer_model::fault::Refusal;
 use explorer_model::label::Label;
 use explorer_model::query::Query;
+use host::Host;
 use ingest_desk::{Ingest, Unnamed};
+use opening_names::Book;
 use outside::{Sink, Source};
 use published_index::Index;
+use query_params::laws::queries_play_legal_moves;
 use query_params::query;
 use std::alloc::AllocError;
 use std::marker::Brand;
 use std::sync::Wait;
 use std::thread::Threads;
 
-/// Reads the query and then the input, reports what is refused of the input, and prints the answer
-/// over its games. Ids are compared over the whole input. Where memory is wanting for the report of an
-/// input that was not read to its end, why it was not is told all the same.
-pub fn count<R: AllocGlobal + Wait + Threads + Sync, I: Source, O: Sink, E: Sink>(
+/// Reads the query and then the file of openings, where one of this name is given, and counts the
+/// input.
+pub fn count<R: AllocGlobal + Wait + Threads + Sync, I: Source, O: Sink, E: Sink, H: Host>(
     rt: &R,
     query_text: &[u8],
+    openings: Option<String>,
+    workers: usize,
+    input: &mut I,
+    output: &mut O,
+    errors: &mut E,
+    host: &mut H,
+) -> Result<(), Fault>
+    requires some_workers { 1 ≤ workers }
+    requires few_workers { workers ≤ 16 }
+    ensures { let before = world (I.source input.old) (O.sink output.old) (E.sink errors.old)
+        (H.host host.old) in
+        let after = world (I.source input.new) (O.sink output.new) (E.sink errors.new)
+        (H.host host.new) in
+        Counts query_text.now (option_map string_bytes openings) before after (ending_of result) }
+{
+    // law: a query plays legal moves, which lead to the position asked for
+    queries_play_legal_moves();
+    let query = match query(rt.alloc(), query_text) {
+        Ok(query) => query,
+        Err(stop) => return Err(Fault::from(stop)),
+    };
+    let book = match book_of(rt.alloc(), openings, host) {
+        Ok(book) => book,
+        Err(fault) => return Err(fault),
+    };
+    count_by(rt, &query, &book, workers, input, output, errors)
+}
+
+/// Reads the input, reports what is refused of it, and prints the answer over its games, with the
+/// openings that the book names. Ids are compared over the whole input. Where memory is wanting for the
+/// report of an input that was not read to its end, why it was not is told all the same.
+fn count_by<R: AllocGlobal + Wait + Threads + Sync, I: Source, O: Sink, E: Sink>(
+    rt: &R,
+    query: &Query,
+    book: &Book,
     workers: usize,
     input: &mut I,
     output: &mut O,
@@ -40,14 +78,16 @@ pub fn count<R: AllocGlobal + Wait + Threads + Sync, I: Source, O: Sink, E: Sink
 ) -> Result<(), Fault>
     requires some_workers { 1 ≤ workers }
     requires few_workers { workers ≤ 16 }
+    requires played { IsPlayed query.now }
+    requires valid { IsValid query.now.at }
+    requires top { query.now.top ≤ 4 }
+    requires recent { query.now.recent ≤ 4 }
     ensures { (host : HostState) →
         let before = world (I.source input.old) (O.sink output.old) (E.sink errors.old) host in
         let after = world (I.source input.new) (O.sink output.new) (E.sink errors.new) host in
-        Starves before after (ending_of result)
-        ⊎ Counts query_text.now before after (ending_of result) }
+        CountsOver query.now book.now before after (ending_of result) }
 {
-    let query = query(rt.alloc(), query_text)?;
-    let counted = count_input(rt, &query, workers, input)?;
+    let counted = count_input(rt, query, book, workers, input)?;
     let Counted { refused, line } = counted;
     let made = report(rt.alloc(), refused.as_slice());
     let answer = match line {
@@ -78,21 +118,23 @@ struct Counted {
 fn count_input<R: AllocGlobal + Wait + Threads + Sync, I: Source>(
     rt: &R,
     query: &Query,
+    book: &Book,
     workers: usize,
     input: &mut I,
 ) -> Result<Counted, AllocError>
     requires some_workers { 1 ≤ workers }
     requires few_workers { workers ≤ 16 }
+    requires played { IsPlayed query.now }
     requires valid { IsValid query.now.at }
     requires top { query.now.top ≤ 4 }
     requires recent { query.now.recent ≤ 4 }
-    ensures counted { IfOk result (λ counted. CountedTo query.now 0 0 (I.source input.old)
+    ensures counted { IfOk result (λ counted. CountedTo book.now query.now 0 0 (I.source input.old)
         (I.source input.new) counted.refused.items counted.line) }
     ensures starves { IfErr result
         (λ _. ReadsBelow (I.source input.old) (I.source input.new)) }
 {
     let unnamed = new_store(rt)?;
-    count_unnamed::<Brand, R, I>(rt, unnamed, query, workers, input)
+    count_unnamed::<Brand, R, I>(rt, unnamed, query, book, workers, input)
 }
 
 /// The same, where the store is made.
@@ -100,6 +142,7 @@ fn count_unnamed<J: Index, R: AllocGlobal + Wait + Threads + Sync, I: Source>(
     rt: &R,
     unnamed: Unnamed<Unkept>,
     query: &Query,
+    book: &Book,
     workers: usize,
     input: &mut I,
 ) -> Result<Counted, AllocError>
@@ -108,10 +151,11 @@ fn count_unnamed<J: Index, R: AllocGlobal + Wait + Threads + Sync, I: Source>(
     requires empty { unnamed.index.list ≡ [] }
     requires some_workers { 1 ≤ workers }
     requires few_workers { workers ≤ 16 }
+    requires played { IsPlayed query.now }
     requires valid { IsValid query.now.at }
     requires top { query.now.top ≤ 4 }
     requires recent { query.now.recent ≤ 4 }
-    ensures counted { IfOk result (λ counted. CountedTo query.now 0 0 (I.source input.old)
+    ensures counted { IfOk result (λ counted. CountedTo book.now query.now 0 0 (I.source input.old)
         (I.source input.new) counted.refused.items counted.line) }
     ensures starves { IfErr result
         (λ _. ReadsBelow (I.source input.old) (I.source input.new)) }
@@ -123,7 +167,7 @@ fn count_unnamed<J: Index, R: AllocGlobal + Wait + Threads + Sync, I: Source>(
             return Err(AllocError);
         }
     };
-    let counted = count_in(rt, &mut ingest, query, workers, input);
+    let counted = count_in(rt, &mut ingest, query, book, workers, input);
     let _disk = ingest.into_disk(rt);
     counted
 }
@@ -134,6 +178,7 @@ fn count_in<J: Index, R: AllocGlobal + Wait + Threads + Sync, I: Source, D: Disk
     rt: &R,
     ingest: &mut Ingest<D, J>,
     query: &Query,
+    book: &Book,
     workers: usize,
     input: &mut I,
 ) -> Result<Counted, AllocError>
@@ -141,10 +186,11 @@ fn count_in<J: Index, R: AllocGlobal + Wait + Threads + Sync, I: Source, D: Disk
     requires empty { journal ingest.old ≡ [] }
     requires some_workers { 1 ≤ workers }
     requires few_workers { workers ≤ 16 }
+    requires played { IsPlayed query.now }
     requires valid { IsValid query.now.at }
     requires top { query.now.top ≤ 4 }
     requires recent { query.now.recent ≤ 4 }
-    ensures counted { IfOk result (λ counted. CountedTo query.now
+    ensures counted { IfOk result (λ counted. CountedTo book.now query.now
         (D.disk ingest.old.manifest.disk).faults (D.disk ingest.new.manifest.disk).faults
         (I.source input.old) (I.source input.new) counted.refused.items counted.line) }
     ensures starves { IfErr result
@@ -162,7 +208,7 @@ fn count_in<J: Index, R: AllocGlobal + Wait + Threads + Sync, I: Source, D: Disk
         None => {
             // A batch that is stored may be held until there is memory to publish it.
             ingest.catch_up(rt)?;
-            let line = line_for(rt.alloc(), ingest.publisher(), query)?;
+            let line = line_for(rt.alloc(), book, ingest.publisher(), query)?;
             Ok(Counted {
                 refused: came.refused,
                 line: Ok(line),

@@ -2,11 +2,12 @@ ghost use Rattle.std.specs.Prelude.{◌≡◌, ◌++◌, ◌∷◌, [], ◌≤�
 ghost use Rattle.std.specs.Fmt.{decimal};
 ghost use Rattle.outside.specs.Stream.{Writes};
 ghost use Rattle.explorer_model.specs.Query.{parameter_text};
-ghost use Rattle.explorer.specs.Lines.{AreLinesOf, HasOneLine, Stopped, TellsOf, full_line, status_of};
+ghost use Rattle.explorer.specs.Lines.{AreLinesOf, HasOneLine, Stopped, TellsOf, full_line, openings_line, status_of};
 
 use crate::status::Status;
 use arrayvec::ArrayString;
 use explorer_model::fault::Stop;
+use explorer_model::opening::BookCause;
 use explorer_model::query::{BadParameter, Parameter};
 use itoa::Buffer;
 use outside::{Failed, Sink};
@@ -42,6 +43,10 @@ pub enum Fault {
     CannotAccept,
     /// The input has 2^40 bytes or more.
     TooMuchInput,
+    /// The file of openings has more than 4,194,304 bytes.
+    OpeningsTooLong,
+    /// The first faulty line of the file of openings; lines count from 1.
+    BadOpenings { line: u32, cause: BookCause },
 }
 
 impl From<AllocError> for Fault {
@@ -100,6 +105,7 @@ impl Fault {
             Fault::OutOfMemory => 9,
             Fault::CannotOpen { .. } | Fault::CannotAccept => 10,
             Fault::TooMuchInput => 11,
+            Fault::OpeningsTooLong | Fault::BadOpenings { .. } => 12,
         };
         Status { number }
     }
@@ -139,6 +145,8 @@ impl Fault {
             Fault::CannotOpen { .. } => ArrayString::new(),
             Fault::CannotAccept => fixed_line("cannot accept\n"),
             Fault::TooMuchInput => fixed_line("too much input\n"),
+            Fault::OpeningsTooLong => fixed_line("openings too long\n"),
+            Fault::BadOpenings { line, cause } => openings_line(*line, *cause),
         }
     }
 }
@@ -174,6 +182,17 @@ fn number_line(words: &str, number: u64) -> ArrayString<64>
 {
     let mut line = fixed_line(words);
     line.push_str(Buffer::new().format(number));
+    line.push('\n');
+    line
+}
+
+fn openings_line(number: u32, cause: BookCause) -> ArrayString<64>
+    ensures { result.bytes ≡ openings_line number cause }
+{
+    let mut line = fixed_line("openings line ");
+    line.push_str(Buffer::new().format(number));
+    line.push(' ');
+    line.push_str(cause.as_str());
     line.push('\n');
     line
 }

@@ -1,12 +1,14 @@
 //! Laws of what a run promises. Each is the contract of a function that only cites the laws below
 //! it.
-ghost use Rattle.std.specs.Prelude.{◌≡◌, ◌≢◌, ◌≤◌, ℕ, List, Some, IsSome, length, take};
+ghost use Rattle.std.specs.Prelude.{◌≡◌, ◌≢◌, ◌⊎◌, ◌≤◌, ℕ, List, Option, Some, IsSome, length, take};
 ghost use Rattle.std.specs.List.{AllByRecursion};
 ghost use Rattle.outside.specs.Doors.{Connections};
+ghost use Rattle.host.specs.Hosts.{HostState};
 ghost use Rattle.explorer_model.specs.Cuts.{Cut};
 ghost use Rattle.explorer_model.specs.Imports.{Accounted, AccountedApart};
 ghost use Rattle.explorer_model.specs.Journal.{IsSound};
-ghost use Rattle.explorer_model.specs.Replies.{IsFoundIn};
+ghost use Rattle.explorer_model.specs.Openings.{NamedPosition};
+ghost use Rattle.explorer_model.specs.Replies.{IsNamedFoundIn};
 ghost use Rattle.explorer_model.specs.declared.archive.Batch.{Batch};
 ghost use Rattle.explorer_model.specs.declared.archive.Game.{Game};
 ghost use Rattle.explorer_model.specs.declared.fault.Refusal.{Refusal};
@@ -14,12 +16,13 @@ ghost use Rattle.explorer_model.specs.declared.query.Query.{Query};
 ghost use Rattle.manifest.specs.Manifest.{HasJournal};
 ghost use Rattle.import_run.specs.Ending.{IsCutOff, IsTooMuch};
 ghost use Rattle.import_run.specs.SoFar.{AreInGroups};
+ghost use Rattle.explorer.specs.Book.{HasBook, StopsAtBook};
 ghost use Rattle.explorer.specs.Count.{Answers};
 ghost use Rattle.explorer.specs.Create.{CreatesBy};
 ghost use Rattle.explorer.specs.Imported.{new_store};
 ghost use Rattle.explorer.specs.ImportStore.{ImportsBy};
 ghost use Rattle.command_line.specs.Task.{Batches, Create, Import, Migrate, Query as Ask, Trial, task_of};
-ghost use Rattle.explorer.specs.Laws.{CountsAtMost, GoesWell, HasMemory, ImportAlike, IsAnswered, IsFullIn, IsNoRepeat, IsTold, IsToldErrors, IsToldFile, IsToldOutput, IsToldStore, MigratedAlike, ReadsWell, RefusedAlike, ReportsWell, ServedAlike, WritesWell, WroteAlike, WroteAlikeButReport, serving, with_workers};
+ghost use Rattle.explorer.specs.Laws.{CountsAtMost, GoesWell, HasMemory, ImportAlike, IsAnswered, IsFullIn, IsNoRepeat, IsTold, IsToldErrors, IsToldFile, IsToldOpenings, IsToldOutput, IsToldStore, LacksOpenings, MigratedAlike, OpensWell, ReadsWell, RefusedAlike, ReportsWell, ServedAlike, ServedAlikeBehind, WritesWell, WroteAlike, WroteAlikeButReport, openings_of, serving, with_book, with_workers};
 ghost use Rattle.explorer.specs.Lines.{Ending, status_of};
 ghost use Rattle.explorer.specs.ListBatches.{ListsBy};
 ghost use Rattle.explorer.specs.Migrate.{MigratesBy};
@@ -34,6 +37,7 @@ use batch_tally::laws::accounting_is_determined;
 use game_replay::laws::game_is_determined;
 use ingest_desk::laws::opening_is_determined;
 use lookup::laws::answers_are_determined;
+use opening_names::laws::{book_is_determined, naming_is_determined};
 use query_params::laws::query_is_determined;
 use sample_games::laws::samples_are_determined;
 use session::laws::replies_are_determined;
@@ -77,25 +81,54 @@ pub fn groups_without_repeats_stand_apart()
         → AllByRecursion IsNoRepeat refused → AccountedApart label groups batches refused }
 {}
 
-/// A told input has one answer to a query, and one report.
+/// A told input has one answer to a query by a book, and one report.
 pub fn a_told_input_has_one_answer()
-    ensures { (query : Query) (before after other : World) → IsSome before.input.left
-        → (first : Answers query before after) → (second : Answers query before other)
-        → (first.found ≡ second.found) × (first.refused ≡ second.refused) }
+    ensures { (book : List NamedPosition) (query : Query) (before after other : World)
+        → IsSome before.input.left
+        → (first : Answers book query before after) → (second : Answers book query before other)
+        → (first.found ≡ second.found) × (first.naming ≡ second.naming)
+        × (first.refused ≡ second.refused) }
 {
     accounting_is_determined();
     answers_are_determined();
+    naming_is_determined();
 }
 
-/// Runs of words that ask for a count, or for nothing, over one told input below the bound have one
-/// status, and write the same but for the text that tells of refused words, where memory is there
-/// and no call fails. Where a group finds no room, one may go without the report, for which memory was
-/// wanting.
+/// Where the file of openings is told, runs have one book and come to one host by it, or end by one
+/// fault of the file and come to the same, where no call fails and memory is there.
+pub fn a_book_is_determined()
+    ensures book { (openings : Option (List ℕ)) (book other : List NamedPosition)
+        (world : World) (read later : HostState) → IsToldOpenings openings world
+        → HasBook openings book world.host read → HasBook openings other world.host later
+        → (book ≡ other) × (read ≡ later) }
+    ensures fault { (openings : Option (List ℕ)) (before after other : World)
+        (ending ending' : Ending)
+        → IsToldOpenings openings before
+        → OpensWell openings before after → OpensWell openings before other
+        → status_of ending ≢ 9 → status_of ending' ≢ 9
+        → StopsAtBook openings before after ending → StopsAtBook openings before other ending'
+        → (ending ≡ ending') × (after ≡ other) }
+    ensures either { (openings : Option (List ℕ)) (book : List NamedPosition)
+        (before after : World) (read : HostState) (ending : Ending)
+        → IsToldOpenings openings before → OpensWell openings before after
+        → status_of ending ≢ 9
+        → HasBook openings book before.host read
+        → StopsAtBook openings before after ending → ⊥ }
+{
+    book_is_determined();
+}
+
+/// Runs of words that ask for a count, or for nothing, over one told input below the bound, and one
+/// told file of openings where one is given, have one status, and write the same but for the text
+/// that tells of refused words, where memory is there and no call fails. Where a group finds no room,
+/// one may go without the report, for which memory was wanting.
 pub fn a_run_is_determined()
     ensures { (words : List (List ℕ)) (stream : List ℕ) (before after other : World)
         (status status' : ℕ)
-        → CountsAtMost (task_of words)
+        → CountsAtMost (task_of words) → IsToldOpenings (openings_of (task_of words)) before
         → IsTold stream before → IsFaultless before after → IsFaultless before other
+        → OpensWell (openings_of (task_of words)) before after
+        → OpensWell (openings_of (task_of words)) before other
         → status ≢ 9 → status' ≢ 9
         → Runs words before after status → Runs words before other status'
         → (status ≡ status')
@@ -106,6 +139,8 @@ pub fn a_run_is_determined()
     accounting_is_determined();
     answers_are_determined();
     query_is_determined();
+    naming_is_determined();
+    book_is_determined();
 }
 
 /// Runs of `create` over one told disk have one ending, and come to the same, where no call fails and
@@ -118,18 +153,24 @@ pub fn a_creation_is_determined()
         → (ending ≡ ending') × (after ≡ other) }
 {}
 
-/// Runs of `query` over one told store have one ending, and come to the same, where no call fails and
-/// memory is there.
+/// Runs of `query` over one told store, and one told file of openings where one is given, have one
+/// ending, and come to the same, where no call fails and memory is there.
 pub fn a_question_is_determined()
-    ensures { (store file text : List ℕ) (before after other : World) (ending ending' : Ending)
-        → IsToldStore store file before → GoesWell before after → GoesWell before other
+    ensures { (store file text : List ℕ) (openings : Option (List ℕ))
+        (before after other : World) (ending ending' : Ending)
+        → IsToldStore store file before → IsToldOpenings openings before
+        → GoesWell before after → OpensWell openings before after
+        → GoesWell before other → OpensWell openings before other
         → status_of ending ≢ 9 → status_of ending' ≢ 9
-        → QueriesBy store text before after ending → QueriesBy store text before other ending'
+        → QueriesBy store text openings before after ending
+        → QueriesBy store text openings before other ending'
         → (ending ≡ ending') × (after ≡ other) }
 {
     answers_are_determined();
     opening_is_determined();
     query_is_determined();
+    naming_is_determined();
+    book_is_determined();
 }
 
 /// Runs of `batches` over one told store have one ending, and come to the same, where no call fails
@@ -235,18 +276,20 @@ pub fn a_serving_is_determined()
 
 /// What is answered to a query string at a door of `serve` is over the first batches of the journal
 /// of the disk given back, as many as the answer names. Over as many batches that stand in the
-/// journals of two runs, or of one, it is one thing at whatever door, connection and moment.
+/// journals of two runs, or of one, and by one book, it is one thing at whatever door, connection and
+/// moment.
 pub fn answers_at_doors_agree()
-    ensures fronts { (text : List ℕ) (batches : ℕ) (body : List ℕ)
+    ensures fronts { (book : List NamedPosition) (text : List ℕ) (batches : ℕ) (body : List ℕ)
         (opening journal : List Batch) (door : Connections) (run : DoorRun)
-        → IsAnswered text batches body opening journal door run
-        → (batches ≤ length journal) × IsFoundIn text (take batches journal) batches body }
-    ensures agree { (text : List ℕ) (batches : ℕ) (body body' : List ℕ)
-        (opening journal opening' journal' : List Batch) (door door' : Connections)
-        (run run' : DoorRun)
+        → IsAnswered book text batches body opening journal door run
+        → (batches ≤ length journal)
+        × IsNamedFoundIn book text (take batches journal) batches body }
+    ensures agree { (book : List NamedPosition) (text : List ℕ) (batches : ℕ)
+        (body body' : List ℕ) (opening journal opening' journal' : List Batch)
+        (door door' : Connections) (run run' : DoorRun)
         → take batches journal ≡ take batches journal'
-        → IsAnswered text batches body opening journal door run
-        → IsAnswered text batches body' opening' journal' door' run'
+        → IsAnswered book text batches body opening journal door run
+        → IsAnswered book text batches body' opening' journal' door' run'
         → body ≡ body' }
 {
     replies_are_determined();
@@ -254,7 +297,8 @@ pub fn answers_at_doors_agree()
 
 /// Runs of words that ask for the same, with whatever numbers of workers, have one status and come
 /// to the same, as the laws above say of each command, where memory is there and no call fails. Of
-/// `serve` that is so where the store is refused; else both serve the same doors.
+/// `serve` that is so where the store is refused; else both serve the same doors, by one book, where
+/// the file of openings gives one.
 pub fn a_run_of_a_command_is_determined()
     ensures creates { (words words' : List (List ℕ)) (store image : List ℕ)
         (before after other : World) (status status' : ℕ)
@@ -267,12 +311,14 @@ pub fn a_run_of_a_command_is_determined()
         → Runs words before after status → Runs words' before other status'
         → (status ≡ status') × (after ≡ other) }
     ensures asks { (words words' : List (List ℕ)) (store text image : List ℕ)
+        (openings : Option (List ℕ))
         (workers workers' : ℕ) (before after other : World) (status status' : ℕ)
-        → task_of words ≡ Some (Ask store text workers)
-        → task_of words' ≡ Some (Ask store text workers')
-        → IsToldStore store image before → IsToldErrors before
-        → GoesWell before after → ReportsWell before after
-        → GoesWell before other → ReportsWell before other
+        → task_of words ≡ Some (Ask store text workers openings)
+        → task_of words' ≡ Some (Ask store text workers' openings)
+        → IsToldStore store image before → IsToldOpenings openings before
+        → IsToldErrors before
+        → GoesWell before after → OpensWell openings before after → ReportsWell before after
+        → GoesWell before other → OpensWell openings before other → ReportsWell before other
         → status ≢ 9 → status' ≢ 9
         → Runs words before after status → Runs words' before other status'
         → (status ≡ status') × (after ≡ other) }
@@ -318,25 +364,31 @@ pub fn a_run_of_a_command_is_determined()
         → Runs words before after status → Runs words' before other status'
         → (status ≡ status') × (after ≡ other) }
     ensures refuses { (words words' : List (List ℕ)) (service : Service) (workers : ℕ)
-        (image : List ℕ) (before after other : World) (status status' : ℕ)
-        → task_of words ≡ Some (serving service)
-        → task_of words' ≡ Some (serving (with_workers workers service))
-        → IsToldStore service.store image before → IsToldErrors before
-        → ReportsWell before after
+        (openings : Option (List ℕ)) (image : List ℕ)
+        (before after other : World) (status status' : ℕ)
+        → task_of words ≡ Some (serving openings service)
+        → task_of words' ≡ Some (serving openings (with_workers workers service))
+        → IsToldStore service.store image before → IsToldOpenings openings before
+        → IsToldErrors before → ReportsWell before after
         → GoesWell before other → ReportsWell before other
         → status ≡ 7 → status' ≢ 9
         → Runs words before after status → Runs words' before other status'
-        → (status ≡ status') × RefusedAlike service.store after other }
+        → LacksOpenings openings before other
+        ⊎ ((status ≡ status') × RefusedAlike service.store after other) }
     ensures serves { (words words' : List (List ℕ)) (service : Service) (workers : ℕ)
-        (image : List ℕ) (before after other : World) (status status' : ℕ)
-        → task_of words ≡ Some (serving service)
-        → task_of words' ≡ Some (serving (with_workers workers service))
-        → IsToldStore service.store image before
+        (openings : Option (List ℕ)) (image : List ℕ)
+        (before after other : World) (status status' : ℕ)
+        → task_of words ≡ Some (serving openings service)
+        → task_of words' ≡ Some (serving openings (with_workers workers service))
+        → IsToldStore service.store image before → IsToldOpenings openings before
         → GoesWell before after → GoesWell before other
         → status ≢ 7 → status ≢ 9 → status' ≢ 9
         → Runs words before after status → Runs words' before other status'
-        → (opening : List Batch) × HasJournal opening image
-        × ServedAlike service (with_workers workers service) opening before after other }
+        → LacksOpenings openings before after ⊎ (LacksOpenings openings before other
+        ⊎ ((book : List NamedPosition) × (read : HostState)
+        × HasBook openings book before.host read
+        × ServedAlikeBehind (with_book book service) workers image
+        (record before { host = read }) after other)) }
 {
     game_is_determined();
     accounting_is_determined();
@@ -344,4 +396,6 @@ pub fn a_run_of_a_command_is_determined()
     opening_is_determined();
     query_is_determined();
     samples_are_determined();
+    naming_is_determined();
+    book_is_determined();
 }

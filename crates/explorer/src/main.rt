@@ -16,6 +16,7 @@ mod list_batches;
 mod listening;
 mod migrate;
 mod opening;
+mod openings;
 mod order;
 mod program;
 mod query_store;

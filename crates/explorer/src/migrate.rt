@@ -12,7 +12,7 @@ ghost use Rattle.explorer.specs.World.{world};
 
 use crate::create::fault_of_creation;
 use crate::fault::Fault;
-use crate::opening::fault_of_opening;
+use crate::opening::{fault_of_opening, first_cause};
 use arrayvec::ArrayString;
 use disk_model::Disk;
 use explorer_model::archive::Batch;
@@ -94,9 +94,10 @@ fn read_first<D: Disk>(alloc: Global, disk: D) -> Result<OpenedFirst<D>, Back<D,
         (λ opened. IsQuiet D.disk D.left_since disk opened.disk)
         (λ back. IsQuiet D.disk D.left_since disk back.disk) }
 {
+    let before = disk.faults();
     match open_first(alloc, disk) {
         Ok(opened) => Ok(opened),
-        Err(back) => Err(back),
+        Err(back) => Err(first_cause(before, back)),
     }
 }
 

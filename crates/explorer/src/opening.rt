@@ -1,7 +1,7 @@
 //! Stores that are opened, and a new one.
 ghost use Rattle.std.specs.Prelude.{◌≡◌, ◌≤◌, [], None, IfErr, IfOk};
 ghost use Rattle.published_index.specs.Cover.{journal_of};
-ghost use Rattle.explorer.specs.Faults.{fault_of_opening};
+ghost use Rattle.explorer.specs.Faults.{FirstCause, fault_of_opening};
 ghost use Rattle.explorer.specs.Opened.{NotOpened, OpensTo};
 ghost use Rattle.explorer.specs.Stores.{IsSized};
 
@@ -30,10 +30,27 @@ pub fn open_store<R: AllocGlobal + Wait + Threads + Sync, D: Disk>(
     ensures refused { IfErr result (λ back.
         NotOpened back.fault (D.disk disk) (D.disk back.disk)) }
 {
+    let before = disk.faults();
     match open(rt, rt.alloc(), disk, workers, 1) {
         Ok(unnamed) => Ok(unnamed),
-        Err(back) => Err(back),
+        Err(back) => Err(first_cause(before, back)),
     }
+}
+
+/// Why a store is not opened, where so many calls of its disk had failed before: one of them failed,
+/// or else what was found.
+pub fn first_cause<D: Disk>(before: u64, back: Back<D, OpenFault>) -> Back<D, OpenFault>
+    ensures disk { result.disk ≡ back.disk }
+    ensures cause { FirstCause before (D.disk back.disk).faults back.fault result.fault }
+{
+    let Back { disk, fault } = back;
+    let after = disk.faults();
+    let cause = if before < after {
+        OpenFault::DiskFault { before, after }
+    } else {
+        fault
+    };
+    Back { disk, fault: cause }
 }
 
 /// Why a store is not opened, as a run tells it.

@@ -1,5 +1,7 @@
 ghost use Rattle.std.specs.Prelude.{◌≤◌};
 
+use opening_names::Book;
+
 /// What is asked of the command `import`.
 #[derive(Debug, Drop)]
 pub struct ImportOrder {
@@ -13,8 +15,8 @@ pub struct ImportOrder {
     ghost few_workers: { workers ≤ 16 },
 }
 
-/// What is asked of the command `serve`.
-#[derive(Debug, Drop)]
+/// What is asked of the command `serve`, and the book by which answers are named.
+#[derive(Drop)]
 pub struct Order {
     pub store: String,
     pub address: String,
@@ -26,6 +28,7 @@ pub struct Order {
     pub readers: usize,
     /// How many connections each door takes.
     pub connections: u32,
+    pub book: Book,
     ghost some_workers: { 1 ≤ workers },
     ghost few_workers: { workers ≤ 16 },
     ghost some_readers: { 1 ≤ readers },

@@ -13,6 +13,7 @@ use crate::fault::Fault;
 use crate::import_store::import_store;
 use crate::list_batches::list_batches;
 use crate::migrate::migrate;
+use crate::openings::book_of;
 use crate::order::{ImportOrder, Order};
 use crate::query_store::query_store;
 use crate::serve::serve;
@@ -97,13 +98,19 @@ fn run_command<R: AllocGlobal + Wait + Threads + Sync, I: Source, O: Sink, E: Si
         Command::Batches { store, workers } => {
             list_batches(rt, store, usize::from(workers), output, host)
         }
-        Command::Count { query, workers } => count(
+        Command::Count {
+            query,
+            workers,
+            openings,
+        } => count(
             rt,
             query.as_bytes(),
+            openings,
             usize::from(workers),
             input,
             output,
             errors,
+            host,
         ),
         Command::Create { store } => create(store, output, host),
         Command::Import {
@@ -128,10 +135,12 @@ fn run_command<R: AllocGlobal + Wait + Threads + Sync, I: Source, O: Sink, E: Si
             store,
             query,
             workers,
+            openings,
         } => query_store(
             rt,
             store,
             query.as_bytes(),
+            openings,
             usize::from(workers),
             output,
             host,
@@ -143,21 +152,23 @@ fn run_command<R: AllocGlobal + Wait + Threads + Sync, I: Source, O: Sink, E: Si
             workers,
             readers,
             connections,
-        } => serve(
-            rt,
-            rt.alloc(),
-            Order {
+            openings,
+        } => {
+            let book = match book_of(rt.alloc(), openings, host) {
+                Ok(book) => book,
+                Err(fault) => return Err(fault),
+            };
+            let order = Order {
                 store,
                 address,
                 files,
                 workers: usize::from(workers),
                 readers: usize::from(readers),
                 connections,
-            },
-            output,
-            errors,
-            host,
-        ),
+                book,
+            };
+            serve(rt, rt.alloc(), order, output, errors, host)
+        }
         Command::Trial {
             games,
             seed,

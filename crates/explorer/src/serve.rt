@@ -32,8 +32,8 @@ use std::marker::Brand;
 use std::sync::Wait;
 use std::thread::Threads;
 
-/// Opens the store, asks for the files and the doors, serves until no connection is left, and gives
-/// all back.
+/// Opens the store, asks for the files and the doors, serves until no connection is left, with the
+/// openings that the book names, and gives all back.
 pub fn serve<R: Wait + Threads + Sync, O: Sink, E: Sink, H: Host>(
     rt: &R,
     alloc: Global,

@@ -194,8 +194,8 @@ fn serve_doors<R: Wait + Threads + Sync, O: Sink, H: Host, J: Index + Send + Syn
     requires out { AreOut (map string_bytes order.now.files.items) (vec_len doors)
         (H.host host.old) }
     requires opening { AllByRecursion (λ pass. pass ≡ watching (journal ingest)) passes.items }
-    ensures over { WorksOver (map string_bytes order.now.files.items) (journal ingest)
-        (journal result.0) (map H.Door.door doors.items) result.1.first
+    ensures over { WorksOver order.now.book (map string_bytes order.now.files.items)
+        (journal ingest) (journal result.0) (map H.Door.door doors.items) result.1.first
         (lines_told result.1.lines) (H.host host.old) (H.host host.new) }
     ensures told { OnOk result.1.listens
         (Takes line.now.bytes.items (O.sink output.old) (O.sink output.new)) }
@@ -204,7 +204,7 @@ fn serve_doors<R: Wait + Threads + Sync, O: Sink, H: Host, J: Index + Send + Syn
 {
     let told = Told::tell(output, line);
     let list = with_readers(told, doors, passes, list);
-    let (mut ingest, list) = work_all(rt, alloc, ingest, list, order.workers);
+    let (mut ingest, list) = work_all(rt, alloc, ingest, list, order);
     let first = first_fault(list.as_slice());
     let names = order.files.as_slice();
     let lines = report_lines(alloc, names, list.as_slice());

@@ -5,6 +5,7 @@ mod formats;
 mod imports;
 mod listing;
 mod migrating;
+mod openings;
 mod serving;
 mod set_ups;
 mod stores;

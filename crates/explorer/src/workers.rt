@@ -8,6 +8,7 @@ ghost use Rattle.ingest_desk.specs.Importers.{ending_of};
 
 use crate::fault::Fault;
 use crate::listening::Told;
+use crate::order::Order;
 use crate::report::push_file_lines;
 use disk_model::Disk;
 use explorer_model::label::Label;
@@ -52,11 +53,9 @@ impl<F: Source, G: Door, J: Index> Worker<F, G, J> {
         rt: &R,
         alloc: Global,
         desk: &Desk<D, J>,
-        workers: usize,
+        order: &Order,
     )
-        requires some_workers { 1 ≤ workers }
-        requires few_workers { workers ≤ 16 }
-        ensures { Works F.source G.door self.old self.new }
+        ensures { Works order.now.book F.source G.door self.old self.new }
     {
         match self {
             Worker::File(file) => {
@@ -66,23 +65,23 @@ impl<F: Source, G: Door, J: Index> Worker<F, G, J> {
                     &mut file.source,
                     desk,
                     Label::none(),
-                    workers,
+                    order.workers,
                     &FreeGate,
                 );
                 file.report = Some(report);
             }
             Worker::Reader(reader) => {
-                let mut importer = DeskHandle::new(desk, workers);
+                let mut importer = DeskHandle::new(desk, order.workers);
                 let ReaderWork {
                     door,
                     pass,
                     end,
                     told: _,
                 } = reader;
-                *end = serve_door(rt, alloc, door, pass, &mut importer);
+                *end = serve_door(rt, alloc, door, pass, &mut importer, &order.book);
             }
             Worker::Merger => {
-                let _ = drain(rt, alloc, &MergeDesk::of(desk), workers);
+                let _ = drain(rt, alloc, &MergeDesk::of(desk), order.workers);
             }
         }
     }
@@ -183,15 +182,13 @@ pub fn work_all<
     alloc: Global,
     ingest: Ingest<D, J>,
     list: Vec<Worker<F, G, J>>,
-    workers: usize,
+    order: &Order,
 ) -> (Ingest<D, J>, Vec<Worker<F, G, J>>)
-    requires some_workers { 1 ≤ workers }
-    requires few_workers { workers ≤ 16 }
-    ensures { AllZip (Works F.source G.door) list.items result.1.items }
+    ensures { AllZip (Works order.now.book F.source G.door) list.items result.1.items }
 {
     let mut list = list;
     let desk = Mutex::new(ingest);
-    work_each(rt, alloc, &desk, list.as_mut_slice(), workers);
+    work_each(rt, alloc, &desk, order, list.as_mut_slice());
     (desk.into_inner(), list)
 }
 
@@ -202,10 +199,8 @@ fn work_each<
     G: Door + Send,
     D: Disk + Send,
     J: Index + Send + Sync,
->(rt: &R, alloc: Global, desk: &Desk<D, J>, list: &mut [Worker<F, G, J>], workers: usize)
-    requires some_workers { 1 ≤ workers }
-    requires few_workers { workers ≤ 16 }
-    ensures { AllZip (Works F.source G.door) list.old list.new }
+>(rt: &R, alloc: Global, desk: &Desk<D, J>, order: &Order, list: &mut [Worker<F, G, J>])
+    ensures { AllZip (Works order.now.book F.source G.door) list.old list.new }
 {
     let threads = list.len().max(1);
     thread::for_each_mut(
@@ -213,8 +208,7 @@ fn work_each<
         list,
         threads,
         &|_, worker: &mut Worker<F, G, J>|
-            requires { (1 ≤ workers) × (workers ≤ 16) }
-            ensures { Works F.source G.door worker.old worker.new }
-        { worker.work(rt, alloc, desk, workers) },
+            ensures { Works order.entry.now.book F.source G.door worker.old worker.new }
+        { worker.work(rt, alloc, desk, order) },
     );
 }

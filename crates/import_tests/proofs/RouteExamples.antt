@@ -7,7 +7,7 @@ use Rattle.explorer_model.specs.declared.wire.Reply.TheVariants as replies
 use Rattle.session.specs.Replies.{Offer, Answer, Fixed, Import, PlayerAnswer, no_offer, route_by}
 
 with_players : Offer
-with_players = record { players = true }
+with_players = record { book = []; players = true }
 
 -- without players the path is none, whatever the method
 no-players : (method : Method) (query body : List ℕ) → route_by no_offer paths.Player method query body ≡ Fixed replies.NotFound

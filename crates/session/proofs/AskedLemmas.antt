@@ -15,7 +15,7 @@ use Rattle.session.specs.declared.serving.Ended.{Ended}
 use Rattle.session.specs.declared.serving.Ended.TheVariants as ends
 use Rattle.session.specs.Exchanges.{Backend, Exchange, Grants, Moment, AreExchanges, asked_in, moment_of}
 use Rattle.session.specs.Laws.{IsAllAnswered, LastLacksMemory}
-use Rattle.session.specs.Replies.{closes, route_of}
+use Rattle.session.specs.Replies.{Offer, closes, route_of}
 use Rattle.session.specs.Serving.{AreOpen, AsksIn, HasCause, LastCloses, Served}
 
 never : {A : Type 0} (b : Bool) → b ≡ false → b ≡ true → A
@@ -64,31 +64,31 @@ open-asked more bytes (x ∷ xs) rest asked open_still a end =
 
 -- ---- a last one that closes
 
-closing-alone : (asked : Asked) (journal : List Batch) (before after : Moment) (call : Option ImportCall) (reply : Reply)
-    → Grants (route_of asked) journal before after call reply → (more : ℕ) (bytes behind : List ℕ) → closes asked ≡ true
+closing-alone : (offer : Offer) (asked : Asked) (journal : List Batch) (before after : Moment) (call : Option ImportCall) (reply : Reply)
+    → Grants offer (route_of offer asked) journal before after call reply → (more : ℕ) (bytes behind : List ℕ) → closes asked ≡ true
     → First more bytes asked behind → (asked ≡ asks.NoMemory) ⊎ AsksFrom more bytes (asked ∷ asks.Done ∷ [])
-closing-alone (asks.Wanted request) journal before after call reply grants more bytes behind shut first =
+closing-alone offer (asks.Wanted request) journal before after call reply grants more bytes behind shut first =
     inr (Whole request behind, first, refl, rw shut refl)
-closing-alone (asks.Refused fault) journal before after call reply grants more bytes behind shut first =
+closing-alone offer (asks.Refused fault) journal before after call reply grants more bytes behind shut first =
     inr (Refuses fault, first, refl, refl)
-closing-alone asks.NoMemory journal before after call reply grants more bytes behind shut first = inl refl
-closing-alone asks.Done journal before after call reply grants more bytes behind shut first = absurd grants
-closing-alone asks.Cut journal before after call reply grants more bytes behind shut first = absurd grants
-closing-alone asks.ReadFault journal before after call reply grants more bytes behind shut first = absurd grants
+closing-alone offer asks.NoMemory journal before after call reply grants more bytes behind shut first = inl refl
+closing-alone offer asks.Done journal before after call reply grants more bytes behind shut first = absurd grants
+closing-alone offer asks.Cut journal before after call reply grants more bytes behind shut first = absurd grants
+closing-alone offer asks.ReadFault journal before after call reply grants more bytes behind shut first = absurd grants
 
 -- where others follow, the connection stays open
 stays-open : (b : Bool) (x : Asked) (xs : List Asked) → (b ≡ true → x ∷ xs ≡ []) → b ≡ false
 stays-open true x xs closed = not-more x xs (closed refl)
 stays-open false x xs closed = refl
 
-closing-asked : (journal : List Batch) (before after : Moment) (more : ℕ) (bytes : List ℕ) (xs : List Exchange) (rest : List ℕ)
-    → AreExchanges journal before xs after → AsksIn more bytes (asked_in xs) rest → LastCloses xs
+closing-asked : (offer : Offer) (journal : List Batch) (before after : Moment) (more : ℕ) (bytes : List ℕ) (xs : List Exchange) (rest : List ℕ)
+    → AreExchanges offer journal before xs after → AsksIn more bytes (asked_in xs) rest → LastCloses xs
     → LastLacksMemory xs ⊎ AsksFrom more bytes (asked_in xs ++ asks.Done ∷ [])
-closing-asked journal before after more bytes [] rest s a shut = absurd shut
-closing-asked journal before after more bytes (x ∷ []) rest s a shut =
-    closing-alone x.asked (take s.0.seen journal) before s.0 x.call x.reply s.3 more bytes a.1 shut a.2
-closing-asked journal before after more bytes (x ∷ y ∷ ys) rest s a shut =
-    by (closing-asked journal s.0 after (more - 1) a.1 (y ∷ ys) rest s.4 a.4 shut)
+closing-asked offer journal before after more bytes [] rest s a shut = absurd shut
+closing-asked offer journal before after more bytes (x ∷ []) rest s a shut =
+    closing-alone offer x.asked (take s.0.seen journal) before s.0 x.call x.reply s.3 more bytes a.1 shut a.2
+closing-asked offer journal before after more bytes (x ∷ y ∷ ys) rest s a shut =
+    by (closing-asked offer journal s.0 after (more - 1) a.1 (y ∷ ys) rest s.4 a.4 shut)
   where
     by : LastLacksMemory (y ∷ ys) ⊎ AsksFrom (more - 1) a.1 (asked_in (y ∷ ys) ++ asks.Done ∷ [])
         → LastLacksMemory (x ∷ y ∷ ys) ⊎ AsksFrom more bytes (asked_in (x ∷ y ∷ ys) ++ asks.Done ∷ [])
@@ -123,32 +123,32 @@ refused-begins more bytes fault behind first (asked ∷ others) h =
     let is : asked ≡ asks.Refused fault = h.2 ∙ ap asked_by (sym one) in
     (others, ap (λ (a : Asked). a ∷ others) is, λ stays. absurd (cc))
 
-first-begins : (asked : Asked) (journal : List Batch) (before after : Moment) (call : Option ImportCall) (reply : Reply)
-    → Grants (route_of asked) journal before after call reply → (more : ℕ) (bytes behind : List ℕ)
+first-begins : (offer : Offer) (asked : Asked) (journal : List Batch) (before after : Moment) (call : Option ImportCall) (reply : Reply)
+    → Grants offer (route_of offer asked) journal before after call reply → (more : ℕ) (bytes behind : List ℕ)
     → First more bytes asked behind
     → (asked ≡ asks.NoMemory) ⊎ ((all : List Asked) → AsksFrom more bytes all → Begins asked more behind all)
-first-begins (asks.Wanted request) journal before after call reply grants more bytes behind first = inr (whole-begins more bytes request behind first)
-first-begins (asks.Refused fault) journal before after call reply grants more bytes behind first = inr (refused-begins more bytes fault behind first)
-first-begins asks.NoMemory journal before after call reply grants more bytes behind first = inl refl
-first-begins asks.Done journal before after call reply grants more bytes behind first = absurd grants
-first-begins asks.Cut journal before after call reply grants more bytes behind first = absurd grants
-first-begins asks.ReadFault journal before after call reply grants more bytes behind first = absurd grants
+first-begins offer (asks.Wanted request) journal before after call reply grants more bytes behind first = inr (whole-begins more bytes request behind first)
+first-begins offer (asks.Refused fault) journal before after call reply grants more bytes behind first = inr (refused-begins more bytes fault behind first)
+first-begins offer asks.NoMemory journal before after call reply grants more bytes behind first = inl refl
+first-begins offer asks.Done journal before after call reply grants more bytes behind first = absurd grants
+first-begins offer asks.Cut journal before after call reply grants more bytes behind first = absurd grants
+first-begins offer asks.ReadFault journal before after call reply grants more bytes behind first = absurd grants
 
-front-asked : (journal : List Batch) (before after : Moment) (more : ℕ) (bytes : List ℕ) (xs : List Exchange) (rest : List ℕ)
-    → AreExchanges journal before xs after → AsksIn more bytes (asked_in xs) rest
+front-asked : (offer : Offer) (journal : List Batch) (before after : Moment) (more : ℕ) (bytes : List ℕ) (xs : List Exchange) (rest : List ℕ)
+    → AreExchanges offer journal before xs after → AsksIn more bytes (asked_in xs) rest
     → LastLacksMemory xs ⊎ ((all : List Asked) → AsksFrom more bytes all → IsPrefix (asked_in xs) all)
 unfolding Begins
-front-asked journal before after more bytes [] rest s a = inr (λ all h. record { rest = all; is = refl })
-front-asked journal before after more bytes (x ∷ []) rest s a =
-    by (first-begins x.asked (take s.0.seen journal) before s.0 x.call x.reply s.3 more bytes a.1 a.2)
+front-asked offer journal before after more bytes [] rest s a = inr (λ all h. record { rest = all; is = refl })
+front-asked offer journal before after more bytes (x ∷ []) rest s a =
+    by (first-begins offer x.asked (take s.0.seen journal) before s.0 x.call x.reply s.3 more bytes a.1 a.2)
   where
     by : (x.asked ≡ asks.NoMemory) ⊎ ((all : List Asked) → AsksFrom more bytes all → Begins x.asked more a.1 all)
         → LastLacksMemory (x ∷ []) ⊎ ((all : List Asked) → AsksFrom more bytes all → IsPrefix (asked_in (x ∷ [])) all)
     by (inl lacks) = inl lacks
     by (inr begins) = inr (λ all h. let b = begins all h in record { rest = b.0; is = b.1 })
-front-asked journal before after more bytes (x ∷ y ∷ ys) rest s a =
-    by (first-begins x.asked (take s.0.seen journal) before s.0 x.call x.reply s.3 more bytes a.1 a.2)
-    (front-asked journal s.0 after (more - 1) a.1 (y ∷ ys) rest s.4 a.4)
+front-asked offer journal before after more bytes (x ∷ y ∷ ys) rest s a =
+    by (first-begins offer x.asked (take s.0.seen journal) before s.0 x.call x.reply s.3 more bytes a.1 a.2)
+    (front-asked offer journal s.0 after (more - 1) a.1 (y ∷ ys) rest s.4 a.4)
   where
     stays : closes x.asked ≡ false
     stays = stays-open (closes x.asked) y.asked (asked_in ys) a.3
@@ -176,23 +176,24 @@ cut-ends : (more : ℕ) (bytes : List ℕ) → First more bytes asks.Cut [] → 
 unfolding IsEnd
 cut-ends more bytes first = (Unfinished, first, refl, tt)
 
-pub all-answered : (link link' : Stream) (before after : Backend) (ended : Ended) (s : Served link before ended link' after)
+pub all-answered : (offer : Offer) (link link' : Stream) (before after : Backend) (ended : Ended)
+    (s : Served offer link before ended link' after)
     → IsAllAnswered ended s.taken s.exchanges
-all-answered link link' before after ends.Done s = by s.cause
+all-answered offer link link' before after ends.Done s = by s.cause
   where
     by : HasCause ends.Done s.exchanges s.rest link'.left → IsAllAnswered ends.Done s.taken s.exchanges
-    by (inl shut) = closing-asked after.pass.seen (moment_of before) (moment_of after) request_limit s.taken s.exchanges s.rest s.served s.asked shut
+    by (inl shut) = closing-asked offer after.pass.seen (moment_of before) (moment_of after) request_limit s.taken s.exchanges s.rest s.served s.asked shut
     by (inr ended) = inr (open-asked request_limit s.taken s.exchanges s.rest asks.Done ended.0.open_still s.asked
         (done-ends (request_limit - length s.exchanges) s.rest ended.0.next))
-all-answered link link' before after ends.Cut s =
+all-answered offer link link' before after ends.Cut s =
     open-asked request_limit s.taken s.exchanges s.rest asks.Cut s.cause.0.open_still s.asked
     (cut-ends (request_limit - length s.exchanges) s.rest s.cause.0.next)
-all-answered link link' before after ends.ReadFault s = by s.cause.next
+all-answered offer link link' before after ends.ReadFault s = by s.cause.next
   where
     by : First (request_limit - length s.exchanges) s.rest asks.ReadFault [] → IsAllAnswered ends.ReadFault s.taken s.exchanges
     by (inl between) = inl (open-asked request_limit s.taken s.exchanges s.rest asks.Done s.cause.open_still s.asked
         (done-ends (request_limit - length s.exchanges) s.rest between))
     by (inr within) = inr (open-asked request_limit s.taken s.exchanges s.rest asks.Cut s.cause.open_still s.asked
         (cut-ends (request_limit - length s.exchanges) s.rest within))
-all-answered link link' before after ends.WriteFault s =
-    front-asked after.pass.seen (moment_of before) (moment_of after) request_limit s.taken s.exchanges s.rest s.served s.asked
+all-answered offer link link' before after ends.WriteFault s =
+    front-asked offer after.pass.seen (moment_of before) (moment_of after) request_limit s.taken s.exchanges s.rest s.served s.asked

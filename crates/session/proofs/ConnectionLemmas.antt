@@ -19,7 +19,7 @@ use Rattle.ingest_desk.specs.Importers.{TellsAll}
 use Rattle.session.specs.declared.serving.Ended.{Ended}
 use Rattle.session.specs.declared.serving.Ended.TheVariants as ends
 use Rattle.session.specs.Exchanges.{Backend, Exchange, Grants, AreExchanges, asked_in, calls_in, moment_of, reply_texts}
-use Rattle.session.specs.Replies.{closes, route_of}
+use Rattle.session.specs.Replies.{Offer, closes, route_of}
 use Rattle.session.specs.Serving.{AreOpen, AsksIn, ComesNext, FailsBy, HasCause, Served, Wrote}
 use Rattle.session.specs.Steps.{IsServing, Replied}
 use Rattle.session.proofs.ExchangeLemmas.{asks-behind, asks-more, last-closes, open-more, exchanges-grow, exchanges-more, tells-none, tells-trans}
@@ -46,13 +46,13 @@ comes-next asked xs rest more count open_still first =
     let left : more ≡ request_limit - length xs = omega (arith, count) in
     record { open_still = open_still; next = subst (λ (n : ℕ). First n rest asked []) left first }
 
-pub served-idle : (link : Stream) (before : Backend) (wire : Buffer) (l : Stream) (after : Backend) (l' : Stream)
-    (ended : Ended) (got : List ℕ) → IsServing link before wire l after → Reads got l l'
+pub served-idle : (offer : Offer) (link : Stream) (before : Backend) (wire : Buffer) (l : Stream) (after : Backend) (l' : Stream)
+    (ended : Ended) (got : List ℕ) → IsServing offer link before wire l after → Reads got l l'
     → ((text : List ℕ) → Appends link.written l'.written text → Wrote ended link.written l'.written text)
     → ((xs : List Exchange) → AreOpen xs → wire.more + length xs ≡ request_limit
     → HasCause ended xs (wire.pending ++ got) l'.left)
-    → FailsBy ended link l' → Served link before ended l' after
-served-idle link before wire l after l' ended got i reads wrote cause fails =
+    → FailsBy ended link l' → Served offer link before ended l' after
+served-idle offer link before wire l after l' ended got i reads wrote cause fails =
     let same : l'.written ≡ l.written = ap (λ (s : Stream). s.written) reads.rest in
     let given : l'.given ≡ l.given + length got = ap (λ (s : Stream). s.given) reads.rest in
     record {
@@ -74,18 +74,18 @@ served-idle link before wire l after l' ended got i reads wrote cause fails =
 -- ---- one exchange more
 
 -- no read failed where something is replied to
-no-fault : (asked : Asked) (before : Backend) (reply : Reply) (after : Backend) (old new : ℕ)
-    → Replied asked before reply after → FaultsBy asked old new → new ≡ old
-no-fault (asks.Wanted request) before reply after old new r faults = faults
-no-fault (asks.Refused fault) before reply after old new r faults = faults
-no-fault asks.NoMemory before reply after old new r faults = faults
-no-fault asks.Done before reply after old new r faults = faults
-no-fault asks.Cut before reply after old new r faults = faults
-no-fault asks.ReadFault before reply after old new r faults = absurd r.grants
+no-fault : (offer : Offer) (asked : Asked) (before : Backend) (reply : Reply) (after : Backend) (old new : ℕ)
+    → Replied offer asked before reply after → FaultsBy asked old new → new ≡ old
+no-fault offer (asks.Wanted request) before reply after old new r faults = faults
+no-fault offer (asks.Refused fault) before reply after old new r faults = faults
+no-fault offer asks.NoMemory before reply after old new r faults = faults
+no-fault offer asks.Done before reply after old new r faults = faults
+no-fault offer asks.Cut before reply after old new r faults = faults
+no-fault offer asks.ReadFault before reply after old new r faults = absurd r.grants
 
 -- an exchange behind others, whose reply is not written yet; more: how many could come before it
-pub record Exchanged (link : Stream) (before : Backend) (asked : Asked) (reply : Reply) (rest : List ℕ) (l : Stream)
-    (after : Backend) (more : ℕ) : Type 0 where
+pub record Exchanged (offer : Offer) (link : Stream) (before : Backend) (asked : Asked) (reply : Reply) (rest : List ℕ)
+    (l : Stream) (after : Backend) (more : ℕ) : Type 0 where
   pub front : List Exchange
   pub exchange : Exchange
   pub is_asked : exchange.asked ≡ asked
@@ -95,7 +95,7 @@ pub record Exchanged (link : Stream) (before : Backend) (asked : Asked) (reply :
   pub given : l.given ≡ link.given + length taken
   pub asks : AsksIn request_limit taken (asked_in (front ++ exchange ∷ [])) rest
   pub grew : IsPrefix before.pass.seen after.pass.seen
-  pub served : AreExchanges after.pass.seen (moment_of before) (front ++ exchange ∷ []) (moment_of after)
+  pub served : AreExchanges offer after.pass.seen (moment_of before) (front ++ exchange ∷ []) (moment_of after)
   pub wrote_front : Appends link.written l.written (reply_texts front)
   pub texts_are : reply_texts (front ++ exchange ∷ []) ≡ reply_texts front ++ reply_text reply (closes asked)
   pub called : TellsAll before.importer.calls after.importer.calls (calls_in (front ++ exchange ∷ []))
@@ -103,15 +103,15 @@ pub record Exchanged (link : Stream) (before : Backend) (asked : Asked) (reply :
   pub read_faults : l.read_faults ≡ link.read_faults
   pub write_faults : l.write_faults ≡ link.write_faults
 
-pub exchanged : (link : Stream) (before : Backend) (wire wire' : Buffer) (l l' : Stream) (middle after : Backend)
-    (asked : Asked) (reply : Reply) → 0 < wire.more → IsServing link before wire l middle
-    → Asks asked wire wire' l l' → Replied asked middle reply after
-    → Exchanged link before asked reply wire'.pending l' after wire.more
-exchanged link before wire wire' l l' middle after asked reply some i a r =
+pub exchanged : (offer : Offer) (link : Stream) (before : Backend) (wire wire' : Buffer) (l l' : Stream) (middle after : Backend)
+    (asked : Asked) (reply : Reply) → 0 < wire.more → IsServing offer link before wire l middle
+    → Asks asked wire wire' l l' → Replied offer asked middle reply after
+    → Exchanged offer link before asked reply wire'.pending l' after wire.more
+exchanged offer link before wire wire' l l' middle after asked reply some i a r =
     let x : Exchange = record { asked = asked; reply = reply; call = r.call } in
     let journal = after.pass.seen in
-    let served = exchanges-grow middle.pass.seen journal (moment_of before) i.exchanges (moment_of middle) r.grew i.served in
-    let grants = subst (λ (seen : List Batch). Grants (route_of asked) seen (moment_of middle) (moment_of after) r.call reply)
+    let served = exchanges-grow offer middle.pass.seen journal (moment_of before) i.exchanges (moment_of middle) r.grew i.served in
+    let grants = subst (λ (seen : List Batch). Grants offer (route_of offer asked) seen (moment_of middle) (moment_of after) r.call reply)
     (sym (take-all journal)) r.grants in
     let whole : length journal ≤ length journal = omega arith in
     let given : l'.given ≡ l.given + length a.got = ap (λ (s : Stream). s.given) a.reads.rest in
@@ -128,7 +128,7 @@ exchanged link before wire wire' l l' middle after asked reply some i a r =
       asks = asks-more request_limit (i.taken ++ a.got) i.exchanges (wire.pending ++ a.got) wire.more x wire'.pending i.open_still
           (asks-behind request_limit i.taken i.exchanges wire.pending a.got i.open_still i.asked) i.count some a.first;
       grew = prefix-trans before.pass.seen middle.pass.seen journal i.grew r.grew;
-      served = exchanges-more journal (moment_of before) i.exchanges (moment_of middle) x (moment_of after) served
+      served = exchanges-more offer journal (moment_of before) i.exchanges (moment_of middle) x (moment_of after) served
           (prefix-length middle.pass.seen journal r.grew) whole grants;
       wrote_front = subst (λ (w : Option (List ℕ)). Appends link.written w (reply_texts i.exchanges)) (sym written) i.wrote;
       texts_are =
@@ -139,7 +139,7 @@ exchanged link before wire wire' l l' middle after asked reply some i a r =
           (tells-trans before.importer.calls middle.importer.calls after.importer.calls (calls_in i.exchanges)
           (calls_in (x ∷ [])) i.called r.called);
       count = i.count;
-      read_faults = no-fault asked middle reply after l.read_faults l'.read_faults r a.faults ∙ i.read_faults;
+      read_faults = no-fault offer asked middle reply after l.read_faults l'.read_faults r a.faults ∙ i.read_faults;
       write_faults = write_faults ∙ i.write_faults;
     }
 
@@ -149,10 +149,10 @@ not-none (y ∷ ys) x same = cc
 
 -- ---- the reply to it
 
-module _ (link : Stream) (before : Backend) (asked : Asked) (reply : Reply) (rest : List ℕ) (l : Stream) (after : Backend)
-    (more : ℕ) (l' : Stream) (e : Exchanged link before asked reply rest l after more) where
+module _ (offer : Offer) (link : Stream) (before : Backend) (asked : Asked) (reply : Reply) (rest : List ℕ) (l : Stream)
+    (after : Backend) (more : ℕ) (l' : Stream) (e : Exchanged offer link before asked reply rest l after more) where
   -- the reply could not be written
-  pub served-unwritten : FailsToTake (reply_text reply (closes asked)) l l' → Served link before ends.WriteFault l' after
+  pub served-unwritten : FailsToTake (reply_text reply (closes asked)) l l' → Served offer link before ends.WriteFault l' after
   served-unwritten fails =
       let left : l'.left ≡ l.left = ap (λ (s : Stream). s.left) fails.rest in
       let given : l'.given ≡ l.given = ap (λ (s : Stream). s.given) fails.rest in
@@ -182,7 +182,7 @@ module _ (link : Stream) (before : Backend) (asked : Asked) (reply : Reply) (res
       (Appends-trans link.written l.written l'.written (reply_texts e.front) (reply_text reply (closes asked)) e.wrote_front takes.appended)
 
   -- the connection was to be closed behind it
-  pub served-last : Takes (reply_text reply (closes asked)) l l' → closes asked ≡ true → Served link before ends.Done l' after
+  pub served-last : Takes (reply_text reply (closes asked)) l l' → closes asked ≡ true → Served offer link before ends.Done l' after
   served-last takes shut =
       let left : l'.left ≡ l.left = ap (λ (s : Stream). s.left) takes.rest in
       let given : l'.given ≡ l.given = ap (λ (s : Stream). s.given) takes.rest in
@@ -205,7 +205,7 @@ module _ (link : Stream) (before : Backend) (asked : Asked) (reply : Reply) (res
 
   -- the connection goes on
   pub serving-on : (wire : Buffer) → wire.pending ≡ rest → wire.more + 1 ≡ more
-      → Takes (reply_text reply (closes asked)) l l' → closes asked ≡ false → IsServing link before wire l' after
+      → Takes (reply_text reply (closes asked)) l l' → closes asked ≡ false → IsServing offer link before wire l' after
   serving-on wire pending fewer takes stays =
       let left : l'.left ≡ l.left = ap (λ (s : Stream). s.left) takes.rest in
       let given : l'.given ≡ l.given = ap (λ (s : Stream). s.given) takes.rest in
@@ -229,9 +229,9 @@ module _ (link : Stream) (before : Backend) (asked : Asked) (reply : Reply) (res
 
 -- ---- the first moment
 
-pub serving-none : (link : Stream) (before : Backend) (wire : Buffer) → wire ≡ record { pending = []; more = request_limit }
-    → IsServing link before wire link before
-serving-none link before wire fresh = rw fresh (record {
+pub serving-none : (offer : Offer) (link : Stream) (before : Backend) (wire : Buffer) → wire ≡ record { pending = []; more = request_limit }
+    → IsServing offer link before wire link before
+serving-none offer link before wire fresh = rw fresh (record {
   exchanges = [];
   taken = [];
   took = Consumes-nil link.left;

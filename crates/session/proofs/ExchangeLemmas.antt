@@ -11,7 +11,7 @@ use Rattle.http_wire.specs.Asking.{more_behind}
 use Rattle.ingest_desk.specs.declared.report.ImportCall.{ImportCall}
 use Rattle.ingest_desk.specs.Importers.{TellsAll}
 use Rattle.session.specs.Exchanges.{Exchange, Grants, Moment, AreExchanges, asked_in}
-use Rattle.session.specs.Replies.{closes, route_of}
+use Rattle.session.specs.Replies.{Offer, closes, route_of}
 use Rattle.session.specs.Serving.{AreOpen, AsksIn, LastCloses}
 use Rattle.session.proofs.FrontLemmas.{prefix-length, take-prefix}
 
@@ -31,27 +31,27 @@ tells-none (Some s) = sym (append-nil s)
 -- ---- what is served
 
 -- it stays served, however much more the pass sees
-pub exchanges-grow : (old new : List Batch) (before : Moment) (xs : List Exchange) (after : Moment)
-    → IsPrefix old new → AreExchanges old before xs after → AreExchanges new before xs after
-exchanges-grow old new before [] after p s = s
-exchanges-grow old new before (x ∷ xs) after p s =
+pub exchanges-grow : (offer : Offer) (old new : List Batch) (before : Moment) (xs : List Exchange) (after : Moment)
+    → IsPrefix old new → AreExchanges offer old before xs after → AreExchanges offer new before xs after
+exchanges-grow offer old new before [] after p s = s
+exchanges-grow offer old new before (x ∷ xs) after p s =
     let few : s.0.seen ≤ length new = omega (arith, s.2, prefix-length old new p) in
     let same : take s.0.seen new ≡ take s.0.seen old = take-prefix s.0.seen old new s.2 p in (
       s.0,
       s.1,
       few,
-      subst (λ (journal : List Batch). Grants (route_of x.asked) journal before s.0 x.call x.reply) (sym same) s.3,
-      exchanges-grow old new s.0 xs after p s.4,
+      subst (λ (journal : List Batch). Grants offer (route_of offer x.asked) journal before s.0 x.call x.reply) (sym same) s.3,
+      exchanges-grow offer old new s.0 xs after p s.4,
     )
 
-pub exchanges-more : (journal : List Batch) (before : Moment) (xs : List Exchange) (middle : Moment) (x : Exchange)
-    (after : Moment) → AreExchanges journal before xs middle → middle.seen ≤ after.seen → after.seen ≤ length journal
-    → Grants (route_of x.asked) (take after.seen journal) middle after x.call x.reply
-    → AreExchanges journal before (xs ++ x ∷ []) after
-exchanges-more journal before [] middle x after s more few grants =
-    subst (λ (m : Moment). AreExchanges journal m (x ∷ []) after) s (after, more, few, grants, refl)
-exchanges-more journal before (y ∷ ys) middle x after s more few grants =
-    (s.0, s.1, s.2, s.3, exchanges-more journal s.0 ys middle x after s.4 more few grants)
+pub exchanges-more : (offer : Offer) (journal : List Batch) (before : Moment) (xs : List Exchange) (middle : Moment) (x : Exchange)
+    (after : Moment) → AreExchanges offer journal before xs middle → middle.seen ≤ after.seen → after.seen ≤ length journal
+    → Grants offer (route_of offer x.asked) (take after.seen journal) middle after x.call x.reply
+    → AreExchanges offer journal before (xs ++ x ∷ []) after
+exchanges-more offer journal before [] middle x after s more few grants =
+    subst (λ (m : Moment). AreExchanges offer journal m (x ∷ []) after) s (after, more, few, grants, refl)
+exchanges-more offer journal before (y ∷ ys) middle x after s more few grants =
+    (s.0, s.1, s.2, s.3, exchanges-more offer journal s.0 ys middle x after s.4 more few grants)
 
 -- ---- what is asked
 

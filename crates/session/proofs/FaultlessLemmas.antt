@@ -6,6 +6,7 @@ use Rattle.explorer_model.specs.declared.query.BadParameter.{BadParameter}
 use Rattle.explorer_model.specs.declared.query.Query.{Query}
 use Rattle.explorer_model.specs.declared.wire.Reply.{Reply}
 use Rattle.explorer_model.specs.declared.wire.Reply.TheVariants as replies
+use Rattle.explorer_model.specs.Openings.{NamedPosition}
 use Rattle.explorer_model.specs.Query.{QueryReads}
 use Rattle.ingest_desk.specs.Importers.{CountsRose}
 use Rattle.ingest_desk.specs.declared.report.ImportCall.{ImportCall}
@@ -20,24 +21,24 @@ not-both : (query : Query) (fault : BadParameter) → ◌≡◌ {A = Result Quer
 not-both query fault is = cc
 
 pub answered : ((text : List ℕ) (r s : Result Query BadParameter) → QueryReads text r → QueryReads text s → r ≡ s)
-    → (text : List ℕ) (query : Query) (journal : List Batch) (before after : Readings) (reply : Reply)
-    → QueryReads text (Ok query) → AnswersQuery text journal before after reply → IsAnswered text journal before after reply
-answered once text query journal before after (replies.Found batches body) reads answers = answers.0
-answered once text query journal before after (replies.BadParameter name) reads answers =
+    → (book : List NamedPosition) (text : List ℕ) (query : Query) (journal : List Batch) (before after : Readings) (reply : Reply)
+    → QueryReads text (Ok query) → AnswersQuery book text journal before after reply → IsAnswered book text journal before after reply
+answered once book text query journal before after (replies.Found batches body) reads answers = answers.0
+answered once book text query journal before after (replies.BadParameter name) reads answers =
     let fault : BadParameter = record { name = name } in
     absurd (not-both query fault (once text (Ok query) (Err fault) reads answers.0))
-answered once text query journal before after replies.NoMemory reads answers = tt
-answered once text query journal before after replies.Unread reads answers = answers.1
-answered once text query journal before after (replies.Stored batches body) reads answers = absurd answers
-answered once text query journal before after (replies.BadPlayerParameter name) reads answers = absurd answers
-answered once text query journal before after replies.BadRequest reads answers = absurd answers
-answered once text query journal before after replies.NotFound reads answers = absurd answers
-answered once text query journal before after (replies.NotAllowed allow) reads answers = absurd answers
-answered once text query journal before after replies.TooLarge reads answers = absurd answers
-answered once text query journal before after replies.HeadTooLarge reads answers = absurd answers
-answered once text query journal before after (replies.DiskFault stored) reads answers = absurd answers
-answered once text query journal before after (replies.Closed stored) reads answers = absurd answers
-answered once text query journal before after (replies.Full games bytes stored) reads answers = absurd answers
+answered once book text query journal before after replies.NoMemory reads answers = tt
+answered once book text query journal before after replies.Unread reads answers = answers.1
+answered once book text query journal before after (replies.Stored batches body) reads answers = absurd answers
+answered once book text query journal before after (replies.BadPlayerParameter name) reads answers = absurd answers
+answered once book text query journal before after replies.BadRequest reads answers = absurd answers
+answered once book text query journal before after replies.NotFound reads answers = absurd answers
+answered once book text query journal before after (replies.NotAllowed allow) reads answers = absurd answers
+answered once book text query journal before after replies.TooLarge reads answers = absurd answers
+answered once book text query journal before after replies.HeadTooLarge reads answers = absurd answers
+answered once book text query journal before after (replies.DiskFault stored) reads answers = absurd answers
+answered once book text query journal before after (replies.Closed stored) reads answers = absurd answers
+answered once book text query journal before after (replies.Full games bytes stored) reads answers = absurd answers
 
 told-whole : (body : List ℕ) (journal : List Batch) (games : ℕ) (refused : List Refusal) (reply : Reply)
     → HasStoredBody journal body games refused → TellsEnding endings.Whole (length journal) games refused reply

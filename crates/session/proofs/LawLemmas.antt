@@ -1,10 +1,14 @@
 -- What follows of exchanges.
-use Rattle.std.proofs.Common.{◌≡◌, ℕ, ◌+◌, ◌≤◌, List, [], ◌∷◌, Option, Some, None, Result, Ok, Err, length, take, refl, sym, ◌∙◌, ap, subst, inl, inr, arith}
-use Rattle.std.specs.List.{AllByRecursion, cons_option}
+use Rattle.std.proofs.Common.{◌≡◌, ℕ, ◌+◌, ◌≤◌, Bool, true, false, List, [], ◌∷◌, map, Option, Some, None, Result, Ok, Err, length, take, refl, sym, ◌∙◌, ap, subst, inl, inr, arith}
+use Rattle.std.specs.List.{AllByRecursion, AllZip, cons_option}
 use Rattle.std.proofs.lemmas.List.{length-take}
 use Rattle.explorer_model.specs.declared.answer.Found.{Found}
 use Rattle.explorer_model.specs.declared.archive.Batch.{Batch}
 use Rattle.explorer_model.specs.declared.fault.Refusal.{Refusal}
+use Rattle.explorer_model.specs.declared.answer.MoveLine.{MoveLine}
+use Rattle.explorer_model.specs.declared.chess.Move.{Move}
+use Rattle.explorer_model.specs.declared.chess.Position.{Position}
+use Rattle.explorer_model.specs.declared.opening.Naming.{Naming}
 use Rattle.explorer_model.specs.declared.query.BadParameter.{BadParameter}
 use Rattle.explorer_model.specs.declared.query.Query.{Query}
 use Rattle.explorer_model.specs.declared.wire.Asked.{Asked}
@@ -16,46 +20,52 @@ use Rattle.explorer_model.specs.declared.wire.Path.TheVariants as paths
 use Rattle.explorer_model.specs.declared.wire.Reply.{Reply}
 use Rattle.explorer_model.specs.declared.wire.Reply.TheVariants as replies
 use Rattle.explorer_model.specs.declared.wire.RequestFault.TheVariants as faults
-use Rattle.explorer_model.specs.Answer.{answer_body}
+use Rattle.explorer_model.specs.Answer.{answer_body, named_body, unnamed}
+use Rattle.explorer_model.specs.Chess.{after}
 use Rattle.explorer_model.specs.Finds.{IsFound}
+use Rattle.explorer_model.specs.Openings.{IsNaming, LastOpening, NamedPosition, OpeningOf, positions_on}
 use Rattle.explorer_model.specs.Query.{QueryReads}
-use Rattle.explorer_model.specs.Replies.{IsFoundIn}
+use Rattle.explorer_model.specs.Replies.{IsFoundIn, IsNamedFoundIn}
 use Rattle.ingest_desk.specs.declared.report.ImportCall.{ImportCall}
 use Rattle.ingest_desk.specs.declared.report.ImportEnding.{ImportEnding}
 use Rattle.ingest_desk.specs.declared.report.ImportEnding.TheVariants as endings
 use Rattle.session.specs.Exchanges.{Exchange, Grants, Moment, AreExchanges}
 use Rattle.session.specs.Imports.{TellsEnding}
 use Rattle.session.specs.Laws.{AscendFrom, IsOverFront, IsTold, number_of, numbers, unread_in, unread_one}
-use Rattle.session.specs.Replies.{AnswersQuery, Answer, Fixed, Import, PlayerAnswer, Readings, Route, Silence, no_offer, route_by, route_of}
+use Rattle.session.specs.Replies.{AnswersQuery, Answer, Fixed, Import, Offer, PlayerAnswer, Readings, Route, Silence, player_route, route_by, route_of}
 
 length-front : (n : ℕ) (xs : List Batch) → n ≤ length xs → length (take n xs) ≡ n
 length-front n xs few = omega (arith, length-take n xs)
 
 -- ---- answers are over fronts
 
-over-front : (journal : List Batch) (route : Route) (seen : ℕ) (before after : Moment) (call : Option ImportCall) (reply : Reply)
-    → seen ≤ length journal → Grants route (take seen journal) before after call reply → IsOverFront journal route reply
-over-front journal (Answer text) seen before after call (replies.Found batches body) few grants =
+over-front : (offer : Offer) (journal : List Batch) (route : Route) (seen : ℕ) (before after : Moment) (call : Option ImportCall)
+    (reply : Reply) → seen ≤ length journal → Grants offer route (take seen journal) before after call reply
+    → IsOverFront offer.book journal route reply
+over-front offer journal (Answer text) seen before after call (replies.Found batches body) few grants =
     let number : batches ≡ seen = grants.answers.0.number ∙ length-front seen journal few in
-    (omega (arith, number), subst (λ (n : ℕ). IsFoundIn text (take n journal) batches body) (sym number) grants.answers.0)
-over-front journal _ seen before after call _ few grants = tt
+    (omega (arith, number), subst (λ (n : ℕ). IsNamedFoundIn offer.book text (take n journal) batches body) (sym number) grants.answers.0)
+over-front offer journal _ seen before after call _ few grants = tt
 
-pub all-over-fronts : (journal : List Batch) (before after : Moment) (xs : List Exchange) → AreExchanges journal before xs after
-    → AllByRecursion (λ x. IsOverFront journal (route_of x.asked) x.reply) xs
-all-over-fronts journal before after [] s = tt
-all-over-fronts journal before after (x ∷ xs) s =
-    (over-front journal (route_of x.asked) s.0.seen before s.0 x.call x.reply s.2 s.3, all-over-fronts journal s.0 after xs s.4)
+pub all-over-fronts : (offer : Offer) (journal : List Batch) (before after : Moment) (xs : List Exchange)
+    → AreExchanges offer journal before xs after
+    → AllByRecursion (λ x. IsOverFront offer.book journal (route_of offer x.asked) x.reply) xs
+all-over-fronts offer journal before after [] s = tt
+all-over-fronts offer journal before after (x ∷ xs) s = (
+  over-front offer journal (route_of offer x.asked) s.0.seen before s.0 x.call x.reply s.2 s.3,
+  all-over-fronts offer journal s.0 after xs s.4,
+)
 
 -- ---- numbers
 
 same-number : (reply fixed : Reply) (n : ℕ) → number_of fixed ≡ None → reply ≡ fixed → number_of reply ≡ Some n → ⊥
 same-number reply fixed n none is e = let same = ap number_of is in cc
 
-answer-number : (text : List ℕ) (journal : List Batch) (before after : Readings) (reply : Reply) (n : ℕ)
-    → AnswersQuery text journal before after reply → number_of reply ≡ Some n → n ≡ length journal
-answer-number text journal before after (replies.Found batches body) n a e = let number = a.0.number in cc
-answer-number text journal before after (replies.Stored batches body) n a e = absurd a
-answer-number text journal before after _ n a e = absurd (cc)
+answer-number : (book : List NamedPosition) (text : List ℕ) (journal : List Batch) (before after : Readings) (reply : Reply) (n : ℕ)
+    → AnswersQuery book text journal before after reply → number_of reply ≡ Some n → n ≡ length journal
+answer-number book text journal before after (replies.Found batches body) n a e = let number = a.0.number in cc
+answer-number book text journal before after (replies.Stored batches body) n a e = absurd a
+answer-number book text journal before after _ n a e = absurd (cc)
 
 ending-number : (ending : ImportEnding) (batches games : ℕ) (refused : List Refusal) (reply : Reply) (n : ℕ)
     → TellsEnding ending batches games refused reply → number_of reply ≡ Some n → n ≡ batches
@@ -73,15 +83,15 @@ IsUnnumbered : Route → Type 0
 IsUnnumbered (Fixed fixed) = number_of fixed ≡ None
 IsUnnumbered _ = Unit {0}
 
-route-number : (route : Route) (journal : List Batch) (before after : Moment) (call : Option ImportCall) (reply : Reply) (n : ℕ)
-    → IsUnnumbered route → Grants route journal before after call reply → number_of reply ≡ Some n → n ≡ length journal
+route-number : (offer : Offer) (route : Route) (journal : List Batch) (before after : Moment) (call : Option ImportCall) (reply : Reply)
+    (n : ℕ) → IsUnnumbered route → Grants offer route journal before after call reply → number_of reply ≡ Some n → n ≡ length journal
 unfolding IsUnnumbered
-route-number (Answer text) journal before after call reply n none a e = answer-number text journal before.readings after.readings reply n a.answers e
-route-number (PlayerAnswer text) journal before after call reply n none a e = absurd a
-route-number (Import body) journal before after call reply n none a e =
+route-number offer (Answer text) journal before after call reply n none a e = answer-number offer.book text journal before.readings after.readings reply n a.answers e
+route-number offer (PlayerAnswer text) journal before after call reply n none a e = absurd a
+route-number offer (Import body) journal before after call reply n none a e =
     ending-number a.made.ending (length journal) a.made.games a.replies.refused reply n a.replies.tells e
-route-number (Fixed fixed) journal before after call reply n none a e = absurd (same-number reply fixed n none a.is_fixed e)
-route-number Silence journal before after call reply n none a e = absurd a
+route-number offer (Fixed fixed) journal before after call reply n none a e = absurd (same-number reply fixed n none a.is_fixed e)
+route-number offer Silence journal before after call reply n none a e = absurd a
 
 ascend-less : (least more : ℕ) (ns : List ℕ) → least ≤ more → AscendFrom more ns → AscendFrom least ns
 ascend-less least more [] h a = tt
@@ -99,71 +109,86 @@ IsRead : Route → Type 0
 IsRead (Fixed fixed) = unread_one fixed ≡ 0
 IsRead _ = Unit {0}
 
-is-read-by : (path : Path) (method : Method) (query body : List ℕ) → IsRead (route_by no_offer path method query body)
+is-read-player : (players : Bool) (method : Method) (query : List ℕ) → IsRead (player_route players method query)
 unfolding IsRead
-is-read-by paths.Lichess methods.Get query body = tt
-is-read-by paths.Lichess methods.Post query body = refl
-is-read-by paths.Lichess methods.Other query body = refl
-is-read-by paths.Player method query body = refl
-is-read-by paths.Import methods.Get query body = refl
-is-read-by paths.Import methods.Post query body = tt
-is-read-by paths.Import methods.Other query body = refl
-is-read-by paths.Other method query body = refl
+is-read-player true methods.Get query = tt
+is-read-player true methods.Post query = refl
+is-read-player true methods.Other query = refl
+is-read-player false method query = refl
 
-is-read : (asked : Asked) → IsRead (route_of asked)
+is-read-by : (offer : Offer) (path : Path) (method : Method) (query body : List ℕ) → IsRead (route_by offer path method query body)
 unfolding IsRead
-is-read (asks.Wanted request) = is-read-by request.path request.method request.query request.body
-is-read (asks.Refused faults.BadRequest) = refl
-is-read (asks.Refused faults.TooLarge) = refl
-is-read (asks.Refused faults.HeadTooLarge) = refl
-is-read asks.NoMemory = refl
-is-read asks.Done = tt
-is-read asks.Cut = tt
-is-read asks.ReadFault = tt
+is-read-by offer paths.Lichess methods.Get query body = tt
+is-read-by offer paths.Lichess methods.Post query body = refl
+is-read-by offer paths.Lichess methods.Other query body = refl
+is-read-by offer paths.Player method query body = is-read-player offer.players method query
+is-read-by offer paths.Import methods.Get query body = refl
+is-read-by offer paths.Import methods.Post query body = tt
+is-read-by offer paths.Import methods.Other query body = refl
+is-read-by offer paths.Other method query body = refl
 
-unnumbered-by : (path : Path) (method : Method) (query body : List ℕ) → IsUnnumbered (route_by no_offer path method query body)
+is-read : (offer : Offer) (asked : Asked) → IsRead (route_of offer asked)
+unfolding IsRead
+is-read offer (asks.Wanted request) = is-read-by offer request.path request.method request.query request.body
+is-read offer (asks.Refused faults.BadRequest) = refl
+is-read offer (asks.Refused faults.TooLarge) = refl
+is-read offer (asks.Refused faults.HeadTooLarge) = refl
+is-read offer asks.NoMemory = refl
+is-read offer asks.Done = tt
+is-read offer asks.Cut = tt
+is-read offer asks.ReadFault = tt
+
+unnumbered-player : (players : Bool) (method : Method) (query : List ℕ) → IsUnnumbered (player_route players method query)
 unfolding IsUnnumbered
-unnumbered-by paths.Lichess methods.Get query body = tt
-unnumbered-by paths.Lichess methods.Post query body = refl
-unnumbered-by paths.Lichess methods.Other query body = refl
-unnumbered-by paths.Player method query body = refl
-unnumbered-by paths.Import methods.Get query body = refl
-unnumbered-by paths.Import methods.Post query body = tt
-unnumbered-by paths.Import methods.Other query body = refl
-unnumbered-by paths.Other method query body = refl
+unnumbered-player true methods.Get query = tt
+unnumbered-player true methods.Post query = refl
+unnumbered-player true methods.Other query = refl
+unnumbered-player false method query = refl
 
-unnumbered : (asked : Asked) → IsUnnumbered (route_of asked)
+unnumbered-by : (offer : Offer) (path : Path) (method : Method) (query body : List ℕ)
+    → IsUnnumbered (route_by offer path method query body)
 unfolding IsUnnumbered
-unnumbered (asks.Wanted request) = unnumbered-by request.path request.method request.query request.body
-unnumbered (asks.Refused faults.BadRequest) = refl
-unnumbered (asks.Refused faults.TooLarge) = refl
-unnumbered (asks.Refused faults.HeadTooLarge) = refl
-unnumbered asks.NoMemory = refl
-unnumbered asks.Done = tt
-unnumbered asks.Cut = tt
-unnumbered asks.ReadFault = tt
+unnumbered-by offer paths.Lichess methods.Get query body = tt
+unnumbered-by offer paths.Lichess methods.Post query body = refl
+unnumbered-by offer paths.Lichess methods.Other query body = refl
+unnumbered-by offer paths.Player method query body = unnumbered-player offer.players method query
+unnumbered-by offer paths.Import methods.Get query body = refl
+unnumbered-by offer paths.Import methods.Post query body = tt
+unnumbered-by offer paths.Import methods.Other query body = refl
+unnumbered-by offer paths.Other method query body = refl
 
-pub numbers-ascend : (journal : List Batch) (before after : Moment) (xs : List Exchange) → AreExchanges journal before xs after
-    → AscendFrom before.seen (numbers xs)
-numbers-ascend journal before after [] s = tt
-numbers-ascend journal before after (x ∷ xs) s =
+unnumbered : (offer : Offer) (asked : Asked) → IsUnnumbered (route_of offer asked)
+unfolding IsUnnumbered
+unnumbered offer (asks.Wanted request) = unnumbered-by offer request.path request.method request.query request.body
+unnumbered offer (asks.Refused faults.BadRequest) = refl
+unnumbered offer (asks.Refused faults.TooLarge) = refl
+unnumbered offer (asks.Refused faults.HeadTooLarge) = refl
+unnumbered offer asks.NoMemory = refl
+unnumbered offer asks.Done = tt
+unnumbered offer asks.Cut = tt
+unnumbered offer asks.ReadFault = tt
+
+pub numbers-ascend : (offer : Offer) (journal : List Batch) (before after : Moment) (xs : List Exchange)
+    → AreExchanges offer journal before xs after → AscendFrom before.seen (numbers xs)
+numbers-ascend offer journal before after [] s = tt
+numbers-ascend offer journal before after (x ∷ xs) s =
     let seen : length (take s.0.seen journal) ≡ s.0.seen = length-front s.0.seen journal s.2 in
-    let rest = numbers-ascend journal s.0 after xs s.4 in
+    let rest = numbers-ascend offer journal s.0 after xs s.4 in
     let number : (n : ℕ) → number_of x.reply ≡ Some n → n ≡ s.0.seen =
-    λ n e. route-number (route_of x.asked) (take s.0.seen journal) before s.0 x.call x.reply n (unnumbered x.asked) s.3 e ∙ seen in
+    λ n e. route-number offer (route_of offer x.asked) (take s.0.seen journal) before s.0 x.call x.reply n (unnumbered offer x.asked) s.3 e ∙ seen in
     ascend-one (number_of x.reply) before.seen s.0.seen (numbers xs) s.1 number rest
 
 -- ---- readings that were not given
 
-answer-unread : (text : List ℕ) (journal : List Batch) (before after : Readings) (reply : Reply)
-    → AnswersQuery text journal before after reply → before.unread + unread_one reply ≤ after.unread
-answer-unread text journal before after (replies.Found batches body) a =
+answer-unread : (book : List NamedPosition) (text : List ℕ) (journal : List Batch) (before after : Readings) (reply : Reply)
+    → AnswersQuery book text journal before after reply → before.unread + unread_one reply ≤ after.unread
+answer-unread book text journal before after (replies.Found batches body) a =
     let same : after.unread ≡ before.unread = ap (λ (r : Readings). r.unread) a.1 in omega (arith, same)
-answer-unread text journal before after (replies.BadParameter name) a =
+answer-unread book text journal before after (replies.BadParameter name) a =
     let same : after.unread ≡ before.unread = ap (λ (r : Readings). r.unread) a.1 in omega (arith, same)
-answer-unread text journal before after replies.NoMemory a = omega (arith, a.1)
-answer-unread text journal before after replies.Unread a = omega (arith, a.1)
-answer-unread text journal before after _ a = absurd a
+answer-unread book text journal before after replies.NoMemory a = omega (arith, a.1)
+answer-unread book text journal before after replies.Unread a = omega (arith, a.1)
+answer-unread book text journal before after _ a = absurd a
 
 ending-unread : (ending : ImportEnding) (batches games : ℕ) (refused : List Refusal) (reply : Reply)
     → TellsEnding ending batches games refused reply → unread_one reply ≡ 0
@@ -176,49 +201,63 @@ ending-unread endings.OutOfMemory batches games refused reply told = ap unread_o
 ending-unread (endings.ReadFault x y) batches games refused reply told = absurd told
 ending-unread (endings.TooMuch x) batches games refused reply told = absurd told
 
-route-unread : (route : Route) (journal : List Batch) (before after : Moment) (call : Option ImportCall) (reply : Reply)
-    → IsRead route → Grants route journal before after call reply
+route-unread : (offer : Offer) (route : Route) (journal : List Batch) (before after : Moment) (call : Option ImportCall) (reply : Reply)
+    → IsRead route → Grants offer route journal before after call reply
     → before.readings.unread + unread_one reply ≤ after.readings.unread
 unfolding IsRead
-route-unread (Answer text) journal before after call reply read a = answer-unread text journal before.readings after.readings reply a.answers
-route-unread (PlayerAnswer text) journal before after call reply read a = absurd a
-route-unread (Import body) journal before after call reply read a =
+route-unread offer (Answer text) journal before after call reply read a = answer-unread offer.book text journal before.readings after.readings reply a.answers
+route-unread offer (PlayerAnswer text) journal before after call reply read a = absurd a
+route-unread offer (Import body) journal before after call reply read a =
     let none = ending-unread a.made.ending (length journal) a.made.games a.replies.refused reply a.replies.tells in
     let same : after.readings.unread ≡ before.readings.unread = ap (λ (r : Readings). r.unread) a.readings in
     omega (arith, none, same)
-route-unread (Fixed fixed) journal before after call reply read a =
+route-unread offer (Fixed fixed) journal before after call reply read a =
     let none : unread_one reply ≡ 0 = ap unread_one a.is_fixed ∙ read in
     let same : after.readings.unread ≡ before.readings.unread = ap (λ (m : Moment). m.readings.unread) a.stays in
     omega (arith, none, same)
-route-unread Silence journal before after call reply read a = absurd a
+route-unread offer Silence journal before after call reply read a = absurd a
 
-pub unread-counted : (journal : List Batch) (before after : Moment) (xs : List Exchange) → AreExchanges journal before xs after
-    → before.readings.unread + unread_in xs ≤ after.readings.unread
-unread-counted journal before after [] s =
+pub unread-counted : (offer : Offer) (journal : List Batch) (before after : Moment) (xs : List Exchange)
+    → AreExchanges offer journal before xs after → before.readings.unread + unread_in xs ≤ after.readings.unread
+unread-counted offer journal before after [] s =
     let same : after.readings.unread ≡ before.readings.unread = ap (λ (m : Moment). m.readings.unread) s in omega (arith, same)
-unread-counted journal before after (x ∷ xs) s =
-    let first = route-unread (route_of x.asked) (take s.0.seen journal) before s.0 x.call x.reply (is-read x.asked) s.3 in
-    let later = unread-counted journal s.0 after xs s.4 in
+unread-counted offer journal before after (x ∷ xs) s =
+    let first = route-unread offer (route_of offer x.asked) (take s.0.seen journal) before s.0 x.call x.reply (is-read offer x.asked) s.3 in
+    let later = unread-counted offer journal s.0 after xs s.4 in
     omega (arith, first, later)
 
 -- ---- one answer
 
--- what two readings of a query string and two recounts are is one
+-- what two readings of a query string, two recounts and two namings are is one
 pub record AreDetermined : Type 0 where
   pub queries : (text : List ℕ) (r s : Result Query BadParameter) → QueryReads text r → QueryReads text s → r ≡ s
   pub answers : (journal : List Batch) (query : Query) (found other : Found) → IsFound journal query found
       → IsFound journal query other → found ≡ other
+  pub namings : (book : List NamedPosition) (query : Query) (played : List Move) (naming other : Naming)
+      → IsNaming book query played naming → IsNaming book query played other → naming ≡ other
 
-found-once : AreDetermined → (text : List ℕ) (journal : List Batch) (batches batches' : ℕ) (body body' : List ℕ)
-    → IsFoundIn text journal batches body → IsFoundIn text journal batches' body'
+-- the moves that are found
+moves_in : Found → List Move
+moves_in found = map (λ line. line.next) found.moves
+
+found-once : AreDetermined → (book : List NamedPosition) (text : List ℕ) (journal : List Batch) (batches batches' : ℕ)
+    (body body' : List ℕ) → IsNamedFoundIn book text journal batches body → IsNamedFoundIn book text journal batches' body'
     → replies.Found batches body ≡ replies.Found batches' body'
-found-once once text journal batches batches' body body' a b =
+unfolding moves_in
+found-once once book text journal batches batches' body body' a b =
     let queries : Ok a.query ≡ Ok b.query = once.queries text (Ok a.query) (Ok b.query) a.asks b.asks in
     let query : a.query ≡ b.query = cc in
     let others : IsFound journal a.query b.found = subst (λ (q : Query). IsFound journal q b.found) (sym query) b.is_found in
     let found : a.found ≡ b.found = once.answers journal a.query a.found b.found a.is_found others in
+    let by_query : IsNaming book a.query (moves_in b.found) b.naming =
+    subst (λ (q : Query). IsNaming book q (moves_in b.found) b.naming) (sym query) b.is_naming in
+    let by_moves : IsNaming book a.query (moves_in a.found) b.naming =
+    subst (λ (f : Found). IsNaming book a.query (moves_in f) b.naming) (sym found) by_query in
+    let naming : a.naming ≡ b.naming = once.namings book a.query (moves_in a.found) a.naming b.naming a.is_naming by_moves in
     let number : batches ≡ batches' = a.number ∙ sym b.number in
-    let bodies : body ≡ body' = a.is_body ∙ (ap answer_body found ∙ sym b.is_body) in
+    let same : named_body a.found a.naming ≡ named_body b.found b.naming =
+    ap (λ (f : Found). named_body f a.naming) found ∙ ap (λ (n : Naming). named_body b.found n) naming in
+    let bodies : body ≡ body' = a.is_body ∙ (same ∙ sym b.is_body) in
     cc
 
 -- the reply to a query string that reads so, where it is malformed
@@ -226,18 +265,56 @@ named : Result Query BadParameter → Reply
 named (Ok query) = replies.NoMemory
 named (Err bad) = replies.BadParameter bad.name
 
-pub one-answer : AreDetermined → (text : List ℕ) (journal : List Batch) (before after later : Readings) (reply other : Reply)
-    → IsTold reply → IsTold other → AnswersQuery text journal before after reply → AnswersQuery text journal before later other
-    → reply ≡ other
+pub one-answer : AreDetermined → (book : List NamedPosition) (text : List ℕ) (journal : List Batch) (before after later : Readings)
+    (reply other : Reply) → IsTold reply → IsTold other → AnswersQuery book text journal before after reply
+    → AnswersQuery book text journal before later other → reply ≡ other
 unfolding named
-one-answer once text journal before after later (replies.Found n body) (replies.Found m text') told told' a b =
-    found-once once text journal n m body text' a.0 b.0
-one-answer once text journal before after later (replies.BadParameter name) (replies.BadParameter other) told told' a b =
+one-answer once book text journal before after later (replies.Found n body) (replies.Found m text') told told' a b =
+    found-once once book text journal n m body text' a.0 b.0
+one-answer once book text journal before after later (replies.BadParameter name) (replies.BadParameter other) told told' a b =
     ap named (once.queries text (Err (record { name = name })) (Err (record { name = other })) a.0 b.0)
-one-answer once text journal before after later (replies.Found n body) (replies.BadParameter other) told told' a b =
+one-answer once book text journal before after later (replies.Found n body) (replies.BadParameter other) told told' a b =
     let same : Ok a.0.query ≡ Err _ = once.queries text _ _ a.0.asks b.0 in absurd (cc)
-one-answer once text journal before after later (replies.BadParameter name) (replies.Found m body) told told' a b =
+one-answer once book text journal before after later (replies.BadParameter name) (replies.Found m body) told told' a b =
     let same : Ok b.0.query ≡ Err _ = once.queries text _ _ b.0.asks a.0 in absurd (cc)
-one-answer once text journal before after later (replies.Found n body) _ told told' a b = absurd told'
-one-answer once text journal before after later (replies.BadParameter name) _ told told' a b = absurd told'
-one-answer once text journal before after later _ other told told' a b = absurd told
+one-answer once book text journal before after later (replies.Found n body) _ told told' a b = absurd told'
+one-answer once book text journal before after later (replies.BadParameter name) _ told told' a b = absurd told'
+one-answer once book text journal before after later _ other told told' a b = absurd told
+
+-- ---- a book without a line
+
+-- by it no opening is named
+none-behind : (at : Position) (lines : List MoveLine)
+    → AllZip (λ m opening. OpeningOf [] (after at m) opening) (map (λ line. line.next) lines) (unnamed lines).moves
+none-behind at [] = tt
+none-behind at (line ∷ lines) = (refl, none-behind at lines)
+
+none-on : (positions : List Position) → LastOpening [] positions None
+none-on [] = refl
+none-on (p ∷ positions) = (None, None, refl, none-on positions, refl)
+
+pub named-plainly : (text : List ℕ) (journal : List Batch) (batches : ℕ) (body : List ℕ) → IsFoundIn text journal batches body
+    → IsNamedFoundIn [] text journal batches body
+named-plainly text journal batches body a = record {
+  number = a.number;
+  query = a.query;
+  asks = a.asks;
+  found = a.found;
+  is_found = a.is_found;
+  naming = unnamed a.found.moves;
+  is_naming = record { whole = none-on (positions_on a.query.root a.query.plays); moves = none-behind a.query.at a.found.moves };
+  is_body = a.is_body;
+}
+
+pub plainly-named : ((query : Query) (found : Found) (naming : Naming)
+    → IsNaming [] query (map (λ line. line.next) found.moves) naming → named_body found naming ≡ answer_body found)
+    → (text : List ℕ) (journal : List Batch) (batches : ℕ) (body : List ℕ) → IsNamedFoundIn [] text journal batches body
+    → IsFoundIn text journal batches body
+plainly-named nothing text journal batches body a = record {
+  number = a.number;
+  query = a.query;
+  asks = a.asks;
+  found = a.found;
+  is_found = a.is_found;
+  is_body = a.is_body ∙ nothing a.query a.found a.naming a.is_naming;
+}

@@ -8,3 +8,4 @@ pub mod LawLemmas
 pub mod AskedLemmas
 pub mod ReplyLemmas
 pub mod FaultlessLemmas
+pub mod KeptLemmas

@@ -8,13 +8,13 @@ use Rattle.explorer_model.specs.declared.wire.Path.TheVariants as paths
 use Rattle.explorer_model.specs.declared.wire.Reply.{Reply}
 use Rattle.explorer_model.specs.declared.wire.Request.{Request}
 use Rattle.session.specs.Exchanges.{Backend, Grants, GrantsImport, moment_of}
-use Rattle.session.specs.Replies.{no_offer, route_by}
+use Rattle.session.specs.Replies.{Offer, route_by}
 use Rattle.session.specs.Steps.{ImportReplied, Replied}
 
-pub replied-import : (request : Request) (before after : Backend) (reply : Reply) → request.path ≡ paths.Import
+pub replied-import : (offer : Offer) (request : Request) (before after : Backend) (reply : Reply) → request.path ≡ paths.Import
     → request.method ≡ methods.Post → ImportReplied request.body before reply after
-    → Replied (Wanted request) before reply after
-replied-import request before after reply path method r =
+    → Replied offer (Wanted request) before reply after
+replied-import offer request before after reply path method r =
     let grants : GrantsImport request.body after.pass.seen (moment_of before) (moment_of after) (Some r.call) reply = record {
       made = r.call;
       called = refl;
@@ -24,7 +24,7 @@ replied-import request before after reply path method r =
       readings = r.readings;
     } in
     let Granted : Path → Method → Type 0 =
-    λ p m. Grants (route_by no_offer p m request.query request.body) after.pass.seen (moment_of before) (moment_of after) (Some r.call) reply in
+    λ p m. Grants offer (route_by offer p m request.query request.body) after.pass.seen (moment_of before) (moment_of after) (Some r.call) reply in
     record {
       call = Some r.call;
       grew = r.grew;

@@ -4,12 +4,13 @@ use Rattle.std.specs.List.{flat_map}
 use Rattle.explorer_model.specs.declared.archive.Batch.{Batch}
 use Rattle.explorer_model.specs.declared.wire.Asked.{Asked}
 use Rattle.explorer_model.specs.declared.wire.Reply.{Reply}
+use Rattle.explorer_model.specs.Openings.{NamedPosition}
 use Rattle.explorer_model.specs.Replies.{reply_text}
 use Rattle.published_index.specs.States.{Watching}
 use Rattle.ingest_desk.specs.declared.report.ImportCall.{ImportCall}
 use Rattle.ingest_desk.specs.Importers.{CountsRose, ImportCounts, ImporterState}
 use Rattle.session.specs.Imports.{RepliesTo}
-use Rattle.session.specs.Replies.{AnswersQuery, Readings, Route, Answer, PlayerAnswer, Import, Fixed, Silence, closes, readings_of, route_of}
+use Rattle.session.specs.Replies.{AnswersQuery, Offer, Readings, Route, Answer, PlayerAnswer, Import, Fixed, Silence, closes, readings_of, route_of}
 
 -- what stays from one connection to the next: the pass, and the importer
 pub record Backend : Type 0 where
@@ -40,10 +41,10 @@ pub record Exchange : Type 0 where
 
 -- ---- one exchange
 
--- the reply answers the query string over the journal, and nothing is imported
-pub record GrantsAnswer (text : List ℕ) (journal : List Batch) (before after : Moment)
-    (call : Option ImportCall) (reply : Reply) : Type 0 where
-  pub answers : AnswersQuery text journal before.readings after.readings reply
+-- the reply answers the query string over the journal by the book, and nothing is imported
+pub record GrantsAnswer (book : List NamedPosition) (text : List ℕ) (journal : List Batch)
+    (before after : Moment) (call : Option ImportCall) (reply : Reply) : Type 0 where
+  pub answers : AnswersQuery book text journal before.readings after.readings reply
   pub unmoved : after.readings.entered ≡ before.readings.entered → after.seen ≡ before.seen
   pub uncalled : call ≡ None
   pub counts : after.counts ≡ before.counts
@@ -65,27 +66,29 @@ pub record GrantsFixed (fixed : Reply) (before after : Moment) (call : Option Im
   pub uncalled : call ≡ None
   pub stays : after ≡ before
 
--- The reply is one to what is asked for, over the journal that the pass has seen then. A player's
--- games are not offered, so that no reply is granted to their route.
-abbrev pub Grants : Route → List Batch → Moment → Moment → Option ImportCall → Reply → Type 0
-Grants (Answer text) journal before after call reply =
-    GrantsAnswer text journal before after call reply
-Grants (PlayerAnswer text) journal before after call reply = ⊥
-Grants (Import body) journal before after call reply =
+-- The reply is one to what is asked for, over the journal that the pass has seen then, by what is
+-- offered. There are no answers over a player's games yet, so that none is granted to their route.
+abbrev pub Grants : Offer → Route → List Batch → Moment → Moment → Option ImportCall → Reply
+    → Type 0
+Grants offer (Answer text) journal before after call reply =
+    GrantsAnswer offer.book text journal before after call reply
+Grants offer (PlayerAnswer text) journal before after call reply = ⊥
+Grants offer (Import body) journal before after call reply =
     GrantsImport body journal before after call reply
-Grants (Fixed fixed) journal before after call reply = GrantsFixed fixed before after call reply
-Grants Silence journal before after call reply = ⊥
+Grants offer (Fixed fixed) journal before after call reply =
+    GrantsFixed fixed before after call reply
+Grants offer Silence journal before after call reply = ⊥
 
 -- ---- exchanges
 
 -- Each exchange leads from one moment to the next. What the pass has seen by then is a front of the
 -- journal, no shorter than before, and the reply is over that front.
-abbrev pub AreExchanges : List Batch → Moment → List Exchange → Moment → Type 0
-AreExchanges journal before [] after = after ≡ before
-AreExchanges journal before (x ∷ xs) after =
+abbrev pub AreExchanges : Offer → List Batch → Moment → List Exchange → Moment → Type 0
+AreExchanges offer journal before [] after = after ≡ before
+AreExchanges offer journal before (x ∷ xs) after =
     (middle : Moment) × (before.seen ≤ middle.seen) × (middle.seen ≤ length journal)
-    × Grants (route_of x.asked) (take middle.seen journal) before middle x.call x.reply
-    × AreExchanges journal middle xs after
+    × Grants offer (route_of offer x.asked) (take middle.seen journal) before middle x.call x.reply
+    × AreExchanges offer journal middle xs after
 
 abbrev pub asked_in : List Exchange → List Asked
 asked_in exchanges = map (λ x. x.asked) exchanges

@@ -6,7 +6,8 @@ use Rattle.explorer_model.specs.declared.wire.Asked.TheVariants.{NoMemory, Done,
 use Rattle.explorer_model.specs.declared.wire.Reply.{Reply}
 use Rattle.explorer_model.specs.declared.wire.Reply.TheVariants as replies
 use Rattle.explorer_model.specs.declared.fault.Refusal.{Refusal}
-use Rattle.explorer_model.specs.Replies.{IsFoundIn, stored_body}
+use Rattle.explorer_model.specs.Openings.{NamedPosition}
+use Rattle.explorer_model.specs.Replies.{IsNamedFoundIn, stored_body}
 use Rattle.explorer_model.specs.Timeline.{IsPrefix}
 use Rattle.explorer_model.specs.Wire.{IsAsked}
 use Rattle.outside.specs.Stream.{Rises}
@@ -31,11 +32,12 @@ abbrev pub AscendFrom : ℕ → List ℕ → Type 0
 AscendFrom least [] = ⊤
 AscendFrom least (n ∷ ns) = (least ≤ n) × AscendFrom n ns
 
--- an answer is over the first batches of the journal, as many as its number says
-abbrev pub IsOverFront : List Batch → Route → Reply → Type 0
-IsOverFront journal (Answer text) (replies.Found batches body) =
-    (batches ≤ length journal) × IsFoundIn text (take batches journal) batches body
-IsOverFront journal _ _ = ⊤
+-- an answer is over the first batches of the journal, as many as its number says, and named by the
+-- book
+abbrev pub IsOverFront : List NamedPosition → List Batch → Route → Reply → Type 0
+IsOverFront book journal (Answer text) (replies.Found batches body) =
+    (batches ≤ length journal) × IsNamedFoundIn book text (take batches journal) batches body
+IsOverFront book journal _ _ = ⊤
 
 -- one reply says that the journal could not be read, or none
 abbrev pub unread_one : Reply → ℕ
@@ -76,12 +78,13 @@ IsAllAnswered ends.WriteFault taken exchanges =
 -- ---- what is replied where nothing fails
 
 -- The query is answered, or memory was wanting, or a reading was not given, which the pass counts.
-abbrev pub IsAnswered : List ℕ → List Batch → Readings → Readings → Reply → Type 0
-IsAnswered text journal before after (replies.Found batches body) =
-    IsFoundIn text journal batches body
-IsAnswered text journal before after replies.NoMemory = ⊤
-IsAnswered text journal before after replies.Unread = before.unread < after.unread
-IsAnswered text journal before after _ = ⊥
+abbrev pub IsAnswered : List NamedPosition → List ℕ → List Batch → Readings → Readings → Reply
+    → Type 0
+IsAnswered book text journal before after (replies.Found batches body) =
+    IsNamedFoundIn book text journal batches body
+IsAnswered book text journal before after replies.NoMemory = ⊤
+IsAnswered book text journal before after replies.Unread = before.unread < after.unread
+IsAnswered book text journal before after _ = ⊥
 
 -- no count of the importer rose
 pub record NoneRose (before after : ImportCounts) : Type 0 where

@@ -1,3 +1,4 @@
+pub mod Naming
 pub mod Replies
 pub mod Imports
 pub mod Exchanges

@@ -1,5 +1,5 @@
 -- Statement: what is replied to what a connection asks.
-use Rattle.std.specs.Prelude.{◌≡◌, ◌⊎◌, ◌+◌, ◌<◌, ℕ, Bool, true, false, List, Err}
+use Rattle.std.specs.Prelude.{◌≡◌, ◌⊎◌, ◌+◌, ◌<◌, ℕ, Bool, true, false, List, [], Err}
 use Rattle.explorer_model.specs.declared.archive.Batch.{Batch}
 use Rattle.explorer_model.specs.declared.wire.Asked.{Asked}
 use Rattle.explorer_model.specs.declared.wire.Asked.TheVariants as asks
@@ -11,19 +11,27 @@ use Rattle.explorer_model.specs.declared.wire.Reply.{Reply}
 use Rattle.explorer_model.specs.declared.wire.Reply.TheVariants as replies
 use Rattle.explorer_model.specs.declared.wire.RequestFault.{RequestFault}
 use Rattle.explorer_model.specs.declared.wire.RequestFault.TheVariants as faults
+use Rattle.explorer_model.specs.Openings.{NamedPosition}
 use Rattle.explorer_model.specs.Query.{QueryReads}
-use Rattle.explorer_model.specs.Replies.{IsFoundIn}
+use Rattle.explorer_model.specs.Replies.{IsNamedFoundIn}
 use Rattle.published_index.specs.States.{Watching}
 
 -- ---- what is asked for
 
 -- what is served beside answers over all games and imports
 pub record Offer : Type 0 where
+  -- the openings by which answers are named
+  pub book : List NamedPosition
   -- answers over a player's games
   pub players : Bool
 
+-- answers are named by the book, and no player's games are offered
+abbrev pub by_book : List NamedPosition → Offer
+by_book book = record { book = book; players = false }
+
+-- no opening is named
 abbrev pub no_offer : Offer
-no_offer = record { players = false }
+no_offer = by_book []
 
 -- what a connection asks for
 pub data Route : Type 0 where
@@ -58,15 +66,14 @@ refusal_reply faults.BadRequest = replies.BadRequest
 refusal_reply faults.TooLarge = replies.TooLarge
 refusal_reply faults.HeadTooLarge = replies.HeadTooLarge
 
--- nothing but answers over all games and imports is served
-abbrev pub route_of : Asked → Route
-route_of (asks.Wanted request) =
-    route_by no_offer request.path request.method request.query request.body
-route_of (asks.Refused fault) = Fixed (refusal_reply fault)
-route_of asks.NoMemory = Fixed replies.NoMemory
-route_of asks.Done = Silence
-route_of asks.Cut = Silence
-route_of asks.ReadFault = Silence
+abbrev pub route_of : Offer → Asked → Route
+route_of offer (asks.Wanted request) =
+    route_by offer request.path request.method request.query request.body
+route_of offer (asks.Refused fault) = Fixed (refusal_reply fault)
+route_of offer asks.NoMemory = Fixed replies.NoMemory
+route_of offer asks.Done = Silence
+route_of offer asks.Cut = Silence
+route_of offer asks.ReadFault = Silence
 
 -- the connection is closed behind the reply
 abbrev pub closes : Asked → Bool
@@ -92,15 +99,17 @@ abbrev pub MayEnter : Readings → Readings → Type 0
 MayEnter before after =
     (after.entered ≡ before.entered) ⊎ (after.entered ≡ before.entered + 1)
 
--- The reply answers the query string over the journal that the pass has seen then, or names its
--- first malformed parameter. Want of memory is free, and a reading that was not given is counted.
-abbrev pub AnswersQuery : List ℕ → List Batch → Readings → Readings → Reply → Type 0
-AnswersQuery text journal before after (replies.Found batches body) =
-    IsFoundIn text journal batches body × Enters before after
-AnswersQuery text journal before after (replies.BadParameter name) =
+-- The reply answers the query string over the journal that the pass has seen then, with the
+-- openings that the book names for it, or names its first malformed parameter. Want of memory is
+-- free, and a reading that was not given is counted.
+abbrev pub AnswersQuery : List NamedPosition → List ℕ → List Batch → Readings → Readings → Reply
+    → Type 0
+AnswersQuery book text journal before after (replies.Found batches body) =
+    IsNamedFoundIn book text journal batches body × Enters before after
+AnswersQuery book text journal before after (replies.BadParameter name) =
     QueryReads text (Err (record { name = name })) × (after ≡ before)
-AnswersQuery text journal before after replies.NoMemory =
+AnswersQuery book text journal before after replies.NoMemory =
     MayEnter before after × (after.unread ≡ before.unread)
-AnswersQuery text journal before after replies.Unread =
+AnswersQuery book text journal before after replies.Unread =
     (after.entered ≡ before.entered) × (before.unread < after.unread)
-AnswersQuery text journal before after _ = ⊥
+AnswersQuery book text journal before after _ = ⊥

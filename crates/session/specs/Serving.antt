@@ -11,7 +11,7 @@ use Rattle.ingest_desk.specs.Importers.{TellsAll}
 use Rattle.session.specs.declared.serving.Ended.{Ended}
 use Rattle.session.specs.declared.serving.Ended.TheVariants as ends
 use Rattle.session.specs.Exchanges.{Backend, Exchange, AreExchanges, asked_in, calls_in, moment_of, reply_texts}
-use Rattle.session.specs.Replies.{closes}
+use Rattle.session.specs.Replies.{Offer, closes}
 
 -- ---- what is asked
 
@@ -63,9 +63,10 @@ abbrev pub Wrote : Ended → Option (List ℕ) → Option (List ℕ) → List �
 Wrote ends.WriteFault before after text = AppendsFront before after text
 Wrote _ before after text = Appends before after text
 
--- A connection was served, and ended so. The journal is what the pass has seen in the end.
-pub record Served (link : Stream) (before : Backend) (ended : Ended) (link' : Stream)
-    (after : Backend) : Type 0 where
+-- A connection was served with what is offered, and ended so. The journal is what the pass has seen
+-- in the end.
+pub record Served (offer : Offer) (link : Stream) (before : Backend) (ended : Ended)
+    (link' : Stream) (after : Backend) : Type 0 where
   pub exchanges : List Exchange
   -- each request or refusal in the bytes taken from the link has its reply, in order from the first
   pub taken : List ℕ
@@ -75,7 +76,7 @@ pub record Served (link : Stream) (before : Backend) (ended : Ended) (link' : St
   pub asked : AsksIn request_limit taken (asked_in exchanges) rest
   -- the replies are over fronts of the journal, none shorter than the one before
   pub grew : IsPrefix before.pass.seen after.pass.seen
-  pub served : AreExchanges after.pass.seen (moment_of before) exchanges (moment_of after)
+  pub served : AreExchanges offer after.pass.seen (moment_of before) exchanges (moment_of after)
   -- what is written is the replies
   pub wrote : Wrote ended link.written link'.written (reply_texts exchanges)
   -- the importer is called for the imports that were asked for, and for nothing else

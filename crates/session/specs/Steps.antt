@@ -21,7 +21,7 @@ use Rattle.ingest_desk.specs.Importers.{CountsRose, ImporterState, TellsAll, cal
 use Rattle.ingest_desk.specs.Reporting.{Reports}
 use Rattle.session.specs.Exchanges.{Backend, Exchange, Grants, AreExchanges, asked_in, calls_in, moment_of, reply_texts}
 use Rattle.session.specs.Imports.{RepliesTo}
-use Rattle.session.specs.Replies.{readings_of, route_of}
+use Rattle.session.specs.Replies.{Offer, readings_of, route_of}
 use Rattle.session.specs.Serving.{AreOpen, AsksIn}
 
 -- ---- the reply to an import
@@ -75,20 +75,20 @@ IsReplied asks.ReadFault = ⊥
 IsReplied _ = ⊤
 
 -- it gets the reply
-pub record Replied (asked : Asked) (before : Backend) (reply : Reply) (after : Backend)
-    : Type 0 where
+pub record Replied (offer : Offer) (asked : Asked) (before : Backend) (reply : Reply)
+    (after : Backend) : Type 0 where
   pub call : Option ImportCall
   pub grew : IsPrefix before.pass.seen after.pass.seen
-  pub grants : Grants (route_of asked) after.pass.seen (moment_of before) (moment_of after)
-      call reply
+  pub grants : Grants offer (route_of offer asked) after.pass.seen (moment_of before)
+      (moment_of after) call reply
   pub called : TellsAll before.importer.calls after.importer.calls
       (calls_in (record { asked = asked; reply = reply; call = call } ∷ []))
 
 -- ---- a connection so far
 
 -- a connection is open, and this is in its wire
-pub record IsServing (link : Stream) (before : Backend) (wire : Buffer) (link' : Stream)
-    (after : Backend) : Type 0 where
+pub record IsServing (offer : Offer) (link : Stream) (before : Backend) (wire : Buffer)
+    (link' : Stream) (after : Backend) : Type 0 where
   pub exchanges : List Exchange
   pub taken : List ℕ
   pub took : Consumes link.left link'.left taken
@@ -97,7 +97,7 @@ pub record IsServing (link : Stream) (before : Backend) (wire : Buffer) (link' :
   pub open_still : AreOpen exchanges
   pub count : wire.more + length exchanges ≡ request_limit
   pub grew : IsPrefix before.pass.seen after.pass.seen
-  pub served : AreExchanges after.pass.seen (moment_of before) exchanges (moment_of after)
+  pub served : AreExchanges offer after.pass.seen (moment_of before) exchanges (moment_of after)
   pub wrote : Appends link.written link'.written (reply_texts exchanges)
   pub called : TellsAll before.importer.calls after.importer.calls (calls_in exchanges)
   pub read_faults : link'.read_faults ≡ link.read_faults

@@ -1,54 +1,61 @@
 //! Answers to queries.
-ghost use Rattle.std.specs.Prelude.{◌≡◌, ◌<◌, ◌≤◌, IfOk, Ok, length};
-ghost use Rattle.explorer_model.specs.Answer.{answer_body};
+ghost use Rattle.std.specs.Prelude.{◌≡◌, ◌<◌, ◌≤◌, [], IfOk, Ok, length};
 ghost use Rattle.explorer_model.specs.Chess.{IsValid};
-ghost use Rattle.explorer_model.specs.Finds.{IsFound};
 ghost use Rattle.explorer_model.specs.Query.{QueryReads};
-ghost use Rattle.explorer_model.specs.Replies.{IsFoundIn};
+ghost use Rattle.explorer_model.specs.Replies.{IsNamedFoundIn};
 ghost use Rattle.explorer_model.specs.Timeline.{IsPrefix};
-ghost use Rattle.explorer_model.specs.declared.answer.Found.{Found as AFound};
 ghost use Rattle.published_index.specs.Cover.{journal_of};
+ghost use Rattle.session.specs.Naming.{IsNamedBody, IsPlayed};
 ghost use Rattle.session.specs.Replies.{AnswersQuery, readings_of};
 
 use crate::kept_answers::Answers;
-use answer_json::answer::body;
+use answer_json::answer::named_body;
 use answer_json::laws::what_is_found_is_plain;
 use explorer_model::archive::Bytes;
 use explorer_model::fault::Stop;
 use explorer_model::query::Query;
 use explorer_model::wire::Reply;
+use lookup::laws::found_moves_are_legal;
 use lookup::look;
+use opening_names::{Book, naming};
 use published_index::{EnterFault, Index, Pass, Snapshot};
+use query_params::laws::queries_play_legal_moves;
 use query_params::query;
 use segment_blocks::Steps;
 use std::alloc::{AllocError, Global};
 use std::marker::Brand;
 use std::sync::ledger::{Blank, Ledger};
 
-/// The answer to a query string, over the journal that the pass sees when it enters. It waits for
-/// nobody, and takes memory for the query, the snapshot's list, the rows and the body alone.
+/// The answer to a query string, over the journal that the pass sees when it enters, where no opening
+/// is named. It waits for nobody, and takes memory for the query, the snapshot's list, the rows and
+/// the body alone.
 pub fn answer<J: Index>(alloc: Global, pass: &mut Pass<J>, text: &[u8]) -> Reply
-    ensures answers { AnswersQuery text.now pass.new.seen
+    ensures answers { AnswersQuery [] text.now pass.new.seen
         (readings_of pass.old) (readings_of pass.new) result }
     ensures grew { IsPrefix pass.old.seen pass.new.seen }
     ensures unmoved { pass.new.entered ≡ pass.old.entered → pass.new.seen ≡ pass.old.seen }
 {
-    answer_by(alloc, pass, &mut Answers::none(), text)
+    let book = Book::empty(alloc);
+    answer_by(alloc, pass, &mut Answers::none(&book), text)
 }
 
-/// The same, with answers that are kept: one over that journal is given again, and a new one is kept.
-/// A malformed query is told without entering, and each answer enters once, kept or not.
+/// The same, with answers that are kept, and named by their book: one over that journal is given
+/// again, and a new one is kept. A malformed query is told without entering, and each answer enters
+/// once, kept or not.
 pub fn answer_by<J: Index>(
     alloc: Global,
     pass: &mut Pass<J>,
-    kept: &mut Answers<J>,
+    kept: &mut Answers<'_, J>,
     text: &[u8],
 ) -> Reply
-    ensures answers { AnswersQuery text.now pass.new.seen
+    ensures answers { AnswersQuery kept.old text.now pass.new.seen
         (readings_of pass.old) (readings_of pass.new) result }
     ensures grew { IsPrefix pass.old.seen pass.new.seen }
     ensures unmoved { pass.new.entered ≡ pass.old.entered → pass.new.seen ≡ pass.old.seen }
+    ensures book { kept.new ≡ kept.old }
 {
+    // law: a query plays legal moves, which lead to the position asked for
+    queries_play_legal_moves();
     let query = match query(alloc, text) {
         Ok(query) => query,
         Err(Stop::Fault(fault)) => return Reply::BadParameter { name: fault.name },
@@ -73,58 +80,70 @@ pub fn answer_by<J: Index>(
 fn body_by<J: Index>(
     alloc: Global,
     pass: &Pass<J>,
-    kept: &mut Answers<J>,
+    kept: &mut Answers<'_, J>,
     snapshot: &Snapshot,
     query: &Query,
     text: &[u8],
 ) -> Result<Vec<u8>, AllocError>
     requires reads { QueryReads text.now (Ok query.now) }
     requires seen { pass.now.seen ≡ journal_of snapshot.now }
+    requires played { IsPlayed query.now }
     requires valid { IsValid query.now.at }
     requires top { query.now.top ≤ 4 }
     requires recent { query.now.recent ≤ 4 }
-    ensures { IfOk result (λ body.
-        IsFoundIn text.now pass.now.seen (length pass.now.seen) body.items) }
+    ensures found { IfOk result (λ body.
+        IsNamedFoundIn kept.old text.now pass.now.seen (length pass.now.seen) body.items) }
+    ensures book { kept.new ≡ kept.old }
 {
     if let Some(body) = kept.find(alloc, pass, text) {
         return Ok(body);
     }
-    let body = body_for(alloc, snapshot, query)?;
+    let body = body_for(alloc, kept.book(), snapshot, query)?;
     kept.keep(alloc, pass, text, body.as_slice());
     Ok(body)
 }
 
-/// The body that answers the query over the snapshot.
-fn body_for(alloc: Global, snapshot: &Snapshot, query: &Query) -> Result<Vec<u8>, AllocError>
+/// The body that answers the query over the snapshot, with the openings that the book names.
+fn body_for(
+    alloc: Global,
+    book: &Book,
+    snapshot: &Snapshot,
+    query: &Query,
+) -> Result<Vec<u8>, AllocError>
+    requires played { IsPlayed query.now }
     requires valid { IsValid query.now.at }
     requires top { query.now.top ≤ 4 }
     requires recent { query.now.recent ≤ 4 }
-    ensures { IfOk result (λ body. (found : AFound)
-        × IsFound (journal_of snapshot.now) query.now found × (body.items ≡ answer_body found)) }
+    ensures { IfOk result (λ body.
+        IsNamedBody book.now query.now (journal_of snapshot.now) body.items) }
 {
-    body_uncounted::<Brand>(alloc, snapshot, query, Blank::new(1))
+    body_uncounted::<Brand>(alloc, book, snapshot, query, Blank::new(1))
 }
 
 /// The same, where no steps are counted.
 fn body_uncounted<L: Ledger>(
     alloc: Global,
+    book: &Book,
     snapshot: &Snapshot,
     query: &Query,
     blank: Blank,
 ) -> Result<Vec<u8>, AllocError>
+    requires played { IsPlayed query.now }
     requires valid { IsValid query.now.at }
     requires top { query.now.top ≤ 4 }
     requires recent { query.now.recent ≤ 4 }
     requires name { blank.name ≡ L.name }
     requires parts { blank.parts ≡ L.parts }
     requires some { 0 < L.parts }
-    ensures { IfOk result (λ body. (found : AFound)
-        × IsFound (journal_of snapshot.now) query.now found × (body.items ≡ answer_body found)) }
+    ensures { IfOk result (λ body.
+        IsNamedBody book.now query.now (journal_of snapshot.now) body.items) }
 {
-    // law: what is found is written as plain JSON
+    // laws: what is found is written as plain JSON, and its moves are legal
     what_is_found_is_plain();
+    found_moves_are_legal();
     let mut steps = Steps::<L>::new(blank);
     let found = look(alloc, snapshot, query, &mut steps)?;
-    let text = body(alloc, &found)?;
+    let names = naming(alloc, book, query, &found)?;
+    let text = named_body(alloc, &found, &names)?;
     Ok(text)
 }

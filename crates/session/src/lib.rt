@@ -13,4 +13,4 @@ pub use answering::{answer, answer_by};
 pub use doors::{DoorEnd, serve_door};
 pub use importing::{import, learn_notes, learn_receipts};
 pub use kept_answers::Answers;
-pub use serving::{Ended, serve_connection};
+pub use serving::{Ended, serve_connection, serve_named};

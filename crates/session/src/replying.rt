@@ -3,7 +3,7 @@ ghost use Rattle.std.specs.Prelude.{◌≡◌, ◌≤◌, length};
 ghost use Rattle.explorer_model.specs.Wire.{body_limit};
 ghost use Rattle.explorer_model.specs.declared.wire.Asked.TheVariants.{Wanted};
 ghost use Rattle.session.specs.Exchanges.{backend};
-ghost use Rattle.session.specs.Replies.{closes, refusal_reply};
+ghost use Rattle.session.specs.Replies.{by_book, closes, refusal_reply};
 ghost use Rattle.session.specs.Steps.{IsReplied, Replied};
 
 use crate::answering::answer_by;
@@ -26,18 +26,20 @@ pub fn closes(asked: &Asked) -> bool
     }
 }
 
-/// The reply to what is asked.
+/// The reply to what is asked, with the openings that the book of the kept answers names.
 pub fn reply_to<J: Index, I: Importer<J>, R: Wait + Threads + Sync>(
     rt: &R,
     alloc: Global,
     asked: &Asked,
     pass: &mut Pass<J>,
     importer: &mut I,
-    kept: &mut Answers<J>,
+    kept: &mut Answers<'_, J>,
 ) -> Reply
     requires { IsReplied asked.now }
-    ensures { Replied asked.now (backend pass.old (I.importer importer.old)) result
+    ensures replied { Replied (by_book kept.old) asked.now
+        (backend pass.old (I.importer importer.old)) result
         (backend pass.new (I.importer importer.new)) }
+    ensures book { kept.new ≡ kept.old }
 {
     match asked {
         Asked::Wanted(request) => reply_to_request(rt, alloc, request, pass, importer, kept),
@@ -63,11 +65,13 @@ fn reply_to_request<J: Index, I: Importer<J>, R: Wait + Threads + Sync>(
     request: &Request,
     pass: &mut Pass<J>,
     importer: &mut I,
-    kept: &mut Answers<J>,
+    kept: &mut Answers<'_, J>,
 ) -> Reply
     requires { length request.now.body ≤ body_limit }
-    ensures { Replied (Wanted request.now) (backend pass.old (I.importer importer.old)) result
+    ensures replied { Replied (by_book kept.old) (Wanted request.now)
+        (backend pass.old (I.importer importer.old)) result
         (backend pass.new (I.importer importer.new)) }
+    ensures book { kept.new ≡ kept.old }
 {
     match request.path {
         Path::Lichess => match request.method {

@@ -1,7 +1,8 @@
 //! Connections.
-ghost use Rattle.std.specs.Prelude.{◌<◌, IfNone, IfSome};
+ghost use Rattle.std.specs.Prelude.{◌≡◌, ◌<◌, IfNone, IfSome};
 ghost use Rattle.outside.specs.Stream.{Stream};
 ghost use Rattle.session.specs.Exchanges.{Backend, backend};
+ghost use Rattle.session.specs.Replies.{by_book, no_offer};
 ghost use Rattle.session.specs.Serving.{Served};
 ghost use Rattle.session.specs.Steps.{IsServing};
 
@@ -10,6 +11,7 @@ use crate::replying::{closes, reply_to};
 use explorer_model::wire::Asked;
 use http_wire::Wire;
 use ingest_desk::Importer;
+use opening_names::Book;
 use outside::Link;
 use published_index::{Index, Pass};
 use std::alloc::Global;
@@ -28,7 +30,7 @@ pub enum Ended {
 }
 
 /// Serves a connection to its end: at most 1,000 requests, each replied to before the next is read.
-/// A read and an import may wait.
+/// No opening is named. A read and an import may wait.
 pub fn serve_connection<J: Index, L: Link, I: Importer<J>, R: Wait + Threads + Sync>(
     rt: &R,
     alloc: Global,
@@ -36,23 +38,42 @@ pub fn serve_connection<J: Index, L: Link, I: Importer<J>, R: Wait + Threads + S
     pass: &mut Pass<J>,
     importer: &mut I,
 ) -> Ended
-    ensures { Served (L.source link.old) (backend pass.old (I.importer importer.old)) result
-        (L.source link.new) (backend pass.new (I.importer importer.new)) }
+    ensures { Served no_offer (L.source link.old) (backend pass.old (I.importer importer.old))
+        result (L.source link.new) (backend pass.new (I.importer importer.new)) }
 {
-    serve_by(rt, alloc, link, pass, importer, &mut Answers::none())
+    let book = Book::empty(alloc);
+    serve_named(rt, alloc, link, pass, importer, &book)
 }
 
-/// The same, with answers that are kept.
+/// The same, where answers have the openings that the book names.
+pub fn serve_named<J: Index, L: Link, I: Importer<J>, R: Wait + Threads + Sync>(
+    rt: &R,
+    alloc: Global,
+    link: &mut L,
+    pass: &mut Pass<J>,
+    importer: &mut I,
+    book: &Book,
+) -> Ended
+    ensures { Served (by_book book.now) (L.source link.old)
+        (backend pass.old (I.importer importer.old)) result
+        (L.source link.new) (backend pass.new (I.importer importer.new)) }
+{
+    serve_by(rt, alloc, link, pass, importer, &mut Answers::none(book))
+}
+
+/// The same, with answers that are kept, and named by their book.
 pub fn serve_by<J: Index, L: Link, I: Importer<J>, R: Wait + Threads + Sync>(
     rt: &R,
     alloc: Global,
     link: &mut L,
     pass: &mut Pass<J>,
     importer: &mut I,
-    kept: &mut Answers<J>,
+    kept: &mut Answers<'_, J>,
 ) -> Ended
-    ensures { Served (L.source link.old) (backend pass.old (I.importer importer.old)) result
+    ensures served { Served (by_book kept.old) (L.source link.old)
+        (backend pass.old (I.importer importer.old)) result
         (L.source link.new) (backend pass.new (I.importer importer.new)) }
+    ensures book { kept.new ≡ kept.old }
 {
     let mut wire = Wire::new();
     'serving: loop {
@@ -70,21 +91,22 @@ fn serve_one<J: Index, L: Link, I: Importer<J>, R: Wait + Threads + Sync>(
     link: &mut L,
     pass: &mut Pass<J>,
     importer: &mut I,
-    kept: &mut Answers<J>,
+    kept: &mut Answers<'_, J>,
 ) -> Option<Ended>
     requires { 0 < wire.old.more }
     ensures serving { (before : Stream) (start : Backend)
-        → IsServing before start wire.old (L.source link.old)
+        → IsServing (by_book kept.old) before start wire.old (L.source link.old)
         (backend pass.old (I.importer importer.old))
-        → IfNone result (IsServing before start wire.new (L.source link.new)
+        → IfNone result (IsServing (by_book kept.old) before start wire.new (L.source link.new)
         (backend pass.new (I.importer importer.new))) }
     ensures served { (before : Stream) (start : Backend)
-        → IsServing before start wire.old (L.source link.old)
+        → IsServing (by_book kept.old) before start wire.old (L.source link.old)
         (backend pass.old (I.importer importer.old))
-        → IfSome result (λ ended. Served before start ended (L.source link.new)
+        → IfSome result (λ ended. Served (by_book kept.old) before start ended (L.source link.new)
         (backend pass.new (I.importer importer.new))) }
     ensures more { IfNone result (0 < wire.new.more) }
     ensures fewer { IfNone result (wire.new.more < wire.old.more) }
+    ensures book { kept.new ≡ kept.old }
 {
     let asked = wire.next(alloc, link);
     match asked {

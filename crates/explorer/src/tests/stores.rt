@@ -32,7 +32,7 @@ fn holds<D: Disk>(disk: &mut D, bytes: &[u8; 13]) -> Result<bool, Failed> {
 }
 
 /// A disk with these bytes.
-fn disk_with(alloc: Global, bytes: &[u8]) -> Result<MemDisk, Fail>
+pub fn disk_with(alloc: Global, bytes: &[u8]) -> Result<MemDisk, Fail>
     requires { length bytes.now ≤ 100 }
 {
     let mut disk = MemDisk::new(alloc, 100, Vec::new(alloc))?;

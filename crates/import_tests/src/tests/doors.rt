@@ -4,6 +4,7 @@ ghost use Rattle.ingest_desk.specs.Importers.{TellsAll};
 
 use explorer_model::archive::Bytes;
 use ingest_desk::{End, ImportCall, ImportEnding, Importer, Report};
+use opening_names::Book;
 use outside::{MemDoor, MemLink, MemSink, MemSource};
 use published_index::{Index, List, Pass, Unnamed, open_list};
 use session::{DoorEnd, serve_door};
@@ -171,7 +172,8 @@ fn served<J: Index, R: Threads + Wait + Sync>(
     importer: &mut RoomForNone<J>,
 ) -> Result<(DoorEnd, MemDoor), Fail> {
     let mut door = door(alloc)?;
-    let end = serve_door(rt, alloc, &mut door, pass, importer);
+    let book = Book::empty(alloc);
+    let end = serve_door(rt, alloc, &mut door, pass, importer, &book);
     Ok((end, door))
 }
 

@@ -6,6 +6,7 @@ use disk_model::MemDisk;
 use explorer_model::wire::Reply;
 use import_run::{DeskHandle, drain};
 use ingest_desk::{Desk, Importer, MergeDesk, Unnamed};
+use opening_names::Book;
 use outside::{MemDoor, MemLink, MemSink, MemSource};
 use published_index::{Index, Pass};
 use session::{Answers, DoorEnd, answer_by, serve_door};
@@ -186,18 +187,20 @@ fn have_replies(links: &[MemLink], talks: &[Talk]) -> bool {
     true
 }
 
-/// Whether one reader replies so to all talks of a door.
+/// Whether one reader with the book replies so to all talks of a door.
 fn replies_so<J: Index, R: Threads + Wait + Sync>(
     rt: &R,
     alloc: Global,
     desk: &Desk<MemDisk, J>,
     passes: Vec<Pass<J>>,
     talks: &[Talk],
+    book: &Book,
 ) -> Result<bool, Fail> {
     let mut passes = passes;
     let pass = passes.first_mut().ok_or("a pass")?;
     let mut door = door_of(alloc, talks)?;
-    let end = serve_door(rt, alloc, &mut door, pass, &mut DeskHandle::new(desk, 2));
+    let mut handle = DeskHandle::new(desk, 2);
+    let end = serve_door(rt, alloc, &mut door, pass, &mut handle, book);
     Ok(end == DoorEnd::Whole && have_replies(door.taken_back(), talks))
 }
 
@@ -206,12 +209,13 @@ fn replies_over_a_store<J: Index, R: Threads + Wait + Abort + Sync>(
     alloc: Global,
     unnamed: Unnamed<MemDisk>,
     talks: &[Talk],
+    book: &Book,
 ) -> Result<bool, Fail>
     requires { unnamed.index.name ≡ J.name }
 {
     let (ingest, passes) = named::<J, R>(rt, alloc, unnamed)?;
     let desk = Mutex::new(ingest);
-    let replied = replies_so(rt, alloc, &desk, passes, talks);
+    let replied = replies_so(rt, alloc, &desk, passes, talks, book);
     let _disk = desk.into_inner().into_disk(rt);
     replied
 }
@@ -221,7 +225,54 @@ fn what_is_asked_again_is_answered_as_before(rt: HostRuntime) -> Result<(), Fail
     let alloc: Global = rt.alloc();
     let talks = talks(alloc)?;
     let unnamed = new_store(&rt, alloc, Vec::new(alloc))?;
-    assert!(rt; replies_over_a_store::<Brand, _>(&rt, alloc, unnamed, talks.as_slice())?);
+    let book = Book::empty(alloc);
+    assert!(rt; replies_over_a_store::<Brand, _>(&rt, alloc, unnamed, talks.as_slice(), &book)?);
+    Ok(())
+}
+
+// ---- with a book
+
+const KINGS_PAWN: &str = "{\"eco\":\"B00\",\"name\":\"King's Pawn Game\"}";
+
+/// The answer over Ann's game, whose one move has the opening.
+fn answer_named(alloc: Global) -> Result<String, AllocError> {
+    let game = listed_of(alloc, "Ann")?;
+    format!(in alloc;
+        "{{\"black\":0,\"draws\":0,\"moves\":[{{\"averageRating\":1500,\"black\":0,\"draws\":0,\
+         \"game\":{game},\"opening\":{KINGS_PAWN},\"san\":\"e4\",\"uci\":\"e2e4\",\"white\":1}}],\
+         \"opening\":null,\"recentGames\":[{game}],\"topGames\":[{game}],\"white\":1}}"
+    )
+}
+
+/// The answer where no game is, behind a move that has the opening.
+fn nothing_named(alloc: Global) -> Result<String, AllocError> {
+    format!(in alloc;
+        "{{\"black\":0,\"draws\":0,\"moves\":[],\"opening\":{KINGS_PAWN},\"recentGames\":[],\
+         \"topGames\":[],\"white\":0}}"
+    )
+}
+
+/// Each question twice: an answer that is kept has the openings too.
+fn named_talk(alloc: Global) -> Result<Talk, AllocError> {
+    let mut talk = Talk::new(alloc);
+    talk.store(alloc, game_of(alloc, "Ann")?.as_bytes(), 1)?;
+    let (answer, nothing) = (answer_named(alloc)?, nothing_named(alloc)?);
+    for _ in 0..2u32 {
+        talk.ask(alloc, "", 1, answer.as_str())?;
+        talk.ask(alloc, "play=e2e4,c7c5", 1, nothing.as_str())?;
+    }
+    Ok(talk)
+}
+
+#[test]
+fn answers_have_the_openings_of_the_book(rt: HostRuntime) -> Result<(), Fail> {
+    let alloc: Global = rt.alloc();
+    let Ok(book) = Book::read(alloc, b"B00\tKing's Pawn Game\t1. e4") else {
+        return Err(Fail::from("no book"));
+    };
+    let talks = vec![in alloc; named_talk(alloc)?]?;
+    let unnamed = new_store(&rt, alloc, Vec::new(alloc))?;
+    assert!(rt; replies_over_a_store::<Brand, _>(&rt, alloc, unnamed, talks.as_slice(), &book)?);
     Ok(())
 }
 
@@ -246,12 +297,12 @@ fn store<J: Index, R: Threads + Wait + Sync>(
 
 /// One reader with the answers that it keeps.
 #[derive(Drop)]
-struct Reader<J: Index> {
+struct Reader<'a, J: Index> {
     pass: Pass<J>,
-    kept: Answers<J>,
+    kept: Answers<'a, J>,
 }
 
-impl<J: Index> Reader<J> {
+impl<'a, J: Index> Reader<'a, J> {
     /// How many batches the answer to a query string names.
     fn ask(&mut self, alloc: Global, text: &[u8]) -> Result<u32, Fail> {
         match answer_by(alloc, &mut self.pass, &mut self.kept, text) {
@@ -272,7 +323,7 @@ impl<J: Index> Reader<J> {
 /// Asks so many other query strings, from a number on.
 fn ask_others<J: Index>(
     alloc: Global,
-    reader: &mut Reader<J>,
+    reader: &mut Reader<'_, J>,
     first: u32,
     count: u32,
 ) -> Result<(), Fail> {
@@ -301,7 +352,7 @@ fn seen_over_batches<J: Index, R: Threads + Wait + Sync>(
     rt: &R,
     alloc: Global,
     desk: &Desk<MemDisk, J>,
-    reader: &mut Reader<J>,
+    reader: &mut Reader<'_, J>,
 ) -> Result<Vec<(usize, bool)>, Fail> {
     let mut seen = Vec::new(alloc);
     store_three(rt, alloc, desk)?;
@@ -323,7 +374,7 @@ fn seen_over_limits<J: Index, R: Threads + Wait + Sync>(
     rt: &R,
     alloc: Global,
     desk: &Desk<MemDisk, J>,
-    reader: &mut Reader<J>,
+    reader: &mut Reader<'_, J>,
 ) -> Result<Vec<(usize, bool)>, Fail> {
     let mut seen = Vec::new(alloc);
     ask_others(alloc, reader, 0, 127)?;
@@ -344,9 +395,10 @@ fn seen_by_one<J: Index, R: Threads + Wait + Sync>(
     passes: Vec<Pass<J>>,
 ) -> Result<(Vec<(usize, bool)>, Vec<(usize, bool)>), Fail> {
     let mut passes = passes;
+    let book = Book::empty(alloc);
     let mut reader = Reader {
         pass: passes.pop().ok_or("a pass")?,
-        kept: Answers::new(alloc),
+        kept: Answers::new(alloc, &book),
     };
     let over_batches = seen_over_batches(rt, alloc, desk, &mut reader)?;
     let over_limits = seen_over_limits(rt, alloc, desk, &mut reader)?;

@@ -26,28 +26,35 @@ fn shown(alloc: Global, words: &[&str]) -> Result<String, AllocError> {
 #[test]
 fn each_command_is_read(rt: HostRuntime) -> Result<(), Fail> {
     let alloc = rt.alloc();
-    let table: [(&[&str], &str); 19] = [
+    let table: [(&[&str], &str); 22] = [
         (&["batches", "s"], "Batches { store: \"s\", workers: 4 }"),
         (
             &["batches", "--workers", "16", "s"],
             "Batches { store: \"s\", workers: 16 }",
         ),
-        (&["count"], "Count { query: \"\", workers: 4 }"),
+        (
+            &["count"],
+            "Count { query: \"\", workers: 4, openings: None }",
+        ),
         (
             &["count", "play=e2e4"],
-            "Count { query: \"play=e2e4\", workers: 4 }",
+            "Count { query: \"play=e2e4\", workers: 4, openings: None }",
         ),
         (
             &["count", "--workers", "8", "x=1"],
-            "Count { query: \"x=1\", workers: 8 }",
+            "Count { query: \"x=1\", workers: 8, openings: None }",
         ),
         (
             &["count", "x=1", "--workers=16"],
-            "Count { query: \"x=1\", workers: 16 }",
+            "Count { query: \"x=1\", workers: 16, openings: None }",
         ),
         (
             &["count", "--workers", "1", "--", "-x"],
-            "Count { query: \"-x\", workers: 1 }",
+            "Count { query: \"-x\", workers: 1, openings: None }",
+        ),
+        (
+            &["count", "--openings", "o", "x=1"],
+            "Count { query: \"x=1\", workers: 4, openings: Some(\"o\") }",
         ),
         (&["create", "s"], "Create { store: \"s\" }"),
         (
@@ -69,15 +76,19 @@ fn each_command_is_read(rt: HostRuntime) -> Result<(), Fail> {
         (&["migrate", "s", "t"], "Migrate { old: \"s\", new: \"t\" }"),
         (
             &["query", "s"],
-            "Query { store: \"s\", query: \"\", workers: 4 }",
+            "Query { store: \"s\", query: \"\", workers: 4, openings: None }",
         ),
         (
             &["query", "s", "q", "--workers", "2"],
-            "Query { store: \"s\", query: \"q\", workers: 2 }",
+            "Query { store: \"s\", query: \"q\", workers: 2, openings: None }",
+        ),
+        (
+            &["query", "s", "--openings="],
+            "Query { store: \"s\", query: \"\", workers: 4, openings: Some(\"\") }",
         ),
         (
             &["serve", "s", "a:1"],
-            "Serve { store: \"s\", address: \"a:1\", files: [], workers: 4, readers: 4, connections: 1000 }",
+            "Serve { store: \"s\", address: \"a:1\", files: [], workers: 4, readers: 4, connections: 1000, openings: None }",
         ),
         (
             &[
@@ -91,7 +102,11 @@ fn each_command_is_read(rt: HostRuntime) -> Result<(), Fail> {
                 "--connections",
                 "1000000",
             ],
-            "Serve { store: \"s\", address: \"a\", files: [\"f\", \"g\"], workers: 4, readers: 64, connections: 1000000 }",
+            "Serve { store: \"s\", address: \"a\", files: [\"f\", \"g\"], workers: 4, readers: 64, connections: 1000000, openings: None }",
+        ),
+        (
+            &["serve", "s", "a", "--openings", "o", "f"],
+            "Serve { store: \"s\", address: \"a\", files: [\"f\"], workers: 4, readers: 4, connections: 1000, openings: Some(\"o\") }",
         ),
         (
             &["trial", "2000", "7"],
@@ -111,7 +126,7 @@ fn each_command_is_read(rt: HostRuntime) -> Result<(), Fail> {
 #[test]
 fn other_words_are_refused(rt: HostRuntime) -> Result<(), Fail> {
     let alloc = rt.alloc();
-    let table: [(&[&str], &str); 29] = [
+    let table: [(&[&str], &str); 31] = [
         (
             &[],
             "error: 'explorer' requires a subcommand but one was not provided\n",
@@ -150,6 +165,10 @@ fn other_words_are_refused(rt: HostRuntime) -> Result<(), Fail> {
             "Count the games of standard input, and answer a query\n\nUsage: explorer count [OPTIONS] [QUERY]\n",
         ),
         (
+            &["count", "--openings", "a", "--openings", "b"],
+            "error: the argument '--openings <FILE>' cannot be used multiple times\n",
+        ),
+        (
             &["create"],
             "error: the following required arguments were not provided:\n  <STORE>\n",
         ),
@@ -172,6 +191,10 @@ fn other_words_are_refused(rt: HostRuntime) -> Result<(), Fail> {
         (
             &["import", "s", "f", "g", "--label", "a"],
             "error: unexpected argument 'g' found\n",
+        ),
+        (
+            &["import", "s", "f", "--openings", "o"],
+            "error: unexpected argument '--openings' found\n",
         ),
         (
             &["migrate", "s"],

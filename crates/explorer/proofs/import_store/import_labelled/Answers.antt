@@ -35,7 +35,10 @@ returns-in_default-file g c = λ input.
         refused = _;
         refuses = refuses;
         disk_after = _;
-        kept = rw c.into_disk.ensures c.in-Ok-open_store.ensures.opened.kept;
+        unchanged = record {
+          kept = rw c.into_disk.ensures c.in-Ok-open_store.ensures.opened.kept;
+          no_fault = rw c.into_disk.ensures c.in-Ok-open_store.ensures.opened.no_fault;
+        };
         takes = takes;
       },
       refl,
@@ -73,4 +76,7 @@ returns g c = λ input.
     let after : World = world input (g.O.Sink.sink c.args.output.now) (g.E.Sink.sink c.args.errors.now) (g.H.Host.host c.close-2.new.self) in
     let came = rw c.in-None.is at c.import_in-disk.ensures in
     let uses = uses_both store file _ _ _ _ _ _ _ _ _ c.open_store.ensures.sized hands hands_file takes_file takes in
-    in_vain store file c.args.label _ _ _ _ before after uses (rw came.0 c.in-Ok-open_store.ensures.opened.kept) came.1 refl
+    let opened = c.in-Ok-open_store.ensures.opened in
+    in_vain store file c.args.label _ _ _ _ before after uses
+    (record { kept = rw came.0 opened.kept; no_fault = rw came.0 opened.no_fault; })
+    came.1 refl

@@ -7,10 +7,10 @@ returns-clause-creates c = λ words words' store image before after other status
     one_creating words words' before after other status status' first second errors reports reports' store image asks asks' told well well' still still' fed fed'
 
 pub returns-clause-asks : goal.returns-clause-asks
-returns-clause-asks c = λ words words' store text image workers workers' before after other status status' asks asks' told errors well reports well' reports' fed fed' first second.
+returns-clause-asks c = λ words words' store text image openings workers workers' before after other status status' asks asks' told opens errors well read reports well' read' reports' fed fed' first second.
     let once = c.opening_is_determined.ensures in
-    one_asking words words' before after other status status' first second errors reports reports' store text image workers workers' c.answers_are_determined.ensures
-    (record { opened = once.opened; refused = once.refused; either = once.either }) c.query_is_determined.ensures asks asks' told well well' fed fed'
+    one_asking words words' before after other status status' first second errors reports reports' store text image openings workers workers' c.answers_are_determined.ensures c.naming_is_determined.ensures
+    (record { opened = once.opened; refused = once.refused; either = once.either }) c.book_is_determined.ensures c.query_is_determined.ensures asks asks' told opens well read well' read' fed fed'
 
 pub returns-clause-lists : goal.returns-clause-lists
 returns-clause-lists c = λ words words' store image workers workers' before after other status status' asks asks' told errors well reports well' reports' fed fed' first second.
@@ -36,11 +36,13 @@ returns-clause-tries c = λ words words' games seed workers workers' before afte
     c.samples_are_determined.ensures c.answers_are_determined.ensures c.query_is_determined.ensures asks asks' told well well' fed fed'
 
 pub returns-clause-refuses : goal.returns-clause-refuses
-returns-clause-refuses c = λ words words' service workers image before after other status status' asks asks' told errors reports well' reports' seven fed' first second.
+returns-clause-refuses c = λ words words' service workers openings image before after other status status' asks asks' told opens errors reports well' reports' seven fed' first second.
     let once = c.opening_is_determined.ensures in
-    one_refusing words words' before after other status status' first second service workers image (record { opened = once.opened; refused = once.refused; either = once.either }) asks asks' told well' errors reports reports' seven fed'
+    one_refusing words words' before after other status status' first second service workers openings image (record { opened = once.opened; refused = once.refused; either = once.either })
+    c.book_is_determined.ensures asks asks' told opens well' errors reports reports' seven fed'
 
 pub returns-clause-serves : goal.returns-clause-serves
-returns-clause-serves c = λ words words' service workers image before after other status status' asks asks' told well well' differs fed fed' first second.
+returns-clause-serves c = λ words words' service workers openings image before after other status status' asks asks' told opens well well' differs fed fed' first second.
     let once = c.opening_is_determined.ensures in
-    one_serving words words' before after other status status' first second service workers image (record { opened = once.opened; refused = once.refused; either = once.either }) asks asks' told well' well differs fed fed'
+    one_serving words words' before after other status status' first second service workers openings image (record { opened = once.opened; refused = once.refused; either = once.either })
+    c.book_is_determined.ensures asks asks' told opens well' well differs fed fed'

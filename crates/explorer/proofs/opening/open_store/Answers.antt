@@ -12,4 +12,6 @@ pub returns-in-Err-clause-sized : goal.returns-in-Err-clause-sized
 returns-in-Err-clause-sized g c = is_sized g.D.Disk.disk g.met.D.Disk.told_size c.args.disk
 
 pub returns-in-Err-clause-refused : goal.returns-in-Err-clause-refused
-returns-in-Err-clause-refused g c = refused_by g.D.Disk.disk g.D.Disk.left_since c.args.disk c.in-Err.back.disk c.in-Err.ensures.quiet_refused c.in-Err.back.fault c.in-Err.ensures.refused
+returns-in-Err-clause-refused g c =
+    let cause = rw c.faults-before.ensures at c.first_cause.ensures.cause in
+    rw c.first_cause.ensures.disk (refused_by g.D.Disk.disk g.D.Disk.left_since c.args.disk c.in-Err.back.disk c.in-Err.ensures.quiet_refused c.in-Err.back.fault _ c.in-Err.ensures.refused cause)

@@ -7,5 +7,5 @@ use Rattle.explorer.proofs.query_store.look_in.Goals as goal
 
 pub returns-in-Ok-clause-line : goal.returns-in-Ok-clause-line
 returns-in-Ok-clause-line g c =
-    subst (λ (s : Stored g.row.D.Denot). LooksIn c.args.query.now (journal_of s.index.list) c.line_in-line.result) c.in-Ok.ensures.ingest
-    (subst (λ (p : Publishing). LooksIn c.args.query.now (journal_of p.list) c.line_in-line.result) c.publisher.ensures c.line_in-line.ensures)
+    subst (λ (s : Stored g.row.D.Denot). LooksIn c.args.book.now c.args.query.now (journal_of s.index.list) c.line_in-line.result) c.in-Ok.ensures.ingest
+    (subst (λ (p : Publishing). LooksIn c.args.book.now c.args.query.now (journal_of p.list) c.line_in-line.result) c.publisher.ensures c.line_in-line.ensures)

@@ -1,69 +1,34 @@
-use Rattle.std.proofs.Common.{ℕ, List, Ok, inr, refl, sym, subst, string_bytes}
-use Rattle.outside.specs.Stream.{FailsToTake, Takes}
-use Rattle.explorer.specs.declared.fault.Fault.{Fault}
-use Rattle.explorer.specs.Lines.{Stopped}
-use Rattle.explorer.specs.QueryStore.{QueriesBy}
+use Rattle.std.proofs.Common.{Ok, inl, inr, option_map, string_bytes}
 use Rattle.explorer.specs.World.{world}
-use Rattle.explorer.proofs.QueryLemmas.{answered, unanswered, unread}
+use Rattle.explorer.proofs.BookLemmas.{stops_by}
+use Rattle.explorer.proofs.QueryLemmas.{unread}
 use Rattle.explorer.proofs.query_store.query_store.Goals as goal
+
+pub query_by-requires-clause-played : goal.query_by-requires-clause-played
+query_by-requires-clause-played g c = λ κs within. record {
+  root = c.in-Ok.ensures.root;
+  plays = c.queries_play_legal_moves.ensures.legal c.args.query_text.now c.in-Ok.query c.in-Ok.ensures.reads;
+  at = c.queries_play_legal_moves.ensures.ends c.args.query_text.now c.in-Ok.query c.in-Ok.ensures.reads;
+}
 
 pub returns-in-Err : goal.returns-in-Err
 returns-in-Err g c = λ input errors.
-    unread (string_bytes c.args.store) c.args.query_text.now (world input (g.O.Sink.sink c.args.output.now) errors (g.H.Host.host c.args.host.now)) c.in-Err.stop c.from.result c.from.ensures c.in-Err.ensures.reads
+    unread (string_bytes c.args.store) c.args.query_text.now (option_map string_bytes c.args.openings)
+    (world input (g.O.Sink.sink c.args.output.now) errors (g.H.Host.host c.args.host.now)) c.in-Err.stop c.from.result c.from.ensures c.in-Err.ensures.reads
 
-pub returns-in_default : goal.returns-in_default
-returns-in_default g c = λ input errors.
-    let refuses = rw c.as_str.ensures.value at c.in_default.ensures.refuses in
-    inr (Ok c.in-Ok.query, c.in-Ok.ensures.reads, (refl, refuses, refl))
-
-pub returns-in-Ok-write : goal.returns-in-Ok-write
-returns-in-Ok-write g c = λ input errors.
-    let store = string_bytes c.args.store in
-    let text = c.args.query_text.now in
-    let old = g.O.Sink.sink c.args.output.now in
-    let before = g.H.Host.host c.args.host.now in
-    let middle = g.H.Host.host c.disk.new.self in
-    let after = g.H.Host.host c.close.new.self in
-    let hands = rw c.as_str.ensures.value at c.in-Ok-disk.ensures.hands in
-    let takes = rw c.as_str-2.ensures.value at c.close.ensures in
-    let new = g.O.Sink.sink c.write.new.self in
-    let looks = rw c.in-Ok-line.is at c.look_at-disk.ensures.looks in
-    let wrote = rw c.as_slice.ensures.value at c.in-Ok-write.ensures.takes in
-    inr (
-      Ok c.in-Ok.query,
-      c.in-Ok.ensures.reads,
-      answered store text c.in-Ok.query c.in-Ok.ensures.reads input old errors before middle after _ _ c.look_at-disk.ensures.sized hands takes (λ (line : List ℕ). Takes line old new) new c.in-Ok-line.line looks wrote,
-    )
-
-pub returns-in-Ok-line : goal.returns-in-Ok-line
-returns-in-Ok-line g c = λ input errors.
-    let store = string_bytes c.args.store in
-    let text = c.args.query_text.now in
-    let old = g.O.Sink.sink c.args.output.now in
-    let before = g.H.Host.host c.args.host.now in
-    let middle = g.H.Host.host c.disk.new.self in
-    let after = g.H.Host.host c.close.new.self in
-    let hands = rw c.as_str.ensures.value at c.in-Ok-disk.ensures.hands in
-    let takes = rw c.as_str-2.ensures.value at c.close.ensures in
-    let new = g.O.Sink.sink c.write.new.self in
-    let looks = rw c.in-Ok-line.is at c.look_at-disk.ensures.looks in
-    let wrote = rw c.as_slice.ensures.value at c.in-Err-write.ensures.fails in
-    inr (
-      Ok c.in-Ok.query,
-      c.in-Ok.ensures.reads,
-      answered store text c.in-Ok.query c.in-Ok.ensures.reads input old errors before middle after _ _ c.look_at-disk.ensures.sized hands takes (λ (line : List ℕ). FailsToTake line old new) new c.in-Ok-line.line looks wrote,
-    )
+pub returns-in-Err-book_of : goal.returns-in-Err-book_of
+returns-in-Err-book_of g c = λ input errors.
+    inr (Ok c.in-Ok.query, c.in-Ok.ensures.reads, inr (stops_by (option_map string_bytes c.args.openings) _ _ _ _ _ c.in-Err-book_of.fault (rw c.in-Err-book_of.is at c.book_of.ensures)))
 
 pub returns : goal.returns
 returns g c = λ input errors.
-    let store = string_bytes c.args.store in
-    let text = c.args.query_text.now in
-    let old = g.O.Sink.sink c.args.output.now in
-    let before = g.H.Host.host c.args.host.now in
-    let middle = g.H.Host.host c.disk.new.self in
-    let after = g.H.Host.host c.close.new.self in
-    let hands = rw c.as_str.ensures.value at c.in-Ok-disk.ensures.hands in
-    let takes = rw c.as_str-2.ensures.value at c.close.ensures in
-    let looks = rw c.in-Err-line.is at c.look_at-disk.ensures.looks in
-    subst (λ (f : Fault). QueriesBy store text (world input old errors before) (world input old errors after) (Stopped f)) (sym c.fault_of_opening.ensures)
-    (unanswered store text c.in-Ok.query c.in-Ok.ensures.reads input old errors before middle after _ _ c.look_at-disk.ensures.sized hands takes c.in-Err-line.fault looks)
+    inr (
+      Ok c.in-Ok.query,
+      c.in-Ok.ensures.reads,
+      inl (
+        c.in-Ok-book_of.book,
+        g.H.Host.host c.book_of.new.host,
+        (rw c.in-Ok-book_of.is at c.book_of.ensures),
+        c.query_by.ensures input errors,
+      ),
+    )

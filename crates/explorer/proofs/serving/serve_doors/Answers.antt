@@ -11,9 +11,9 @@ use Rattle.explorer.proofs.serving.serve_doors.Goals.{After-work_all-ingest}
 use Rattle.explorer.proofs.serving.serve_doors.Given.{Over}
 
 returned : (g : Over) (c : After-work_all-ingest g)
-    → Returned g.H.File.Source.source g.H.Door.Door.door (map string_bytes c.args.order.now.files.items) (g.H.Host.host c.args.host.now)
+    → Returned c.args.order.now.book g.H.File.Source.source g.H.Door.Door.door (map string_bytes c.args.order.now.files.items) (g.H.Host.host c.args.host.now)
     (journal c.args.ingest) (map g.H.Door.Door.door c.args.doors.items) c.work_all-ingest.result.1.items
-returned g c = returned-workers g.H.File.Source.source g.H.Door.Door.door (map string_bytes c.args.order.now.files.items) (g.H.Host.host c.args.host.now)
+returned g c = returned-workers c.args.order.now.book g.H.File.Source.source g.H.Door.Door.door (map string_bytes c.args.order.now.files.items) (g.H.Host.host c.args.host.now)
     (journal c.args.ingest) (map g.H.Door.Door.door c.args.doors.items) c.args.list.items c.with_readers-list.result.items c.work_all-ingest.result.1.items
     c.requires.files (c.with_readers-list.ensures (journal c.args.ingest) c.requires.opening) c.work_all-ingest.ensures
 
@@ -35,7 +35,7 @@ pub give_back-requires-clause-out : goal.give_back-requires-clause-out
 give_back-requires-clause-out g c = λ κs within.
     let r = returned g (goal.at.give_back-requires-clause-out g c).After-work_all-ingest in
     let count : c.args.doors.len ≡ length (map g.H.Door.Door.door c.args.doors.items) = c.args.doors.ok.0 ∙ sym (length-map c.args.doors.items g.H.Door.Door.door) in
-    rw c.as_slice-names.ensures.value (can-return g.H.File.Source.source g.H.Door.Door.door (map string_bytes c.args.order.now.files.items) (g.H.Host.host c.args.host.now)
+    rw c.as_slice-names.ensures.value (can-return c.args.order.now.book g.H.File.Source.source g.H.Door.Door.door (map string_bytes c.args.order.now.files.items) (g.H.Host.host c.args.host.now)
     (journal c.args.ingest) (map g.H.Door.Door.door c.args.doors.items) c.work_all-ingest.result.1.items r (g.H.Host.host c.args.host.now)
     (subst (λ (n : ℕ). AreOut (map string_bytes c.args.order.now.files.items) n (g.H.Host.host c.args.host.now)) count c.requires.out))
 
@@ -53,7 +53,7 @@ returns-clause-over g c =
     let same-ingest = λ (i : Stored g.row.H-Disk.Denot). AllByRecursion (IsTold (journal i)) list in
     let doors : length (map g.H.Door.Door.door c.args.doors.items) ≡ c.args.doors.len =
     length-map c.args.doors.items g.H.Door.Door.door ∙ sym c.args.doors.ok.0 in
-    works-over g.H.File.Source.source g.H.Door.Door.door names (g.H.Host.host c.args.host.now) (journal c.args.ingest)
+    works-over c.args.order.now.book g.H.File.Source.source g.H.Door.Door.door names (g.H.Host.host c.args.host.now) (journal c.args.ingest)
     (map g.H.Door.Door.door c.args.doors.items) list r (journal c.give_back.new.ingest) (g.H.Host.host c.give_back.new.host)
     c.first_fault-first.result (lines_told c.report_lines-lines.result) first lines
     (subst same-ingest (sym c.give_back.ensures.same) (c.give_back.ensures.told (r.have (omega (arith, c.requires.some, doors)))))

@@ -2,7 +2,7 @@ use denote.Exit.{no}
 use denote.Param.{param}
 use denote.Param.Send.{arg_send, arg_sync, param_send, param_sync, sendable}
 use denote.Param.SendFields.{declared_sync}
-use denote.Struct.Field.{shr_ref_field, u64-field}
+use denote.Struct.Field.{shr_ref_field}
 use denote.Struct.Tuple.{TupleAt, type_at}
 use mir.Syntax.{named}
 use Rattle.std.specs.Prelude.{codes}
@@ -10,15 +10,16 @@ use Rattle.std.proofs.alloc.Global.TheSendSync as heap
 use Rattle.std.specs.contracts.alloc.Global
 use Rattle.std.specs.contracts.sync.Mutex
 use Rattle.ingest_desk.specs.contracts.ingest.Ingest
+use Rattle.explorer.specs.contracts.order.Order
 use Rattle.explorer.specs.contracts.workers.Worker
-use Rattle.explorer.proofs.SendLemmas.{desk_sync, worker_send}
+use Rattle.explorer.proofs.SendLemmas.{desk_sync, order_sync, worker_send}
 use Rattle.std.proofs.Common.{rules, sym, [], ◌∷◌}
 use Rattle.explorer.specs.Workers.{Works}
 use Rattle.explorer.proofs.WorkerLists.{zip_each}
 use Rattle.explorer.proofs.workers.work_each.Goals as goal
 
 pub returns : goal.returns
-returns g c = zip_each (Works g.F.Source.source g.G.Door.door) c.args.list.now c.for_each_mut.new.s c.for_each_mut.auto.s
+returns g c = zip_each (Works c.args.order.now.book g.F.Source.source g.G.Door.door) c.args.list.now c.for_each_mut.new.s c.for_each_mut.auto.s
     (λ i d below. let k = (c.for_each_mut.ensures i d below).1 in rw (sym k.argument_is, sym k.left) (search rules))
 
 pub for_each_mut-requires-send-T : goal.for_each_mut-requires-send-T
@@ -36,8 +37,8 @@ for_each_mut-requires-sync-F g c =
     let captured = (shr_ref_field (record { mir = named 6; lft = κs.1.1.1.1.1.1.0 }) (param 0 g.row.R) tt).row
     ∷ (shr_ref_field (record { mir = named 7; lft = κs.1.1.1.1.1.1.1.0 }) Global.the_row tt).row
     ∷ (shr_ref_field (record { mir = named 8; lft = κs.1.1.1.1.1.1.1.1.0 }) (Mutex.the_row (Ingest.the_row (param 3 g.row.D) (param 4 g.row.J) g.D.Disk g.J.Index)) tt).row
-    ∷ (shr_ref_field (record { mir = named 9; lft = κs.1.1.1.1.1.1.1.1.1.0 }) (u64-field).row tt).row
+    ∷ (shr_ref_field (record { mir = named 9; lft = κs.1.1.1.1.1.1.1.1.1.0 }) Order.the_row tt).row
     ∷ [] in
     let closure = codes "explorer::workers::fn::work_each::for_each_mut+Self" in
     param_sync 2 _ (arg_sync _ no (TupleAt closure captured) (declared_sync (type_at closure captured)
-    (search (t.sync-R, sendable) depth 9, (search (heap.the_sync, sendable) depth 9, (search (desk, sendable) depth 9, (search sendable depth 9, tt))))))
+    (search (t.sync-R, sendable) depth 9, (search (heap.the_sync, sendable) depth 9, (search (desk, sendable) depth 9, (search (order_sync, sendable) depth 9, tt))))))

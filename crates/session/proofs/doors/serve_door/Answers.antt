@@ -1,10 +1,13 @@
-use Rattle.std.proofs.Common.{refl, ◌∙◌}
+use Rattle.std.proofs.Common.{List, refl, subst, ◌∙◌}
+use Rattle.explorer_model.specs.Openings.{NamedPosition}
 use Rattle.session.specs.Exchanges.{backend}
+use Rattle.session.specs.Replies.{by_book}
+use Rattle.session.specs.Serving.{Served}
 use Rattle.session.proofs.DoorLemmas.{faults-stay, served-more, served-none}
 use Rattle.session.proofs.doors.serve_door.Goals as goal
 
 pub accepting-init : goal.accepting-init
-accepting-init g c = record { served = served-none _ _; faults = refl }
+accepting-init g c = record { served = served-none _ _ _; faults = refl; book = c.new-kept.ensures }
 
 pub accepting-preserved : goal.accepting-preserved
 accepting-preserved g c =
@@ -12,12 +15,16 @@ accepting-preserved g c =
     let before = backend c.args.pass.now (g.I.Importer.importer c.args.importer.now) in
     let middle = backend c.accepting.pass (g.I.Importer.importer c.accepting.importer) in
     let after = backend c.serve_by.new.pass (g.I.Importer.importer c.serve_by.new.importer) in
-    let stay = faults-stay (g.D.Link.Source.source c.in-Ok-Some.link) (g.D.Link.Source.source c.serve_by.new.link)
+    let came = g.D.Link.Source.source c.in-Ok-Some.link in
+    let went = g.D.Link.Source.source c.serve_by.new.link in
+    let served = subst (λ (book : List NamedPosition). Served (by_book book) came middle c.serve_by.result went after)
+    c.accepting.invariant.book c.serve_by.ensures.served in
+    let stay = faults-stay came went
     (g.D.Door.door c.accepting.door) (g.D.Door.door c.accept.new.self) (g.D.Door.door c.finish.new.self) accepts c.finish.ensures in
     record {
-      served = served-more (g.D.Door.door c.args.door.now) before (g.D.Door.door c.accepting.door) middle
-          (g.D.Link.Source.source c.in-Ok-Some.link) (g.D.Door.door c.accept.new.self)
-          (g.D.Link.Source.source c.serve_by.new.link) c.serve_by.result (g.D.Door.door c.finish.new.self) after
-          c.accepting.invariant.served accepts c.serve_by.ensures c.finish.ensures;
+      served = served-more (by_book c.args.book.now) (g.D.Door.door c.args.door.now) before (g.D.Door.door c.accepting.door) middle
+          came (g.D.Door.door c.accept.new.self) went c.serve_by.result (g.D.Door.door c.finish.new.self) after
+          c.accepting.invariant.served accepts served c.finish.ensures;
       faults = stay ∙ c.accepting.invariant.faults;
+      book = c.serve_by.ensures.book ∙ c.accepting.invariant.book;
     }
