@@ -1,4 +1,4 @@
-# Sourced by the scripts that measure by a program of their own over the crates. The program is written into a temporary copy of the
+# Sourced by the scripts that measure by a program of their own over the crates. The program is put into a temporary copy of the
 # crates, and proved and built there by `rt run`; the one that PROGRAM names is taken, or kept there once it is built. With BUILD_ONLY
 # set, nothing is measured.
 
@@ -11,6 +11,7 @@ if [ "${1:-}" = --help ]; then
 fi
 top=$(cd "$(dirname "${BASH_SOURCE[0]}")/.." && pwd)
 rt=${RT:-rt}
+programs=$top/bench/programs
 # malloc is set as the launcher sets it.
 . "$top/tools/starting.sh"
 set_malloc
@@ -18,37 +19,33 @@ copy=$(mktemp -d)
 litter=("$copy")
 trap 'rm -rf "${litter[@]}"' EXIT
 
-# new_program NAME CRATE..: makes room for the program, which stands on these crates. Its text is to be written to $main.
+# take_text NAME: puts the program's text into the copy. It stands in bench/programs, each file by its name in a crate with `.in` behind
+# it, since the gate refuses a file of code or of proofs that no crate has.
+take_text() {
+  local file folder=$copy/crates/$1
+  mkdir -p "$folder/proofs"
+  echo >"$folder/proofs/Lib.antt"
+  while IFS= read -r file; do
+    install -D -m 644 "$programs/$1/$file" "$folder/${file%.in}"
+  done < <(cd "$programs/$1" && find . -name '*.in')
+}
+
+# new_program NAME CRATE..: makes room for the program, which stands on these crates, and takes its text.
 new_program() {
   name=$1
   shift
   folder=$copy/crates/$name
   program=${PROGRAM:-$folder/out/$name}
-  main=$folder/src/main.rt
-  if [ ! -x "$program" ]; then
-    tar -C "$top" --exclude=out -cf - crates HANDLES | tar -C "$copy" -xf -
-    { cat "$top/crates.txt"; echo "$name: $*"; } >"$copy/crates.txt"
-  fi
-  mkdir -p "$folder/src" "$folder/proofs"
-  echo >"$folder/proofs/Lib.antt"
-}
-
-# prove PATH: takes a file of the program's proofs from the standard input.
-prove() {
-  mkdir -p "$(dirname "$folder/proofs/$1")"
-  cat >"$folder/proofs/$1"
+  if [ -x "$program" ]; then return; fi
+  tar -C "$top" --exclude=out -cf - crates HANDLES | tar -C "$copy" -xf -
+  { cat "$top/crates.txt"; echo "$name: $*"; } >"$copy/crates.txt"
+  take_text "$name"
 }
 
 # What the prover needs of a function `are_short`, by which a program knows that its texts have at most 65,536 bytes.
 prove_are_short() {
-  prove are_short/Invariants.antt <<ANTT
-use Rattle.std.proofs.Common.{ℕ, ◌<◌, ◌≤◌, length, slice_index_or}
-use Rattle.explorer_model.specs.declared.archive.Placed.{Placed}
-use Rattle.$name.proofs.are_short.Given as goal
-
-abbrev pub invariant-loop-text : goal.invariant-loop-text
-invariant-loop-text l = (k : ℕ) (d : Placed) → k < l.text-index → length (slice_index_or l.texts k d).bytes ≤ 65536
-ANTT
+  mkdir -p "$folder/proofs/are_short"
+  sed "s/PROGRAM/$name/" "$programs/are_short/proofs/are_short/Invariants.antt.in" >"$folder/proofs/are_short/Invariants.antt"
 }
 
 build_program() {

@@ -200,10 +200,13 @@ def output_of(script, *words, **variables):
 
 
 def sum_of_sources(script):
-    """A checksum of a script and of the code of the crates that its program stands on, but for their tests."""
-    text = (TOP / "bench" / script).read_bytes()
-    found = hashlib.sha256(text)
-    for crate in sorted(crates_below(re.search(rb"^new_program \S+((?:.*\\\n)*.*)", text, re.MULTILINE)[1].decode().split())):
+    """A checksum of a script, of its program, and of the code of the crates that this stands on, but for their tests."""
+    text = (TOP / "bench" / script).read_text(encoding="utf-8")
+    name, crates = re.search(r"^new_program (\S+)((?:.*\\\n)*.*)", text, re.MULTILINE).groups()
+    found = hashlib.sha256(text.encode())
+    for place in sorted((TOP / "bench/programs" / name).glob("**/*.in")):
+        found.update(place.read_bytes())
+    for crate in sorted(crates_below(crates.split())):
         for place in sorted((TOP / "crates" / crate / "src").glob("**/*.rt")):
             if "tests" not in (place.stem, place.parent.name):
                 found.update(place.read_bytes())

@@ -11,6 +11,7 @@ CHAPTERS = {
     "The program today": "COUNTING",
     "Stores": "STORES",
     "The parameters of a query": "QUERIES",
+    "A file of openings": "OPENINGS",
     "Words and statuses": "EXIT STATUS",
 }
 

@@ -122,8 +122,8 @@ class CannedExplorer(StandIn):
 
 
 @contextlib.contextmanager
-def explorer(games=b"", *words):
-    """The address of a server over a new store of some games, which are imported with these words."""
+def explorer(games=b"", *words, served=()):
+    """The address of a server over a new store of some games, which are imported with some words and served with others."""
     folder = tempfile.mkdtemp()
     store, archive = os.path.join(folder, "store"), os.path.join(folder, "games.pgn")
     address = f"127.0.0.1:{free_port()}"
@@ -132,7 +132,7 @@ def explorer(games=b"", *words):
         if games:
             pathlib.Path(archive).write_bytes(games)
             subprocess.run([program(), "import", store, archive, *words], check=True, stdout=subprocess.DEVNULL)
-        with serving([program(), "serve", store, address]):
+        with serving([program(), "serve", store, address, *served]):
             yield address
     finally:
         shutil.rmtree(folder)

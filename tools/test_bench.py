@@ -1,11 +1,14 @@
 #!/usr/bin/env python3
 """Tests of bench/run on a few games: what it writes, and what it says where a measure cannot be taken; of the right bodies that
-stand beside wrong ones: that each is such; of which wrong bodies are due; and of what is told of the prover's time."""
+stand beside wrong ones: that each is such; of which wrong bodies are due; of the programs that are measured; and of what is told of the
+prover's time."""
 import importlib.machinery
 import importlib.util
 import os
 import pathlib
+import re
 import shutil
+import subprocess
 import sys
 import tempfile
 import unittest
@@ -85,6 +88,29 @@ class Programs(unittest.TestCase):
         self.assertEqual(found, {"fen_uci", "explorer_model", "legal_moves", "step_tables"})
         sums = [measuring.sum_of_sources(name) for name in ("lookup", "perft", "segments", "steps", "store", "tally", "wire")]
         self.assertEqual(len(set(sums)), len(sums))
+
+    def test_each_is_laid_out_as_the_formatter_does_it(self):
+        support.needs("rt")
+        programs = support.TOP / "bench/programs"
+        with tempfile.TemporaryDirectory() as folder:
+            pathlib.Path(folder, "crates.txt").touch()
+            for program in filter(pathlib.Path.is_dir, sorted(programs.iterdir())):
+                crate = pathlib.Path(folder, "crates", program.name)
+                placed = {place: crate / place.relative_to(program).with_suffix("") for place in program.glob("**/*.in")}
+                for place, copy in placed.items():
+                    copy.parent.mkdir(parents=True, exist_ok=True)
+                    shutil.copy(place, copy)
+                run = subprocess.run(["rt", "fmt"], cwd=crate, capture_output=True, text=True, check=False, timeout=60)
+                self.assertEqual(run.returncode, 0, run.stdout + run.stderr)
+                for place, copy in placed.items():
+                    self.assertEqual(place.read_text(encoding="utf-8"), copy.read_text(encoding="utf-8"), place)
+
+    def test_each_script_has_its_own(self):
+        told = {name for path in (support.TOP / "bench").iterdir() if path.is_file()
+                for name in re.findall(r"^new_program (\w+)", path.read_text(encoding="utf-8"), re.MULTILINE)}
+        there = {place.name for place in (support.TOP / "bench/programs").iterdir() if (place / "src").is_dir()}
+        self.assertEqual(there - told, {"disk_memory", "index_memory", "wire_memory"})
+        self.assertEqual(told - there, set())
 
 
 def loaded(name):

@@ -13,11 +13,13 @@ import unittest
 
 import support
 
-# A name of crates.txt is proved by a line, or kept where $KEPT names it. The program that is "built" prints its words.
+# A name of crates.txt is proved by a line, or kept where $KEPT names it. The program that is "built" prints its words. $NAMES is what
+# the help says that `rt ci` takes.
 RT = """#!/usr/bin/env bash
 verb="$*"
 case $1 in
   version) cat "$KIT_OF_RT" && exit ;;
+  help) printf '  rt ci %s    the merge gate\\n  rt must-fail [NAME..]\\n' "$NAMES" >&2 && exit 2 ;;
   ci)
     here=$PWD
     for part in crates/*; do
@@ -44,7 +46,20 @@ case $1 in
     out=crates/explorer/out ;;
   all)
     echo "$* in ${PWD##*/}" >>"$RT_CALLS"
-    printf '== low\\nlogic=proved\\n== high\\nlogic=proved\\n== explorer\\nlogic=proved\\n== summary\\n'
+    for crate in low high explorer; do
+      if [ "$crate" = "${STOPS_AT:-}" ]; then
+        echo stopped >>"$RT_CALLS"
+        exec sleep 60
+      fi
+      echo "== $crate"
+      if [[ " $KEPT " == *" $crate "* ]]; then continue; fi
+      if [ "$crate" = "${FAILS_AT:-}" ]; then
+        echo "fn $crate::f: no proof"
+        exit 1
+      fi
+      printf 'checked %s\\nlogic=proved\\n' "$crate"
+    done
+    echo "== summary"
     out=out ;;
   run) echo "$* in ${PWD##*/}" >>"$RT_CALLS" && exit ;;
 esac
@@ -59,6 +74,8 @@ TESTED = "mod program;\n#[cfg(test)]\nmod tests;\nmod trial;\n"
 UNTESTED = "mod program;\nmod trial;\n"
 LINES = "low: std\nhigh: low # above\nexplorer: high clap\nbeside: low\n"
 TOLD = "explorer: proving and building the program, which takes long the first time; an interrupted build goes on where it stopped"
+HERE = r"^all check --jobs \d+ in explorer / run -- count in explorer$"
+UNBUILT = "the program was not built; .* Run it again .* a crate that is not proved has to be put right first$"
 
 
 class Launcher(unittest.TestCase):
@@ -71,10 +88,10 @@ class Launcher(unittest.TestCase):
             self.write(name, text).chmod(0o755)
         (self.folder / "bin/rt").symlink_to(self.beside / "kit/bin/rt")
         (self.folder / "tmp").mkdir()
-        self.write("kit", "rattle-kit-13f logic dac8\n")
+        self.write("kit", "rattle-kit-13b logic dac8\n")
         self.write("top/crates.txt", LINES)
         for name in ("HANDLES", "KIT"):
-            self.write(f"top/{name}", "rattle-kit-13f logic dac8\n")
+            self.write(f"top/{name}", "rattle-kit-13b logic dac8\n")
         for crate in ("low", "high", "beside", "explorer"):
             self.write(f"top/crates/{crate}/src/main.rt", TESTED)
             self.write(f"top/crates/{crate}/must-fail/wrong.edit", "")
@@ -92,7 +109,7 @@ class Launcher(unittest.TestCase):
 
     def command(self, environment, words=("count", "a b")):
         env = {**os.environ, "PATH": f"{self.folder}/bin:/usr/bin:/bin", "RT_CALLS": str(self.calls), "KEPT": "",
-               "KIT_OF_RT": str(self.folder / "kit"), "TMPDIR": str(self.folder / "tmp"), **environment}
+               "NAMES": "[NAME..]", "KIT_OF_RT": str(self.folder / "kit"), "TMPDIR": str(self.folder / "tmp"), **environment}
         return [str(self.top / "explorer"), *words], env
 
     def run_it(self, *words, **environment):
@@ -158,18 +175,41 @@ class Launcher(unittest.TestCase):
         status, output, errors, _ = self.run_it(FAILS_AT="high")
         self.assertEqual((status, output), (1, ""))
         self.assertEqual(errors[-2], "rt: high NOT PROVED")
-        self.assertRegex(errors[-1], "the program was not built; .* Run it again .* NOT PROVED has to be put right first$")
+        self.assertRegex(errors[-1], UNBUILT)
 
     def test_where_nothing_can_be_kept_or_work_is_kept_here(self):
         for name, environment in (("kits/rattle-kept", {}), ("top/crates/low/out/incremental/a", {}), ("top/none", {"FREE": "8999"})):
             place = self.write(name, "")
             status, output, errors, calls = self.run_it(**environment)
             self.assertEqual((status, output), (0, "ran count a b\n"), name)
-            self.assertRegex(" / ".join(calls), r"^all check --jobs \d+ in explorer / run -- count in explorer$", name)
+            self.assertRegex(" / ".join(calls), HERE, name)
             self.assertEqual(errors, self.told("low", "high", "explorer"), name)
             shutil.rmtree(self.top / "crates/low/out", ignore_errors=True)
             shutil.rmtree(self.top / "crates/explorer/out")
             place.unlink(missing_ok=True)
+
+    def test_where_the_gate_takes_no_names_it_is_built_here(self):
+        status, output, errors, calls = self.run_it(NAMES="")
+        self.assertEqual((status, output, errors), (0, "ran count a b\n", self.told("low", "high", "explorer")))
+        self.assertRegex(" / ".join(calls), HERE)
+        self.assertEqual(self.run_it(NAMES=""), (0, "ran count a b\n", [], []))
+
+    def test_what_is_built_here_goes_on_where_it_was_interrupted(self):
+        words, env = self.command({"NAMES": "", "STOPS_AT": "explorer"})
+        running = subprocess.Popen(words, env=env, stdout=subprocess.DEVNULL, stderr=subprocess.DEVNULL, start_new_session=True)
+        self.wait_for("stopped")
+        os.killpg(running.pid, signal.SIGINT)
+        self.assertNotEqual(running.wait(timeout=10), 0)
+        _, output, errors, calls = self.run_it(NAMES="", KEPT="low high")
+        self.assertEqual((output, errors), ("ran count a b\n", self.told("low", "high", "explorer")))
+        self.assertRegex(" / ".join(calls), HERE)
+
+    def test_a_crate_that_is_not_proved_here_is_told(self):
+        status, output, errors, calls = self.run_it(NAMES="", KEPT="low", FAILS_AT="high")
+        self.assertEqual((status, output, errors[:2]), (1, "", self.told("low")))
+        self.assertEqual(errors[-2], "fn high::f: no proof")
+        self.assertRegex(errors[-1], UNBUILT)
+        self.assertEqual(len(calls), 1)
 
     def test_the_copy_has_neither_wrong_bodies_nor_the_lines_of_tests(self):
         seen = self.folder / "seen"
@@ -178,15 +218,16 @@ class Launcher(unittest.TestCase):
         self.assertEqual(seen.read_text(encoding="utf-8"), UNTESTED)
 
     def test_a_toolchain_that_is_missing_or_too_old_is_told(self):
-        self.write("kit", "rattle-kit-13b logic beef\n")
-        told = "explorer: 'rt' is of rattle-kit-13b, which is too old: install rattle-kit-13f, by which this was proved"
+        self.write("kit", "rattle-kit-12z logic beef\n")
+        told = "explorer: 'rt' is of rattle-kit-12z, which is too old: install rattle-kit-13b, by which this was proved"
         self.assertEqual(self.run_it(), (1, "", [told], []))
-        self.write("kit", "rattle-kit-13b logic dac8\n")
-        self.assertEqual(self.run_it()[0], 0)
-        shutil.rmtree(self.top / "crates/explorer/out")
+        for kit in ("rattle-kit-12z logic dac8\n", "rattle-kit-13f logic beef\n"):
+            self.write("kit", kit)
+            self.assertEqual(self.run_it()[0], 0)
+            shutil.rmtree(self.top / "crates/explorer/out")
         (self.folder / "bin/rt").unlink()
         status, _, errors, _ = self.run_it()
-        self.assertEqual((status, errors[1]), (1, "explorer: install rattle-kit-13f, and put the folder of its 'rt' on PATH"))
+        self.assertEqual((status, errors[1]), (1, "explorer: install rattle-kit-13b, and put the folder of its 'rt' on PATH"))
 
     def test_without_words_it_says_what_can_be_done_and_builds_nothing(self):
         words, env = self.command({}, ())

@@ -81,6 +81,15 @@ class Forms(unittest.TestCase):
             made = pathlib.Path(names[2]).read_text(encoding="utf-8")
         self.assertEqual(made, 2 * TABLE.partition("\n")[2])
 
+    def test_a_capture_of_the_piece_that_just_moved_has_its_x(self):
+        for moves, wanted in (
+            ("1.e4 d5 2.exd5 Qd5 3.Nc3", "1.e4 d5 2.exd5 Qxd5 3.Nc3"),
+            ("6. Bb5+ Bd7 7. Bxd7+ Nbd7 8. O-O", "6. Bb5+ Bd7 7. Bxd7+ Nbxd7 8. O-O"),
+            ("1.e4 e5 2.Nf3 Nc6 3.Bb5 a6 4.Bxc6 dxc6", "1.e4 e5 2.Nf3 Nc6 3.Bb5 a6 4.Bxc6 dxc6"),
+            ("1.d4 d5 2.O-O Nd5", "1.d4 d5 2.O-O Nd5"),
+        ):
+            self.assertEqual(run(f'B01 "x"  {moves} *')[1], f"B01\tx\t{wanted}\n")
+
     def test_64_moves_are_taken(self):
         lines = f"B00\tx\t1.{KNIGHTS} 33.\n"
         self.assertEqual(run(f'B00 "x"  1.{KNIGHTS} 33. *'), (0, lines, ""))

@@ -205,6 +205,44 @@ class Package(unittest.TestCase):
             self.assertIn("7", prevented)
             self.assertEqual(pathlib.Path(self.store).read_bytes(), content)
 
+    def allowed_calls(self):
+        """The calls of the system that the service allows, by what systemd has under its names of groups."""
+        groups, name = {}, None
+        for line in output_of("systemd-analyze", "syscall-filter").splitlines():
+            if line.startswith("@"):
+                groups[name := line] = []
+            elif name and line.startswith("    ") and not line.startswith("    #"):
+                groups[name].append(line.strip())
+
+        def calls(word):
+            return {call for part in groups[word] for call in calls(part)} if word in groups else {word}
+
+        taken, refused = re.findall(r"(?m)^SystemCallFilter=(~?)(.*)$", self.unit())
+        self.assertEqual((taken[0], refused[0]), ("", "~"))
+        allowed, denied = ({call for word in words.split() for call in calls(word)} for _, words in (taken, refused))
+        return allowed - denied
+
+    def test_the_service_allows_each_call_of_the_system_that_is_made(self):
+        support.needs("strace", "systemd-analyze")
+        games = support.GAMES.read_bytes()
+        made = set()
+        # Its first start makes the store; each ends by itself, once the connections of both readers are served.
+        for stored in (5, 0):
+            before, serve = self.words_of("ExecStartPre"), self.words_of("ExecStart")
+            serve[serve.index("--readers") + 1], serve[serve.index("--connections") + 1] = "2", "2"
+            trace = f"{self.store}.calls"
+            tracing = ["strace", "-f", "-qq", "-o", trace]
+            output_of(*tracing, *before)
+            made.update(re.findall(r"(?m)^\d+ +(\w+)\(", pathlib.Path(trace).read_text(encoding="utf-8")))
+            with support.serving([*tracing, *serve]) as server:
+                self.assertEqual(json.loads(ask(self.address, "POST", "/import", games)[1])["stored"], stored)
+                for _ in range(3):
+                    self.assertEqual(ask(self.address)[0], 200)
+                self.assertEqual(server.wait(timeout=60), 0)
+            made.update(re.findall(r"(?m)^\d+ +(\w+)\(", pathlib.Path(trace).read_text(encoding="utf-8")))
+        self.assertIn("bind", made)
+        self.assertEqual(made - self.allowed_calls(), set())
+
     # ---- nginx in front
 
     def site(self, port):

@@ -242,10 +242,10 @@ class Crates(unittest.TestCase):
         self.assertEqual(sorted(", ".join(rows).split(", ")), sorted(crates()))
 
     def test_the_tests_of_each_stand_where_they_are_said_to(self):
-        rows = re.findall(r"^\| `(\w+_tests)` \| (.*) \|$", text_of(TOP / "docs/ARCHITECTURE.md"), re.MULTILINE)
-        for crate, names in rows:
+        told = re.findall(r"^`(\w+_tests)` has the tests of ((?:`\w+`(?:, (?:and )?| and )?)+)", text_of(TOP / "docs/CRATES.md"), re.MULTILINE)
+        for crate, names in told:
             self.assertLessEqual(set(re.findall(r"`(\w+)`", names)), set(crates()[crate]), crate)
-        self.assertEqual({crate for crate, _ in rows}, {name for name in crates() if name.endswith("_tests")})
+        self.assertEqual({crate for crate, _ in told}, {name for name in crates() if name.endswith("_tests")})
 
     def test_as_many_stand_below_the_program_as_is_told(self):
         found, waiting = set(), ["explorer"]
@@ -284,6 +284,10 @@ class Prose(unittest.TestCase):
                 pieces, most = ([line], MOST) if not line.startswith("|") else (line.split(" | "), MOST_OF_CELL)
                 with self.subTest(f"{page.name}:{number}"):
                     self.assertLessEqual(max(len(piece.split()) for piece in pieces), most)
+
+    def test_the_first_hour_is_short(self):
+        first = ("README.md", "docs/TOUR.md", "docs/WORDS.md", "docs/ARCHITECTURE.md")
+        self.assertLessEqual(sum(len(text_of(TOP / name).split()) for name in first), 5000)
 
     def test_decisions_have_numbers_and_dates(self):
         items = [line for _, _, line in prose(TOP / "docs/DECISIONS.md") if line.startswith("- ")]

@@ -84,8 +84,7 @@ class Unit(unittest.TestCase):
         self.assertEqual(value("RestartSec"), "5")
         self.assertIn("after five seconds", PAGE)
         first, second, third = value("RestartPreventExitStatus").split()
-        self.assertIn(f"With status {first} or {second} it stays down", PAGE)
-        self.assertIn(f"with {third}", PAGE)
+        self.assertIn(f"With status {first}, {second} or {third} it stays down", PAGE)
 
     def test_each_line_of_the_log_is_one_of_the_program(self):
         statuses = dict(re.findall(r"(?m)^\| (\d+) \| .* \| ([^|]*`[^|]*) \|$", PAGES.partition("| Status | Comes |")[2].partition("\n\n")[0]))

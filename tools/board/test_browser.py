@@ -2,7 +2,7 @@
 """Tests of the page in a headless Chromium (Debian: apt-get install chromium).
 
 With PICTURES set to a folder, the first tests also write pictures there; ARCHIVE names the games
-that they show, and else those of games.pgn are taken.
+that they show, and else those of games.pgn are taken; OPENINGS names a file of openings, if any.
 """
 import contextlib
 import json
@@ -85,7 +85,8 @@ class Page(unittest.TestCase):
     def open_with_games(self, games=None, **look):
         archive = os.environ.get("ARCHIVE", support.GAMES)
         games = pathlib.Path(archive).read_bytes() if games is None else games
-        address = self.own.enter_context(support.explorer())
+        served = ["--openings", os.environ["OPENINGS"]] if "OPENINGS" in os.environ else []
+        address = self.own.enter_context(support.explorer(served=served))
         self.open(address, **look)
         test_board.ask(self.place, "/import", games)
         self.browser.show(self.place + "/", **look)
@@ -218,6 +219,18 @@ class Answers(Page):
         self.assertEqual([row[3] for row in self.rows("#moves")], ["100%B20 <b>Sicilian</b> Defense"])
         self.browser.call("Emulation.setDeviceMetricsOverride", width=390, height=800, deviceScaleFactor=1, mobile=True)
         self.assertTrue(self.browser.evaluate("document.documentElement.scrollWidth <= innerWidth"))
+
+    def test_openings_are_those_of_a_file(self):
+        with tempfile.NamedTemporaryFile() as file:
+            file.write(b"B00\tKing's Pawn Game\t1. e4\nC20\tOpen Game\t1. e4 e5\n")
+            file.flush()
+            address = self.own.enter_context(support.explorer(support.GAMES.read_bytes(), served=["--openings", file.name]))
+        self.open(address)
+        self.assertIn("B00 King's Pawn Game", self.text("[data-uci=e2e4]"))
+        for uci, name in (("e2e4", "B00 King's Pawn Game"), ("e7e5", "C20 Open Game"), ("f2f4", "C20 Open Game")):
+            self.browser.click(f"[data-uci={uci}] button")
+            self.settled()
+            self.see("#opening", name)
 
     def test_a_link_leads_to_what_is_shown(self):
         stand_in = self.open_canned(200, EMPTY)
