@@ -10,6 +10,7 @@ import os
 import pathlib
 import sys
 import tempfile
+import time
 import unittest
 import urllib.parse
 
@@ -239,6 +240,10 @@ class Answers(Page):
         self.browser.click("#speeds [value=blitz] + span")
         self.browser.on("#since", "node.value = '2020-01'; node.dispatchEvent(new Event('change'));")
         self.settled()
+        for _ in range(500):
+            if "since=2020-01" in stand_in.asked[-1][1]:
+                break
+            time.sleep(0.02)
         self.browser.click("#link")
         self.browser.wait("document.querySelector('#linked').textContent !== ''")
         link, asked = self.browser.evaluate("location.href"), stand_in.asked[-1][1]

@@ -204,7 +204,7 @@ back-of-files source door host front (n ∷ ns) more at (File f ∷ ws) place ar
     ap (λ (name : List ℕ). FileBack name (source f.source) ∷ calls_of source door (front ++ (n ∷ (ns ++ more))) (at + 1) ws)
     (name-at-front front n (ns ++ more) at place)
     ∙ (ap (λ (cs : List HostCall). FileBack n (source f.source) ∷ cs) tail
-    ∙ ap (λ (file : Stream). FileBack n file ∷ files_back ns (map (file_at host) ns)) are.0)
+    ∙ ap (λ (file : Stream). FileBack n file ∷ files_back ns (map (file_at host) ns)) are.0.0)
 
 named-back : {F G J : Type 0} (source : F → Stream) (host : HostState) (all names : List (List ℕ)) (at : ℕ) (workers : List (Worker F G J))
     → at + length names ≤ length all → AllZip (IsFileOf source host) names workers → AreNamed all at workers
@@ -441,7 +441,7 @@ still-files source before after [] [] same are = tt
 still-files source before after [] (w ∷ ws) same are = absurd are
 still-files source before after (n ∷ ns) [] same are = absurd are
 still-files source before after (n ∷ ns) (File f ∷ ws) same are =
-    (are.0 ∙ ap (λ (fs : List ℕ → Option (List ℕ)). source_alone (fs n) 0 0) (sym same), still-files source before after ns ws same are.1)
+    ((are.0.0 ∙ ap (λ (fs : List ℕ → Option (List ℕ)). source_alone (fs n) 0 0) (sym same), are.0.1), still-files source before after ns ws same are.1)
 still-files source before after (n ∷ ns) (Reader r ∷ ws) same are = absurd are.0
 still-files source before after (n ∷ ns) (Merger ∷ ws) same are = absurd are.0
 

@@ -21,7 +21,7 @@ use Rattle.explorer.specs.Laws.{IsAnswered, IsExchangedIn}
 use Rattle.explorer.specs.Served.{DoorRun, new_importer}
 
 -- no connection that is served makes the pass see less
-grew : (offer : Offer) (before : Backend) (came went : List Stream) (after : Backend) → AreServed offer before came went after
+pub grew : (offer : Offer) (before : Backend) (came went : List Stream) (after : Backend) → AreServed offer before came went after
     → IsPrefix before.pass.seen after.pass.seen
 grew offer before [] [] after is =
     subst (λ (b : Backend). IsPrefix before.pass.seen b.pass.seen) (sym is) (prefix-self before.pass.seen)

@@ -1,5 +1,5 @@
 -- What is handed out, one thing after another.
-use Rattle.std.proofs.Common.{◌≡◌, ℕ, zero, suc, ◌+◌, ◌<◌, List, [], ◌∷◌, ◌++◌, length, map, take, slice_index_or, refl, sym, ap, subst, ◌∙◌, append_assoc, append-nil, arith}
+use Rattle.std.proofs.Common.{◌≡◌, ℕ, zero, suc, ◌+◌, ◌<◌, List, [], ◌∷◌, ◌++◌, length, map, take, slice_index_or, Some, refl, sym, ap, subst, ◌∙◌, append_assoc, append-nil, arith}
 use Rattle.std.specs.List.{AllByRecursion, AllZip}
 use Rattle.std.proofs.lemmas.List.{length-map, map-append, reverse-append}
 use Rattle.outside.specs.Doors.{Connections}
@@ -7,6 +7,7 @@ use Rattle.outside.specs.Stream.{Stream}
 use Rattle.host.specs.Hosts.{FileOut, HandsFile, HostCall, HostState, RefusesFile, added, noted}
 use Rattle.explorer_model.specs.declared.archive.Batch.{Batch}
 use Rattle.explorer_model.specs.Timeline.{IsPrefix}
+use Rattle.published_index.specs.Places.{new_drawing}
 use Rattle.published_index.specs.States.{Watching, watching}
 use Rattle.explorer.specs.declared.workers.FileWork.{FileWork}
 use Rattle.explorer.specs.declared.workers.ReaderWork.{ReaderWork}
@@ -43,11 +44,11 @@ files-out-last names name = ap (λ (l : List (List ℕ)). map FileOut l) (revers
 
 pub files-out-more : {F G J : Type 0} (source : F → Stream) (names : List (List ℕ)) (name : List ℕ) (workers : List (Worker F G J))
     (file : FileWork F J) (before now after : HostState) → FilesOut source names workers before now
-    → HandsFile name (source file.source) now after
+    → HandsFile name (source file.source) now after → file.drawer ≡ new_drawing
     → FilesOut source (names ++ name ∷ []) (workers ++ File file ∷ []) before after
-files-out-more source names name workers file before now after out hands = record {
+files-out-more source names name workers file before now after out hands new = record {
   files = zip-more (IsFileOf source before) names workers name (File file) out.files
-      (hands.stood ∙ ap (λ (h : HostState). file_at h name) out.rest);
+      (hands.stood ∙ ap (λ (h : HostState). file_at h name) out.rest, new);
   rest = hands.rest
       ∙ (ap (λ (h : HostState). record h { calls = noted (FileOut name) h.calls }) out.rest
       ∙ ap (λ (calls : List HostCall). record before { calls = added calls before.calls }) (sym (files-out-last names name)));
@@ -98,9 +99,10 @@ all-front P (y ∷ ys) x all = let rest = all-front P ys x all.1 in ((all.0, res
 pub more-readers : {F G J : Type 0} (door : G → Connections) (opening : List Batch) (doors left left' : List G)
     (passes passes' : List Watching) (others all all' : List (Worker F G J)) (reader : ReaderWork G J)
     → left ≡ reader.door ∷ left' → passes ≡ passes' ++ reader.pass ∷ [] → all' ≡ all ++ Reader reader ∷ []
+    → reader.drawer ≡ Some new_drawing
     → HasSomeReaders door opening doors left passes others all
     → HasSomeReaders door opening doors left' passes' others all'
-more-readers door opening doors left left' passes passes' others all all' reader d p a h =
+more-readers door opening doors left left' passes passes' others all all' reader d p a new h =
     let are = all-front (λ pass. pass ≡ watching opening) passes' reader.pass
     (subst (λ (ps : List Watching). AllByRecursion (λ pass. pass ≡ watching opening) ps) p h.passes_are) in
     record {
@@ -110,7 +112,7 @@ more-readers door opening doors left left' passes passes' others all all' reader
       all_are = a ∙ (ap (λ l. l ++ Reader reader ∷ []) h.all_are ∙ append_assoc others h.readers (Reader reader ∷ []));
       are_readers = subst (λ (ds : List Connections). AllZip (IsReaderOf door opening) ds (h.readers ++ Reader reader ∷ []))
           (sym (map-append door h.handed (reader.door ∷ [])))
-          (zip-more (IsReaderOf door opening) (map door h.handed) h.readers (door reader.door) (Reader reader) h.are_readers (refl, are.1));
+          (zip-more (IsReaderOf door opening) (map door h.handed) h.readers (door reader.door) (Reader reader) h.are_readers (refl, are.1, new));
       passes_are = are.0;
     }
 

@@ -18,6 +18,8 @@ mod HandedLemmas
 mod HostCalls
 mod ServedLemmas
 mod WorkerLists
+mod DrawerLemmas
+mod DrawnLawLemmas
 mod QueryLemmas
 mod ServeLemmas
 mod ByteLemmas

@@ -39,6 +39,8 @@ use Rattle.segment_blocks.specs.contracts.held_batch.TaggedBatch
 use Rattle.segment_blocks.specs.contracts.packed_rows.PackedRows
 use Rattle.segment_blocks.specs.contracts.segment.Segment
 use Rattle.published_index.specs.contracts.published.Operation
+use Rattle.published_index.specs.contracts.places.Drawer
+use Rattle.published_index.specs.contracts.places.Places
 use Rattle.published_index.specs.contracts.publisher.Publisher
 use Rattle.ingest_desk.specs.contracts.ids.Ids
 use Rattle.ingest_desk.specs.contracts.ingest.Ingest
@@ -170,14 +172,20 @@ module _ (J : RattleType) (g : Ghosts J.Denot) (send : IsSend J) where
   pub pass_send : IsSend (Pass.the_row J g)
   pass_send = search (seat_send, sendable, crosses, declared_send, as_row_send) depth 40 fits 40000
 
+  pub drawer_send : IsSend (Drawer.the_row J g)
+  drawer_send = search (chair_send, sendable, crosses, declared_send, array_field_send, as_row_send) depth 40 fits 40000
+
+  pub places_send : IsSend (Places.the_row J g)
+  places_send = search (shared_send, lease_send, chair_send, sendable, crosses, declared_send, array_field_send, as_row_send) depth 40 fits 40000
+
   pub publisher_send : IsSend (Publisher.the_row J g)
-  publisher_send = search (list_writer_send, sendable, crosses, declared_send, as_row_send) depth 40 fits 40000
+  publisher_send = search (list_writer_send, places_send, sendable, crosses, declared_send, as_row_send) depth 40 fits 40000
 
   pub file_send : (F : RattleType) → IsSend F → IsSend (FileWork.the_row F J g)
-  file_send F file = search (report_send, sendable, declared_send, variants_send, as_row_send) depth 40 fits 40000
+  file_send F file = search (report_send, drawer_send, sendable, declared_send, variants_send, as_row_send) depth 40 fits 40000
 
   pub reader_send : (G : RattleType) → IsSend G → IsSend (ReaderWork.the_row G J g)
-  reader_send G door = search (pass_send, sendable, crosses, declared_send, variants_send, as_row_send) depth 40 fits 40000
+  reader_send G door = search (pass_send, drawer_send, sendable, crosses, declared_send, variants_send, as_row_send) depth 40 fits 40000
 
   pub worker_send : (F G : RattleType) → IsSend F → IsSend G → IsSend (Worker.the_row F G J g)
   worker_send F G file door =

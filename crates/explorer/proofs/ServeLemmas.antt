@@ -1,5 +1,5 @@
 -- A run of the command `serve`, from the moments between its calls.
-use Rattle.std.proofs.Common.{◌≡◌, ◌⊎◌, Bool, true, false, ℕ, zero, suc, replicate, ◌+◌, ◌-◌, ◌<◌, ◌≤◌, List, [], ◌∷◌, ◌++◌, Option, None, Some, IfSome, length, map, refl, sym, ap, subst, ◌∙◌, append_assoc, inl, inr, arith, string_bytes}
+use Rattle.std.proofs.Common.{◌≡◌, ◌⊎◌, Bool, true, false, ℕ, zero, suc, replicate, ◌+◌, ◌-◌, ◌<◌, ◌≤◌, List, [], ◌∷◌, ◌++◌, Option, None, Some, IfSome, length, map, slice_get, refl, sym, ap, subst, ◌∙◌, append_assoc, append-nil, inl, inr, arith, string_bytes}
 use Rattle.std.proofs.lemmas.Bool.{cases_Bool}
 use Rattle.std.specs.Prelude.{if◌then◌else◌, ◌≢◌, Result, Ok, Err, unwrap_or}
 use Rattle.std.specs.List.{All, AllByRecursion, AllZip}
@@ -28,7 +28,9 @@ use Rattle.record_log.specs.declared.fault.OpenFault.{OpenFault}
 use Rattle.record_log.specs.declared.fault.OpenFault.TheVariants as openings
 use Rattle.ingest_desk.specs.Openings.{IsNotOpened, IsWrong}
 use Rattle.published_index.specs.Cover.{journal_of}
+use Rattle.published_index.specs.Places.{Drawing, new_drawing}
 use Rattle.published_index.specs.States.{Watching, watching}
+use Rattle.ingest_desk.specs.Drawn.{most_untold}
 use Rattle.ingest_desk.specs.Stored.{Nameless, Stored, journal, stored_by}
 use Rattle.explorer.specs.declared.serving.Done as came
 use Rattle.explorer.specs.declared.serving.Outcome.{Outcome}
@@ -44,7 +46,7 @@ use Rattle.ingest_desk.specs.declared.report.ImportEnding.{ImportEnding}
 use Rattle.ingest_desk.specs.declared.report.ImportEnding.TheVariants as endings
 use Rattle.session.specs.declared.doors.DoorEnd.{DoorEnd}
 use Rattle.session.specs.declared.doors.DoorEnd.TheVariants as door_ends
-use Rattle.session.specs.Imports.{HasStoredBody, IsRepeatOf}
+use Rattle.session.specs.Imports.{DrewPlacesOf, HasStoredBody, IsRepeatOf}
 use Rattle.session.proofs.FrontLemmas.{get-prefix}
 use Rattle.explorer.specs.declared.fault.Fault.{Fault}
 use Rattle.explorer.specs.declared.fault.Fault.TheVariants as faults
@@ -353,6 +355,25 @@ body-longer front journal body games refused p h = record {
   repeats = repeats-longer (cuts body) refused front journal p h.repeats;
 }
 
+drawn-longer : (front journal : List Batch) (places : List ℕ) (batches : List Batch) → IsPrefix front journal
+    → AllZip (λ place batch. slice_get front place ≡ Some batch) places batches
+    → AllZip (λ place batch. slice_get journal place ≡ Some batch) places batches
+drawn-longer front journal [] [] p all = tt
+drawn-longer front journal [] (b ∷ bs) p all = absurd all
+drawn-longer front journal (n ∷ ns) [] p all = absurd all
+drawn-longer front journal (n ∷ ns) (b ∷ bs) p all =
+    (get-prefix front journal n b p all.0, drawn-longer front journal ns bs p all.1)
+
+drew-longer : (most : ℕ) (front journal batches : List Batch) (before after : Drawing) → IsPrefix front journal
+    → DrewPlacesOf most front batches before after → DrewPlacesOf most journal batches before after
+drew-longer most front journal batches before after p d = record {
+  places = d.places;
+  stand = drawn-longer front journal d.places batches p d.stand;
+  untold = d.untold;
+  few = d.few;
+  drawn = d.drawn;
+}
+
 kept-longer : (front journal : List Batch) (files : List Stream) (runs : List FileRun) → IsPrefix front journal
     → AllZip (IsKeptIn front) files runs → AllZip (IsKeptIn journal) files runs
 kept-longer front journal [] [] p all = tt
@@ -362,6 +383,7 @@ kept-longer front journal (f ∷ fs) (r ∷ rs) p all = (
   record {
     imported = all.0.imported;
     stand = stands-longer 0 front journal all.0.imported.batches p all.0.stand;
+    drawn = drew-longer (most_untold r.ending) front journal all.0.imported.batches new_drawing r.drawing p all.0.drawn;
     repeats = repeats-longer (cuts all.0.imported.stream) r.refused front journal p all.0.repeats;
   },
   kept-longer front journal fs rs p all.1,
@@ -449,36 +471,60 @@ begins-with book opening journal (d ∷ ds) (r ∷ rs) some all =
 
 -- ---- the journal that a disk tells
 
-with-or-without : (journal : List Batch) (batch : Batch) (bytes : List ℕ) → IsSound journal → IsSound (journal ++ batch ∷ [])
-    → IsWithOrWithoutBatch journal batch bytes → TellsLonger journal (Some bytes)
-with-or-without journal batch bytes sound more (inl is) = record { longer = journal; extends = prefix-self journal; sound = sound; tells = is }
-with-or-without journal batch bytes sound more (inr is) =
-    record { longer = journal ++ batch ∷ []; extends = prefix-append journal (batch ∷ []); sound = more; tells = is }
+none-behind : (journal : List Batch) → IsSound journal → IsSound (journal ++ [])
+none-behind journal sound = subst IsSound (sym (append-nil journal)) sound
 
-one-more : (journal : List Batch) (batch : Batch) (content : Option (List ℕ)) → IsSound journal → IsSound (journal ++ batch ∷ [])
-    → ((bytes : List ℕ) → content ≡ Some bytes → IsWithOrWithoutBatch journal batch bytes) → TellsLonger journal content
-one-more journal batch None sound more each = record { longer = journal; extends = prefix-self journal; sound = sound; tells = tt }
-one-more journal batch (Some bytes) sound more each = with-or-without journal batch bytes sound more (each bytes refl)
+tells-same : (journal : List Batch) (content : Option (List ℕ)) → IfSome content (HasJournal journal)
+    → IfSome content (HasJournal (journal ++ []))
+tells-same journal content tells = subst (λ (j : List Batch). IfSome content (HasJournal j)) (sym (append-nil journal)) tells
+
+-- no batch more is told
+without : (journal : List Batch) (disk : DiskState) → IsSound journal → IfSome disk.content (HasJournal journal)
+    → TellsLonger journal disk
+without journal disk sound tells = record {
+  failed = [];
+  few = omega arith;
+  faultless = λ none. refl;
+  sound = none-behind journal sound;
+  tells = tells-same journal disk.content tells;
+}
+
+with-or-without : (journal : List Batch) (batch : Batch) (disk : DiskState) (bytes : List ℕ) → disk.content ≡ Some bytes → 0 < disk.faults
+    → IsSound journal → IsSound (journal ++ batch ∷ []) → IsWithOrWithoutBatch journal batch bytes → TellsLonger journal disk
+with-or-without journal batch disk bytes is some sound more (inl has) =
+    without journal disk sound (rw is has)
+with-or-without journal batch disk bytes is some sound more (inr has) = record {
+  failed = batch ∷ [];
+  few = omega arith;
+  faultless = λ none. absurd (omega (arith, some, none));
+  sound = more;
+  tells = rw is has;
+}
+
+one-more : (journal : List Batch) (batch : Batch) (disk : DiskState) (content : Option (List ℕ)) → disk.content ≡ content → 0 < disk.faults
+    → IsSound journal → IsSound (journal ++ batch ∷ [])
+    → ((bytes : List ℕ) → content ≡ Some bytes → IsWithOrWithoutBatch journal batch bytes) → TellsLonger journal disk
+one-more journal batch disk None is some sound more each = without journal disk sound (rw is tt)
+one-more journal batch disk (Some bytes) is some sound more each =
+    with-or-without journal batch disk bytes is some sound more (each bytes refl)
 
 kept-by : {D : Type 0} (disk : D → DiskState) (left_since : D → ℕ → List ℕ → Type 0) (journal : List Batch) (manifest : Log D)
     (fault : Option (ℕ × ℕ)) (failed : Option Batch)
     → ((it : D) (file : List ℕ) → (disk it).content ≡ Some file → MayLeave disk left_since it file)
-    → IsSound journal → KeepsBy disk left_since journal manifest fault failed → TellsLonger journal (disk manifest.disk).content
-kept-by disk left_since journal manifest None None told sound k = record {
-  longer = journal;
-  extends = prefix-self journal;
-  sound = sound;
-  tells = told_has (HasJournal journal) (disk manifest.disk).content (λ bytes is. k.images bytes (told manifest.disk bytes is));
-}
+    → IsSound journal → KeepsBy disk left_since journal manifest fault failed → TellsLonger journal (disk manifest.disk)
+kept-by disk left_since journal manifest None None told sound k =
+    without journal (disk manifest.disk) sound
+    (told_has (HasJournal journal) (disk manifest.disk).content (λ bytes is. k.images bytes (told manifest.disk bytes is)))
 kept-by disk left_since journal manifest None (Some batch) told sound k = absurd k
 kept-by disk left_since journal manifest (Some counts) None told sound k = absurd k
 kept-by disk left_since journal manifest (Some counts) (Some batch) told sound k =
-    one-more journal batch (disk manifest.disk).content sound k.0 (λ bytes is. k.1 bytes (told manifest.disk bytes is))
+    one-more journal batch (disk manifest.disk) (disk manifest.disk).content refl k.2 sound k.0
+    (λ bytes is. k.1 bytes (told manifest.disk bytes is))
 
 pub longer : {D : Type 0} (disk : D → DiskState) (left_since : D → ℕ → List ℕ → Type 0) (journal : List Batch) (manifest : Log D)
     (failed : Option Batch)
     → ((it : D) (file : List ℕ) → (disk it).content ≡ Some file → MayLeave disk left_since it file)
-    → IsSound journal → Keeps disk left_since journal manifest failed → TellsLonger journal (disk manifest.disk).content
+    → IsSound journal → Keeps disk left_since journal manifest failed → TellsLonger journal (disk manifest.disk)
 longer disk left_since journal manifest failed told sound k =
     kept-by disk left_since journal manifest manifest.fault failed told sound k
 
@@ -537,48 +583,53 @@ listens-by line (Err failed) old new wrote = writes-fails line old new wrote
 
 module _ (service : Service) (before after : World) (worked : IsWorked service before.host after.host)
     (listened : Listens service before after) where
-  abbrev to-first : (first : Option Fault) → first ≡ first_fault worked.files worked.doors → GoesOn service before.host after.host worked
+  abbrev to-first : (first : Option Fault) → first ≡ first_fault worked.files worked.doors
+      → (goes_on : GoesOn service before.host after.host worked) → goes_on.shared.failed ≡ []
       → after.host.disk_faults ≡ before.host.disk_faults → IsWorkedTo service first before after
-  to-first first is goes_on disk = record { worked = worked; goes_on = goes_on; listens = listened; first = is; disk = disk }
+  to-first first is goes_on none disk =
+      record { worked = worked; goes_on = goes_on; listens = listened; first = is; disk = disk; none_failed = none }
 
-  by-first : (fault : Fault) → Some fault ≡ first_fault worked.files worked.doors → GoesOn service before.host after.host worked
+  by-first : (fault : Fault) → Some fault ≡ first_fault worked.files worked.doors
+      → (goes_on : GoesOn service before.host after.host worked) → goes_on.shared.failed ≡ []
       → after.host.disk_faults ≡ before.host.disk_faults → MayReport service worked.files before after → FailsBy service fault before after
-  by-first fault is goes_on disk reports = record { to = to-first (Some fault) is goes_on disk; reports = reports }
+  by-first fault is goes_on none disk reports = record { to = to-first (Some fault) is goes_on none disk; reports = reports }
 
   -- a worker had a fault
   by-worker : (fault : Fault) → IsWorkers fault → Some fault ≡ first_fault worked.files worked.doors
       → after.host.disk_faults ≡ before.host.disk_faults → AreCounted (Some fault) before.host after.host
-      → SeesAll service before.host after.host worked (Some fault) → MayReport service worked.files before after
-      → ServesBy service before after (Stopped fault)
-  by-worker faults.ReadFault is first disk counted sees reports = (by-first faults.ReadFault first sees.goes_on disk reports, counted.files refl)
-  by-worker (faults.Full games bytes) is first disk counted sees reports = by-first (faults.Full games bytes) first sees.goes_on disk reports
-  by-worker faults.TooMuchInput is first disk counted sees reports = by-first faults.TooMuchInput first sees.goes_on disk reports
-  by-worker faults.CannotAccept is first disk counted sees reports = (by-first faults.CannotAccept first sees.goes_on disk reports, counted.doors refl)
-  by-worker faults.OutOfMemory is first disk counted sees reports = inr (inl (by-first faults.OutOfMemory first sees.goes_on disk reports))
-  by-worker faults.Usage is first disk counted sees reports = absurd is
-  by-worker (faults.BadParameter p) is first disk counted sees reports = absurd is
-  by-worker faults.BadLabel is first disk counted sees reports = absurd is
-  by-worker faults.OpeningsTooLong is first disk counted sees reports = absurd is
-  by-worker (faults.BadOpenings row cause) is first disk counted sees reports = absurd is
-  by-worker faults.WriteFault is first disk counted sees reports = absurd is
-  by-worker faults.DiskFault is first disk counted sees reports = absurd is
-  by-worker (faults.NotEmpty n) is first disk counted sees reports = absurd is
-  by-worker faults.NotAStore is first disk counted sees reports = absurd is
-  by-worker (faults.OtherFormat n) is first disk counted sees reports = absurd is
-  by-worker (faults.Damaged n) is first disk counted sees reports = absurd is
-  by-worker (faults.CannotOpen name) is first disk counted sees reports = absurd is
+      → (sees : SeesAll service before.host after.host worked (Some fault)) → sees.goes_on.shared.failed ≡ []
+      → MayReport service worked.files before after → ServesBy service before after (Stopped fault)
+  by-worker faults.ReadFault is first disk counted sees none reports = (by-first faults.ReadFault first sees.goes_on none disk reports, counted.files refl)
+  by-worker (faults.Full games bytes) is first disk counted sees none reports = by-first (faults.Full games bytes) first sees.goes_on none disk reports
+  by-worker faults.TooMuchInput is first disk counted sees none reports = by-first faults.TooMuchInput first sees.goes_on none disk reports
+  by-worker faults.CannotAccept is first disk counted sees none reports = (by-first faults.CannotAccept first sees.goes_on none disk reports, counted.doors refl)
+  by-worker faults.OutOfMemory is first disk counted sees none reports = inr (inl (by-first faults.OutOfMemory first sees.goes_on none disk reports))
+  by-worker faults.Usage is first disk counted sees none reports = absurd is
+  by-worker (faults.BadParameter p) is first disk counted sees none reports = absurd is
+  by-worker faults.BadLabel is first disk counted sees none reports = absurd is
+  by-worker faults.OpeningsTooLong is first disk counted sees none reports = absurd is
+  by-worker (faults.BadOpenings row cause) is first disk counted sees none reports = absurd is
+  by-worker faults.WriteFault is first disk counted sees none reports = absurd is
+  by-worker faults.DiskFault is first disk counted sees none reports = absurd is
+  by-worker (faults.NotEmpty n) is first disk counted sees none reports = absurd is
+  by-worker faults.NotAStore is first disk counted sees none reports = absurd is
+  by-worker (faults.OtherFormat n) is first disk counted sees none reports = absurd is
+  by-worker (faults.Damaged n) is first disk counted sees none reports = absurd is
+  by-worker (faults.CannotOpen name) is first disk counted sees none reports = absurd is
 
   abbrev is-served : None ≡ first_fault worked.files worked.doors → after.host.disk_faults ≡ before.host.disk_faults
-      → SeesAll service before.host after.host worked None → IsServed service before after
-  is-served is disk sees = record {
-    to = to-first None is sees.goes_on disk;
+      → (sees : SeesAll service before.host after.host worked None) → sees.goes_on.shared.failed ≡ []
+      → IsServed service before after
+  is-served is disk sees none = record {
+    to = to-first None is sees.goes_on none disk;
     stored = sees.stored refl;
     served = sees.served refl;
   }
 
   serves-all : None ≡ first_fault worked.files worked.doors → after.host.disk_faults ≡ before.host.disk_faults
-      → SeesAll service before.host after.host worked None → Reports service worked.files before after → ServesAll service before after
-  serves-all is disk sees reports = record { served = is-served is disk sees; reports = reports }
+      → (sees : SeesAll service before.host after.host worked None) → sees.goes_on.shared.failed ≡ []
+      → Reports service worked.files before after → ServesAll service before after
+  serves-all is disk sees none reports = record { served = is-served is disk sees none; reports = reports }
 
   same_reads : after.input.read_faults ≡ before.input.read_faults
   same_reads = ap (λ (s : Stream). s.read_faults) listened.input
@@ -614,17 +665,18 @@ module _ (service : Service) (before after : World) (worked : IsWorked service b
       → (failed ≡ false → after.host.disk_faults ≡ before.host.disk_faults)
       → first ≡ first_fault worked.files worked.doors
       → AreCounted first before.host after.host
-      → SeesAll service before.host after.host worked first
+      → (sees : SeesAll service before.host after.host worked first)
+      → (failed ≡ false → sees.goes_on.shared.failed ≡ [])
       → (ending : Ending) → EndsBy (cause failed first) listens lines before.errors after.errors ending
       → ServesBy service before after ending
-  ends-by true first listens lines wrote reports rises stays is counted sees ending by =
+  ends-by true first listens lines wrote reports rises stays is counted sees none ending by =
       subst (λ (e : Ending). ServesBy service before after e) (sym by) (by-disk (rises refl) sees.goes_on (inl reports))
-  ends-by false (Some fault) listens lines wrote reports rises stays is counted sees ending by =
+  ends-by false (Some fault) listens lines wrote reports rises stays is counted sees none ending by =
       subst (λ (e : Ending). ServesBy service before after e) (sym by)
       (by-worker fault (subst (λ (o : Option Fault). IfSome o IsWorkers) (sym is) (of-workers worked.files worked.doors))
-      is (stays refl) counted sees (inl reports))
-  ends-by false None listens lines wrote reports rises stays is counted sees ending by =
-      by-sinks listens lines wrote (serves-all is (stays refl) sees reports) ending by
+      is (stays refl) counted sees (none refl) (inl reports))
+  ends-by false None listens lines wrote reports rises stays is counted sees none ending by =
+      by-sinks listens lines wrote (serves-all is (stays refl) sees (none refl) reports) ending by
 
   -- nothing was reported
   ends-untold : (failed : Bool) (first : Option Fault) → after.errors ≡ before.errors
@@ -632,17 +684,18 @@ module _ (service : Service) (before after : World) (worked : IsWorked service b
       → (failed ≡ false → after.host.disk_faults ≡ before.host.disk_faults)
       → first ≡ first_fault worked.files worked.doors
       → AreCounted first before.host after.host
-      → SeesAll service before.host after.host worked first
+      → (sees : SeesAll service before.host after.host worked first)
+      → (failed ≡ false → sees.goes_on.shared.failed ≡ [])
       → (ending : Ending) → ending ≡ Stopped (unwrap_or (cause failed first) faults.OutOfMemory) → ServesBy service before after ending
-  ends-untold true first same rises stays is counted sees ending by =
+  ends-untold true first same rises stays is counted sees none ending by =
       subst (λ (e : Ending). ServesBy service before after e) (sym by) (by-disk (rises refl) sees.goes_on (inr same))
-  ends-untold false (Some fault) same rises stays is counted sees ending by =
+  ends-untold false (Some fault) same rises stays is counted sees none ending by =
       subst (λ (e : Ending). ServesBy service before after e) (sym by)
       (by-worker fault (subst (λ (o : Option Fault). IfSome o IsWorkers) (sym is) (of-workers worked.files worked.doors))
-      is (stays refl) counted sees (inr same))
-  ends-untold false None same rises stays is counted sees ending by =
+      is (stays refl) counted sees (none refl) (inr same))
+  ends-untold false None same rises stays is counted sees none ending by =
       subst (λ (e : Ending). ServesBy service before after e) (sym by)
-      (inr (inr (record { served = is-served is (stays refl) sees; errors = same })))
+      (inr (inr (record { served = is-served is (stays refl) sees (none refl); errors = same })))
 
 module _ {A E : Type 0} (service : Service) (before after : World) (worked : IsWorked service before.host after.host)
     (same_input : after.input ≡ before.input) (failed : Bool) (first : Option Fault) (listens : Result A E)
@@ -651,7 +704,8 @@ module _ {A E : Type 0} (service : Service) (before after : World) (worked : IsW
     (stays : failed ≡ false → after.host.disk_faults ≡ before.host.disk_faults)
     (first_is : first ≡ first_fault worked.files worked.doors)
     (counted : AreCounted first before.host after.host)
-    (sees : SeesAll service before.host after.host worked first) where
+    (sees : SeesAll service before.host after.host worked first)
+    (none : failed ≡ false → sees.goes_on.shared.failed ≡ []) where
   listened : Listens service before after
   listened = record {
     input = same_input;
@@ -662,42 +716,54 @@ module _ {A E : Type 0} (service : Service) (before after : World) (worked : IsW
       → (ending : Ending) → Concludes lines (cause failed first) listens before.errors after.errors ending
       → ServesBy service before after ending
   concludes None are ending by =
-      ends-untold service before after worked listened failed first by.0 rises stays first_is counted sees ending by.1
+      ends-untold service before after worked listened failed first by.0 rises stays first_is counted sees none ending by.1
   concludes (Some lines) are ending by =
       let reports : Reports service worked.files before after =
       subst (λ (l : List ℕ). Writes (l ∷ []) before.errors after.errors) are (reported-by lines before.errors after.errors by.0) in
-      ends-by service before after worked listened failed first listens lines wrote reports rises stays first_is counted sees ending by.1
+      ends-by service before after worked listened failed first listens lines wrote reports rises stays first_is counted sees none ending by.1
 
 module _ (service : Service) (before lent used after : HostState) (given returns : DiskState)
     (hands : HandsDisk service.store given before lent) (takes : TakesDisk service.store returns used after)
     (opening journal : List Batch) (first : Option Fault) (lines : Option (List ℕ))
     (w : HasWorked service opening journal first lines lent used) (read : IfSome given.content (HasJournal opening)) (sound : IsSound opening) where
-  pub sees-all : 1 ≤ service.readers → TellsLonger journal returns.content
-      → SeesAll service before after (is-worked service before lent used after given returns hands takes opening journal first lines w read sound) first
+  pub sees-all : 1 ≤ service.readers → TellsLonger journal returns
+      → (sees : SeesAll service before after (is-worked service before lent used after given returns hands takes opening journal first lines w read sound) first)
+      × (returns.faults ≡ 0 → sees.goes_on.shared.failed ≡ [])
   unfolding is-worked
   sees-all some l =
       let files : w.middle.files ≡ before.files = w.files ∙ ap (λ (h : HostState). h.files) hands.rest in
       let seen : AllZip (IsSeenIn service.book opening journal) w.handed w.over.doors = w.over.seen in
       let count : 1 ≤ length w.handed = omega (arith, some, w.are_fresh.number) in
-      record {
-        goes_on = record {
-          journal = l.longer;
-          sound = l.sound;
-          tells = subst (λ (c : Option (List ℕ)). IfSome c (HasJournal l.longer)) (sym (content-back service.store returns used after takes)) l.tells;
-          extends = prefix-trans opening journal l.longer (begins-with service.book opening journal w.handed w.over.doors count seen) l.extends;
-          kept = kept-longer journal l.longer (map (file_at before) service.files) w.over.files l.extends
-              (subst (λ (at : List ℕ → Option (List ℕ)). AllZip (IsKeptIn journal) (map (λ (name : List ℕ). source_alone (at name) 0 0) service.files) w.over.files)
-              files w.over.kept);
-          full = full-longer journal l.longer (map (file_at before) service.files) w.over.files l.extends
-              (subst (λ (at : List ℕ → Option (List ℕ)). AllZip (FindsFull journal) (map (λ (name : List ℕ). source_alone (at name) 0 0) service.files) w.over.files)
-              files w.over.full);
-          seen = seen-longer service.book opening journal l.longer w.handed w.over.doors l.extends seen;
-        };
-        stored = λ none. stored-longer journal l.longer (map (file_at before) service.files) w.over.files l.extends
-            (subst (λ (at : List ℕ → Option (List ℕ)). AllZip (IsStoredIn journal) (map (λ (name : List ℕ). source_alone (at name) 0 0) service.files) w.over.files)
-            files (w.over.stored none));
-        served = λ none. served-longer service.book opening journal l.longer w.handed w.over.doors l.extends (w.over.served_in none);
-      }
+      let whole = journal ++ l.failed in
+      let extends : IsPrefix journal whole = record { rest = l.failed; is = refl } in (
+        record {
+          goes_on = record {
+            journal = whole;
+            sound = l.sound;
+            tells = subst (λ (c : Option (List ℕ)). IfSome c (HasJournal whole)) (sym (content-back service.store returns used after takes)) l.tells;
+            extends = prefix-trans opening journal whole (begins-with service.book opening journal w.handed w.over.doors count seen) extends;
+            shared = record {
+              stored = journal;
+              failed = l.failed;
+              journal_is = refl;
+              few = l.few;
+              drawn = w.over.drawn;
+            };
+            kept = kept-longer journal whole (map (file_at before) service.files) w.over.files extends
+                (subst (λ (at : List ℕ → Option (List ℕ)). AllZip (IsKeptIn journal) (map (λ (name : List ℕ). source_alone (at name) 0 0) service.files) w.over.files)
+                files w.over.kept);
+            full = full-longer journal whole (map (file_at before) service.files) w.over.files extends
+                (subst (λ (at : List ℕ → Option (List ℕ)). AllZip (FindsFull journal) (map (λ (name : List ℕ). source_alone (at name) 0 0) service.files) w.over.files)
+                files w.over.full);
+            seen = seen-longer service.book opening journal whole w.handed w.over.doors extends seen;
+          };
+          stored = λ none. stored-longer journal whole (map (file_at before) service.files) w.over.files extends
+              (subst (λ (at : List ℕ → Option (List ℕ)). AllZip (IsStoredIn journal) (map (λ (name : List ℕ). source_alone (at name) 0 0) service.files) w.over.files)
+              files (w.over.stored none));
+          served = λ none. served-longer service.book opening journal whole w.handed w.over.doors extends (w.over.served_in none);
+        },
+        l.faultless,
+      )
 
   -- a count that rose over the workers rose in the run
   pub worked-counted : AreCounted first before after
@@ -803,7 +869,7 @@ pub served-so : {A E : Type 0} (service : Service) (before lent used after : Hos
     (hands : HandsDisk service.store given before lent) (takes : TakesDisk service.store returns used after)
     (opening journal : List Batch) (first : Option Fault) (lines : Option (List ℕ))
     → HasWorked service opening journal first lines lent used → IfSome given.content (HasJournal opening) → IsSound opening
-    → 1 ≤ service.readers → TellsLonger journal returns.content → GivesBack lent used
+    → 1 ≤ service.readers → TellsLonger journal returns → GivesBack lent used
     → (failed : Bool) → (failed ≡ true → 0 < returns.faults) → (failed ≡ false → returns.faults ≡ 0)
     → (input output written errors reported : Stream) (listens : Result A E)
     → WroteLine (listening_line service.address) listens output written
@@ -813,6 +879,7 @@ unfolding is-worked
 served-so service before lent used after given returns hands takes opening journal first lines w read sound some l g failed some_faults no_faults
     input output written errors reported listens wrote ending by =
     let disk = worked-disk service before lent used after given returns hands takes opening journal first lines w read sound in
+    let sees = sees-all service before lent used after given returns hands takes opening journal first lines w read sound some l in
     record {
       by = concludes service (world input output errors before) (world input written reported after)
           (is-worked service before lent used after given returns hands takes opening journal first lines w read sound)
@@ -821,7 +888,7 @@ served-so service before lent used after given returns hands takes opening journ
           (λ is. disk-stays service before lent used after given returns hands takes disk (no_faults is))
           w.over.first_is
           (worked-counted service before lent used after given returns hands takes opening journal first lines w read sound)
-          (sees-all service before lent used after given returns hands takes opening journal first lines w read sound some l)
+          sees.0 (λ is. sees.1 (no_faults is))
           lines w.over.lines_are ending by;
       gives_back = rounds service before lent used after given returns hands takes g;
     }
@@ -880,7 +947,7 @@ listens-so line other outcome done old new is same listens =
 pub longer-by : {D : Type 0} (disk : D → DiskState) (left_since : D → ℕ → List ℕ → Type 0) (stored : Stored D) (returns : D)
     → ((it : D) (file : List ℕ) → (disk it).content ≡ Some file → MayLeave disk left_since it file)
     → returns ≡ stored.manifest.disk → IsSound (journal stored) → Keeps disk left_since (journal stored) stored.manifest stored.failed
-    → TellsLonger (journal stored) (disk returns).content
-longer-by disk left_since stored returns told is sound k =
-    subst (λ (c : Option (List ℕ)). TellsLonger (journal stored) c) (sym (content-of disk returns stored.manifest.disk is))
+    → TellsLonger (journal stored) (disk returns)
+longer-by {D = D} disk left_since stored returns told is sound k =
+    subst (λ (d : D). TellsLonger (journal stored) (disk d)) (sym is)
     (longer disk left_since (journal stored) stored.manifest stored.failed told sound k)

@@ -1,6 +1,6 @@
 -- What files and doors came to, from what the workers did and were told.
 use Rattle.std.proofs.Common.{◌≡◌, ◌⊎◌, ℕ, zero, suc, ◌+◌, ◌<◌, ◌≤◌, List, [], ◌∷◌, ◌++◌, Option, None, Some, IfSome, length, map, slice_index_or, refl, sym, ap, subst, ◌∙◌, append_assoc, inl, inr, arith}
-use Rattle.std.specs.List.{AllByRecursion, AllZip}
+use Rattle.std.specs.List.{AllByRecursion, AllZip, flat_map}
 use Rattle.std.specs.Option.{option_or}
 use Rattle.std.specs.Prelude.{sum_by, Result, Ok, Err, IfOk, Vec}
 use Rattle.std.specs.Global.{Global}
@@ -18,7 +18,9 @@ use Rattle.explorer_model.specs.Labels.{no_label}
 use Rattle.explorer_model.specs.Openings.{NamedPosition}
 use Rattle.explorer_model.specs.Timeline.{IsPrefix}
 use Rattle.explorer_model.proofs.Timelines.{prefix-self, prefix-trans}
+use Rattle.published_index.specs.Places.{Drawing, new_drawing}
 use Rattle.published_index.specs.States.{Watching, watching}
+use Rattle.ingest_desk.specs.Drawn.{DrawsFor, most_untold}
 use Rattle.ingest_desk.specs.Importers.{ending_of}
 use Rattle.ingest_desk.specs.Reporting.{AccountsTo, games_of}
 use Rattle.ingest_desk.specs.declared.report.End.{End}
@@ -34,7 +36,8 @@ use Rattle.session.specs.Doors.{AreServed, DoorServed, EndsDoor}
 use Rattle.session.specs.Replies.{Offer, by_book}
 use Rattle.session.specs.Exchanges.{Backend, backend}
 use Rattle.session.specs.Steps.{KnowsEnd}
-use Rattle.session.proofs.StoredLemmas.{has-stored-body, receipts-stand, repeats-known}
+use Rattle.session.proofs.DrawnLemmas.{parts-stay}
+use Rattle.session.proofs.StoredLemmas.{are-drawn, has-stored-body, receipts-stand, repeats-known}
 use Rattle.explorer.proofs.HostCalls.{if_some}
 use Rattle.explorer.proofs.WorkerLists.{zip-length}
 use Rattle.explorer.specs.declared.fault.Fault.{Fault}
@@ -43,9 +46,9 @@ use Rattle.explorer.specs.declared.workers.FileWork.{FileWork}
 use Rattle.explorer.specs.declared.workers.ReaderWork.{ReaderWork}
 use Rattle.explorer.specs.declared.workers.Worker.{Worker}
 use Rattle.explorer.specs.declared.workers.Worker.TheVariants.{File, Reader, Merger}
-use Rattle.explorer.specs.Served.{AccountsSo, DoorRun, FileRun, FindsFull, IsFullBy, IsImported, IsKeptIn, IsSeenIn, IsServedFrom, IsServedIn, IsStoredIn, ReadsSo, fault_of_door, fault_of_doors, fault_of_import, file_at, file_lines, files_back, first_fault, new_importer, serve_report}
+use Rattle.explorer.specs.Served.{AccountsSo, DoorRun, DrewFrom, FileRun, FindsFull, IsFullBy, IsImported, IsKeptIn, IsSeenIn, IsServedFrom, IsServedIn, IsStoredIn, ReadsSo, drawn_in, fault_of_door, fault_of_doors, fault_of_import, file_at, file_lines, files_back, first_fault, importer_with, new_importer, serve_report}
 use Rattle.explorer.specs.Serving.{AreOut, WorksOver, due, lines_told}
-use Rattle.explorer.specs.Workers.{AreNamed, CanReturn, GivenBack, HasReader, HasReaders, HasReport, HaveReaders, TakesWorker, ImportsFile, IsFileOf, IsReaderOf, IsTold, ServesDoor, Works, call_of, calls_of, fault_in, fault_of, lines_in, lines_of, name_at}
+use Rattle.explorer.specs.Workers.{AreNamed, CanReturn, GivenBack, HasReader, HasReaders, HasReport, HaveReaders, TakesWorker, ImportsFile, IsFileOf, IsReaderOf, IsTold, ServesDoor, Works, call_of, calls_of, drawings_by, drawings_in, drawings_of, fault_in, fault_of, lines_in, lines_of, name_at, parts_of, places_of}
 
 -- ---- one file
 
@@ -71,13 +74,14 @@ reads-so (ends.Full games bytes note) stream before after batches refused f s = 
 reads-so (ends.TooMuch bytes) stream before after batches refused f s = (s.0, s.1.at, f)
 reads-so ends.OutOfMemory stream before after batches refused f s = (s.below, f)
 
--- what a file came to by its report
-abbrev run_of : {J : Type 0} → Stream → Report J → FileRun
-run_of file report = record { file = file; ending = ending_of report.end; refused = report.refused.items }
+-- what a file came to by its report, and by what was drawn
+abbrev run_of : {J : Type 0} → Stream → Report J → Drawing → FileRun
+run_of file report drawing =
+    record { file = file; ending = ending_of report.end; refused = report.refused.items; drawing = drawing }
 
-imported : {J : Type 0} (before after : Stream) (report : Report J) → ImportsBeside no_label before after report
-    → IsImported before (run_of after report)
-imported before after report i = record {
+imported : {J : Type 0} (before after : Stream) (report : Report J) (drawing : Drawing) → ImportsBeside no_label before after report
+    → IsImported before (run_of after report drawing)
+imported before after report drawing i = record {
   stream = i.stream;
   reads = i.reads;
   read_so = reads-so report.end i.stream before after i.comes.reports.batches report.refused.items i.faults i.comes.stands;
@@ -103,10 +107,10 @@ whole-end (ends.Full games bytes note) is = absurd (cc)
 whole-end (ends.TooMuch bytes) is = absurd (cc)
 whole-end ends.OutOfMemory is = absurd (cc)
 
-stored-in : {J : Type 0} (journal : List Batch) (before after : Stream) (report : Report J) → ImportsBeside no_label before after report
+stored-in : {J : Type 0} (journal : List Batch) (before after : Stream) (report : Report J) (drawing : Drawing) → ImportsBeside no_label before after report
     → HasReport journal (Some report) → fault_of_import (ending_of report.end) ≡ None
-    → IsStoredIn journal before (run_of after report)
-stored-in {J} journal before after report i has none =
+    → IsStoredIn journal before (run_of after report drawing)
+stored-in {J} journal before after report drawing i has none =
     let ending = whole-ending (ending_of report.end) none in
     let whole = whole-end report.end ending in
     let accounts = subst (λ (end : End J). AccountsTo no_label end (groups (cuts i.stream)) i.comes.reports.batches report.refused.items) whole i.comes.reports.accounts in
@@ -122,12 +126,15 @@ stored-in {J} journal before after report i has none =
     }
 
 -- what an import stored stands in a journal that has all that was told
-kept-in : {J : Type 0} (journal : List Batch) (before after : Stream) (report : Report J) → ImportsBeside no_label before after report
-    → HasReport journal (Some report) → IsKeptIn journal before (run_of after report)
+kept-in : {J : Type 0} (journal : List Batch) (before after : Stream) (report : Report J) (drawing : Drawing) → ImportsBeside no_label before after report
+    → HasReport journal (Some report) → DrawsFor (most_untold (ending_of report.end)) report.receipts.items new_drawing drawing
+    → IsKeptIn journal before (run_of after report drawing)
 unfolding imported
-kept-in journal before after report i has = record {
-  imported = imported before after report i;
+kept-in journal before after report drawing i has draws = record {
+  imported = imported before after report drawing i;
   stand = receipts-stand 0 report.receipts.items i.comes.reports.batches journal i.comes.reports.are_receipts has.0;
+  drawn = are-drawn (most_untold (ending_of report.end)) report.receipts.items i.comes.reports.batches journal new_drawing drawing
+      i.comes.reports.are_receipts has.0 draws;
   repeats = repeats-known (cuts i.stream) report.clashes.items report.refused.items journal has.1 i.comes.reports.repeats;
 }
 
@@ -150,10 +157,10 @@ full-by (ends.Full games bytes note) journal file run stream batches reads knows
 full-by (ends.TooMuch bytes) journal file run stream batches reads knows a = tt
 full-by ends.OutOfMemory journal file run stream batches reads knows a = tt
 
-full-in : {J : Type 0} (journal : List Batch) (before after : Stream) (report : Report J) → ImportsBeside no_label before after report
-    → HasReport journal (Some report) → FindsFull journal before (run_of after report)
-full-in journal before after report i has =
-    full-by report.end journal before (run_of after report) i.stream i.comes.reports.batches i.reads has.2 i.comes.reports.accounts
+full-in : {J : Type 0} (journal : List Batch) (before after : Stream) (report : Report J) (drawing : Drawing) → ImportsBeside no_label before after report
+    → HasReport journal (Some report) → FindsFull journal before (run_of after report drawing)
+full-in journal before after report drawing i has =
+    full-by report.end journal before (run_of after report drawing) i.stream i.comes.reports.batches i.reads has.2 i.comes.reports.accounts
 
 -- ---- the files
 
@@ -188,6 +195,8 @@ module _ {F G J : Type 0} (book : List NamedPosition) (source : F → Stream) (d
         → AllZip (IsStoredIn journal) (map (file_at host) names) runs
     pub full : (journal : List Batch) → AllByRecursion (IsTold journal) files
         → AllZip (FindsFull journal) (map (file_at host) names) runs
+    pub parts : parts_of (drawings_in files) ≡ length names
+    pub places : places_of (drawings_in files) ≡ flat_map (λ run. run.drawing.drawn) runs
 
   no-files : (at : ℕ) (others : List (Worker F G J)) → FileRuns [] at [] others
   no-files at others =
@@ -200,43 +209,49 @@ module _ {F G J : Type 0} (book : List NamedPosition) (source : F → Stream) (d
         kept = λ journal told. tt;
         stored = λ journal told none. tt;
         full = λ journal told. tt;
+        parts = refl;
+        places = refl;
       }
 
   one-file : (name : List ℕ) (names : List (List ℕ)) (at : ℕ) (file file' : FileWork F J) (files others : List (Worker F G J))
-      → name_at all at ≡ name → source file.source ≡ file_at host name → ImportsFile source file file'
+      → name_at all at ≡ name → (source file.source ≡ file_at host name) × (file.drawer ≡ new_drawing) → ImportsFile source file file'
       → FileRuns names (at + 1) files others → FileRuns (name ∷ names) at (File file' ∷ files) others
   one-file name names at file file' files others name_is stood i rest =
-      let run = run_of (source file'.source) i.report in
-      let imports = subst (λ (s : Stream). ImportsBeside no_label s (source file'.source) i.report) stood i.imports in
-      let fault : fault_of {F = F} {G = G} {J = J} (File file') ≡ fault_of_import run.ending = ap (λ (r : Option (Report J)). fault_of {F = F} {G = G} {J = J} (File (record { source = file'.source; report = r }))) i.report_is in
+      let run = run_of (source file'.source) i.report file'.drawer in
+      let draws = subst (λ (d : Drawing). DrawsFor (most_untold (ending_of i.report.end)) i.report.receipts.items d file'.drawer) stood.1 i.drawn in
+      let part : file'.drawer.parts ≡ 1 = ap (λ (d : Drawing). d.parts) draws.drawn in
+      let imports = subst (λ (s : Stream). ImportsBeside no_label s (source file'.source) i.report) stood.0 i.imports in
+      let fault : fault_of {F = F} {G = G} {J = J} (File file') ≡ fault_of_import run.ending = ap (λ (r : Option (Report J)). fault_of {F = F} {G = G} {J = J} (File (record { source = file'.source; drawer = file'.drawer; report = r }))) i.report_is in
       let place : at + 1 + length names ≡ at + length (name ∷ names) = omega arith in
       record {
         runs = run ∷ rest.runs;
-        imported = (imported (file_at host name) (source file'.source) i.report imports, rest.imported);
+        imported = (imported (file_at host name) (source file'.source) i.report file'.drawer imports, rest.imported);
         calls = ap (λ (n : List ℕ). FileBack n (source file'.source) ∷ calls_of source door all (at + 1) (files ++ others)) name_is
             ∙ ap (λ (cs : List HostCall). FileBack name (source file'.source) ∷ cs)
             (rest.calls ∙ ap (λ (n : ℕ). files_back names (map (λ run. run.file) rest.runs) ++ calls_of source door all n others) place);
         lines = ap (λ (l : List ℕ). l ++ lines_in names (files ++ others))
-            (ap (λ (r : Option (Report J)). lines_of {F = F} {G = G} {J = J} name (File (record { source = file'.source; report = r }))) i.report_is)
+            (ap (λ (r : Option (Report J)). lines_of {F = F} {G = G} {J = J} name (File (record { source = file'.source; drawer = file'.drawer; report = r }))) i.report_is)
             ∙ ap (λ (l : List ℕ). file_lines name i.report.refused.items ++ l) rest.lines;
         first = λ doors is. ap (λ (o : Option Fault). option_or o (fault_in (files ++ others))) fault
             ∙ ap (λ (o : Option Fault). option_or (fault_of_import run.ending) o) (rest.first doors is);
         kept = λ journal told. (
-          kept-in journal (file_at host name) (source file'.source) i.report imports
-              (subst (λ (r : Option (Report J)). HasReport journal r) i.report_is told.0),
+          kept-in journal (file_at host name) (source file'.source) i.report file'.drawer imports
+              (subst (λ (r : Option (Report J)). HasReport journal r) i.report_is told.0) draws,
           rest.kept journal told.1,
         );
         stored = λ journal told none.
             let both = or-none (fault_of {F = F} {G = G} {J = J} (File file')) (fault_in (files ++ others)) none in (
-              stored-in journal (file_at host name) (source file'.source) i.report imports
+              stored-in journal (file_at host name) (source file'.source) i.report file'.drawer imports
                   (subst (λ (r : Option (Report J)). HasReport journal r) i.report_is told.0) (sym fault ∙ both.0),
               rest.stored journal told.1 both.1,
             );
         full = λ journal told. (
-          full-in journal (file_at host name) (source file'.source) i.report imports
+          full-in journal (file_at host name) (source file'.source) i.report file'.drawer imports
               (subst (λ (r : Option (Report J)). HasReport journal r) i.report_is told.0),
           rest.full journal told.1,
         );
+        parts = omega (arith, part, rest.parts);
+        places = ap (λ (places : List ℕ). file'.drawer.drawn ++ places) rest.places;
       }
 
   pub file-runs : (front names : List (List ℕ)) (at : ℕ) (files files' others : List (Worker F G J))
@@ -269,6 +284,9 @@ served-grows offer before (x ∷ xs) (y ∷ ys) after are =
 served-grows offer before [] (y ∷ ys) after are = absurd are
 served-grows offer before (x ∷ xs) [] after are = absurd are
 
+some-same : {A : Type 0} (x y : A) → Some x ≡ Some y → x ≡ y
+some-same x y is = cc
+
 whole-door : (end : DoorEnd) → fault_of_door end ≡ None → end ≡ door_ends.Whole
 whole-door door_ends.Whole none = refl
 whole-door door_ends.AcceptFault none = absurd (cc)
@@ -283,20 +301,31 @@ module _ {F G J : Type 0} (book : List NamedPosition) (source : F → Stream) (d
     pub served_in : (journal : List Batch) → AllByRecursion (IsTold journal) readers
         → fault_in (readers ++ Merger ∷ []) ≡ None → AllZip (IsServedIn book opening journal) handed runs
     pub seen : (journal : List Batch) → AllByRecursion (IsTold journal) readers → AllZip (IsSeenIn book opening journal) handed runs
+    pub parts : parts_of (drawings_in readers) ≡ length handed
+    pub places : places_of (drawings_in readers) ≡ flat_map (λ run. run.drawing.drawn) runs
 
   one-door : (handed : Connections) (others : List Connections) (at : ℕ) (reader reader' : ReaderWork G J) (readers : List (Worker F G J))
-      → door reader.door ≡ handed → reader.pass ≡ watching opening → ServesDoor book door reader reader'
+      → IsReaderOf {F = F} {J = J} door opening handed (Reader reader) → ServesDoor book door reader reader'
       → DoorRuns others (at + 1) readers → DoorRuns (handed ∷ others) at (Reader reader' ∷ readers)
-  one-door handed others at reader reader' readers door_is pass_is s rest =
-      let run : DoorRun = record { connections = door reader'.door; end = reader'.end } in
-      let served = subst (λ (p : Watching). DoorServed (by_book book) handed (backend p new_importer) (door reader'.door) (backend reader'.pass s.importer)) pass_is
-      (subst (λ (d : Connections). DoorServed (by_book book) d (backend reader.pass new_importer) (door reader'.door) (backend reader'.pass s.importer)) door_is s.served) in
-      let ended = subst (λ (d : Connections). EndsDoor reader'.end d (door reader'.door)) door_is s.ends in
+  one-door handed others at reader reader' readers is s rest =
+      let run : DoorRun = record { connections = door reader'.door; end = reader'.end; drawing = s.importer.drawing } in
+      let lent : s.lent ≡ new_drawing = some-same s.lent new_drawing (sym s.lent_is ∙ is.2) in
+      let before = λ (p : Watching). λ (d : Drawing). backend p (importer_with d) in
+      let last = backend reader'.pass s.importer in
+      let served = subst (λ (d : Drawing). DoorServed (by_book book) handed (before (watching opening) d) (door reader'.door) last) lent
+      (subst (λ (p : Watching). DoorServed (by_book book) handed (before p s.lent) (door reader'.door) last) is.1
+      (subst (λ (d : Connections). DoorServed (by_book book) d (before reader.pass s.lent) (door reader'.door) last) is.0 s.served)) in
+      let ended = subst (λ (d : Connections). EndsDoor reader'.end d (door reader'.door)) is.0 s.ends in
+      let mine : drawings_of {F = F} {G = G} {J = J} (Reader reader') ≡ s.importer.drawing ∷ [] =
+      ap drawings_by s.drawer in
+      let part : s.importer.drawing.parts ≡ 1 =
+      parts-stay (by_book book) (backend (watching opening) new_importer) served.came served.went last served.served in
       let from : IsServedFrom book opening handed run = record {
-        last = backend reader'.pass s.importer;
+        last = last;
         served = served;
         ends = ended;
-        begins = served-grows (by_book book) (backend (watching opening) new_importer) served.came served.went (backend reader'.pass s.importer) served.served;
+        drawn = refl;
+        begins = served-grows (by_book book) (backend (watching opening) new_importer) served.came served.went last served.served;
       } in
       record {
         runs = run ∷ rest.runs;
@@ -315,18 +344,21 @@ module _ {F G J : Type 0} (book : List NamedPosition) (source : F → Stream) (d
               rest.served_in journal told.1 both.1,
             );
         seen = λ journal told. (record { from = from; front = told.0 }, rest.seen journal told.1);
+        parts = ap (λ (ds : List Drawing). parts_of (ds ++ drawings_in readers)) mine ∙ omega (arith, part, rest.parts);
+        places = ap (λ (ds : List Drawing). places_of (ds ++ drawings_in readers)) mine
+            ∙ ap (λ (places : List ℕ). s.importer.drawing.drawn ++ places) rest.places;
       }
 
   pub door-runs : (handed : List Connections) (at : ℕ) (readers readers' : List (Worker F G J))
       → AllZip (IsReaderOf door opening) handed readers → AllZip (Works book source door) readers readers'
       → DoorRuns handed at readers'
-  door-runs [] at [] [] are works = record { runs = []; served = tt; calls = refl; first = refl; served_in = λ journal told none. tt; seen = λ journal told. tt }
+  door-runs [] at [] [] are works = record { runs = []; served = tt; calls = refl; first = refl; served_in = λ journal told none. tt; seen = λ journal told. tt; parts = refl; places = refl }
   door-runs [] at [] (w ∷ ws) are works = absurd works
   door-runs [] at (w ∷ ws) readers' are works = absurd are
   door-runs (d ∷ ds) at [] readers' are works = absurd are
   door-runs (d ∷ ds) at (w ∷ ws) [] are works = absurd works
   door-runs (d ∷ ds) at (Reader r ∷ ws) (Reader r' ∷ ws') are works =
-      one-door d ds at r r' ws' are.0.0 are.0.1 works.0 (door-runs ds (at + 1) ws ws' are.1 works.1)
+      one-door d ds at r r' ws' are.0 works.0 (door-runs ds (at + 1) ws ws' are.1 works.1)
   door-runs (d ∷ ds) at (Reader r ∷ ws) (File f ∷ ws') are works = absurd works.0
   door-runs (d ∷ ds) at (Reader r ∷ ws) (Merger ∷ ws') are works = absurd works.0
   door-runs (d ∷ ds) at (File f ∷ ws) (w' ∷ ws') are works = absurd are.0
@@ -458,7 +490,7 @@ door-accepts door_ends.AcceptFault old new e is = omega (arith, e.1.rose)
 module _ {F G J : Type 0} (book : List NamedPosition) (source : F → Stream) (door : G → Connections) where
   fault-is : (file file' : FileWork F J) (i : ImportsFile source file file')
       → fault_of {F = F} {G = G} {J = J} (File file') ≡ fault_of_import (ending_of i.report.end)
-  fault-is file file' i = ap (λ (r : Option (Report J)). fault_of {F = F} {G = G} {J = J} (File (record { source = file'.source; report = r }))) i.report_is
+  fault-is file file' i = ap (λ (r : Option (Report J)). fault_of {F = F} {G = G} {J = J} (File (record { source = file'.source; drawer = file'.drawer; report = r }))) i.report_is
 
   read-failed : (workers returned : List (Worker F G J)) → AllZip (Works book source door) workers returned
       → fault_in returned ≡ Some faults.ReadFault → ReadFailed source returned
@@ -734,9 +766,10 @@ module _ {F G J : Type 0} (book : List NamedPosition) (source : F → Stream) (d
   pub works-over : (journal : List Batch) (after : HostState) (first : Option Fault) (lines : Option (List ℕ))
       → first ≡ fault_in workers → IfSome lines (λ l. l ≡ lines_in names workers)
       → AllByRecursion (IsTold journal) workers
+      → DrewFrom (length opening) (length journal) (drawn_in r.file_runs.runs r.door_runs.runs)
       → GivenBack source door names 0 workers host after
       → WorksOver book names opening journal handed_doors first lines host after
-  works-over journal after first lines first_is lines_are told back =
+  works-over journal after first lines first_is lines_are told drew back =
       let given = given-rest source door names 0 workers host after back in
       let fault : fault_in workers ≡ fault_in (r.files ++ (r.readers ++ Merger ∷ [])) = ap (λ (ws : List (Worker F G J)). fault_in ws) r.are in
       let known = all-both (IsTold journal) r.files (r.readers ++ Merger ∷ [])
@@ -762,4 +795,5 @@ module _ {F G J : Type 0} (book : List NamedPosition) (source : F → Stream) (d
         served_in = λ n. r.door_runs.served_in journal saw (or-all r.files (r.readers ++ Merger ∷ []) (none n));
         seen = r.door_runs.seen journal saw;
         full = r.file_runs.full journal known.0;
+        drawn = drew;
       }

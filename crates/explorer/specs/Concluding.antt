@@ -1,9 +1,9 @@
 -- Bridge: how a run of the command `serve` ends once its workers have returned.
-use Rattle.std.specs.Prelude.{◌≡◌, ◌⊎◌, ℕ, Bool, true, false, List, Option, None, Some, IfSome, Result, Ok, Err, unwrap_or}
+use Rattle.std.specs.Prelude.{◌≡◌, ◌⊎◌, ◌≤◌, ℕ, Bool, true, false, List, [], ◌++◌, length, Option, None, Some, IfSome, Result, Ok, Err, unwrap_or}
+use Rattle.disk_model.specs.Disk.{DiskState}
 use Rattle.outside.specs.Stream.{FailsToTake, Stream, Takes, Wrote}
 use Rattle.explorer_model.specs.declared.archive.Batch.{Batch}
 use Rattle.explorer_model.specs.Journal.{IsSound}
-use Rattle.explorer_model.specs.Timeline.{IsPrefix}
 use Rattle.manifest.specs.Manifest.{HasJournal}
 use Rattle.explorer.specs.declared.fault.Fault.{Fault}
 use Rattle.explorer.specs.declared.fault.Fault.TheVariants.{DiskFault, OutOfMemory, WriteFault}
@@ -32,9 +32,11 @@ Concludes None fault listens old new ending =
 Concludes (Some lines) fault listens old new ending =
     Wrote lines old new × EndsBy fault listens lines old new ending
 
--- what is told of a disk is a sound journal that begins with this one
-pub record TellsLonger (journal : List Batch) (content : Option (List ℕ)) : Type 0 where
-  pub longer : List Batch
-  pub extends : IsPrefix journal longer
-  pub sound : IsSound longer
-  pub tells : IfSome content (HasJournal longer)
+-- What is told of a disk is a sound journal: this one, and at most a batch behind it, where a call of
+-- the disk failed.
+pub record TellsLonger (journal : List Batch) (disk : DiskState) : Type 0 where
+  pub failed : List Batch
+  pub few : length failed ≤ 1
+  pub faultless : disk.faults ≡ 0 → failed ≡ []
+  pub sound : IsSound (journal ++ failed)
+  pub tells : IfSome disk.content (HasJournal (journal ++ failed))

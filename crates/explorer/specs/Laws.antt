@@ -20,13 +20,14 @@ use Rattle.ingest_desk.specs.Reporting.{FindsNoRoom}
 use Rattle.import_run.specs.Ending.{EndsIn}
 use Rattle.session.specs.Doors.{AreServed}
 use Rattle.session.specs.Exchanges.{Backend, Exchange, backend}
+use Rattle.session.specs.Laws.{IsDrawnFor}
 use Rattle.session.specs.Replies.{Answer, Offer, by_book, route_of}
 use Rattle.command_line.specs.Task.{Task, Count, Query, Serve}
 use Rattle.explorer.specs.declared.fault.Fault.{Fault}
 use Rattle.explorer.specs.Book.{LacksBook}
 use Rattle.explorer.specs.Imported.{new_store}
 use Rattle.explorer.specs.Serve.{GoesOn, Listens}
-use Rattle.explorer.specs.Served.{DoorRun, IsSeenIn, IsWorked, Service, new_importer, serve_calls}
+use Rattle.explorer.specs.Served.{DoorRun, FileRun, IsSeenIn, IsWorked, Service, new_importer, serve_calls}
 use Rattle.explorer.specs.World.{World, SameStreams}
 
 -- all bytes are told, of an input below the bound, and no count stands at its greatest number
@@ -263,3 +264,19 @@ pub record IsAnswered (book : List NamedPosition) (text : List ℕ) (batches : �
       seen.from.served.came seen.from.served.went seen.from.last seen.from.served.served
   pub asked : route_of (by_book book) exchange.asked ≡ Answer text
   pub replied : exchange.reply ≡ Found batches body
+
+-- a file's drawer drew the place: a batch of the file stands there, or one of which it has no receipt
+abbrev pub IsDrawnForFile : ℕ → List FileRun → Type 0
+IsDrawnForFile place runs = (run : FileRun) × Contains runs run × Contains run.drawing.drawn place
+
+-- The place was drawn at a door, for one of the exchanges of its connections, which is an import.
+pub record IsDrawnAtDoor (book : List NamedPosition) (place : ℕ) (opening journal : List Batch)
+    (doors : List DoorRun) : Type 0 where
+  pub door : Connections
+  pub run : DoorRun
+  pub is_run : Contains doors run
+  pub seen : IsSeenIn book opening journal door run
+  pub exchange : Exchange
+  pub among : IsExchangedIn (by_book book) exchange (backend (watching opening) new_importer)
+      seen.from.served.came seen.from.served.went seen.from.last seen.from.served.served
+  pub drawn : IsDrawnFor (by_book book) place seen.from.last.pass.seen exchange

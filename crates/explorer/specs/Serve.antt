@@ -1,5 +1,5 @@
 -- Statement: how a run of the command `serve` ends.
-use Rattle.std.specs.Prelude.{◌≡◌, ◌⊎◌, ℕ, List, [], ◌∷◌, ◌++◌, map, string_bytes, Option, None, Some, IfSome, codes}
+use Rattle.std.specs.Prelude.{◌≡◌, ◌⊎◌, ℕ, ◌≤◌, List, [], ◌∷◌, ◌++◌, length, map, string_bytes, Option, None, Some, IfSome, codes}
 use Rattle.std.specs.List.{AllZip}
 use Rattle.outside.specs.Stream.{Rises, Writes}
 use Rattle.host.specs.Hosts.{DoorsRefused, FileRefused, GivesBack, HostCall, HostState, RefusesDisk}
@@ -13,7 +13,7 @@ use Rattle.ingest_desk.specs.Openings.{IsWrong}
 use Rattle.explorer.specs.declared.fault.Fault.{Fault}
 use Rattle.explorer.specs.declared.fault.Fault.TheVariants.{CannotAccept, CannotOpen, Damaged, DiskFault, Full, NotAStore, OtherFormat, OutOfMemory, ReadFault, TooMuchInput, WriteFault}
 use Rattle.explorer.specs.Lines.{Ending, Done, Stopped}
-use Rattle.explorer.specs.Served.{FileRun, FindsFull, IsGivenUp, IsKeptIn, IsSeenIn, IsServedIn, IsStoredIn, IsWorked, Service, file_at, first_fault, serve_report}
+use Rattle.explorer.specs.Served.{DoorRun, DrewFrom, FileRun, FindsFull, IsGivenUp, IsKeptIn, IsSeenIn, IsServedIn, IsStoredIn, IsWorked, Service, drawn_in, file_at, first_fault, serve_report}
 use Rattle.explorer.specs.World.{World, IsFaultless, WriteFails}
 
 -- ---- what is written
@@ -42,20 +42,32 @@ MayReport service files before after =
 
 -- ---- the endings
 
+-- Nothing else stands in the journal: each of its batches was there before, or its place was drawn by
+-- the drawer of one file or door. Behind them may stand one in whose commit a call of the disk failed.
+pub record IsShared (opening journal : List Batch) (files : List FileRun) (doors : List DoorRun)
+    : Type 0 where
+  pub stored : List Batch
+  pub failed : List Batch
+  pub journal_is : journal ≡ stored ++ failed
+  pub few : length failed ≤ 1
+  pub drawn : DrewFrom (length opening) (length stored) (drawn_in files doors)
+
 -- The disk given back has a sound journal that begins with the one that it had, so that it is opened
--- again. All that was stored of the files stands in it, a file that found no room found none in it,
--- and all that any reader saw is a front of it.
+-- again. All that was stored of the files stands in it, and nothing but that and what was stored at
+-- the doors; a file that found no room found none in it, and all that any reader saw is a front of it.
 pub record GoesOn (service : Service) (before after : HostState)
     (worked : IsWorked service before after) : Type 0 where
   pub journal : List Batch
   pub sound : IsSound journal
   pub tells : IfSome (after.disks service.store) (HasJournal journal)
   pub extends : IsPrefix worked.opening journal
+  pub shared : IsShared worked.opening journal worked.files worked.doors
   pub kept : AllZip (IsKeptIn journal) (map (file_at before) service.files) worked.files
   pub full : AllZip (FindsFull journal) (map (file_at before) service.files) worked.files
   pub seen : AllZip (IsSeenIn service.book worked.opening journal) worked.handed worked.doors
 
--- doors were served, no call of the store's disk failed, and this was the first fault of the workers
+-- Doors were served, no call of the store's disk failed, so that no batch did, and this was the first
+-- fault of the workers.
 pub record IsWorkedTo (service : Service) (fault : Option Fault) (before after : World)
     : Type 0 where
   pub worked : IsWorked service before.host after.host
@@ -63,6 +75,7 @@ pub record IsWorkedTo (service : Service) (fault : Option Fault) (before after :
   pub listens : Listens service before after
   pub first : fault ≡ first_fault worked.files worked.doors
   pub disk : after.host.disk_faults ≡ before.host.disk_faults
+  pub none_failed : goes_on.shared.failed ≡ []
 
 -- this was the first fault of the workers, with the report or with nothing reported
 pub record FailsBy (service : Service) (fault : Fault) (before after : World) : Type 0 where

@@ -1,5 +1,5 @@
 -- Statement: what files and doors come to while a store is served, and what is asked of the host.
-use Rattle.std.specs.Prelude.{◌≡◌, ◌≢◌, ⊤, ◌<◌, ℕ, List, [], ◌∷◌, ◌++◌, length, map, reverse, Option, None, Some, IfSome, codes}
+use Rattle.std.specs.Prelude.{◌≡◌, ◌≢◌, ⊤, ◌+◌, ◌<◌, ℕ, List, [], ◌∷◌, ◌++◌, length, map, reverse, Option, None, Some, IfSome, codes}
 use Rattle.std.specs.List.{All, AllZip, flat_map}
 use Rattle.std.specs.Option.{option_or}
 use Rattle.std.specs.Io.KnownBytes.{IsAtEnd}
@@ -15,7 +15,9 @@ use Rattle.explorer_model.specs.Journal.{IsSound, input_limit}
 use Rattle.explorer_model.specs.Openings.{NamedPosition}
 use Rattle.explorer_model.specs.Timeline.{IsPrefix}
 use Rattle.manifest.specs.Manifest.{HasJournal}
+use Rattle.published_index.specs.Places.{Drawing, new_drawing, once_below, times}
 use Rattle.published_index.specs.States.{watching}
+use Rattle.ingest_desk.specs.Drawn.{most_untold}
 use Rattle.ingest_desk.specs.Importers.{ImporterState}
 use Rattle.ingest_desk.specs.Lives.{StandFrom}
 use Rattle.ingest_desk.specs.Reporting.{BreaksAt, FindsNoRoom}
@@ -26,7 +28,7 @@ use Rattle.session.specs.declared.doors.DoorEnd.{DoorEnd}
 use Rattle.session.specs.declared.doors.DoorEnd.TheVariants as ends
 use Rattle.session.specs.Doors.{DoorServed, EndsDoor}
 use Rattle.session.specs.Exchanges.{Backend, backend}
-use Rattle.session.specs.Imports.{HasNoRoom, HasStoredBody, IsRepeatOf}
+use Rattle.session.specs.Imports.{DrewPlacesOf, HasNoRoom, HasStoredBody, IsRepeatOf}
 use Rattle.session.specs.Replies.{by_book}
 use Rattle.explorer.specs.declared.fault.Fault.{Fault}
 use Rattle.explorer.specs.declared.fault.Fault.TheVariants.{CannotAccept, Full, OutOfMemory, ReadFault, TooMuchInput}
@@ -47,11 +49,13 @@ pub record Service : Type 0 where
 
 -- ---- files
 
--- What a file came to: the file as it came back, how its import ended, and what of it is refused.
+-- What a file came to: the file as it came back, how its import ended, what of it is refused, and what
+-- its drawer drew.
 pub record FileRun : Type 0 where
   pub file : Stream
   pub ending : ImportEnding
   pub refused : List Refusal
+  pub drawing : Drawing
 
 -- The groups of what was read are accounted so far by batches and by what is refused: all where a
 -- read failed or the bound was met, but for the one that was in hand; else those before the whole
@@ -95,11 +99,13 @@ pub record IsImported (file : Stream) (run : FileRun) : Type 0 where
   pub batches : List Batch
   pub accounts : AccountsSo run.ending stream run.file.left batches run.refused
 
--- The batches that the import of the file stored stand in the journal in their order, and what is
--- refused of it as a repeat repeats a game of the journal.
+-- The batches that the import of the file stored stand in the journal in their order, where its drawer
+-- drew their places, and what is refused of it as a repeat repeats a game of the journal.
 pub record IsKeptIn (journal : List Batch) (file : Stream) (run : FileRun) : Type 0 where
   pub imported : IsImported file run
   pub stand : StandFrom 0 journal imported.batches
+  pub drawn : DrewPlacesOf (most_untold run.ending) journal imported.batches
+      new_drawing run.drawing
   pub repeats : All (λ refusal. IsRepeatOf (cuts imported.stream) journal refusal.place refusal.why)
       run.refused
 
@@ -150,23 +156,33 @@ serve_report _ _ = []
 
 -- ---- doors
 
--- what a door came to: its connections as it came back, and how its serving ended
+-- What a door came to: its connections as it came back, how its serving ended, and what its drawer
+-- drew.
 pub record DoorRun : Type 0 where
   pub connections : Connections
   pub end : DoorEnd
+  pub drawing : Drawing
 
--- an importer of a connection that has imported nothing
+-- an importer of a connection that has imported nothing, with this drawer
+abbrev pub importer_with : Drawing → ImporterState
+importer_with drawing = record {
+  counts = record { disk_faults = 0; closed = 0; full = 0 };
+  calls = None;
+  drawing = drawing;
+}
+
 abbrev pub new_importer : ImporterState
-new_importer = record { counts = record { disk_faults = 0; closed = 0; full = 0 }; calls = None }
+new_importer = importer_with new_drawing
 
 -- The connections of the door were served with the openings of the book, by a pass that had seen the
--- journal, and what it had seen in the end begins with that.
+-- journal, and what it had seen in the end begins with that. What was imported there was drawn.
 pub record IsServedFrom (book : List NamedPosition) (opening : List Batch) (door : Connections)
     (run : DoorRun) : Type 0 where
   pub last : Backend
   pub served : DoorServed (by_book book) door (backend (watching opening) new_importer)
       run.connections last
   pub ends : EndsDoor run.end door run.connections
+  pub drawn : run.drawing ≡ last.importer.drawing
   pub begins : IsPrefix opening last.pass.seen
 
 -- and what was seen is a front of the journal
@@ -182,6 +198,17 @@ pub record IsServedIn (book : List NamedPosition) (opening journal : List Batch)
   pub whole : run.end ≡ ends.Whole
   pub none_left : run.connections.left ≡ 0
   pub front : IsPrefix from.last.pass.seen journal
+
+-- ---- what is drawn
+
+-- the places that the drawers of files and doors drew
+abbrev pub drawn_in : List FileRun → List DoorRun → List ℕ
+drawn_in files doors =
+    flat_map (λ run. run.drawing.drawn) files ++ flat_map (λ run. run.drawing.drawn) doors
+
+-- each place from the first number on and below the last was drawn once, and no other
+abbrev pub DrewFrom : ℕ → ℕ → List ℕ → Type 0
+DrewFrom first last drawn = (x : ℕ) → once_below x first + times x drawn ≡ once_below x last
 
 -- ---- calls of the host
 

@@ -16,7 +16,7 @@ use Rattle.explorer.specs.declared.serving.Outcome.TheVariants.{GivenUp, Worked}
 use Rattle.explorer.specs.declared.serving.Unserved.{Unserved}
 use Rattle.explorer.specs.declared.serving.Unserved.TheVariants.{NoFile, NoAddress, NoMemory}
 use Rattle.explorer.specs.Serve.{IsMaybe}
-use Rattle.explorer.specs.Served.{DoorRun, FileRun, FindsFull, IsImported, IsKeptIn, IsSeenIn, IsServedFrom, IsServedIn, IsStoredIn, Service, file_at, files_back, files_out, first_fault, serve_report}
+use Rattle.explorer.specs.Served.{DoorRun, DrewFrom, FileRun, FindsFull, IsImported, IsKeptIn, IsSeenIn, IsServedFrom, IsServedIn, IsStoredIn, Service, drawn_in, file_at, files_back, files_out, first_fault, serve_report}
 use Rattle.explorer.specs.Workers.{name_at}
 
 abbrev pub service_of : Order → Service
@@ -56,7 +56,7 @@ pub record AreCounted (first : Option Fault) (before after : HostState) : Type 0
 -- The workers did what they had to with the files of these names and these doors, by the book, and
 -- all came back.
 -- These are the first fault and the lines of what is refused; and the journal, which begins with all
--- that was told and seen.
+-- that was told and seen, and has nothing behind the opening but what was drawn.
 pub record WorksOver (book : List NamedPosition) (names : List (List ℕ))
     (opening journal : List Batch) (handed : List Connections) (first : Option Fault)
     (lines : Option (List ℕ)) (before after : HostState) : Type 0 where
@@ -76,6 +76,7 @@ pub record WorksOver (book : List NamedPosition) (names : List (List ℕ))
   pub served_in : first ≡ None → AllZip (IsServedIn book opening journal) handed doors
   pub seen : AllZip (IsSeenIn book opening journal) handed doors
   pub full : AllZip (FindsFull journal) (map (file_at before) names) files
+  pub drawn : DrewFrom (length opening) (length journal) (drawn_in files doors)
 
 -- ---- files and doors are asked for, and come back
 

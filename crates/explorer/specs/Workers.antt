@@ -1,6 +1,6 @@
 -- Bridge: the workers of a store that is served, and what is known of them when they have returned.
 use Rattle.std.specs.Prelude.{◌≡◌, ⊤, ◌<◌, ◌≤◌, ◌+◌, ℕ, List, [], ◌∷◌, ◌++◌, length, sum_by, slice_index_or, Option, None, Some, IfSome, IsSome}
-use Rattle.std.specs.List.{AllZip}
+use Rattle.std.specs.List.{AllZip, flat_map}
 use Rattle.std.specs.Option.{option_or}
 use Rattle.outside.specs.Doors.{Connections}
 use Rattle.outside.specs.Stream.{Stream}
@@ -9,7 +9,9 @@ use Rattle.explorer_model.specs.declared.archive.Batch.{Batch}
 use Rattle.explorer_model.specs.Labels.{no_label}
 use Rattle.explorer_model.specs.Openings.{NamedPosition}
 use Rattle.explorer_model.specs.Timeline.{IsPrefix}
+use Rattle.published_index.specs.Places.{Drawing, new_drawing, times}
 use Rattle.published_index.specs.States.{Watching, watching}
+use Rattle.ingest_desk.specs.Drawn.{DrawsFor, most_untold}
 use Rattle.ingest_desk.specs.declared.report.Report.{Report}
 use Rattle.ingest_desk.specs.Importers.{ImporterState, ending_of}
 use Rattle.import_run.specs.EndingBeside.{ImportsBeside}
@@ -23,23 +25,30 @@ use Rattle.explorer.specs.declared.workers.FileWork.{FileWork}
 use Rattle.explorer.specs.declared.workers.ReaderWork.{ReaderWork}
 use Rattle.explorer.specs.declared.workers.Worker.{Worker}
 use Rattle.explorer.specs.declared.workers.Worker.TheVariants.{File, Reader, Merger}
-use Rattle.explorer.specs.Served.{fault_of_door, fault_of_import, file_at, file_lines, files_out, new_importer}
+use Rattle.explorer.specs.Served.{fault_of_door, fault_of_import, file_at, file_lines, files_out, importer_with}
 
 -- ---- the work
 
--- a file was imported, and its report is there
+-- a file was imported, its report is there, and its drawer drew what that tells
 pub record ImportsFile {F J : Type 0} (source : F → Stream) (before after : FileWork F J)
     : Type 0 where
   pub report : Report J
   pub report_is : after.report ≡ Some report
   pub imports : ImportsBeside no_label (source before.source) (source after.source) report
+  pub drawn : DrawsFor (most_untold (ending_of report.end)) report.receipts.items
+      before.drawer after.drawer
 
--- the connections of a door were served with the openings of the book
+-- The connections of a door were served with the openings of the book, by an importer that had the
+-- reader's drawer.
 pub record ServesDoor {G J : Type 0} (book : List NamedPosition) (door : G → Connections)
     (before after : ReaderWork G J) : Type 0 where
+  pub lent : Drawing
+  pub lent_is : before.drawer ≡ Some lent
   pub importer : ImporterState
-  pub served : DoorServed (by_book book) (door before.door) (backend before.pass new_importer)
+  pub served : DoorServed (by_book book) (door before.door)
+      (backend before.pass (importer_with lent))
       (door after.door) (backend after.pass importer)
+  pub drawer : after.drawer ≡ Some importer.drawing
   pub ends : EndsDoor after.end (door before.door) (door after.door)
 
 -- a worker did its work
@@ -49,6 +58,12 @@ Works book source door (File before) (File after) = ImportsFile source before af
 Works book source door (Reader before) (Reader after) = ServesDoor book door before after
 Works book source door Merger Merger = ⊤
 Works book source door _ _ = ⊥
+
+-- a reader has its drawer before it begins
+abbrev pub HasDrawer : {F G J : Type 0} → Worker F G J → Type 0
+HasDrawer (File file) = ⊤
+HasDrawer (Reader reader) = IsSome reader.drawer
+HasDrawer Merger = ⊤
 
 -- ---- the list
 
@@ -118,6 +133,40 @@ IsHeard pass (File file) = IsSome pass
 IsHeard pass (Reader reader) = ⊤
 IsHeard pass Merger = ⊤
 
+-- ---- what was drawn
+
+-- the drawer that a reader has, if it has it
+abbrev pub drawings_by : Option Drawing → List Drawing
+drawings_by None = []
+drawings_by (Some drawing) = drawing ∷ []
+
+-- the drawer of a worker, if it has one
+abbrev pub drawings_of : {F G J : Type 0} → Worker F G J → List Drawing
+drawings_of (File file) = file.drawer ∷ []
+drawings_of (Reader reader) = drawings_by reader.drawer
+drawings_of Merger = []
+
+abbrev pub drawings_in : {F G J : Type 0} → List (Worker F G J) → List Drawing
+drawings_in workers = flat_map drawings_of workers
+
+-- a drawer gave a part to each of so many new drawers
+pub record HasLent (count : ℕ) (old new : Drawing) : Type 0 where
+  pub parts : new.parts + count ≡ old.parts
+  pub drawn : new.drawn ≡ old.drawn
+
+-- how many parts these have, and the places that they drew
+abbrev pub parts_of : List Drawing → ℕ
+parts_of [] = 0
+parts_of (drawing ∷ drawings) = drawing.parts + parts_of drawings
+
+abbrev pub places_of : List Drawing → List ℕ
+places_of drawings = flat_map (λ drawing. drawing.drawn) drawings
+
+-- a drawer got all that these had
+pub record HasTaken (others : List Drawing) (old new : Drawing) : Type 0 where
+  pub parts : new.parts ≡ old.parts + parts_of others
+  pub drawn : (x : ℕ) → times x new.drawn ≡ times x old.drawn + times x (places_of others)
+
 -- ---- what goes back
 
 -- the name that stands at a place; past the last there is none
@@ -172,9 +221,10 @@ CanReturn calls host =
 
 -- ---- what is handed out
 
--- the worker has the file as it stands under the name
+-- the worker has the file as it stands under the name, and a new drawer
 abbrev pub IsFileOf : {F G J : Type 0} → (F → Stream) → HostState → List ℕ → Worker F G J → Type 0
-IsFileOf source host name (File file) = source file.source ≡ file_at host name
+IsFileOf source host name (File file) =
+    (source file.source ≡ file_at host name) × (file.drawer ≡ new_drawing)
 IsFileOf source host name _ = ⊥
 
 -- the files of these names were handed out, one to each worker
@@ -194,11 +244,12 @@ pub record FilesRefused {F G J : Type 0} (source : F → Stream) (names : List (
   pub handed : FilesOut source front workers before middle
   pub refused : RefusesFile name middle after
 
--- the worker has the door, and a pass that has seen the journal
+-- the worker has the door, a pass that has seen the journal, and a new drawer
 abbrev pub IsReaderOf : {F G J : Type 0} → (G → Connections) → List Batch → Connections
     → Worker F G J → Type 0
 IsReaderOf door opening handed (Reader reader) =
     (door reader.door ≡ handed) × (reader.pass ≡ watching opening)
+    × (reader.drawer ≡ Some new_drawing)
 IsReaderOf door opening handed _ = ⊥
 
 -- readers of these doors and one worker that merges stand behind others

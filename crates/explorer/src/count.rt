@@ -23,7 +23,7 @@ use host::Host;
 use ingest_desk::{Ingest, Unnamed};
 use opening_names::Book;
 use outside::{Sink, Source};
-use published_index::Index;
+use published_index::{Drawer, Index};
 use query_params::laws::queries_play_legal_moves;
 use query_params::query;
 use std::alloc::AllocError;
@@ -160,14 +160,14 @@ fn count_unnamed<J: Index, R: AllocGlobal + Wait + Threads + Sync, I: Source>(
     ensures starves { IfErr result
         (λ _. ReadsBelow (I.source input.old) (I.source input.new)) }
 {
-    let (mut ingest, _passes) = match unnamed.named::<J>(rt.alloc()) {
+    let (mut ingest, _passes, mut drawer) = match unnamed.named::<J>(rt.alloc()) {
         Ok(named) => named,
         Err(unnamed) => {
             let _disk = unnamed.into_disk(rt);
             return Err(AllocError);
         }
     };
-    let counted = count_in(rt, &mut ingest, query, book, workers, input);
+    let counted = count_in(rt, &mut ingest, &mut drawer, query, book, workers, input);
     let _disk = ingest.into_disk(rt);
     counted
 }
@@ -177,6 +177,7 @@ fn count_unnamed<J: Index, R: AllocGlobal + Wait + Threads + Sync, I: Source>(
 fn count_in<J: Index, R: AllocGlobal + Wait + Threads + Sync, I: Source, D: Disk>(
     rt: &R,
     ingest: &mut Ingest<D, J>,
+    drawer: &mut Drawer<J>,
     query: &Query,
     book: &Book,
     workers: usize,
@@ -196,7 +197,7 @@ fn count_in<J: Index, R: AllocGlobal + Wait + Threads + Sync, I: Source, D: Disk
     ensures starves { IfErr result
         (λ _. ReadsBelow (I.source input.old) (I.source input.new)) }
 {
-    let came = import_into(rt, ingest, input, Label::none(), workers);
+    let came = import_into(rt, ingest, drawer, input, Label::none(), workers);
     match came.fault() {
         Some(fault) => {
             let fault = unless_memory(fault)?;

@@ -12,7 +12,7 @@ use explorer_model::label::Label;
 use import_run::{ending_of, import_alone};
 use ingest_desk::{ImportEnding, Ingest, Receipt};
 use outside::{FreeGate, Source};
-use published_index::Index;
+use published_index::{Drawer, Index};
 use std::sync::Wait;
 use std::thread::Threads;
 
@@ -48,6 +48,7 @@ impl Came {
 pub fn import_into<J: Index, R: AllocGlobal + Wait + Threads + Sync, S: Source, D: Disk>(
     rt: &R,
     ingest: &mut Ingest<D, J>,
+    drawer: &mut Drawer<J>,
     source: &mut S,
     label: Label,
     workers: usize,
@@ -59,7 +60,16 @@ pub fn import_into<J: Index, R: AllocGlobal + Wait + Threads + Sync, S: Source, 
         (D.disk ingest.old.manifest.disk) (D.disk ingest.new.manifest.disk)
         (S.source source.old) (S.source source.new) result }
 {
-    let report = import_alone(rt, rt.alloc(), source, ingest, label, workers, &FreeGate);
+    let report = import_alone(
+        rt,
+        rt.alloc(),
+        source,
+        ingest,
+        drawer,
+        label,
+        workers,
+        &FreeGate,
+    );
     Came {
         ending: ending_of(&report.end),
         games: count_games(report.receipts.as_slice()),

@@ -1,6 +1,6 @@
 //! Laws of what a run promises. Each is the contract of a function that only cites the laws below
 //! it.
-ghost use Rattle.std.specs.Prelude.{◌≡◌, ◌≢◌, ◌⊎◌, ◌≤◌, ℕ, List, Option, Some, IsSome, length, take};
+ghost use Rattle.std.specs.Prelude.{◌≡◌, ◌≢◌, ◌⊎◌, ◌<◌, ◌≤◌, ℕ, List, Option, Some, IsSome, length, take};
 ghost use Rattle.std.specs.List.{AllByRecursion};
 ghost use Rattle.outside.specs.Doors.{Connections};
 ghost use Rattle.host.specs.Hosts.{HostState};
@@ -13,6 +13,7 @@ ghost use Rattle.explorer_model.specs.declared.archive.Batch.{Batch};
 ghost use Rattle.explorer_model.specs.declared.archive.Game.{Game};
 ghost use Rattle.explorer_model.specs.declared.fault.Refusal.{Refusal};
 ghost use Rattle.explorer_model.specs.declared.query.Query.{Query};
+ghost use Rattle.host.specs.Hosts.{HostState};
 ghost use Rattle.manifest.specs.Manifest.{HasJournal};
 ghost use Rattle.import_run.specs.Ending.{IsCutOff, IsTooMuch};
 ghost use Rattle.import_run.specs.SoFar.{AreInGroups};
@@ -22,14 +23,14 @@ ghost use Rattle.explorer.specs.Create.{CreatesBy};
 ghost use Rattle.explorer.specs.Imported.{new_store};
 ghost use Rattle.explorer.specs.ImportStore.{ImportsBy};
 ghost use Rattle.command_line.specs.Task.{Batches, Create, Import, Migrate, Query as Ask, Trial, task_of};
-ghost use Rattle.explorer.specs.Laws.{CountsAtMost, GoesWell, HasMemory, ImportAlike, IsAnswered, IsFullIn, IsNoRepeat, IsTold, IsToldErrors, IsToldFile, IsToldOpenings, IsToldOutput, IsToldStore, LacksOpenings, MigratedAlike, OpensWell, ReadsWell, RefusedAlike, ReportsWell, ServedAlike, ServedAlikeBehind, WritesWell, WroteAlike, WroteAlikeButReport, openings_of, serving, with_book, with_workers};
+ghost use Rattle.explorer.specs.Laws.{CountsAtMost, GoesWell, HasMemory, ImportAlike, IsAnswered, IsDrawnAtDoor, IsDrawnForFile, IsFullIn, IsNoRepeat, IsTold, IsToldErrors, IsToldFile, IsToldOpenings, IsToldOutput, IsToldStore, LacksOpenings, MigratedAlike, OpensWell, ReadsWell, RefusedAlike, ReportsWell, ServedAlike, ServedAlikeBehind, WritesWell, WroteAlike, WroteAlikeButReport, openings_of, serving, with_book, with_workers};
 ghost use Rattle.explorer.specs.Lines.{Ending, status_of};
 ghost use Rattle.explorer.specs.ListBatches.{ListsBy};
 ghost use Rattle.explorer.specs.Migrate.{MigratesBy};
 ghost use Rattle.explorer.specs.QueryStore.{QueriesBy};
 ghost use Rattle.explorer.specs.Run.{Runs};
-ghost use Rattle.explorer.specs.Serve.{Serves};
-ghost use Rattle.explorer.specs.Served.{DoorRun, Service};
+ghost use Rattle.explorer.specs.Serve.{GoesOn, Serves};
+ghost use Rattle.explorer.specs.Served.{DoorRun, IsWorked, Service};
 ghost use Rattle.explorer.specs.Trial.{TriesBy};
 ghost use Rattle.explorer.specs.World.{World, IsFaultless};
 
@@ -294,6 +295,17 @@ pub fn answers_at_doors_agree()
 {
     replies_are_determined();
 }
+
+/// Nothing is stored over a desk but what was sent: each batch that `serve` stored behind those of the
+/// opening stands where the drawer of one file drew, or where one did at a door, for a request that is
+/// an import.
+pub fn nothing_else_is_stored()
+    ensures { (service : Service) (before after : HostState) (worked : IsWorked service before after)
+        (goes_on : GoesOn service before after worked) (place : ℕ)
+        → length worked.opening ≤ place → place < length goes_on.shared.stored
+        → IsDrawnForFile place worked.files
+        ⊎ IsDrawnAtDoor service.book place worked.opening goes_on.journal worked.doors }
+{}
 
 /// Runs of words that ask for the same, with whatever numbers of workers, have one status and come
 /// to the same, as the laws above say of each command, where memory is there and no call fails. Of

@@ -94,7 +94,7 @@ fn list_in<J: Index, R: AllocGlobal + Wait, D: Disk>(rt: &R, unnamed: Unnamed<D>
     ensures lines { ListsIn (journal_of unnamed.index.list) result.lines }
 {
     match unnamed.named::<J>(rt.alloc()) {
-        Ok((ingest, _passes)) => {
+        Ok((ingest, _passes, _drawer)) => {
             let lines = lines_in(rt.alloc(), ingest.publisher());
             Listed {
                 disk: ingest.into_disk(rt),

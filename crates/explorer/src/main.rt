@@ -6,6 +6,7 @@ ghost use Rattle.explorer.specs.declared.fault.Fault.{Fault as AFault};
 
 mod answer;
 mod byte_source;
+mod cabinet;
 mod count;
 mod create;
 mod fault;

@@ -4,21 +4,23 @@ ghost use Rattle.std.specs.List.{AllByRecursion};
 ghost use Rattle.explorer_model.specs.Timeline.{IsPrefix};
 ghost use Rattle.ingest_desk.specs.Stored.{journal};
 ghost use Rattle.session.specs.Steps.{KnowsEnd};
-ghost use Rattle.explorer.specs.Workers.{AreNamed, CanReturn, GivenBack, HasReader, HasReport, HaveReaders, IsHeard, IsTold, TakesWorker, call_of, calls_of, name_at};
+ghost use Rattle.explorer.specs.Workers.{AreNamed, CanReturn, GivenBack, HasReader, HasReport, HasTaken, HaveReaders, IsHeard, IsTold, TakesWorker, call_of, calls_of, drawings_by, drawings_in, drawings_of, name_at};
 
+use crate::cabinet::Cabinet;
 use crate::workers::{FileWork, ReaderWork, Worker};
 use disk_model::Disk;
 use host::Host;
 use ingest_desk::{End, Ingest, Report};
-use published_index::{Index, Pass};
+use published_index::{Drawer, Index, Pass};
 use session::{learn_notes, learn_receipts};
 
-/// Takes the workers off the list, the last first, and gives back what they hold. Where a reader
-/// stands behind each file, the stored journal begins with all that they were told of it, and saw.
+/// Takes the workers off the list, the last first, and gives back what they hold; their drawers go back
+/// to the cabinet. Where a reader stands behind each file, the stored journal begins with all that
+/// they were told of it, and saw.
 pub fn give_back<H: Host, J: Index>(
     host: &mut H,
     names: &[String],
-    ingest: &mut Ingest<H::Disk, J>,
+    cabinet: &mut Cabinet<H::Disk, J>,
     mut list: Vec<Worker<H::File, H::Door, J>>,
 )
     requires named { AreNamed (map string_bytes names.now) 0 list.items }
@@ -26,13 +28,14 @@ pub fn give_back<H: Host, J: Index>(
         list.items) (H.host host.old) }
     ensures back { GivenBack H.File.source H.Door.door (map string_bytes names.now) 0 list.items
         (H.host host.old) (H.host host.new) }
-    ensures same { ingest.new ≡ ingest.old }
+    ensures same { cabinet.new.ingest ≡ cabinet.old.ingest }
+    ensures drawn { HasTaken (drawings_in list.items) cabinet.old.drawer cabinet.new.drawer }
     ensures told { HaveReaders list.items
-        → AllByRecursion (IsTold (journal ingest.old)) list.items }
+        → AllByRecursion (IsTold (journal cabinet.old.ingest)) list.items }
 {
     let mut last = None;
     while let Some(worker) = list.pop() {
-        last = take_back(host, names, list.len(), ingest, last, worker);
+        last = take_back(host, names, list.len(), cabinet, last, worker);
     }
     list.destroy_empty();
 }
@@ -44,7 +47,7 @@ fn take_back<H: Host, J: Index>(
     host: &mut H,
     names: &[String],
     at: usize,
-    ingest: &mut Ingest<H::Disk, J>,
+    cabinet: &mut Cabinet<H::Disk, J>,
     last: Option<Pass<J>>,
     worker: Worker<H::File, H::Door, J>,
 ) -> Option<Pass<J>>
@@ -53,26 +56,34 @@ fn take_back<H: Host, J: Index>(
         (name_at (map string_bytes names.now) at) worker) (H.host host.old) }
     ensures back { TakesWorker H.File.source H.Door.door (name_at (map string_bytes names.now) at)
         worker (H.host host.old) (H.host host.new) }
-    ensures same { ingest.new ≡ ingest.old }
+    ensures same { cabinet.new.ingest ≡ cabinet.old.ingest }
+    ensures drawn { HasTaken (drawings_of worker) cabinet.old.drawer cabinet.new.drawer }
     ensures kept { IsSome last → IsSome result }
     ensures found { HasReader (worker ∷ []) → IsSome result }
-    ensures told { IsHeard last worker → IsTold (journal ingest.old) worker }
+    ensures told { IsHeard last worker → IsTold (journal cabinet.old.ingest) worker }
 {
     match worker {
         Worker::File(file) => {
-            let FileWork { source, report } = file;
+            let FileWork {
+                source,
+                drawer,
+                report,
+            } = file;
             host.close_file(names[at].as_str(), source);
-            learn_report(ingest, last, report)
+            cabinet.take(drawer);
+            learn_report(&mut cabinet.ingest, last, report)
         }
         Worker::Reader(reader) => {
             let ReaderWork {
                 door,
                 pass,
+                drawer,
                 end: _,
                 told: _,
             } = reader;
             host.close_door(door);
-            ingest.confirm(&pass);
+            take_drawer(cabinet, drawer);
+            cabinet.ingest.confirm(&pass);
             match last {
                 Some(last) => Some(last),
                 None => Some(pass),
@@ -80,6 +91,17 @@ fn take_back<H: Host, J: Index>(
         }
         Worker::Merger => last,
     }
+}
+
+/// Takes the drawer of a reader back.
+fn take_drawer<D: Disk, J: Index>(cabinet: &mut Cabinet<D, J>, drawer: Option<Drawer<J>>)
+    ensures same { cabinet.new.ingest ≡ cabinet.old.ingest }
+    ensures drawn { HasTaken (drawings_by drawer) cabinet.old.drawer cabinet.new.drawer }
+{
+    let Some(drawer) = drawer else {
+        return;
+    };
+    cabinet.take(drawer);
 }
 
 /// The pass learns what a report tells, and that is stored.

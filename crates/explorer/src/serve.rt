@@ -6,6 +6,7 @@ ghost use Rattle.explorer_model.specs.Journal.{IsSound};
 ghost use Rattle.host.specs.Hosts.{ADisk, HandsDisk, HostState, IsOut};
 ghost use Rattle.manifest.specs.Manifest.{HasJournal};
 ghost use Rattle.published_index.specs.Cover.{journal_of};
+ghost use Rattle.published_index.specs.Places.{all_parts};
 ghost use Rattle.ingest_desk.specs.Stored.{journal};
 ghost use Rattle.explorer.specs.Concluding.{Concludes, TellsLonger, cause};
 ghost use Rattle.explorer.specs.Lines.{ending_of};
@@ -13,6 +14,7 @@ ghost use Rattle.explorer.specs.Serve.{Serves};
 ghost use Rattle.explorer.specs.Serving.{IsPlaced, IsToldBy, lines_told, service_of};
 ghost use Rattle.explorer.specs.World.{world};
 
+use crate::cabinet::Cabinet;
 use crate::fault::Fault;
 use crate::listening::listening_line;
 use crate::opening::fault_of_opening;
@@ -31,6 +33,9 @@ use std::alloc::{AllocError, Global};
 use std::marker::Brand;
 use std::sync::Wait;
 use std::thread::Threads;
+
+/// A drawer is cut into 2^32 parts, of which one stays with the index and one behind the desk.
+const MOST_WORKERS: usize = 4_294_967_295;
 
 /// Opens the store, asks for the files and the doors, serves until no connection is left, with the
 /// openings that the book names, and gives all back.
@@ -102,7 +107,7 @@ fn serve_store<R: Wait + Threads + Sync, O: Sink, E: Sink, H: Host, J: Index + S
         host.close(name, store.into_disk(rt));
         return Err(Fault::OutOfMemory);
     };
-    let (ingest, passes) = match store.named::<J>(alloc) {
+    let (ingest, passes, drawer) = match store.named::<J>(alloc) {
         Ok(named) => named,
         Err(store) => {
             list.destroy_empty();
@@ -110,9 +115,14 @@ fn serve_store<R: Wait + Threads + Sync, O: Sink, E: Sink, H: Host, J: Index + S
             return Err(Fault::OutOfMemory);
         }
     };
-    let (ingest, outcome) = serve_files(
-        rt, alloc, output, host, &order, &line, ingest, passes, list,
+    let cabinet = Cabinet { ingest, drawer };
+    let (cabinet, outcome) = serve_files(
+        rt, alloc, output, host, &order, &line, cabinet, passes, list,
     );
+    let Cabinet {
+        ingest,
+        drawer: _drawer,
+    } = cabinet;
     let disk = disk_of(rt, ingest);
     let failed = has_failed(&disk);
     host.close(name, disk);
@@ -144,7 +154,7 @@ fn unserved_fault(order: Order, why: Unserved) -> Fault
 /// Ends the ingest, and gives the disk back.
 fn disk_of<R: Wait, D: Disk, J: Index>(rt: &R, ingest: Ingest<D, J>) -> D
     ensures disk { result ≡ ingest.manifest.disk }
-    ensures tells { TellsLonger (journal ingest) (D.disk result).content }
+    ensures tells { TellsLonger (journal ingest) (D.disk result) }
 {
     // What a crash may leave is told with the number of batches.
     let _batches = ingest.batches();
@@ -159,7 +169,8 @@ fn has_failed<D: Disk>(disk: &D) -> bool
     disk.faults() > 0
 }
 
-/// An empty list with room for a worker for each file and each door, and one that merges.
+/// An empty list with room for a worker for each file and each door, and one that merges. There are
+/// fewer of them than parts of a drawer.
 fn room_for<F, G, J: Index>(
     alloc: Global,
     order: &Order,
@@ -167,10 +178,15 @@ fn room_for<F, G, J: Index>(
     ensures empty { IfOk result (λ list. list.items ≡ []) }
     ensures room { IfOk result (λ list.
         length order.now.files.items + order.now.readers + 1 ≤ vec_capacity list) }
+    ensures few { IfOk result (λ list.
+        length order.now.files.items + order.now.readers + 2 < all_parts) }
 {
     let Some(count) = order.files.len().checked_add(order.readers + 1) else {
         return Err(AllocError);
     };
+    if count >= MOST_WORKERS {
+        return Err(AllocError);
+    }
     Vec::with_capacity(alloc, count)
 }
 

@@ -4,11 +4,13 @@ ghost use Rattle.std.specs.List.{AllByRecursion, AllZip};
 ghost use Rattle.explorer_model.specs.declared.archive.Batch.{Batch as ABatch};
 ghost use Rattle.host.specs.Hosts.{GivesBack};
 ghost use Rattle.outside.specs.Stream.{FailsToTake, Takes};
+ghost use Rattle.published_index.specs.Places.{DrewEach, HasDrawn, all_parts};
 ghost use Rattle.published_index.specs.States.{watching};
 ghost use Rattle.ingest_desk.specs.Stored.{journal};
 ghost use Rattle.explorer.specs.Serving.{AreOut, FilesServed, IsGivenUpSo, ListensSo, WorksOver, lines_told, service_of};
-ghost use Rattle.explorer.specs.Workers.{FilesOut, FilesRefused, HasReaders, IsFileOf};
+ghost use Rattle.explorer.specs.Workers.{FilesOut, FilesRefused, HasReaders, HasLent, IsFileOf};
 
+use crate::cabinet::Cabinet;
 use crate::fault::Fault;
 use crate::listening::{Line, Told};
 use crate::order::Order;
@@ -17,7 +19,6 @@ use crate::workers::{FileWork, ReaderWork, Worker, first_fault, report_lines, wo
 use disk_model::Disk;
 use explorer_model::fault::Stop;
 use host::Host;
-use ingest_desk::Ingest;
 use outside::{Door, Failed, Sink, Source};
 use published_index::{Index, Pass};
 use session::DoorEnd;
@@ -59,9 +60,11 @@ pub struct Done {
 pub fn open_files<H: Host, J: Index>(
     host: &mut H,
     names: &[String],
+    cabinet: &mut Cabinet<H::Disk, J>,
     list: &mut Vec<Worker<H::File, H::Door, J>>,
 ) -> bool
     requires empty { list.old.items ≡ [] }
+    requires parts { length names.now < cabinet.old.drawer.parts }
     requires room { length names.now ≤ vec_capacity list.old }
     ensures opened { result ≡ true → FilesOut H.File.source (map string_bytes names.now)
         list.new.items (H.host host.old) (H.host host.new) }
@@ -70,11 +73,14 @@ pub fn open_files<H: Host, J: Index>(
     ensures few { result ≡ false → vec_len list.new < length names.now }
     ensures all { result ≡ true → vec_len list.new ≡ length names.now }
     ensures room { vec_capacity list.new ≡ vec_capacity list.old }
+    ensures lent { HasLent (vec_len list.new) cabinet.old.drawer cabinet.new.drawer }
+    ensures same { cabinet.new.ingest ≡ cabinet.old.ingest }
 {
     for name in names {
         match host.file(name.as_str()) {
             Ok(source) => list.push_reserved(Worker::File(FileWork {
                 source,
+                drawer: cabinet.lend(),
                 report: None,
             })),
             Err(Failed) => return false,
@@ -83,19 +89,23 @@ pub fn open_files<H: Host, J: Index>(
     true
 }
 
-/// Puts a worker for each door at the end of the list, each with a pass, and one that merges. The
-/// address was told.
-pub fn with_readers<F: Source, G: Door, J: Index>(
+/// Puts a worker for each door at the end of the list, each with a pass and a drawer, and one that
+/// merges. The address was told.
+pub fn with_readers<F: Source, G: Door, D: Disk, J: Index>(
     told: Told,
+    cabinet: &mut Cabinet<D, J>,
     doors: Vec<G>,
     passes: Vec<Pass<J>>,
     list: Vec<Worker<F, G, J>>,
 ) -> Vec<Worker<F, G, J>>
     requires even { vec_len doors ≡ vec_len passes }
     requires room { vec_len list + vec_len doors + 1 ≤ vec_capacity list }
-    ensures { (opening : List ABatch)
+    requires parts { vec_len doors < cabinet.old.drawer.parts }
+    ensures readers { (opening : List ABatch)
         → AllByRecursion (λ pass. pass ≡ watching opening) passes.items
         → HasReaders G.door opening (map G.door doors.items) list.items result.items }
+    ensures lent { HasLent (vec_len doors) cabinet.old.drawer cabinet.new.drawer }
+    ensures same { cabinet.new.ingest ≡ cabinet.old.ingest }
 {
     let mut doors = doors;
     let mut passes = passes;
@@ -107,6 +117,7 @@ pub fn with_readers<F: Source, G: Door, J: Index>(
         list.push_reserved(Worker::Reader(ReaderWork {
             door,
             pass,
+            drawer: Some(cabinet.lend()),
             end: DoorEnd::Whole,
             told,
         }));
@@ -135,41 +146,44 @@ pub fn serve_files<R: Wait + Threads + Sync, O: Sink, H: Host, J: Index + Send +
     host: &mut H,
     order: &Order,
     line: &Line,
-    ingest: Ingest<H::Disk, J>,
+    cabinet: Cabinet<H::Disk, J>,
     passes: Vec<Pass<J>>,
     list: Vec<Worker<H::File, H::Door, J>>,
-) -> (Ingest<H::Disk, J>, Outcome)
+) -> (Cabinet<H::Disk, J>, Outcome)
     requires passes { vec_len passes ≡ order.now.readers }
-    requires opening { AllByRecursion (λ pass. pass ≡ watching (journal ingest)) passes.items }
+    requires opening { AllByRecursion (λ pass. pass ≡ watching (journal cabinet.ingest))
+        passes.items }
+    requires drawn { HasDrawn (length (journal cabinet.ingest)) cabinet.drawer }
+    requires parts { length order.now.files.items + order.now.readers < cabinet.drawer.parts }
     requires empty { list.items ≡ [] }
     requires room { length order.now.files.items + order.now.readers + 1 ≤ vec_capacity list }
-    ensures served { FilesServed (service_of order.now) (journal ingest) (journal result.0) result.1
-        (H.host host.old) (H.host host.new) }
-    ensures kept { IsGivenUpSo result.1 → result.0 ≡ ingest }
+    ensures served { FilesServed (service_of order.now) (journal cabinet.ingest)
+        (journal result.0.ingest) result.1 (H.host host.old) (H.host host.new) }
+    ensures kept { IsGivenUpSo result.1 → result.0.ingest ≡ cabinet.ingest }
     ensures written { ListensSo line.now.bytes.items result.1 (O.sink output.old) (O.sink output.new) }
     ensures gives_back { GivesBack (H.host host.old) (H.host host.new) }
 {
     let mut list = list;
-    let mut ingest = ingest;
+    let mut cabinet = cabinet;
     let names = order.files.as_slice();
-    if !open_files(host, names, &mut list) {
+    if !open_files(host, names, &mut cabinet, &mut list) {
         let at = list.len();
-        give_back(host, names, &mut ingest, list);
-        return (ingest, Outcome::GivenUp(Unserved::NoFile { at }));
+        give_back(host, names, &mut cabinet, list);
+        return (cabinet, Outcome::GivenUp(Unserved::NoFile { at }));
     }
     let stop = match host.doors(order.address.as_str(), order.readers, order.connections) {
         Ok(doors) => {
-            let (ingest, done) = serve_doors(
-                rt, alloc, output, host, order, line, ingest, doors, passes, list,
+            let (cabinet, done) = serve_doors(
+                rt, alloc, output, host, order, line, cabinet, doors, passes, list,
             );
-            return (ingest, Outcome::Worked(done));
+            return (cabinet, Outcome::Worked(done));
         }
         Err(stop) => stop,
     };
-    give_back(host, names, &mut ingest, list);
+    give_back(host, names, &mut cabinet, list);
     match stop {
-        Stop::Fault(Failed) => (ingest, Outcome::GivenUp(Unserved::NoAddress)),
-        Stop::OutOfMemory => (ingest, Outcome::GivenUp(Unserved::NoMemory)),
+        Stop::Fault(Failed) => (cabinet, Outcome::GivenUp(Unserved::NoAddress)),
+        Stop::OutOfMemory => (cabinet, Outcome::GivenUp(Unserved::NoMemory)),
     }
 }
 
@@ -181,11 +195,11 @@ fn serve_doors<R: Wait + Threads + Sync, O: Sink, H: Host, J: Index + Send + Syn
     host: &mut H,
     order: &Order,
     line: &Line,
-    ingest: Ingest<H::Disk, J>,
+    cabinet: Cabinet<H::Disk, J>,
     doors: Vec<H::Door>,
     passes: Vec<Pass<J>>,
     list: Vec<Worker<H::File, H::Door, J>>,
-) -> (Ingest<H::Disk, J>, Done)
+) -> (Cabinet<H::Disk, J>, Done)
     requires some { 1 ≤ vec_len doors }
     requires even { vec_len doors ≡ vec_len passes }
     requires room { vec_len list + vec_len doors + 1 ≤ vec_capacity list }
@@ -193,9 +207,14 @@ fn serve_doors<R: Wait + Threads + Sync, O: Sink, H: Host, J: Index + Send + Syn
         (map string_bytes order.now.files.items) list.items }
     requires out { AreOut (map string_bytes order.now.files.items) (vec_len doors)
         (H.host host.old) }
-    requires opening { AllByRecursion (λ pass. pass ≡ watching (journal ingest)) passes.items }
+    requires opening { AllByRecursion (λ pass. pass ≡ watching (journal cabinet.ingest))
+        passes.items }
+    requires drawn { DrewEach (length (journal cabinet.ingest)) cabinet.drawer }
+    requires parts { cabinet.drawer.parts + length order.now.files.items + 1 ≡ all_parts }
+    requires more { vec_len doors < cabinet.drawer.parts }
     ensures over { WorksOver order.now.book (map string_bytes order.now.files.items)
-        (journal ingest) (journal result.0) (map H.Door.door doors.items) result.1.first
+        (journal cabinet.ingest) (journal result.0.ingest) (map H.Door.door doors.items)
+        result.1.first
         (lines_told result.1.lines) (H.host host.old) (H.host host.new) }
     ensures told { OnOk result.1.listens
         (Takes line.now.bytes.items (O.sink output.old) (O.sink output.new)) }
@@ -203,16 +222,20 @@ fn serve_doors<R: Wait + Threads + Sync, O: Sink, H: Host, J: Index + Send + Syn
         (FailsToTake line.now.bytes.items (O.sink output.old) (O.sink output.new)) }
 {
     let told = Told::tell(output, line);
-    let list = with_readers(told, doors, passes, list);
-    let (mut ingest, list) = work_all(rt, alloc, ingest, list, order);
+    let mut cabinet = cabinet;
+    let list = with_readers(told, &mut cabinet, doors, passes, list);
+    let Cabinet { ingest, drawer } = cabinet;
+    let (ingest, list) = work_all(rt, alloc, ingest, list, order);
+    let mut cabinet = Cabinet { ingest, drawer };
     let first = first_fault(list.as_slice());
     let names = order.files.as_slice();
     let lines = report_lines(alloc, names, list.as_slice());
-    give_back(host, names, &mut ingest, list);
+    give_back(host, names, &mut cabinet, list);
+    cabinet.settle(rt);
     let done = Done {
         first,
         lines,
         listens: told.result(),
     };
-    (ingest, done)
+    (cabinet, done)
 }

@@ -40,7 +40,7 @@ use ingest_desk::{ImportEnding, Ingest, Unnamed};
 use itoa::Buffer;
 use legal_moves::board::Board;
 use outside::{FreeGate, Sink};
-use published_index::Index;
+use published_index::{Drawer, Index};
 use query_params::query;
 use rand_pcg::Lcg64Xsh32;
 use sample_games::laws::{ids_differ, samples_have_games, streams_are_cut_into_samples};
@@ -201,14 +201,14 @@ fn try_unnamed<J: Index, R: AllocGlobal + Wait + Threads + Sync>(
     ensures { IfOk result (λ tried.
         (texts : List (List ℕ)) → IsStreamOf texts stream.items → IsTriedOf texts tried) }
 {
-    let (mut ingest, _passes) = match unnamed.named::<J>(rt.alloc()) {
+    let (mut ingest, _passes, mut drawer) = match unnamed.named::<J>(rt.alloc()) {
         Ok(named) => named,
         Err(unnamed) => {
             let _disk = unnamed.into_disk(rt);
             return Err(AllocError);
         }
     };
-    let tried = try_in(rt, &mut ingest, stream, workers);
+    let tried = try_in(rt, &mut ingest, &mut drawer, stream, workers);
     let _disk = ingest.into_disk(rt);
     tried
 }
@@ -217,6 +217,7 @@ fn try_unnamed<J: Index, R: AllocGlobal + Wait + Threads + Sync>(
 fn try_in<J: Index, R: AllocGlobal + Wait + Threads + Sync>(
     rt: &R,
     ingest: &mut Ingest<Unkept, J>,
+    drawer: &mut Drawer<J>,
     stream: Vec<u8>,
     workers: usize,
 ) -> Result<Tried, AllocError>
@@ -229,7 +230,7 @@ fn try_in<J: Index, R: AllocGlobal + Wait + Threads + Sync>(
     ensures { IfOk result (λ tried.
         (texts : List (List ℕ)) → IsStreamOf texts stream.items → IsTriedOf texts tried) }
 {
-    store_samples(rt, ingest, stream, workers)?;
+    store_samples(rt, ingest, drawer, stream, workers)?;
     count_stored(rt, ingest, workers)
 }
 
@@ -237,6 +238,7 @@ fn try_in<J: Index, R: AllocGlobal + Wait + Threads + Sync>(
 fn store_samples<J: Index, R: AllocGlobal + Wait + Threads + Sync>(
     rt: &R,
     ingest: &mut Ingest<Unkept, J>,
+    drawer: &mut Drawer<J>,
     stream: Vec<u8>,
     workers: usize,
 ) -> Result<(), AllocError>
@@ -261,6 +263,7 @@ fn store_samples<J: Index, R: AllocGlobal + Wait + Threads + Sync>(
         rt.alloc(),
         &mut source,
         ingest,
+        drawer,
         Label::none(),
         workers,
         &FreeGate,

@@ -1,9 +1,9 @@
 //! The workers of a store that is served: files are imported, the connections of doors are served,
 //! and what is published is merged.
 ghost use Rattle.std.specs.Prelude.{◌≡◌, ◌≤◌, ◌+◌, ◌++◌, [], length, map, string_bytes, IfOk, OnOk};
-ghost use Rattle.std.specs.List.{AllZip};
+ghost use Rattle.std.specs.List.{All, AllZip};
 ghost use Rattle.explorer.specs.Served.{fault_of_import};
-ghost use Rattle.explorer.specs.Workers.{Works, fault_in, fault_of, lines_in, lines_of};
+ghost use Rattle.explorer.specs.Workers.{HasDrawer, Works, fault_in, fault_of, lines_in, lines_of};
 ghost use Rattle.ingest_desk.specs.Importers.{ending_of};
 
 use crate::fault::Fault;
@@ -15,24 +15,27 @@ use explorer_model::label::Label;
 use import_run::{DeskHandle, drain, import};
 use ingest_desk::{Desk, End, Ingest, MergeDesk, Report};
 use outside::{Door, FreeGate, Source};
-use published_index::{Index, Pass};
+use published_index::{Drawer, Index, Pass};
 use session::{DoorEnd, serve_door};
 use std::alloc::{AllocError, Global};
 use std::sync::{Mutex, Wait};
 use std::thread;
 use std::thread::Threads;
 
-/// A file that is imported, and what that came to.
+/// A file that is imported, the drawer by which that is done, and what it came to.
 pub struct FileWork<F, J: Index> {
     pub source: F,
+    pub drawer: Drawer<J>,
     /// None until it was imported.
     pub report: Option<Report<J>>,
 }
 
-/// A door, the pass by which its connections are served, and how that ended.
+/// A door, the pass and the drawer by which its connections are served, and how that ended.
 pub struct ReaderWork<G, J: Index> {
     pub door: G,
     pub pass: Pass<J>,
+    /// None while they are served.
+    pub drawer: Option<Drawer<J>>,
     pub end: DoorEnd,
     /// That the address of the door was told, or could not be.
     pub told: Told,
@@ -55,6 +58,7 @@ impl<F: Source, G: Door, J: Index> Worker<F, G, J> {
         desk: &Desk<D, J>,
         order: &Order,
     )
+        requires drawer { HasDrawer self.old }
         ensures { Works order.now.book F.source G.door self.old self.new }
     {
         match self {
@@ -64,6 +68,7 @@ impl<F: Source, G: Door, J: Index> Worker<F, G, J> {
                     alloc,
                     &mut file.source,
                     desk,
+                    &mut file.drawer,
                     Label::none(),
                     order.workers,
                     &FreeGate,
@@ -71,14 +76,19 @@ impl<F: Source, G: Door, J: Index> Worker<F, G, J> {
                 file.report = Some(report);
             }
             Worker::Reader(reader) => {
-                let mut importer = DeskHandle::new(desk, order.workers);
                 let ReaderWork {
                     door,
                     pass,
+                    drawer,
                     end,
                     told: _,
                 } = reader;
+                let Some(mine) = drawer.take() else {
+                    unreachable!()
+                };
+                let mut importer = DeskHandle::new(desk, mine, order.workers);
                 *end = serve_door(rt, alloc, door, pass, &mut importer, &order.book);
+                *drawer = Some(importer.into_drawer());
             }
             Worker::Merger => {
                 let _ = drain(rt, alloc, &MergeDesk::of(desk), order.workers);
@@ -184,6 +194,7 @@ pub fn work_all<
     list: Vec<Worker<F, G, J>>,
     order: &Order,
 ) -> (Ingest<D, J>, Vec<Worker<F, G, J>>)
+    requires drawers { All HasDrawer list.items }
     ensures { AllZip (Works order.now.book F.source G.door) list.items result.1.items }
 {
     let mut list = list;
@@ -200,6 +211,7 @@ fn work_each<
     D: Disk + Send,
     J: Index + Send + Sync,
 >(rt: &R, alloc: Global, desk: &Desk<D, J>, order: &Order, list: &mut [Worker<F, G, J>])
+    requires drawers { All HasDrawer list.old }
     ensures { AllZip (Works order.now.book F.source G.door) list.old list.new }
 {
     let threads = list.len().max(1);
@@ -208,6 +220,7 @@ fn work_each<
         list,
         threads,
         &|_, worker: &mut Worker<F, G, J>|
+            requires { HasDrawer worker.old }
             ensures { Works order.entry.now.book F.source G.door worker.old worker.new }
         { worker.work(rt, alloc, desk, order) },
     );

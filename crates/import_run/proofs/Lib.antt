@@ -10,6 +10,7 @@ mod CompleteLemmas
 mod CountLemmas
 mod CrashLemmas
 mod CutLemmas
+mod DrawLemmas
 mod DeterminedLemmas
 mod DrainLemmas
 mod EarlyLemmas

@@ -5,6 +5,7 @@ pub mod Settling
 pub mod Hand
 pub mod Committing
 pub mod Rounds
+pub mod Draws
 pub mod Beside
 pub mod EndingBeside
 pub mod Progress

@@ -1,5 +1,7 @@
 //! One who stores alone: nobody else changes the store.
 ghost use Rattle.std.specs.Prelude.{◌≡◌, ◌≤◌, None, Some, false};
+ghost use Rattle.ingest_desk.specs.Drawn.{DrawsFor, most_untold};
+ghost use Rattle.ingest_desk.specs.Importers.{ending_of};
 ghost use Rattle.import_run.specs.Alone.{ImportsAlone, stored_in};
 ghost use Rattle.import_run.specs.Upkeep.{Follows, IsSinceAlone, MergesBehind, StoresSame};
 
@@ -12,7 +14,7 @@ use explorer_model::label::Label;
 use game_replay::laws::game_is_determined;
 use ingest_desk::{CommitFault, Ingest, Receipt, Report};
 use outside::{Gate, Source};
-use published_index::Index;
+use published_index::{Drawer, Index};
 use std::alloc::Global;
 use std::sync::Wait;
 use std::thread::Threads;
@@ -24,19 +26,22 @@ pub fn import_alone<S: Source, D: Disk, J: Index, G: Gate, R: Wait + Threads + S
     alloc: Global,
     source: &mut S,
     ingest: &mut Ingest<D, J>,
+    mine: &mut Drawer<J>,
     label: Label,
     workers: usize,
     gate: &G,
 ) -> Report<J>
     requires some_workers { 1 ≤ workers }
     requires few_workers { workers ≤ 16 }
-    ensures { ImportsAlone label D.disk D.left_since (S.source source.old) ingest.old
+    ensures alone { ImportsAlone label D.disk D.left_since (S.source source.old) ingest.old
         (S.source source.new) ingest.new result }
+    ensures drawn { DrawsFor (most_untold (ending_of result.end)) result.receipts.items
+        mine.old mine.new }
 {
     let LoneImport {
         report,
         lacked: _lacked,
-    } = import_and_tell(rt, alloc, source, ingest, label, workers, gate);
+    } = import_and_tell(rt, alloc, source, ingest, mine, label, workers, gate);
     report
 }
 
@@ -54,6 +59,7 @@ pub fn import_and_tell<S: Source, D: Disk, J: Index, G: Gate, R: Wait + Threads 
     alloc: Global,
     source: &mut S,
     ingest: &mut Ingest<D, J>,
+    mine: &mut Drawer<J>,
     label: Label,
     workers: usize,
     gate: &G,
@@ -64,10 +70,13 @@ pub fn import_and_tell<S: Source, D: Disk, J: Index, G: Gate, R: Wait + Threads 
         (S.source source.new) ingest.new result.report }
     ensures follows { result.lacked ≡ false → ingest.new.manifest.fault ≡ None
         → Follows ingest.old ingest.new }
+    ensures drawn { DrawsFor (most_untold (ending_of result.report.end))
+        result.report.receipts.items mine.old mine.new }
 {
     let _before = ingest.batches();
     let mut seat = LoneSeat {
         ingest: &mut *ingest,
+        drawer: &mut *mine,
         lacked: false,
     };
     let report = import_stream(rt, alloc, source, &mut seat, label, workers, gate);
@@ -82,6 +91,7 @@ pub fn import_and_tell<S: Source, D: Disk, J: Index, G: Gate, R: Wait + Threads 
 #[derive(Drop)]
 pub(crate) struct LoneSeat<'a, D: Disk, J: Index> {
     pub(crate) ingest: &'a mut Ingest<D, J>,
+    pub(crate) drawer: &'a mut Drawer<J>,
     /// Whether memory was wanting for a batch, or behind one for neighbours that were due.
     pub(crate) lacked: bool,
 }
@@ -92,7 +102,10 @@ impl<'a, D: Disk, J: Index> Committer<J> for LoneSeat<'a, D, J> {
 
     ghost told = { λ seat. Some (stored_in seat.ingest.now) };
 
+    ghost drawing = { λ seat. seat.drawer.now };
+
     ghost since = { λ old new. (new.ingest.ghost_name ≡ old.ingest.ghost_name)
+        × (new.drawer.ghost_name ≡ old.drawer.ghost_name)
         × IsSinceAlone D.disk D.left_since old.ingest.now new.ingest.now old.lacked new.lacked };
 
     fn commit<R: Wait + Threads + Sync>(
@@ -104,19 +117,20 @@ impl<'a, D: Disk, J: Index> Committer<J> for LoneSeat<'a, D, J> {
     ) -> Result<Receipt<J>, CommitFault<J>> {
         game_is_determined();
         let _before = self.ingest.batches();
-        let answer = self.ingest.commit(rt, alloc, tally);
+        let answer = self.ingest.commit(rt, alloc, tally, self.drawer);
         let _after = self.ingest.batches();
         let lacks = merge_behind(rt, alloc, self.ingest, &answer, workers);
         self.lacked = either(self.lacked, lacks);
         answer
     }
 
-    ghost since_then = { λ it. (refl, alone_then D.disk D.left_since it.ingest.now it.lacked) };
+    ghost since_then = { λ it. (refl, refl, alone_then D.disk D.left_since it.ingest.now it.lacked) };
 
     ghost since_before = { λ first second third earlier later. (
       later.0 ∙ earlier.0,
+      later.1 ∙ earlier.1,
       alone_before D.disk D.left_since first.ingest.now second.ingest.now third.ingest.now
-          first.lacked second.lacked third.lacked earlier.1 later.1,
+          first.lacked second.lacked third.lacked earlier.2 later.2,
     ) };
 }
 

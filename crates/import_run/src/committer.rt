@@ -2,7 +2,9 @@
 ghost use Rattle.std.specs.Prelude.{◌≡◌, ◌≤◌, Option, Some};
 ghost use Rattle.std.specs.Thread.{IsSync};
 ghost use Rattle.import_run.specs.Beside.{AnswersTo};
+ghost use Rattle.published_index.specs.Places.{Drawing};
 ghost use Rattle.import_run.specs.Committing.{Commits, IsClash, Known, Store, store_of};
+ghost use Rattle.import_run.specs.Draws.{DrawsPlace};
 
 use ingest_desk::{CommitFault, Receipt};
 use published_index::Index;
@@ -15,6 +17,9 @@ use tally_rows::Tally;
 pub trait Committer<J: Index> {
     // What is known of the store, where nobody else stores anything.
     ghost told: { Self → Option Store };
+
+    // What its drawer has, which draws the place of each batch that is stored.
+    ghost drawing: { Self → Drawing };
 
     // What its calls have done together, from an earlier moment to a later one.
     ghost since: { Self → Self → Type 0 };
@@ -35,6 +40,7 @@ pub trait Committer<J: Index> {
             → Commits result known tally (told self.new) }
         ensures clash { IsClash result tally (told self.old) }
         ensures answers { AnswersTo result tally }
+        ensures drawn { DrawsPlace result (drawing self.old) (drawing self.new) }
         ensures since { since self.old self.new };
 
     // Without a call nothing is done.

@@ -1,14 +1,15 @@
 //! One who stores at a desk that others use too.
-ghost use Rattle.std.specs.Prelude.{⊤, None};
+ghost use Rattle.std.specs.Prelude.{◌≡◌, None};
 ghost use Rattle.std.specs.Thread.{IsSync};
 ghost use Rattle.import_run.specs.Beside.{AnswersTo};
 ghost use Rattle.import_run.specs.Committing.{IsClash};
+ghost use Rattle.import_run.specs.Draws.{DrawsPlace};
 
 use crate::committer::Committer;
 use crate::merging::merge_due_beside;
 use disk_model::Disk;
 use ingest_desk::{CommitFault, Desk, Ingest, MergeDesk, Receipt};
-use published_index::Index;
+use published_index::{Drawer, Index};
 use std::alloc::Global;
 use std::sync::{MutexGuard, Wait};
 use std::thread::Threads;
@@ -20,45 +21,49 @@ pub fn store_beside<D: Disk, J: Index, R: Wait + Threads + Sync>(
     alloc: Global,
     ingest: &mut Ingest<D, J>,
     tally: Tally,
+    mine: &mut Drawer<J>,
 ) -> Result<Receipt<J>, CommitFault<J>>
     ensures clash { IsClash result tally None }
     ensures answers { AnswersTo result tally }
+    ensures drawn { DrawsPlace result mine.old mine.new }
 {
-    ingest.commit(rt, alloc, tally)
+    ingest.commit(rt, alloc, tally, mine)
 }
 
 /// A seat at a desk: it takes the lock for each of its steps, and waits for it.
 #[derive(Drop)]
 pub(crate) struct Seat<'a, D: Disk, J: Index> {
-    desk: &'a Desk<D, J>,
+    pub(crate) desk: &'a Desk<D, J>,
+    pub(crate) drawer: &'a mut Drawer<J>,
 }
 
-impl<'a, D: Disk, J: Index> Seat<'a, D, J> {
-    pub(crate) fn new(desk: &'a Desk<D, J>) -> Self {
-        Seat { desk }
-    }
-
-    /// Stores a batch and publishes it.
-    fn store<R: Wait + Threads + Sync>(
-        &self,
-        rt: &R,
-        alloc: Global,
-        tally: Tally,
-    ) -> Result<Receipt<J>, CommitFault<J>>
-        ensures clash { IsClash result tally None }
-        ensures answers { AnswersTo result tally }
-    {
-        let mut ingest = self.desk.lock(rt);
-        let answer = store_beside(rt, alloc, &mut ingest, tally);
-        MutexGuard::unlock(ingest);
-        answer
-    }
+/// Stores a batch and publishes it, by the lock of a desk.
+fn store_at<D: Disk, J: Index, R: Wait + Threads + Sync>(
+    rt: &R,
+    alloc: Global,
+    desk: &Desk<D, J>,
+    tally: Tally,
+    mine: &mut Drawer<J>,
+) -> Result<Receipt<J>, CommitFault<J>>
+    ensures clash { IsClash result tally None }
+    ensures answers { AnswersTo result tally }
+    ensures drawn { DrawsPlace result mine.old mine.new }
+{
+    let mut ingest = desk.lock(rt);
+    let answer = store_beside(rt, alloc, &mut ingest, tally, mine);
+    MutexGuard::unlock(ingest);
+    answer
 }
 
 impl<'a, D: Disk, J: Index> Committer<J> for Seat<'a, D, J> {
+    ghost use Rattle.std.proofs.Common.{refl, ◌∙◌};
+
     ghost told = { λ seat. None };
 
-    ghost since = { λ old new. ⊤ };
+    ghost drawing = { λ seat. seat.drawer.now };
+
+    // The drawer stays the one that was lent.
+    ghost since = { λ old new. new.drawer.ghost_name ≡ old.drawer.ghost_name };
 
     fn commit<R: Wait + Threads + Sync>(
         &mut self,
@@ -67,14 +72,14 @@ impl<'a, D: Disk, J: Index> Committer<J> for Seat<'a, D, J> {
         tally: Tally,
         workers: usize,
     ) -> Result<Receipt<J>, CommitFault<J>> {
-        let answer = self.store(rt, alloc, tally);
+        let answer = store_at(rt, alloc, self.desk, tally, self.drawer);
         if answer.is_ok() {
             let _merging = merge_due_beside(rt, alloc, &MergeDesk::of(self.desk), workers);
         }
         answer
     }
 
-    ghost since_then = { λ seat. tt };
+    ghost since_then = { λ seat. refl };
 
-    ghost since_before = { λ first second third from then. tt };
+    ghost since_before = { λ first second third earlier later. later ∙ earlier };
 }

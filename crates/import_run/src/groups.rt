@@ -3,8 +3,11 @@ ghost use Rattle.std.specs.Prelude.{◌≡◌, ◌≤◌, ◌++◌, ◌∷◌, [
 ghost use Rattle.std.specs.List.{All};
 ghost use Rattle.explorer_model.specs.Cuts.{Cut as ACut, text_limit};
 ghost use Rattle.explorer_model.specs.Imports.{group_limit};
+ghost use Rattle.published_index.specs.Places.{Drawing};
+ghost use Rattle.ingest_desk.specs.Drawn.{DrawsFor};
 ghost use Rattle.import_run.specs.Beside.{last_batches};
 ghost use Rattle.import_run.specs.Committing.{Store};
+ghost use Rattle.import_run.specs.Draws.{most_untold_by};
 ghost use Rattle.import_run.specs.Grouping.{Ascend, IsGroupOf};
 ghost use Rattle.import_run.specs.Importing.{IsEndOf, WhereLacking, WhereStopped};
 ghost use Rattle.import_run.specs.Taking.{IsSettledSo, LacksBehind, StopsBehind};
@@ -88,6 +91,10 @@ impl<J: Index> OpenImport<J> {
             → IsGroupOf hand self.old.group
             → IsSettledSo start closed self.old (C.told committer.old)
             → LacksBehind start closed (hand ∷ []) self.new (C.told committer.new))) }
+        ensures drawn { (before : Drawing)
+            → DrawsFor 0 self.old.receipts.items before (C.drawing committer.old)
+            → DrawsFor (most_untold_by result) self.new.receipts.items before
+            (C.drawing committer.new) }
         ensures since { C.since committer.old committer.new }
     {
         let next = TextGroup::new(alloc, copy_of(&self.group.label));

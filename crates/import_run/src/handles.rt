@@ -4,6 +4,7 @@ ghost use Rattle.std.specs.Thread.{IsSync};
 ghost use Rattle.explorer_model.specs.Cuts.{cuts};
 ghost use Rattle.explorer_model.specs.Labels.{no_label};
 ghost use Rattle.explorer_model.specs.Wire.{body_limit};
+ghost use Rattle.ingest_desk.specs.Drawn.{DrawsFor, most_untold};
 ghost use Rattle.ingest_desk.specs.Importers.{CountsRose, EndsInMemory, TellsAll, call_of, ending_of as ending_by};
 ghost use Rattle.ingest_desk.specs.Reporting.{Reports, games_of};
 ghost use Rattle.import_run.specs.Counting.{counts_of};
@@ -18,7 +19,7 @@ use disk_model::Disk;
 use explorer_model::archive::Bytes;
 use ingest_desk::{Desk, ImportCall, Importer, Ingest, Receipt, Report};
 use outside::FreeGate;
-use published_index::Index;
+use published_index::{Drawer, Index};
 use std::alloc::Global;
 use std::sync::Wait;
 use std::thread::Threads;
@@ -27,6 +28,7 @@ use std::thread::Threads;
 #[derive(Drop)]
 pub struct DeskHandle<'a, D: Disk, J: Index> {
     desk: &'a Desk<D, J>,
+    drawer: Drawer<J>,
     workers: usize,
     counts: EndCounts,
     ghost some_workers: { 1 ≤ workers },
@@ -34,22 +36,42 @@ pub struct DeskHandle<'a, D: Disk, J: Index> {
 }
 
 impl<'a, D: Disk, J: Index> DeskHandle<'a, D, J> {
-    /// A handle that replays and merges on so many workers, 1 to 16.
-    pub fn new(desk: &'a Desk<D, J>, workers: usize) -> Self
+    /// A handle that draws places by the drawer, and replays and merges on so many workers, 1 to 16.
+    pub fn new(desk: &'a Desk<D, J>, drawer: Drawer<J>, workers: usize) -> Self
         requires some_workers { 1 ≤ workers }
         requires few_workers { workers ≤ 16 }
-        ensures { counts_of result.counts ≡ record { disk_faults = 0; closed = 0; full = 0 } }
+        ensures counts { counts_of result.counts
+            ≡ record { disk_faults = 0; closed = 0; full = 0 } }
+        ensures drawer { result.drawer ≡ drawer }
     {
         DeskHandle {
             desk,
+            drawer,
             workers,
             counts: EndCounts::new(),
         }
     }
+
+    /// Ends the handle, and gives its drawer back.
+    pub fn into_drawer(self) -> Drawer<J>
+        ensures { result ≡ self.entry.drawer }
+    {
+        let DeskHandle {
+            desk: _desk,
+            drawer,
+            workers: _workers,
+            counts: _counts,
+        } = self;
+        drawer
+    }
 }
 
 impl<'a, D: Disk, J: Index> Importer<J> for DeskHandle<'a, D, J> {
-    ghost importer = { λ handle. record { counts = counts_of handle.counts; calls = None } };
+    ghost importer = { λ handle. record {
+      counts = counts_of handle.counts;
+      calls = None;
+      drawing = handle.drawer;
+    } };
 
     fn import<R: Wait + Threads + Sync>(
         &mut self,
@@ -57,7 +79,10 @@ impl<'a, D: Disk, J: Index> Importer<J> for DeskHandle<'a, D, J> {
         alloc: Global,
         body: &[u8],
     ) -> Report<J> {
-        let mut seat = Seat::new(self.desk);
+        let mut seat = Seat {
+            desk: self.desk,
+            drawer: &mut self.drawer,
+        };
         let report = import_bytes(rt, alloc, body, &mut seat, self.workers, &FreeGate);
         self.counts.add(&report.end);
         report
@@ -68,6 +93,7 @@ impl<'a, D: Disk, J: Index> Importer<J> for DeskHandle<'a, D, J> {
 /// keep one. It is not `Drop`: end it by `into_ingest`.
 pub struct OwnIngest<D: Disk, J: Index> {
     ingest: Ingest<D, J>,
+    drawer: Drawer<J>,
     workers: usize,
     counts: EndCounts,
     calls: Option<Vec<ImportCall>>,
@@ -78,17 +104,19 @@ pub struct OwnIngest<D: Disk, J: Index> {
 
 impl<D: Disk, J: Index> OwnIngest<D, J> {
     /// An importer that replays and merges on so many workers, 1 to 16.
-    pub fn new(alloc: Global, ingest: Ingest<D, J>, workers: usize) -> Self
+    pub fn new(alloc: Global, ingest: Ingest<D, J>, drawer: Drawer<J>, workers: usize) -> Self
         requires some_workers { 1 ≤ workers }
         requires few_workers { workers ≤ 16 }
         ensures counts { counts_of result.counts
             ≡ record { disk_faults = 0; closed = 0; full = 0 } }
         ensures calls { option_map (λ calls. calls.items) result.calls ≡ Some [] }
         ensures ingest { result.ingest ≡ ingest }
+        ensures drawer { result.drawer ≡ drawer }
         ensures lacked { result.lacked ≡ false }
     {
         OwnIngest {
             ingest,
+            drawer,
             workers,
             counts: EndCounts::new(),
             calls: Some(Vec::new(alloc)),
@@ -114,17 +142,19 @@ impl<D: Disk, J: Index> OwnIngest<D, J> {
         self.lacked
     }
 
-    pub fn into_ingest(self) -> Ingest<D, J>
-        ensures { result ≡ self.ingest }
+    pub fn into_ingest(self) -> (Ingest<D, J>, Drawer<J>)
+        ensures ingest { result.0 ≡ self.ingest }
+        ensures drawer { result.1 ≡ self.drawer }
     {
         let OwnIngest {
             ingest,
+            drawer,
             workers: _workers,
             counts: _counts,
             calls: _calls,
             lacked: _lacked,
         } = self;
-        ingest
+        (ingest, drawer)
     }
 }
 
@@ -132,6 +162,7 @@ impl<D: Disk, J: Index> Importer<J> for OwnIngest<D, J> {
     ghost importer = { λ own. record {
       counts = counts_of own.counts;
       calls = option_map (λ calls. calls.items) own.calls;
+      drawing = own.drawer;
     } };
 
     fn import<R: Wait + Threads + Sync>(&mut self, rt: &R, alloc: Global, body: &[u8]) -> Report<J>
@@ -144,6 +175,8 @@ impl<D: Disk, J: Index> Importer<J> for OwnIngest<D, J> {
             (counts_of self.old.counts) (counts_of self.new.counts) }
         ensures told { TellsAll (option_map (λ calls. calls.items) self.old.calls)
             (option_map (λ calls. calls.items) self.new.calls) (call_of body.now result ∷ []) }
+        ensures drawn { DrawsFor (most_untold (ending_by result.end)) result.receipts.items
+            self.old.drawer self.new.drawer }
 
         ensures alone { ImportsBody D.disk D.left_since body.now self.old.ingest self.new.ingest
             result }
@@ -153,6 +186,7 @@ impl<D: Disk, J: Index> Importer<J> for OwnIngest<D, J> {
         let _before = self.ingest.batches();
         let mut seat = LoneSeat {
             ingest: &mut self.ingest,
+            drawer: &mut self.drawer,
             lacked: self.lacked,
         };
         let report = import_bytes(rt, alloc, body, &mut seat, self.workers, &FreeGate);

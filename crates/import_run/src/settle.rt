@@ -6,6 +6,7 @@ ghost use Rattle.explorer_model.specs.Imports.{group_limit};
 ghost use Rattle.explorer_model.specs.Timeline.{IsPrefix};
 ghost use Rattle.import_run.specs.Beside.{RoundsBeside, SettlesBeside};
 ghost use Rattle.import_run.specs.Committing.{Known, Store, store_of};
+ghost use Rattle.import_run.specs.Draws.{DrawsAsAnswered, DrawsFew, DrawsInRound};
 ghost use Rattle.import_run.specs.Grouping.{Ascend, IsGroupOf};
 ghost use Rattle.import_run.specs.Hand.{InHand};
 ghost use Rattle.import_run.specs.Rounds.{AnswerDecided, IsAgain, IsEnded, MayHaveMore, Rounds, Settles, size_of};
@@ -62,6 +63,10 @@ pub fn settle<C: Committer<J>, J: Index, R: Wait + Threads + Sync, G: Gate>(
         → MayHaveMore group.label known (cuts ∷ []) (C.told committer.new)) }
     ensures beside { IfOk result (λ done. (cuts : List ACut) → Ascend cuts → IsGroupOf cuts group
         → SettlesBeside group.label cuts done clashes.new.items) }
+    ensures drawn { IfOk result (λ done. DrawsAsAnswered done.answer
+        (C.drawing committer.old) (C.drawing committer.new)) }
+    ensures drawn_few { OnErr result
+        (DrawsFew 1 (C.drawing committer.old) (C.drawing committer.new)) }
     ensures notes { IsPrefix clashes.old.items clashes.new.items }
     ensures since { C.since committer.old committer.new }
 {
@@ -132,6 +137,10 @@ fn commit_once<C: Committer<J>, J: Index, R: Wait + Threads + Sync, G: Gate>(
         (cuts : List ACut)
         → RoundsBeside label cuts (Some counted) places.items refused.items clashes.old.items
         → SettlesBeside label cuts done clashes.new.items)) }
+    ensures drawn { IfOk result (λ round. DrawsInRound round
+        (C.drawing committer.old) (C.drawing committer.new)) }
+    ensures drawn_few { OnErr result
+        (DrawsFew 1 (C.drawing committer.old) (C.drawing committer.new)) }
     ensures notes { IsPrefix clashes.old.items clashes.new.items }
     ensures since { C.since committer.old committer.new }
 {

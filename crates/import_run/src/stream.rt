@@ -7,7 +7,11 @@ ghost use Rattle.explorer_model.specs.Labels.{no_label};
 ghost use Rattle.explorer_model.specs.Wire.{body_limit};
 ghost use Rattle.pgn_cut.specs.Cut.{meaning, cuts_in};
 ghost use Rattle.pgn_cut.specs.Cutter.{came, cuts_of_rest};
+ghost use Rattle.published_index.specs.Places.{Drawing};
+ghost use Rattle.ingest_desk.specs.Drawn.{DrawsFor, most_untold};
+ghost use Rattle.ingest_desk.specs.Importers.{ending_of};
 ghost use Rattle.import_run.specs.Committing.{Known, Store, store_of};
+ghost use Rattle.import_run.specs.Draws.{most_untold_by};
 ghost use Rattle.import_run.specs.EndingBeside.{ImportsBeside};
 ghost use Rattle.import_run.specs.Grouping.{Ascend, IsShort};
 ghost use Rattle.import_run.specs.Importing.{WhereLacking, WhereStopped};
@@ -49,6 +53,8 @@ pub fn import_stream<S: Source, C: Committer<J>, J: Index, G: Gate, R: Wait + Th
         → Imports label start (S.source source.old) (S.source source.new) result
         (C.told committer.new) }
     ensures beside { ImportsBeside label (S.source source.old) (S.source source.new) result }
+    ensures drawn { DrawsFor (most_untold (ending_of result.end)) result.receipts.items
+        (C.drawing committer.old) (C.drawing committer.new) }
     ensures since { C.since committer.old committer.new }
 {
     let mut cutter = Cutter::new();
@@ -93,6 +99,8 @@ pub fn import_bytes<C: Committer<J>, J: Index, G: Gate, R: Wait + Threads + Sync
     ensures told { (start : Known) → C.told committer.old ≡ Some (store_of start)
         → ComesQuietly no_label start bytes.now (Some []) result (C.told committer.new) }
     ensures beside { ComesQuietlyBeside no_label bytes.now (Some []) result }
+    ensures drawn { DrawsFor (most_untold (ending_of result.end)) result.receipts.items
+        (C.drawing committer.old) (C.drawing committer.new) }
     ensures since { C.since committer.old committer.new }
 {
     let mut cutter = Cutter::new();
@@ -151,6 +159,10 @@ impl<J: Index> OpenImport<J> {
             (past : List ℕ)
             → CutSoFar start past (cuts_of_rest cutter.old) self.old (C.told committer.old)
             → LacksWithin start (past ++ bytes.now) self.new (C.told committer.new))) }
+        ensures drawn { (before : Drawing)
+            → DrawsFor 0 self.old.receipts.items before (C.drawing committer.old)
+            → DrawsFor (most_untold_by result) self.new.receipts.items before
+            (C.drawing committer.new) }
         ensures since { C.since committer.old committer.new }
     {
         let mut at = 0;
@@ -193,6 +205,10 @@ impl<J: Index> OpenImport<J> {
             (taken : List ACut) → Ascend (taken ++ cuts_in cut)
             → TakenSoFar start taken self.old (C.told committer.old)
             → LacksSoFar start (taken ++ cuts_in cut) self.new (C.told committer.new))) }
+        ensures drawn { (before : Drawing)
+            → DrawsFor 0 self.old.receipts.items before (C.drawing committer.old)
+            → DrawsFor (most_untold_by result) self.new.receipts.items before
+            (C.drawing committer.new) }
         ensures since { C.since committer.old committer.new }
     {
         match cut {
@@ -229,6 +245,10 @@ impl<J: Index> OpenImport<J> {
             (taken : List ACut) → Ascend (taken ++ meaning cut ∷ [])
             → TakenSoFar start taken self.old (C.told committer.old)
             → LacksSoFar start (taken ++ meaning cut ∷ []) self.new (C.told committer.new))) }
+        ensures drawn { (before : Drawing)
+            → DrawsFor 0 self.old.receipts.items before (C.drawing committer.old)
+            → DrawsFor (most_untold_by result) self.new.receipts.items before
+            (C.drawing committer.new) }
         ensures since { C.since committer.old committer.new }
     {
         self.group.push(cut)?;
@@ -261,6 +281,10 @@ impl<J: Index> OpenImport<J> {
             → IsAtEnd left → length stream < input_limit
             → CutSoFar start stream (cuts_of_rest cutter) self (C.told committer.old)
             → ComesQuietlyBeside self.group.label stream left result }
+        ensures drawn { (before : Drawing)
+            → DrawsFor 0 self.receipts.items before (C.drawing committer.old)
+            → DrawsFor (most_untold (ending_of result.end)) result.receipts.items before
+            (C.drawing committer.new) }
         ensures since { C.since committer.old committer.new }
     {
         let mut import = self;
@@ -298,6 +322,10 @@ impl<J: Index> OpenImport<J> {
             (taken : List ACut) → Ascend (taken ++ cuts_in cut)
             → TakenSoFar start taken self.old (C.told committer.old)
             → LacksAtEnd start (taken ++ cuts_in cut) self.new (C.told committer.new))) }
+        ensures drawn { (before : Drawing)
+            → DrawsFor 0 self.old.receipts.items before (C.drawing committer.old)
+            → DrawsFor (most_untold_by result) self.new.receipts.items before
+            (C.drawing committer.new) }
         ensures since { C.since committer.old committer.new }
     {
         match self.take(rt, alloc, committer, cut, workers, gate) {
@@ -316,6 +344,7 @@ impl<J: Index> OpenImport<J> {
         ensures beside { (start : Option Store) (stream : List ℕ) (told : Option Store)
             → CutSoFar start stream (cuts_of_rest cutter) self told
             → IsWholeBeside self.group.label stream result }
+        ensures receipts { result.receipts.items ≡ self.receipts.items }
         ensures end { result.end ≡ end }
     {
         // No more than one cut has begun and not ended.
@@ -341,6 +370,8 @@ impl<J: Index> OpenImport<J> {
             (left : Option (List ℕ)) (told : Option Store) → IsAtEnd left
             → length stream < input_limit → StopsAtEnd start (cuts stream) self stopped told
             → ComesQuietlyBeside self.group.label stream left result }
+        ensures drawn { (before after : Drawing) → DrawsFor 0 self.receipts.items before after
+            → DrawsFor (most_untold (ending_of result.end)) result.receipts.items before after }
     {
         let mut import = self;
         match import.refused.extend_from_slice(stopped.refused.as_slice()) {

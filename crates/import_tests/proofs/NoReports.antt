@@ -10,6 +10,9 @@ use Rattle.ingest_desk.specs.declared.report.End.{End}
 use Rattle.ingest_desk.specs.declared.report.End.TheVariants as ends
 use Rattle.ingest_desk.specs.declared.report.Report.{Report}
 use Rattle.ingest_desk.specs.Reporting.{AccountsTo, RepeatsBy, Reports}
+use Rattle.ingest_desk.specs.Drawn.{DrawsFor}
+use Rattle.ingest_desk.specs.declared.receipt.Receipt.{Receipt}
+use Rattle.published_index.specs.Places.{new_drawing}
 
 none-beside : AccountedBeside no_label [] [] []
 none-beside = record {
@@ -49,3 +52,10 @@ pub empty-list : (xs : List ℕ) → (length xs == 0) ≡ true → xs ≡ []
 empty-list [] empty = refl
 empty-list (x ∷ xs) empty =
     let none : length (x ∷ xs) ≡ 0 = grind (arith, nat_tests) in absurd (omega arith)
+
+-- where nothing is stored nothing is drawn
+pub draws-nothing : {J : Type 0} (most : ℕ) (receipts : List (Receipt J)) → receipts ≡ []
+    → DrawsFor most receipts new_drawing new_drawing
+draws-nothing {J} most receipts none =
+    subst (λ (rs : List (Receipt J)). DrawsFor most rs new_drawing new_drawing) (sym none)
+    (record { untold = []; few = omega arith; drawn = refl })

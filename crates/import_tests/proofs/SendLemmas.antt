@@ -36,6 +36,8 @@ use Rattle.segment_blocks.specs.contracts.held_batch.TaggedBatch
 use Rattle.segment_blocks.specs.contracts.packed_rows.PackedRows
 use Rattle.segment_blocks.specs.contracts.segment.Segment
 use Rattle.published_index.specs.contracts.published.Operation
+use Rattle.published_index.specs.contracts.places.Drawer
+use Rattle.published_index.specs.contracts.places.Places
 use Rattle.published_index.specs.contracts.publisher.Publisher
 use Rattle.ingest_desk.specs.contracts.ids.Ids
 use Rattle.ingest_desk.specs.contracts.ingest.Ingest
@@ -133,8 +135,14 @@ operation_send = search (segment_send, segment_sync, front_send, sendable, cross
 pub list_writer_send : IsSend ListWriter.the_row
 list_writer_send = search (operation_send, history_send, held_send, published_send, published_sync, front_send, front_sync, part_send, part_sync, deed_send, badge_send, perch_send, perch_sync, stamp_send, ruled_send, ruled_sync, lease_send, lease_sync, chair_send, shared_send, shared_sync, sendable, crosses, declared_send, declared_sync, variants_send, variants_sync, as_row_send, as_row_sync) depth 40 fits 40000
 
+pub drawer_send : (J : RattleType) (g : Ghosts J.Denot) → IsSend J → IsSend (Drawer.the_row J g)
+drawer_send J g send = search (chair_send, sendable, crosses, declared_send, array_field_send, as_row_send) depth 40 fits 40000
+
+pub places_send : (J : RattleType) (g : Ghosts J.Denot) → IsSend J → IsSend (Places.the_row J g)
+places_send J g send = search (shared_send, lease_send, chair_send, sendable, crosses, declared_send, array_field_send, as_row_send) depth 40 fits 40000
+
 pub publisher_send : (J : RattleType) (g : Ghosts J.Denot) → IsSend J → IsSend (Publisher.the_row J g)
-publisher_send J g send = search (list_writer_send, sendable, crosses, declared_send, as_row_send) depth 40 fits 40000
+publisher_send J g send = search (list_writer_send, places_send, sendable, crosses, declared_send, as_row_send) depth 40 fits 40000
 
 pub ids_send : IsSend Ids.the_row
 ids_send = search (maps, more_maps, sendable, crosses, declared_send, array_field_send, as_row_send) depth 40 fits 40000

@@ -6,14 +6,15 @@ mod imports;
 mod kept;
 mod labels;
 
-ghost use Rattle.std.specs.Prelude.{◌≡◌};
+ghost use Rattle.std.specs.Prelude.{◌≡◌, IfOk};
+ghost use Rattle.published_index.specs.Places.{HasAllParts};
 
 use disk_model::MemDisk;
 use explorer_model::fault::Refusal;
 use import_run::ending_of;
-use ingest_desk::{ImportEnding, Ingest, Report, Unnamed, fresh};
+use ingest_desk::{ImportEnding, Named, Report, Unnamed, fresh};
 use manifest::create;
-use published_index::{Index, Pass};
+use published_index::Index;
 use std::alloc::{AllocError, Global};
 use std::sync::Wait;
 use std::test::Fail;
@@ -63,13 +64,14 @@ fn new_store<R: Wait>(rt: &R, alloc: Global, failing: Vec<u64>) -> Result<Unname
     }
 }
 
-/// The ingest and its passes.
+/// The ingest, its passes and the drawer that has all other parts.
 fn named<J: Index, R: Wait>(
     rt: &R,
     alloc: Global,
     unnamed: Unnamed<MemDisk>,
-) -> Result<(Ingest<MemDisk, J>, Vec<Pass<J>>), Fail>
+) -> Result<Named<MemDisk, J>, Fail>
     requires { unnamed.index.name ≡ J.name }
+    ensures { IfOk result (λ named. HasAllParts named.2) }
 {
     match unnamed.named::<J>(alloc) {
         Ok(named) => Ok(named),

@@ -1,5 +1,5 @@
 -- A commit has one answer.
-use Rattle.std.proofs.Common.{◌≡◌, ℕ, List, Option, Some, None, Result, Ok, Err, sym, ap, ◌∙◌}
+use Rattle.std.proofs.Common.{◌≡◌, ℕ, List, Option, Some, None, Result, Ok, Err, true, false, sym, ap, ◌∙◌}
 use Rattle.arrayvec.specs.ArrayVec.{ArrayVec}
 use Rattle.disk_model.specs.Disk.{DiskState}
 use Rattle.explorer_model.specs.declared.archive.Batch.{Batch}
@@ -7,7 +7,9 @@ use Rattle.explorer_model.specs.declared.archive.Game.{Game}
 use Rattle.record_log.specs.Log.{Log, Adds, Breaks}
 use Rattle.tally_rows.specs.Tally.{Counted}
 use Rattle.published_index.specs.Changes.{Change}
+use Rattle.published_index.specs.Places.{Drawing}
 use Rattle.ingest_desk.specs.Answers.{IsAnswer, HadMemory}
+use Rattle.ingest_desk.specs.Commits.{Draws}
 use Rattle.ingest_desk.specs.Causes.{Cause, HasIds, HasNoRoom, IsClosed}
 use Rattle.ingest_desk.specs.declared.clashing.Clashing.{Clashing}
 use Rattle.ingest_desk.specs.declared.fault.CommitFault.{CommitFault}
@@ -140,3 +142,14 @@ module _ {D J : Type 0} (disk : D → DiskState) (tally : Counted) (games : List
   one-answer (Err (faults.Full g bytes note)) other a b has had = one-full g bytes note other a b had
   one-answer (Err (faults.DiskFault before later mark)) other a b has had = one-fault before later mark other a b had
   one-answer (Err (faults.OutOfMemory stored)) other a b has had = absurd has
+
+-- with an answer a drawer draws one thing
+pub one-drawing : {J : Type 0} (answer : Result (Receipt J) (CommitFault J)) (place : ℕ) (old mine yours : Drawing)
+    → Draws answer place old mine → Draws answer place old yours → mine ≡ yours
+one-drawing (Ok receipt) place old mine yours first second = first ∙ sym second
+one-drawing (Err (faults.Closed before later mark)) place old mine yours first second = first ∙ sym second
+one-drawing (Err (faults.Clash handed pairs note)) place old mine yours first second = first ∙ sym second
+one-drawing (Err (faults.Full g bytes note)) place old mine yours first second = first ∙ sym second
+one-drawing (Err (faults.DiskFault before later mark)) place old mine yours first second = first ∙ sym second
+one-drawing (Err (faults.OutOfMemory true)) place old mine yours first second = first ∙ sym second
+one-drawing (Err (faults.OutOfMemory false)) place old mine yours first second = first ∙ sym second

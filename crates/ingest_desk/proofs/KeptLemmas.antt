@@ -277,8 +277,11 @@ module _ {D : Type 0} (disk : D → DiskState) (left_since : D → ℕ → List 
       subst (λ (m : Log D). Keeps disk left_since journal m None) (sym refuses.same)
       (keeps_sound journal old is)
   keeps_after counts journal batch (appends.DiskFault before after) old new is sound leaves breaks =
-      subst (λ (m : Log D). Keeps disk left_since journal m (Some batch)) (sym breaks.rest)
-      (sound, λ image left. leaves.each image (counts new.disk (disk old.disk).moment image leaves.later left))
+      subst (λ (m : Log D). Keeps disk left_since journal m (Some batch)) (sym breaks.rest) (
+        sound,
+        λ image left. leaves.each image (counts new.disk (disk old.disk).moment image leaves.later left),
+        omega (arith, breaks.counts.after_is, breaks.counts.rises.rose),
+      )
 
   -- ---- the invariant
 

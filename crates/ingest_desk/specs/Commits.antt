@@ -1,5 +1,5 @@
 -- Statement: what a commit answers, and what it leaves.
-use Rattle.std.specs.Prelude.{◌≡◌, ◌⊎◌, ◌≢◌, ◌+◌, true, false, List, [], ◌∷◌, ◌++◌, length, Option, None, Some, Result, Ok, Err}
+use Rattle.std.specs.Prelude.{◌≡◌, ◌⊎◌, ◌≢◌, ℕ, ◌+◌, true, false, List, [], ◌∷◌, ◌++◌, length, Option, None, Some, Result, Ok, Err}
 use Rattle.disk_model.specs.Disk.{DiskState}
 use Rattle.explorer_model.specs.declared.archive.Batch.{Batch}
 use Rattle.explorer_model.specs.Journal.{game_count}
@@ -10,6 +10,7 @@ use Rattle.record_log.specs.declared.fault.AppendFault.TheVariants as appends
 use Rattle.tally_rows.specs.Tally.{Counted}
 use Rattle.segment_blocks.specs.Segment.{CountedSpan, IsSegment}
 use Rattle.published_index.specs.Changes.{AddOf, Change}
+use Rattle.published_index.specs.Places.{Drawing, with_place}
 use Rattle.ingest_desk.specs.Causes.{Cause, HasIds, HasNoRoom, IsClosed}
 use Rattle.ingest_desk.specs.declared.fault.CommitFault.{CommitFault}
 use Rattle.ingest_desk.specs.declared.fault.CommitFault.TheVariants as faults
@@ -48,6 +49,12 @@ abbrev pub Stores : {J : Type 0} → Result (Receipt J) (CommitFault J)
 Stores (Ok receipt) batch old new = new ≡ old ++ batch ∷ []
 Stores (Err (faults.OutOfMemory true)) batch old new = new ≡ old ++ batch ∷ []
 Stores (Err _) batch old new = new ≡ old
+
+-- the drawer has drawn the place of the batch where it is stored, and else nothing
+abbrev pub Draws : {J : Type 0} → Result (Receipt J) (CommitFault J) → ℕ → Drawing → Drawing → Type 0
+Draws (Ok receipt) place old new = new ≡ with_place place old
+Draws (Err (faults.OutOfMemory true)) place old new = new ≡ with_place place old
+Draws (Err _) place old new = new ≡ old
 
 -- what is left of the manifest: a disk fault closes it, and nothing else does
 abbrev pub Leaves : {D J : Type 0} → (D → DiskState)

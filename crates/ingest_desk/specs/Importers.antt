@@ -1,6 +1,7 @@
 -- Statement: what an importer has come to, and what its calls do to it.
 use Rattle.std.specs.Prelude.{◌≡◌, ⊤, ℕ, ◌<◌, Bool, true, false, List, ◌++◌, Option, None, Some}
 use Rattle.outside.specs.Stream.{NeverFalls, Rises}
+use Rattle.published_index.specs.Places.{Drawing}
 use Rattle.ingest_desk.specs.declared.report.End.{End}
 use Rattle.ingest_desk.specs.declared.report.End.TheVariants as ends
 use Rattle.ingest_desk.specs.declared.report.ImportCall.{ImportCall}
@@ -15,10 +16,12 @@ pub record ImportCounts : Type 0 where
   pub closed : ℕ
   pub full : ℕ
 
--- An importer at one moment. Its calls are told (Some) or not (None).
+-- An importer at one moment. Its calls are told (Some) or not (None). Its drawer drew the places of all
+-- batches that it stored.
 pub record ImporterState : Type 0 where
   pub counts : ImportCounts
   pub calls : Option (List ImportCall)
+  pub drawing : Drawing
 
 -- ---- calls
 

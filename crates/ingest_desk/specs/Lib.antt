@@ -10,6 +10,7 @@ pub mod Commits
 pub mod Answers
 pub mod Picking
 pub mod Reporting
+pub mod Drawn
 pub mod Importers
 pub mod Recounts
 pub mod Openings

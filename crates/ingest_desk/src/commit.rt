@@ -12,7 +12,7 @@ ghost use Rattle.manifest.specs.Manifest.{HasJournal, IsWithOrWithoutBatch};
 ghost use Rattle.segment_blocks.specs.Segment.{IsSegment};
 ghost use Rattle.published_index.specs.Cover.{list_limit};
 ghost use Rattle.ingest_desk.specs.Causes.{Judges, cause, cause_of_new};
-ghost use Rattle.ingest_desk.specs.Commits.{Fails, HoldsThen, IsFaultOf, IsMarked, IsReceiptOf, IsStoring, Leaves, Refuses, Stores, Tells, failed_after};
+ghost use Rattle.ingest_desk.specs.Commits.{Draws, Fails, HoldsThen, IsFaultOf, IsMarked, IsReceiptOf, IsStoring, Leaves, Refuses, Stores, Tells, failed_after};
 ghost use Rattle.ingest_desk.specs.Listing.{Lists, ListsStored};
 ghost use Rattle.ingest_desk.specs.Registers.{IsSegmentOf};
 ghost use Rattle.ingest_desk.specs.Stored.{journal};
@@ -26,7 +26,7 @@ use crate::register::Verdict;
 use disk_model::Disk;
 use explorer_model::archive::Batch;
 use game_replay::laws::game_is_determined;
-use published_index::{Index, SharedSegment};
+use published_index::{Drawer, Index, SharedSegment};
 use record_log::AppendFault;
 use segment_blocks::Segment;
 use std::alloc::{AllocError, Global};
@@ -36,18 +36,21 @@ use std::thread::Threads;
 use tally_rows::Tally;
 
 impl<D: Disk, J: Index> Ingest<D, J> {
-    /// Stores a batch and publishes it. It waits for the readers that are inside.
+    /// Stores a batch and publishes it. The drawer draws its place where it is stored. It waits for the
+    /// readers that are inside.
     pub fn commit<R: Wait + Threads + Sync>(
         &mut self,
         rt: &R,
         alloc: Global,
         tally: Tally,
+        mine: &mut Drawer<J>,
     ) -> Result<Receipt<J>, CommitFault<J>>
         ensures sound { IsSound (journal self.old) }
         ensures refused { (games : List Game) → AreGamesOf (journal self.old) games
             → Refuses result (cause self.old.manifest.fault games (journal self.old) tally)
             tally self.old.index.held }
         ensures stores { Stores result tally.batch (journal self.old) (journal self.new) }
+        ensures drawn { Draws result (length (journal self.old)) mine.old mine.new }
         ensures manifest { Leaves D.disk result tally.batch self.old.manifest self.new.manifest }
         ensures receipt { IfOk result
             (λ receipt. IsReceiptOf receipt (journal self.old) tally.batch) }
@@ -97,7 +100,7 @@ impl<D: Disk, J: Index> Ingest<D, J> {
                 if self.make_room(rt, alloc).is_err() {
                     return Err(CommitFault::OutOfMemory { stored: false });
                 }
-                self.store(rt, alloc, tally)
+                self.store(rt, alloc, tally, mine)
             }
         }
     }
@@ -141,6 +144,7 @@ impl<D: Disk, J: Index> Ingest<D, J> {
         rt: &R,
         alloc: Global,
         tally: Tally,
+        mine: &mut Drawer<J>,
     ) -> Result<Receipt<J>, CommitFault<J>>
         requires open { self.old.manifest.fault ≡ None }
         requires none_held { self.old.index.held ≡ None }
@@ -150,6 +154,7 @@ impl<D: Disk, J: Index> Ingest<D, J> {
 
         ensures answers { IsStoring result }
         ensures stores { Stores result tally.batch (journal self.old) (journal self.new) }
+        ensures drawn { Draws result (length (journal self.old)) mine.old mine.new }
         ensures manifest { Leaves D.disk result tally.batch self.old.manifest self.new.manifest }
         ensures receipt { IfOk result
             (λ receipt. IsReceiptOf receipt (journal self.old) tally.batch) }
@@ -180,7 +185,7 @@ impl<D: Disk, J: Index> Ingest<D, J> {
         }
         let first = self.register.games() as u32;
         self.register.enter(&segment);
-        match self.publisher.put(rt, segment) {
+        match self.publisher.put(rt, segment, mine) {
             Ok(note) => Ok(Receipt {
                 batches: place + 1,
                 first,

@@ -4,6 +4,7 @@ ghost use Rattle.std.specs.Thread.{IsSync};
 ghost use Rattle.explorer_model.specs.Cuts.{cuts};
 ghost use Rattle.explorer_model.specs.Labels.{no_label};
 ghost use Rattle.explorer_model.specs.Wire.{body_limit};
+ghost use Rattle.ingest_desk.specs.Drawn.{DrawsFor, most_untold};
 ghost use Rattle.ingest_desk.specs.Importers.{
   CountsRose,
   EndsInMemory,
@@ -35,5 +36,7 @@ pub trait Importer<J: Index> {
         ensures counts { CountsRose (ending_of result.end)
             (importer self.old).counts (importer self.new).counts }
         ensures told { TellsAll (importer self.old).calls (importer self.new).calls
-            (call_of body.now result ∷ []) };
+            (call_of body.now result ∷ []) }
+        ensures drawn { DrawsFor (most_untold (ending_of result.end)) result.receipts.items
+            (importer self.old).drawing (importer self.new).drawing };
 }

@@ -1,7 +1,8 @@
 //! What is stored and published.
-ghost use Rattle.std.specs.Prelude.{◌≡◌, ◌≤◌, None, IsOk, OnOk, length};
+ghost use Rattle.std.specs.Prelude.{◌≡◌, ◌+◌, ◌<◌, ◌≤◌, None, IsOk, OnOk, length};
 ghost use Rattle.published_index.specs.Cover.{journal_of, list_limit};
 ghost use Rattle.published_index.specs.Calls.{Retries};
+ghost use Rattle.published_index.specs.Places.{DrewEach, HasAllParts, new_drawing, with_drawing};
 ghost use Rattle.published_index.specs.States.{IsPublishing};
 ghost use Rattle.explorer_model.specs.Journal.{IsSound};
 ghost use Rattle.explorer_model.specs.Timeline.{IsPrefix};
@@ -12,7 +13,7 @@ use crate::register::Register;
 use disk_model::Disk;
 use explorer_model::archive::Batch;
 use manifest::Manifest;
-use published_index::{Index, Note, Pass, Publisher};
+use published_index::{Drawer, Index, Note, Pass, Publisher};
 use std::alloc::AllocError;
 use std::marker::Model;
 use std::snapshot::Snapshot;
@@ -99,6 +100,33 @@ impl<D: Disk, J: Index> Ingest<D, J> {
         let answer = self.publisher.retry(rt);
         let _list = self.publisher.list();
         answer
+    }
+
+    /// A new drawer for one who stores, with one part of another's.
+    pub fn another(&self, rest: &mut Drawer<J>) -> Drawer<J>
+        requires { 1 < rest.old.parts }
+        ensures drawer { result ≡ new_drawing }
+        ensures left { rest.new.parts + 1 ≡ rest.old.parts }
+        ensures drawn { rest.new.drawn ≡ rest.old.drawn }
+    {
+        self.publisher.another(rest)
+    }
+
+    /// Puts all that another drawer has to a drawer.
+    pub fn take(&self, rest: &mut Drawer<J>, other: Drawer<J>)
+        ensures { rest.new ≡ with_drawing other rest.old }
+    {
+        self.publisher.take(rest, other);
+    }
+
+    /// The drawer that has all other parts has drawn the place of each stored batch once, and no other.
+    pub fn settle<R: Wait>(&mut self, rt: &R, all: &mut Drawer<J>)
+        requires { HasAllParts all.old }
+        ensures same { self.new ≡ self.old }
+        ensures drawer { all.new ≡ all.old }
+        ensures each { DrewEach (length (journal self.old)) all.old }
+    {
+        self.publisher.settle(rt, all);
     }
 
     /// Ends the publisher, and gives the disk back. It waits for the readers that are inside.

@@ -15,9 +15,11 @@ ghost use Rattle.segment_blocks.specs.Segment.{CountedSpan};
 ghost use Rattle.published_index.specs.Changes.{Change};
 ghost use Rattle.published_index.specs.Calls.{Learns};
 ghost use Rattle.published_index.specs.Cover.{journal_of, spans_of};
+ghost use Rattle.published_index.specs.Places.{Drawing};
 ghost use Rattle.published_index.specs.States.{IsPublishing, Publishing, Watching};
 ghost use Rattle.ingest_desk.specs.Alike.{CountAlike, StandAlike};
 ghost use Rattle.ingest_desk.specs.Answers.{HadMemory, IsAnswer};
+ghost use Rattle.ingest_desk.specs.Commits.{Draws};
 ghost use Rattle.ingest_desk.specs.declared.fault.CommitFault.{CommitFault};
 ghost use Rattle.ingest_desk.specs.declared.fault.InstallFault.{InstallFault};
 ghost use Rattle.ingest_desk.specs.declared.receipt.Receipt.{Receipt};
@@ -59,13 +61,15 @@ use disk_model::Disk;
 use published_index::Index;
 
 /// A commit has one answer, want of memory aside, unless a call of the disk fails in one of two runs
-/// and not in the other, which the manifest's fault tells.
+/// and not in the other, which the manifest's fault tells. With an answer a drawer draws one thing.
 pub fn commit_is_determined<D: Disk, J: Index>()
-    ensures { (tally : Counted) (games : List Game) (journal : List Batch) (held : Option Change)
+    ensures answer { (tally : Counted) (games : List Game) (journal : List Batch) (held : Option Change)
         (old new after : Log D) (answer other : Result (Receipt J) (CommitFault J))
         → IsAnswer D.disk tally games journal held old new answer
         → IsAnswer D.disk tally games journal held old after other
         → new.fault ≡ after.fault → HadMemory answer → HadMemory other → answer ≡ other }
+    ensures drawn { (answer : Result (Receipt J) (CommitFault J)) (place : ℕ) (old mine yours : Drawing)
+        → Draws answer place old mine → Draws answer place old yours → mine ≡ yours }
 {}
 
 /// A list has one pair that is to become one, or none. So there is one way to make room in it.

@@ -1,8 +1,8 @@
 //! The desk of a store: a batch that is acknowledged is stored, counted once and published.
 //!
 //! ```rust
-//! // Behind an Ok the batch is stored, counted and published.
-//! let receipt = ingest.commit(&rt, alloc, tally)?;
+//! // Behind an Ok the batch is stored, counted and published, and the drawer has drawn its place.
+//! let receipt = ingest.commit(&rt, alloc, tally, &mut drawer)?;
 //! if let Some(job) = ingest.pick()? {
 //!     let merged = merge(&rt, alloc, job.left(), job.right(), workers, &FreeGate)?;
 //!     let note = ingest.install(&rt, alloc, job, merged)?;
@@ -41,4 +41,4 @@ pub use merge_desk::MergeDesk;
 pub use opening::open;
 pub use receipt::Receipt;
 pub use report::{End, ImportCall, ImportEnding, Report};
-pub use unnamed::{Unnamed, fresh};
+pub use unnamed::{Named, Unnamed, fresh};

@@ -1,7 +1,8 @@
 //! A store is opened.
-ghost use Rattle.std.specs.Prelude.{◌≡◌, ◌≤◌, [], IfOk, IfErr, replicate};
+ghost use Rattle.std.specs.Prelude.{◌≡◌, ◌≤◌, [], IfOk, IfErr, length, replicate};
 ghost use Rattle.manifest.specs.Manifest.{IsManifestOf};
 ghost use Rattle.published_index.specs.Cover.{journal_of};
+ghost use Rattle.published_index.specs.Places.{HasDrawn};
 ghost use Rattle.published_index.specs.States.{watching};
 ghost use Rattle.ingest_desk.specs.Stored.{stored_by};
 
@@ -9,11 +10,14 @@ use crate::ingest::Ingest;
 use crate::register::Register;
 use disk_model::Disk;
 use manifest::Manifest;
-use published_index::{Index, List, Pass, open_list};
+use published_index::{Drawer, Index, List, Pass, open_list};
 use record_log::Back;
 use std::alloc::{AllocError, Global};
 use std::marker::Model;
 use std::sync::Wait;
+
+/// What a store has once a type names its index.
+pub type Named<D, J> = (Ingest<D, J>, Vec<Pass<J>>, Drawer<J>);
 
 /// An ingest with its passes, of an index that no type names yet. It is not `Drop`: end it by
 /// `into_disk`.
@@ -39,13 +43,15 @@ impl<D: Disk> Model for Unnamed<D> {
 }
 
 impl<D: Disk> Unnamed<D> {
-    /// The ingest and the passes, of the index whose name this one has. It is as before where there
-    /// is no room for the passes.
-    pub fn named<J: Index>(self, alloc: Global) -> Result<(Ingest<D, J>, Vec<Pass<J>>), Unnamed<D>>
+    /// The ingest, the passes, and the drawer that drew the places of the journal's batches, of the
+    /// index whose name this one has. It is as before where there is no room for the passes.
+    pub fn named<J: Index>(self, alloc: Global) -> Result<Named<D, J>, Unnamed<D>>
         requires { self.index.name ≡ J.name }
         ensures ingest { IfOk result (λ named. named.0 ≡ stored_by self) }
         ensures passes { IfOk result (λ named. named.1.items
             ≡ replicate self.index.readers (watching (journal_of self.index.list))) }
+        ensures drawer { IfOk result
+            (λ named. HasDrawn (length (journal_of self.index.list)) named.2) }
         ensures back { IfErr result (λ unnamed. unnamed ≡ self) }
     {
         let Unnamed {
@@ -54,14 +60,14 @@ impl<D: Disk> Unnamed<D> {
             index,
         } = self;
         match index.named::<J>(alloc) {
-            Ok((publisher, passes)) => {
+            Ok((publisher, passes, drawer)) => {
                 let ingest = Ingest {
                     manifest,
                     publisher,
                     register,
                     failed: None,
                 };
-                Ok((ingest, passes))
+                Ok((ingest, passes, drawer))
             }
             Err(index) => Err(Unnamed {
                 manifest,

@@ -6,3 +6,4 @@ pub mod WriterLemmas
 pub mod EventLemmas
 pub mod DeterminedLemmas
 pub mod CallLemmas
+pub mod PlaceLemmas

@@ -1,3 +1,6 @@
+pub mod Names
+pub mod Places
+pub mod Views
 pub mod Cover
 pub mod Changes
 pub mod States

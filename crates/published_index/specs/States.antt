@@ -1,10 +1,10 @@
 -- Statement: what contracts see of an index, its publisher and its passes.
 use Rattle.std.specs.Prelude.{ℕ, List, Option, None, IfSome}
-use Rattle.logbook.specs.Pages.{Book}
 use Rattle.explorer_model.specs.declared.archive.Batch.{Batch}
 use Rattle.segment_blocks.specs.Segment.{CountedSpan}
 use Rattle.published_index.specs.Cover.{IsList, journal_of}
 use Rattle.published_index.specs.Changes.{Change, MayMake, with_held}
+use Rattle.published_index.specs.Names.{Name}
 
 -- the published list, and the change that is held because it could not be published
 pub record Publishing : Type 0 where
@@ -28,7 +28,7 @@ pub record Watching : Type 0 where
 
 -- an index that has no name in types yet: its list, and for how many readers it is
 pub record Opened : Type 0 where
-  pub name : Book
+  pub name : Name
   pub list : List CountedSpan
   pub readers : ℕ
 

@@ -4,11 +4,13 @@ use std::marker::Brand;
 /// The name of an index, which contracts alone see. Whoever opens an index calls a function that is
 /// generic in it with `Brand`, and picks the name of the index that was opened.
 pub trait Index {
-    ghost use Rattle.logbook.specs.Pages.{Book};
+    ghost use Rattle.published_index.specs.Names.{Name};
 
-    ghost name: { Book };
+    ghost name: { Name };
 }
 
 impl Index for Brand {
-    ghost name = { record { number = 0; log_name = 0; cells_name = 0 } };
+    ghost use Rattle.published_index.specs.Names.{no_name};
+
+    ghost name = { no_name };
 }

@@ -19,5 +19,5 @@ impl<J: Index> Model for Note<J> {
 
     ghost view = { λ note. note.front.log };
 
-    ghost invariant = { λ note. note.front.book ≡ J.name };
+    ghost invariant = { λ note. note.front.book ≡ J.name.book };
 }

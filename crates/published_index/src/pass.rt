@@ -25,7 +25,7 @@ impl<J: Index> Model for Pass<J> {
 
     ghost view = { λ pass. pass.seat.watching };
 
-    ghost invariant = { λ pass. pass.seat.book ≡ J.name };
+    ghost invariant = { λ pass. pass.seat.book ≡ J.name.book };
 }
 
 impl<J: Index> Pass<J> {

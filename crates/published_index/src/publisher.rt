@@ -1,5 +1,5 @@
 //! The publisher of an index.
-ghost use Rattle.std.specs.Prelude.{◌≡◌, IfOk, IfSome, IsSome, None};
+ghost use Rattle.std.specs.Prelude.{◌≡◌, ◌+◌, ◌<◌, IfOk, IfSome, IsSome, None, length};
 ghost use Rattle.std.specs.Arc.{arc_value};
 ghost use Rattle.published_index.specs.Cover.{IsList, journal_of};
 ghost use Rattle.explorer_model.specs.Timeline.{IsPrefix};
@@ -7,6 +7,13 @@ ghost use Rattle.published_index.specs.Changes.{AddOf, JoinAt, CanAdd, CanJoin};
 ghost use Rattle.published_index.specs.States.{IsPublishing, journal_by};
 ghost use Rattle.published_index.specs.Calls.{Makes, Retries};
 ghost use Rattle.published_index.specs.Held.{Remakes};
+ghost use Rattle.published_index.specs.Places.{
+  DrewEach,
+  HasAllParts,
+  new_drawing,
+  with_drawing,
+  with_place,
+};
 
 use crate::held::Held;
 use crate::index::Index;
@@ -14,36 +21,48 @@ use crate::list::{List, SharedSegment};
 use crate::list_writer::ListWriter;
 use crate::note::Note;
 use crate::pass::Pass;
+use crate::places::{Drawer, Places};
 use crate::snapshot::Snapshot;
 use std::alloc::{AllocError, Global};
 use std::marker::{Model, PhantomData};
 use std::sync::Wait;
 
-/// The one that changes the list of an index. It is not `Drop`: end it by `close`.
+/// The one that changes the list of an index, and gives the places of its journal: there are as many
+/// as batches that are published or held. It is not `Drop`: end it by `close`.
 pub struct Publisher<J: Index> {
     pub(crate) writer: ListWriter,
+    pub(crate) places: Places<J>,
     pub(crate) of: PhantomData<J>,
 }
 
 impl<J: Index> Model for Publisher<J> {
-    ghost use Rattle.std.specs.Prelude.{◌≡◌};
-    ghost use Rattle.published_index.specs.States.{Publishing};
+    ghost use Rattle.std.specs.Prelude.{◌≡◌, length};
+    ghost use Rattle.published_index.specs.States.{Publishing, journal_by};
 
     ghost Value = { Publishing };
 
     ghost view = { λ publisher. publisher.writer.publishing };
 
-    ghost invariant = { λ publisher. publisher.writer.book ≡ J.name };
+    ghost invariant = { λ publisher. (publisher.writer.book ≡ J.name.book)
+        × (publisher.places ≡ length (journal_by publisher.writer.publishing)) };
 }
 
 impl<J: Index> Publisher<J> {
-    /// Publishes the segment of the next batch. It waits for the readers that are inside.
-    pub fn put<R: Wait>(&mut self, rt: &R, segment: SharedSegment) -> Result<Note<J>, AllocError>
+    /// Publishes the segment of the next batch, whose place is drawn. It waits for the readers that
+    /// are inside.
+    pub fn put<R: Wait>(
+        &mut self,
+        rt: &R,
+        segment: SharedSegment,
+        mine: &mut Drawer<J>,
+    ) -> Result<Note<J>, AllocError>
         requires none_held { self.old.held ≡ None }
         requires next { CanAdd self.old.list (arc_value segment) }
-        ensures { Makes self.old self.new (AddOf (arc_value segment)) result }
+        ensures makes { Makes self.old self.new (AddOf (arc_value segment)) result }
+        ensures drawn { mine.new ≡ with_place (length (journal_by self.old)) mine.old }
     {
         self.writer.hold(Held::Add(segment));
+        self.places.draw(rt, mine);
         self.publish(rt)
     }
 
@@ -108,6 +127,34 @@ impl<J: Index> Publisher<J> {
         self.writer.confirm(&note.front);
     }
 
+    /// A new drawer, with one part of another's.
+    pub fn another(&self, rest: &mut Drawer<J>) -> Drawer<J>
+        requires { 1 < rest.old.parts }
+        ensures drawer { result ≡ new_drawing }
+        ensures left { rest.new.parts + 1 ≡ rest.old.parts }
+        ensures drawn { rest.new.drawn ≡ rest.old.drawn }
+    {
+        self.places.another(rest)
+    }
+
+    /// Puts all that another drawer has to a drawer.
+    pub fn take(&self, rest: &mut Drawer<J>, other: Drawer<J>)
+        ensures { rest.new ≡ with_drawing other rest.old }
+    {
+        self.places.take(rest, other);
+    }
+
+    /// The drawer that has all other parts drew the place of each batch that is published or held,
+    /// once, and no other.
+    pub fn settle<R: Wait>(&mut self, rt: &R, all: &mut Drawer<J>)
+        requires { HasAllParts all.old }
+        ensures same { self.new ≡ self.old }
+        ensures drawer { all.new ≡ all.old }
+        ensures each { DrewEach (length (journal_by self.old)) all.old }
+    {
+        self.places.settle(rt, all);
+    }
+
     /// A snapshot of the published list.
     pub fn snapshot(&self, alloc: Global) -> Result<Snapshot, AllocError>
         ensures { IfOk result (λ snapshot. snapshot ≡ self.now.list) }
@@ -117,7 +164,11 @@ impl<J: Index> Publisher<J> {
 
     /// Ends the publisher. It waits for the readers that are inside.
     pub fn close<R: Wait>(self, rt: &R) {
-        let Publisher { writer, of: _ } = self;
+        let Publisher {
+            writer,
+            places: _places,
+            of: _,
+        } = self;
         writer.close(rt);
     }
 

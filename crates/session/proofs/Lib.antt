@@ -9,3 +9,4 @@ pub mod AskedLemmas
 pub mod ReplyLemmas
 pub mod FaultlessLemmas
 pub mod KeptLemmas
+pub mod DrawnLemmas

@@ -21,6 +21,7 @@ replied-import offer request before after reply path method r =
       body_is = r.body_is;
       counts = r.counts;
       replies = r.replies;
+      drawn = r.drawn;
       readings = r.readings;
     } in
     let Granted : Path → Method → Type 0 =

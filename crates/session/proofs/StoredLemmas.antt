@@ -1,6 +1,7 @@
 -- What an import stored, in what the pass then has seen.
-use Rattle.std.proofs.Common.{◌≡◌, ◌+◌, ◌<◌, ℕ, List, [], ◌∷◌, length, refl, sym, ◌∙◌, ap, length-append, arith}
-use Rattle.std.specs.List.{All}
+use Rattle.std.proofs.Common.{◌≡◌, ◌+◌, ◌-◌, ◌<◌, ℕ, List, [], ◌∷◌, length, refl, sym, ◌∙◌, ap, length-append, arith}
+use Rattle.std.specs.List.{All, AllZip}
+use Rattle.std.specs.Prelude.{slice_get, Some}
 use Rattle.std.proofs.lemmas.List.Concat.{flat_map-append}
 use Rattle.std.proofs.lemmas.List.Elements.{All-contains, All-from_recursion, All-weaker}
 use Rattle.std.proofs.lemmas.List.Sums.{sum_by-cons}
@@ -15,6 +16,8 @@ use Rattle.explorer_model.specs.Imports.{AccountedBeside, groups}
 use Rattle.explorer_model.specs.Journal.{game_count}
 use Rattle.explorer_model.specs.Timeline.{IsPrefix}
 use Rattle.explorer_model.specs.Visits.{texts_of}
+use Rattle.published_index.specs.Places.{Drawing}
+use Rattle.ingest_desk.specs.Drawn.{DrawsFor, most_untold, receipt_places}
 use Rattle.ingest_desk.specs.declared.receipt.Receipt.{Receipt}
 use Rattle.ingest_desk.specs.declared.report.End.{End}
 use Rattle.ingest_desk.specs.declared.report.End.TheVariants as ends
@@ -22,7 +25,7 @@ use Rattle.ingest_desk.specs.declared.report.Report.{Report}
 use Rattle.ingest_desk.specs.Importers.{EndsInMemory, ending_of}
 use Rattle.ingest_desk.specs.Lives.{StandFrom}
 use Rattle.ingest_desk.specs.Reporting.{AccountsTo, AreReceipts, RepeatsBy, RepeatsGame, Reports, games_of}
-use Rattle.session.specs.Imports.{AccountsBy, AreNew, HasImported, HasStoredBody, IsRepeatOf, RepliesTo, TellsEnding}
+use Rattle.session.specs.Imports.{AccountsBy, DrewPlacesOf, AreNew, HasImported, HasStoredBody, IsRepeatOf, RepliesTo, TellsEnding}
 use Rattle.session.specs.Steps.{AreBehind, KnowsEnd, KnowsNotes, KnowsReceipts}
 use Rattle.session.proofs.FrontLemmas.{get-prefix}
 
@@ -35,6 +38,31 @@ receipts-stand least (r ∷ rs) (b ∷ bs) journal are knows =
     (are.0, are.1, get-prefix r.note journal are.0 b knows.0 are.2.stands, receipts-stand (are.0 + 1) rs bs journal are.3 knows.1)
 receipts-stand least [] (b ∷ bs) journal are knows = absurd are
 receipts-stand least (r ∷ rs) [] journal are knows = absurd are
+
+-- the batches of receipts stand there at the receipts' places
+receipts-at : {J : Type 0} (least : ℕ) (receipts : List (Receipt J)) (batches journal : List Batch)
+    → AreReceipts least receipts batches → KnowsReceipts receipts journal
+    → AllZip (λ place batch. slice_get journal place ≡ Some batch) (receipt_places receipts) batches
+receipts-at least [] [] journal are knows = tt
+receipts-at least (r ∷ rs) (b ∷ bs) journal are knows =
+    let here : r.batches - 1 ≡ are.0 = omega (arith, are.2.batches) in (
+      ap (λ (n : ℕ). slice_get journal n) here ∙ get-prefix r.note journal are.0 b knows.0 are.2.stands,
+      receipts-at (are.0 + 1) rs bs journal are.3 knows.1,
+    )
+receipts-at least [] (b ∷ bs) journal are knows = absurd are
+receipts-at least (r ∷ rs) [] journal are knows = absurd are
+
+-- what an import drew is where its batches stand
+pub are-drawn : {J : Type 0} (most : ℕ) (receipts : List (Receipt J)) (batches journal : List Batch) (before after : Drawing)
+    → AreReceipts 0 receipts batches → KnowsReceipts receipts journal → DrawsFor most receipts before after
+    → DrewPlacesOf most journal batches before after
+are-drawn most receipts batches journal before after are knows draws = record {
+  places = receipt_places receipts;
+  stand = receipts-at 0 receipts batches journal are knows;
+  untold = draws.untold;
+  few = draws.few;
+  drawn = draws.drawn;
+}
 
 -- the receipts count the games of their batches
 receipts-count : {J : Type 0} (least : ℕ) (receipts : List (Receipt J)) (batches : List Batch)
@@ -129,20 +157,24 @@ pub stand-behind : {J : Type 0} (seen : ℕ) (receipts : List (Receipt J)) (batc
 stand-behind seen receipts batches journal behind are knows =
     receipts-stand seen receipts batches journal (receipts-behind seen receipts batches behind are) knows
 
--- the reply to an import, over a journal that has all that was told
-pub replies-to : {J : Type 0} (body : List ℕ) (report : Report J) (seen : ℕ) (journal : List Batch) (reply : Reply)
+-- the reply to an import, over a journal that has all that was told, and what was drawn for it
+pub replies-to : {J : Type 0} (body : List ℕ) (report : Report J) (seen : ℕ) (journal : List Batch) (reply : Reply) (before after : Drawing)
     → (reports : Reports no_label (cuts body) report) → EndsInMemory (ending_of report.end)
     → KnowsReceipts report.receipts.items journal → KnowsNotes report.clashes.items journal → KnowsEnd report.end journal
     → TellsEnding (ending_of report.end) (length journal) (games_of report.receipts.items) report.refused.items reply
-    → AreNew reply seen journal reports.batches
-    → RepliesTo (ending_of report.end) seen journal body (games_of report.receipts.items) reply
+    → AreNew reply seen journal reports.batches → DrawsFor (most_untold (ending_of report.end)) report.receipts.items before after
+    → (replies : RepliesTo (ending_of report.end) seen journal body (games_of report.receipts.items) reply)
+    × DrewPlacesOf (most_untold (ending_of report.end)) journal replies.imported.batches before after
 unfolding has-imported
-replies-to body report seen journal reply reports in_memory knows notes told tells new = record {
-  refused = report.refused.items;
-  imported = has-imported body report journal reports in_memory knows notes told;
-  tells = tells;
-  are_new = new;
-}
+replies-to body report seen journal reply before after reports in_memory knows notes told tells new draws = (
+  record {
+    refused = report.refused.items;
+    imported = has-imported body report journal reports in_memory knows notes told;
+    tells = tells;
+    are_new = new;
+  },
+  are-drawn (most_untold (ending_of report.end)) report.receipts.items reports.batches journal before after reports.are_receipts knows draws,
+)
 
 -- a whole import stored its body in a journal that has all that was told
 pub has-stored-body : {J : Type 0} (body : List ℕ) (report : Report J) (journal : List Batch)

@@ -6,10 +6,12 @@ use Rattle.explorer_model.specs.declared.wire.Asked.{Asked}
 use Rattle.explorer_model.specs.declared.wire.Reply.{Reply}
 use Rattle.explorer_model.specs.Openings.{NamedPosition}
 use Rattle.explorer_model.specs.Replies.{reply_text}
+use Rattle.published_index.specs.Places.{Drawing}
 use Rattle.published_index.specs.States.{Watching}
+use Rattle.ingest_desk.specs.Drawn.{most_untold}
 use Rattle.ingest_desk.specs.declared.report.ImportCall.{ImportCall}
 use Rattle.ingest_desk.specs.Importers.{CountsRose, ImportCounts, ImporterState}
-use Rattle.session.specs.Imports.{RepliesTo}
+use Rattle.session.specs.Imports.{DrewPlacesOf, RepliesTo}
 use Rattle.session.specs.Replies.{AnswersQuery, Offer, Readings, Route, Answer, PlayerAnswer, Import, Fixed, Silence, closes, readings_of, route_of}
 
 -- what stays from one connection to the next: the pass, and the importer
@@ -20,17 +22,19 @@ pub record Backend : Type 0 where
 abbrev pub backend : Watching → ImporterState → Backend
 backend pass importer = record { pass = pass; importer = importer }
 
--- how many batches the pass has seen, its readings, and what the importer counts
+-- How many batches the pass has seen, its readings, what the importer counts, and what its drawer drew.
 pub record Moment : Type 0 where
   pub seen : ℕ
   pub readings : Readings
   pub counts : ImportCounts
+  pub drawing : Drawing
 
 abbrev pub moment_of : Backend → Moment
 moment_of back = record {
   seen = length back.pass.seen;
   readings = readings_of back.pass;
   counts = back.importer.counts;
+  drawing = back.importer.drawing;
 }
 
 -- what is asked, what is replied, and the call of the importer that was made for it
@@ -48,8 +52,9 @@ pub record GrantsAnswer (book : List NamedPosition) (text : List ℕ) (journal :
   pub unmoved : after.readings.entered ≡ before.readings.entered → after.seen ≡ before.seen
   pub uncalled : call ≡ None
   pub counts : after.counts ≡ before.counts
+  pub undrawn : after.drawing ≡ before.drawing
 
--- one call imports the body, and the reply is the one for how it ended
+-- One call imports the body, and the reply is the one for how it ended. All that it stored was drawn.
 pub record GrantsImport (body : List ℕ) (journal : List Batch) (before after : Moment)
     (call : Option ImportCall) (reply : Reply) : Type 0 where
   pub made : ImportCall
@@ -57,6 +62,8 @@ pub record GrantsImport (body : List ℕ) (journal : List Batch) (before after :
   pub body_is : made.body ≡ body
   pub counts : CountsRose made.ending before.counts after.counts
   pub replies : RepliesTo made.ending before.seen journal body made.games reply
+  pub drawn : DrewPlacesOf (most_untold made.ending) journal replies.imported.batches
+      before.drawing after.drawing
   pub readings : after.readings ≡ before.readings
 
 -- the reply is a fixed one, and nothing else happens

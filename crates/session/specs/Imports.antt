@@ -1,6 +1,6 @@
 -- Statement: what is replied to the import of a body.
-use Rattle.std.specs.Prelude.{◌≡◌, ◌⊎◌, ⊤, ℕ, List, ◌++◌, length, take}
-use Rattle.std.specs.List.{All}
+use Rattle.std.specs.Prelude.{◌≡◌, ◌⊎◌, ⊤, ℕ, ◌≤◌, List, ◌++◌, length, take, slice_get, Some}
+use Rattle.std.specs.List.{All, AllZip}
 use Rattle.explorer_model.specs.declared.archive.Batch.{Batch}
 use Rattle.explorer_model.specs.declared.fault.Refusal.{Refusal}
 use Rattle.explorer_model.specs.declared.fault.Why.{Why}
@@ -13,6 +13,7 @@ use Rattle.explorer_model.specs.Imports.{AccountedBeside, Candidate, groups}
 use Rattle.explorer_model.specs.Journal.{game_count}
 use Rattle.explorer_model.specs.Replies.{stored_body}
 use Rattle.explorer_model.specs.Timeline.{IsPrefix}
+use Rattle.published_index.specs.Places.{Drawing, with_places}
 use Rattle.ingest_desk.specs.Lives.{StandFrom}
 use Rattle.ingest_desk.specs.declared.report.ImportEnding.{ImportEnding}
 use Rattle.ingest_desk.specs.declared.report.ImportEnding.TheVariants as endings
@@ -61,6 +62,16 @@ pub record HasImported (ending : ImportEnding) (journal : List Batch) (body : Li
   pub count : games ≡ game_count batches
   pub accounted : AccountsBy ending journal (groups (cuts body)) batches refused
   pub repeats : All (λ refusal. IsRepeatOf (cuts body) journal refusal.place refusal.why) refused
+
+-- The drawer of an import drew the places at which its batches stand in the journal, in their order, and
+-- behind them so many more at the most, of batches of which its receipts do not tell.
+pub record DrewPlacesOf (most : ℕ) (journal batches : List Batch) (before after : Drawing)
+    : Type 0 where
+  pub places : List ℕ
+  pub stand : AllZip (λ place batch. slice_get journal place ≡ Some batch) places batches
+  pub untold : List ℕ
+  pub few : length untold ≤ most
+  pub drawn : after ≡ with_places (places ++ untold) before
 
 -- the whole body is accounted
 abbrev pub HasStoredBody : List Batch → List ℕ → ℕ → List Refusal → Type 0

@@ -1,5 +1,6 @@
 -- Words of laws: what a reader of the replies may know.
 use Rattle.std.specs.Prelude.{◌≡◌, ◌⊎◌, ◌<◌, ◌≤◌, ⊤, ℕ, ◌+◌, List, [], ◌∷◌, ◌++◌, length, take, filter_map, Option, Some, None}
+use Rattle.std.specs.List.{Contains}
 use Rattle.explorer_model.specs.declared.archive.Batch.{Batch}
 use Rattle.explorer_model.specs.declared.wire.Asked.{Asked}
 use Rattle.explorer_model.specs.declared.wire.Asked.TheVariants.{NoMemory, Done, Cut}
@@ -14,9 +15,9 @@ use Rattle.outside.specs.Stream.{Rises}
 use Rattle.ingest_desk.specs.Importers.{ImportCounts}
 use Rattle.session.specs.declared.serving.Ended.{Ended}
 use Rattle.session.specs.declared.serving.Ended.TheVariants as ends
-use Rattle.session.specs.Exchanges.{Exchange, asked_in}
+use Rattle.session.specs.Exchanges.{Exchange, GrantsImport, Moment, asked_in}
 use Rattle.session.specs.Imports.{HasStoredBody}
-use Rattle.session.specs.Replies.{Readings, Route, Answer}
+use Rattle.session.specs.Replies.{Offer, Readings, Route, Answer, Import, route_of}
 
 -- the number of batches that a reply names
 abbrev pub number_of : Reply → Option ℕ
@@ -74,6 +75,24 @@ IsAllAnswered ends.ReadFault taken exchanges =
 IsAllAnswered ends.WriteFault taken exchanges =
     LastLacksMemory exchanges
     ⊎ ((all : List Asked) → IsAsked taken all → IsPrefix (asked_in exchanges) all)
+
+-- ---- what is drawn
+
+-- The place was drawn for the exchange, which is an import: one of its batches stands there, or one of
+-- which it has no receipt. The journal is what the pass has seen in the end.
+pub record IsDrawnFor (offer : Offer) (place : ℕ) (journal : List Batch) (x : Exchange)
+    : Type 0 where
+  pub body : List ℕ
+  pub asked : route_of offer x.asked ≡ Import body
+  pub before : Moment
+  pub after : Moment
+  pub grants : GrantsImport body (take after.seen journal) before after x.call x.reply
+  pub among : Contains (grants.drawn.places ++ grants.drawn.untold) place
+
+-- it was drawn for one of the exchanges
+abbrev pub IsDrawnAmong : Offer → ℕ → List Batch → List Exchange → Type 0
+IsDrawnAmong offer place journal exchanges =
+    (x : Exchange) × Contains exchanges x × IsDrawnFor offer place journal x
 
 -- ---- what is replied where nothing fails
 

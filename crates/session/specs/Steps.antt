@@ -17,10 +17,11 @@ use Rattle.ingest_desk.specs.declared.report.End.{End}
 use Rattle.ingest_desk.specs.declared.report.End.TheVariants as ends
 use Rattle.ingest_desk.specs.declared.report.ImportCall.{ImportCall}
 use Rattle.ingest_desk.specs.declared.report.Report.{Report}
+use Rattle.ingest_desk.specs.Drawn.{most_untold}
 use Rattle.ingest_desk.specs.Importers.{CountsRose, ImporterState, TellsAll, call_of}
 use Rattle.ingest_desk.specs.Reporting.{Reports}
 use Rattle.session.specs.Exchanges.{Backend, Exchange, Grants, AreExchanges, asked_in, calls_in, moment_of, reply_texts}
-use Rattle.session.specs.Imports.{RepliesTo}
+use Rattle.session.specs.Imports.{DrewPlacesOf, RepliesTo}
 use Rattle.session.specs.Replies.{Offer, readings_of, route_of}
 use Rattle.session.specs.Serving.{AreOpen, AsksIn}
 
@@ -61,6 +62,8 @@ pub record ImportReplied (body : List ℕ) (before : Backend) (reply : Reply) (a
   pub counts : CountsRose call.ending before.importer.counts after.importer.counts
   pub replies : RepliesTo call.ending (length before.pass.seen) after.pass.seen body call.games
       reply
+  pub drawn : DrewPlacesOf (most_untold call.ending) after.pass.seen replies.imported.batches
+      before.importer.drawing after.importer.drawing
   pub readings : readings_of after.pass ≡ readings_of before.pass
   pub called : TellsAll before.importer.calls after.importer.calls (call ∷ [])
 

@@ -1,7 +1,7 @@
 //! Laws of what a connection comes to. Each is the contract of a function that has nothing to do or
 //! only cites the laws below it.
-ghost use Rattle.std.specs.Prelude.{◌≡◌, ◌≤◌, ◌+◌, ℕ, List, [], Ok, Option};
-ghost use Rattle.std.specs.List.{AllByRecursion};
+ghost use Rattle.std.specs.Prelude.{◌≡◌, ◌⊎◌, ◌≤◌, ◌+◌, ℕ, List, [], Ok, Option};
+ghost use Rattle.std.specs.List.{AllByRecursion, Contains};
 ghost use Rattle.explorer_model.specs.declared.archive.Batch.{Batch};
 ghost use Rattle.explorer_model.specs.declared.query.Query.{Query};
 ghost use Rattle.explorer_model.specs.declared.wire.Reply.{Reply};
@@ -12,7 +12,7 @@ ghost use Rattle.ingest_desk.specs.declared.report.ImportCall.{ImportCall};
 ghost use Rattle.outside.specs.Stream.{Stream};
 ghost use Rattle.session.specs.declared.serving.Ended.{Ended};
 ghost use Rattle.session.specs.Exchanges.{Backend, Exchange, GrantsImport, Moment, AreExchanges};
-ghost use Rattle.session.specs.Laws.{AscendFrom, IsAllAnswered, IsAnswered, IsOverFront, IsStored};
+ghost use Rattle.session.specs.Laws.{AscendFrom, IsAllAnswered, IsAnswered, IsDrawnAmong, IsOverFront, IsStored};
 ghost use Rattle.session.specs.Laws.{IsTold, NoneRose, numbers, unread_in};
 ghost use Rattle.session.specs.Replies.{AnswersQuery, Offer, Readings, route_of};
 ghost use Rattle.session.specs.Serving.{Served};
@@ -40,6 +40,16 @@ pub fn answers_are_over_fronts()
         (exchanges : List Exchange)
         → AreExchanges offer journal before exchanges after
         → before.readings.unread + unread_in exchanges ≤ after.readings.unread }
+{}
+
+/// Each place that the drawer of an importer has drawn once some exchanges are over, it had drawn
+/// before, or it was drawn for one of them, which is an import.
+pub fn what_is_drawn_is_imported()
+    ensures { (offer : Offer) (journal : List Batch) (before after : Moment)
+        (exchanges : List Exchange) (place : ℕ)
+        → AreExchanges offer journal before exchanges after
+        → Contains after.drawing.drawn place
+        → Contains before.drawing.drawn place ⊎ IsDrawnAmong offer place journal exchanges }
 {}
 
 /// Each request and refusal in the bytes that were taken is answered, unless there was no memory

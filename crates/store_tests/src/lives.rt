@@ -10,7 +10,7 @@ use disk_model::Disk;
 use ingest_desk::laws::{commits_are_events, openings_are_events};
 use ingest_desk::{CommitFault, Ingest, Receipt, Unnamed, fresh, open};
 use manifest::Manifest;
-use published_index::Index;
+use published_index::{Drawer, Index};
 use record_log::{Back, OpenFault};
 use std::alloc::{AllocError, Global};
 use std::sync::Wait;
@@ -22,6 +22,7 @@ pub fn commit_in_life<D: Disk, J: Index, R: Wait + Threads + Sync>(
     rt: &R,
     alloc: Global,
     ingest: &mut Ingest<D, J>,
+    drawer: &mut Drawer<J>,
     tally: Tally,
 ) -> Result<Receipt<J>, CommitFault<J>>
     ensures { (life : Life) → HasLived D.disk D.left_since life ingest.old
@@ -29,7 +30,7 @@ pub fn commit_in_life<D: Disk, J: Index, R: Wait + Threads + Sync>(
 {
     // law: each answer is an event or none
     commits_are_events::<D, J>();
-    let answer = ingest.commit(rt, alloc, tally);
+    let answer = ingest.commit(rt, alloc, tally, drawer);
     let _after = ingest.batches();
     answer
 }

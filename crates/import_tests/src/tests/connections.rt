@@ -6,7 +6,7 @@ use disk_model::MemDisk;
 use import_run::DeskHandle;
 use ingest_desk::{Desk, Unnamed};
 use outside::{MemLink, MemSink, MemSource};
-use published_index::{Index, Pass};
+use published_index::{Drawer, Index, Pass};
 use session::{Ended, serve_connection};
 use std::alloc::{AllocError, Global};
 use std::marker::Brand;
@@ -110,9 +110,9 @@ fn converse<J: Index, R: Threads + Wait + Abort + Sync>(
 ) -> Result<Vec<Vec<u8>>, Fail>
     requires { unnamed.index.name ≡ J.name }
 {
-    let (ingest, passes) = named::<J, R>(rt, alloc, unnamed)?;
+    let (ingest, passes, drawer) = named::<J, R>(rt, alloc, unnamed)?;
     let desk = Mutex::new(ingest);
-    let written = converse_each(rt, alloc, &desk, passes, talks);
+    let written = converse_each(rt, alloc, &desk, passes, drawer, talks);
     let _disk = desk.into_inner().into_disk(rt);
     written
 }
@@ -122,13 +122,15 @@ fn converse_each<J: Index, R: Threads + Wait + Sync>(
     alloc: Global,
     desk: &Desk<MemDisk, J>,
     passes: Vec<Pass<J>>,
+    drawer: Drawer<J>,
     talks: Vec<Talk>,
 ) -> Result<Vec<Vec<u8>>, Fail> {
     let mut passes = passes;
+    let mut handle = DeskHandle::new(desk, drawer, 2);
     let mut all = Vec::new(alloc);
     for talk in talks {
         let pass = passes.get_mut(talk.reader).ok_or("there are two readers")?;
-        all.push(served(rt, alloc, desk, pass, talk)?)?;
+        all.push(served(rt, alloc, &mut handle, pass, talk)?)?;
     }
     Ok(all)
 }
@@ -136,7 +138,7 @@ fn converse_each<J: Index, R: Threads + Wait + Sync>(
 fn served<J: Index, R: Threads + Wait + Sync>(
     rt: &R,
     alloc: Global,
-    desk: &Desk<MemDisk, J>,
+    handle: &mut DeskHandle<'_, MemDisk, J>,
     pass: &mut Pass<J>,
     talk: Talk,
 ) -> Result<Vec<u8>, Fail> {
@@ -146,8 +148,7 @@ fn served<J: Index, R: Threads + Wait + Sync>(
         Ended::Done
     };
     let mut link = link_of(alloc, talk)?;
-    let mut handle = DeskHandle::new(desk, 2);
-    let ended = serve_connection(rt, alloc, &mut link, pass, &mut handle);
+    let ended = serve_connection(rt, alloc, &mut link, pass, handle);
     if ended != wanted {
         return Err(Fail::from("the connection ended otherwise"));
     }

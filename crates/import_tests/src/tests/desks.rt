@@ -9,7 +9,7 @@ use explorer_model::label::Label;
 use import_run::{DeskHandle, DrainEnd, Drained, OwnIngest, drain, import};
 use ingest_desk::{Desk, ImportEnding, Importer, MergeDesk, Unnamed};
 use outside::{FreeGate, MemSource};
-use published_index::Index;
+use published_index::{Drawer, Index};
 use std::alloc::{AllocError, Global};
 use std::marker::Brand;
 use std::process::Abort;
@@ -67,22 +67,26 @@ fn import_two<J: Index + Send + Sync, R: Threads + Wait + Abort + Sync>(
 ) -> Result<(Told, Told), Fail>
     requires { unnamed.index.name ≡ J.name }
 {
-    let (ingest, _passes) = named::<J, R>(rt, alloc, unnamed)?;
+    let (ingest, _passes, mut rest) = named::<J, R>(rt, alloc, unnamed)?;
+    let mut mine = ingest.another(&mut rest);
     let desk = Mutex::new(ingest);
-    let told = import_both(rt, alloc, &desk, first, second);
+    let told = import_both(rt, alloc, &desk, (&mut rest, first), (&mut mine, second));
     let drained = drain(rt, alloc, &MergeDesk::of(&desk), 2);
     let _disk = desk.into_inner().into_disk(rt);
     assert_eq!(rt; drained.end, DrainEnd::Idle);
     Ok(told?)
 }
 
+/// A drawer, and the games of a stream.
+type Mine<'a, J> = (&'a mut Drawer<J>, (usize, usize));
+
 /// Both streams at once, each from a thread of its own.
 fn import_both<J: Index + Send + Sync, D: Disk + Send, R: Threads + Wait + Sync>(
     rt: &R,
     alloc: Global,
     desk: &Desk<D, J>,
-    first: (usize, usize),
-    second: (usize, usize),
+    first: Mine<'_, J>,
+    second: Mine<'_, J>,
 ) -> Result<(Told, Told), AllocError> {
     let (one, two) = join(
         rt,
@@ -100,10 +104,19 @@ fn import_one<J: Index, D: Disk, R: Threads + Wait + Sync>(
     rt: &R,
     alloc: Global,
     desk: &Desk<D, J>,
-    (first, count): (usize, usize),
+    (drawer, (first, count)): Mine<'_, J>,
 ) -> Result<Told, AllocError> {
     let mut source = MemSource::new(games(alloc, first, count)?, 4096, Vec::new(alloc));
-    let report = import(rt, alloc, &mut source, desk, Label::none(), 2, &FreeGate);
+    let report = import(
+        rt,
+        alloc,
+        &mut source,
+        desk,
+        drawer,
+        Label::none(),
+        2,
+        &FreeGate,
+    );
     summary_of(alloc, report)
 }
 
@@ -182,9 +195,9 @@ fn merged<J: Index, R: Threads + Wait + Sync>(
 ) -> Result<(usize, Drained, usize), Fail>
     requires { unnamed.index.name ≡ J.name }
 {
-    let (ingest, _passes) = named::<J, R>(rt, alloc, unnamed)?;
+    let (ingest, _passes, drawer) = named::<J, R>(rt, alloc, unnamed)?;
     let desk = Mutex::new(ingest);
-    let stored = store_bodies(rt, alloc, &mut DeskHandle::new(&desk, 2), bodies);
+    let stored = store_bodies(rt, alloc, &mut DeskHandle::new(&desk, drawer, 2), bodies);
     let left = segments(rt, &desk);
     let drained = drain(rt, alloc, &MergeDesk::of(&desk), 2);
     let last = segments(rt, &desk);
@@ -287,9 +300,9 @@ fn over_a_desk<J: Index, R: Threads + Wait + Abort + Sync>(
 ) -> Result<Vec<Told>, Fail>
     requires { unnamed.index.name ≡ J.name }
 {
-    let (ingest, _passes) = named::<J, R>(rt, alloc, unnamed)?;
+    let (ingest, _passes, drawer) = named::<J, R>(rt, alloc, unnamed)?;
     let desk = Mutex::new(ingest);
-    let told = import_bodies(rt, alloc, &mut DeskHandle::new(&desk, 2));
+    let told = import_bodies(rt, alloc, &mut DeskHandle::new(&desk, drawer, 2));
     let _disk = desk.into_inner().into_disk(rt);
     told
 }
@@ -301,11 +314,12 @@ fn over_an_ingest<J: Index, R: Threads + Wait + Abort + Sync>(
 ) -> Result<Vec<Told>, Fail>
     requires { unnamed.index.name ≡ J.name }
 {
-    let (ingest, _passes) = named::<J, R>(rt, alloc, unnamed)?;
-    let mut own = OwnIngest::new(alloc, ingest, 2);
+    let (ingest, _passes, drawer) = named::<J, R>(rt, alloc, unnamed)?;
+    let mut own = OwnIngest::new(alloc, ingest, drawer, 2);
     let told = import_bodies(rt, alloc, &mut own);
     let calls = own.calls().map_or(0, |calls| calls.len());
-    let _disk = own.into_ingest().into_disk(rt);
+    let (ingest, _drawer) = own.into_ingest();
+    let _disk = ingest.into_disk(rt);
     assert_eq!(rt; calls, 3);
     told
 }

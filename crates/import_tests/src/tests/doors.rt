@@ -25,10 +25,12 @@ struct RoomForNone<J: Index> {
 
 impl<J: Index> Importer<J> for RoomForNone<J> {
     ghost use Rattle.std.specs.Prelude.{option_map};
+    ghost use Rattle.published_index.specs.Places.{new_drawing};
 
     ghost importer = { λ i. record {
       counts = record { disk_faults = 0; closed = 0; full = 0 };
       calls = option_map (λ calls. calls.items) i.calls;
+      drawing = new_drawing;
     } };
 
     fn import<R: Wait + Threads + Sync>(
@@ -130,7 +132,7 @@ fn answers<J: Index, R: Threads + Wait + Abort + Sync>(
 ) -> Result<(), Fail>
     requires { unnamed.name ≡ J.name }
 {
-    let (publisher, mut passes) = match unnamed.named::<J>(alloc) {
+    let (publisher, mut passes, _drawer) = match unnamed.named::<J>(alloc) {
         Ok(index) => index,
         Err(unnamed) => {
             unnamed.close(rt);

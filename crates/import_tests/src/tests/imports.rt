@@ -8,7 +8,7 @@ use explorer_model::label::Label;
 use import_run::{DrainEnd, drain_alone, import_alone};
 use ingest_desk::{ImportEnding, Ingest, Unnamed};
 use outside::{FreeGate, MemSource};
-use published_index::Index;
+use published_index::{Drawer, Index};
 use std::alloc::{AllocError, Global};
 use std::marker::Brand;
 use std::process::Abort;
@@ -96,8 +96,8 @@ fn import_all<J: Index, R: Threads + Wait + Abort + Sync>(
 ) -> Result<Vec<Told>, Fail>
     requires { unnamed.index.name ≡ J.name }
 {
-    let (mut ingest, _passes) = named::<J, R>(rt, alloc, unnamed)?;
-    let told = import_each(rt, alloc, &mut ingest, streams);
+    let (mut ingest, _passes, mut drawer) = named::<J, R>(rt, alloc, unnamed)?;
+    let told = import_each(rt, alloc, &mut ingest, &mut drawer, streams);
     let drained = drain_alone(rt, alloc, &mut ingest, 2);
     let _disk = ingest.into_disk(rt);
     assert_eq!(rt; drained.end, DrainEnd::Idle);
@@ -108,11 +108,12 @@ fn import_each<J: Index, R: Threads + Wait + Abort + Sync>(
     rt: &R,
     alloc: Global,
     ingest: &mut Ingest<MemDisk, J>,
+    drawer: &mut Drawer<J>,
     streams: &[Stream],
 ) -> Result<Vec<Told>, Fail> {
     let mut all = Vec::new(alloc);
     for stream in streams {
-        all.push(import_one(rt, alloc, ingest, stream)?)?;
+        all.push(import_one(rt, alloc, ingest, drawer, stream)?)?;
     }
     Ok(all)
 }
@@ -121,10 +122,20 @@ fn import_one<J: Index, R: Threads + Wait + Abort + Sync>(
     rt: &R,
     alloc: Global,
     ingest: &mut Ingest<MemDisk, J>,
+    drawer: &mut Drawer<J>,
     stream: &Stream,
 ) -> Result<Told, Fail> {
     let mut source = source_of(alloc, stream)?;
-    let report = import_alone(rt, alloc, &mut source, ingest, Label::none(), 2, &FreeGate);
+    let report = import_alone(
+        rt,
+        alloc,
+        &mut source,
+        ingest,
+        drawer,
+        Label::none(),
+        2,
+        &FreeGate,
+    );
     Ok(summary_of(alloc, report)?)
 }
 

@@ -8,7 +8,7 @@ use import_run::{DeskHandle, drain};
 use ingest_desk::{Desk, Importer, MergeDesk, Unnamed};
 use opening_names::Book;
 use outside::{MemDoor, MemLink, MemSink, MemSource};
-use published_index::{Index, Pass};
+use published_index::{Drawer, Index, Pass};
 use session::{Answers, DoorEnd, answer_by, serve_door};
 use std::alloc::{AllocError, Global};
 use std::marker::Brand;
@@ -193,13 +193,14 @@ fn replies_so<J: Index, R: Threads + Wait + Sync>(
     alloc: Global,
     desk: &Desk<MemDisk, J>,
     passes: Vec<Pass<J>>,
+    drawer: Drawer<J>,
     talks: &[Talk],
     book: &Book,
 ) -> Result<bool, Fail> {
     let mut passes = passes;
     let pass = passes.first_mut().ok_or("a pass")?;
     let mut door = door_of(alloc, talks)?;
-    let mut handle = DeskHandle::new(desk, 2);
+    let mut handle = DeskHandle::new(desk, drawer, 2);
     let end = serve_door(rt, alloc, &mut door, pass, &mut handle, book);
     Ok(end == DoorEnd::Whole && have_replies(door.taken_back(), talks))
 }
@@ -213,9 +214,9 @@ fn replies_over_a_store<J: Index, R: Threads + Wait + Abort + Sync>(
 ) -> Result<bool, Fail>
     requires { unnamed.index.name ≡ J.name }
 {
-    let (ingest, passes) = named::<J, R>(rt, alloc, unnamed)?;
+    let (ingest, passes, drawer) = named::<J, R>(rt, alloc, unnamed)?;
     let desk = Mutex::new(ingest);
-    let replied = replies_so(rt, alloc, &desk, passes, talks, book);
+    let replied = replies_so(rt, alloc, &desk, passes, drawer, talks, book);
     let _disk = desk.into_inner().into_disk(rt);
     replied
 }
@@ -282,13 +283,13 @@ fn answers_have_the_openings_of_the_book(rt: HostRuntime) -> Result<(), Fail> {
 fn store<J: Index, R: Threads + Wait + Sync>(
     rt: &R,
     alloc: Global,
-    desk: &Desk<MemDisk, J>,
+    handle: &mut DeskHandle<'_, MemDisk, J>,
     body: &[u8],
 ) -> Result<(), Fail> {
     if body.len() > 4_194_304 {
         return Err(Fail::from("too long"));
     }
-    let report = DeskHandle::new(desk, 2).import(rt, alloc, body);
+    let report = handle.import(rt, alloc, body);
     if report.receipts.len() != 1 {
         return Err(Fail::from("not stored"));
     }
@@ -338,10 +339,10 @@ fn ask_others<J: Index>(
 fn store_three<J: Index, R: Threads + Wait + Sync>(
     rt: &R,
     alloc: Global,
-    desk: &Desk<MemDisk, J>,
+    handle: &mut DeskHandle<'_, MemDisk, J>,
 ) -> Result<(), Fail> {
     for (first, count) in [(0, 4), (4, 1), (5, 1)] {
-        store(rt, alloc, desk, games(alloc, first, count)?.as_slice())?;
+        store(rt, alloc, handle, games(alloc, first, count)?.as_slice())?;
     }
     Ok(())
 }
@@ -352,16 +353,17 @@ fn seen_over_batches<J: Index, R: Threads + Wait + Sync>(
     rt: &R,
     alloc: Global,
     desk: &Desk<MemDisk, J>,
+    handle: &mut DeskHandle<'_, MemDisk, J>,
     reader: &mut Reader<'_, J>,
 ) -> Result<Vec<(usize, bool)>, Fail> {
     let mut seen = Vec::new(alloc);
-    store_three(rt, alloc, desk)?;
+    store_three(rt, alloc, handle)?;
     seen.push(reader.enters(alloc, b"")?)?;
     reader.ask(alloc, b"")?;
     seen.push(reader.enters(alloc, b"")?)?;
     let _drained = drain(rt, alloc, &MergeDesk::of(desk), 2);
     seen.push(reader.enters(alloc, b"")?)?;
-    store(rt, alloc, desk, games(alloc, 6, 1)?.as_slice())?;
+    store(rt, alloc, handle, games(alloc, 6, 1)?.as_slice())?;
     seen.push(reader.enters(alloc, b"")?)?;
     reader.ask(alloc, b"")?;
     seen.push(reader.enters(alloc, b"")?)?;
@@ -373,7 +375,7 @@ fn seen_over_batches<J: Index, R: Threads + Wait + Sync>(
 fn seen_over_limits<J: Index, R: Threads + Wait + Sync>(
     rt: &R,
     alloc: Global,
-    desk: &Desk<MemDisk, J>,
+    handle: &mut DeskHandle<'_, MemDisk, J>,
     reader: &mut Reader<'_, J>,
 ) -> Result<Vec<(usize, bool)>, Fail> {
     let mut seen = Vec::new(alloc);
@@ -382,7 +384,7 @@ fn seen_over_limits<J: Index, R: Threads + Wait + Sync>(
     ask_others(alloc, reader, 127, 128)?;
     seen.push(reader.enters(alloc, b"")?)?;
     let name = long_name(alloc)?;
-    store(rt, alloc, desk, game_of(alloc, name.as_str())?.as_bytes())?;
+    store(rt, alloc, handle, game_of(alloc, name.as_str())?.as_bytes())?;
     reader.ask(alloc, b"")?;
     seen.push(reader.enters(alloc, b"")?)?;
     Ok(seen)
@@ -393,6 +395,7 @@ fn seen_by_one<J: Index, R: Threads + Wait + Sync>(
     alloc: Global,
     desk: &Desk<MemDisk, J>,
     passes: Vec<Pass<J>>,
+    drawer: Drawer<J>,
 ) -> Result<(Vec<(usize, bool)>, Vec<(usize, bool)>), Fail> {
     let mut passes = passes;
     let book = Book::empty(alloc);
@@ -400,8 +403,9 @@ fn seen_by_one<J: Index, R: Threads + Wait + Sync>(
         pass: passes.pop().ok_or("a pass")?,
         kept: Answers::new(alloc, &book),
     };
-    let over_batches = seen_over_batches(rt, alloc, desk, &mut reader)?;
-    let over_limits = seen_over_limits(rt, alloc, desk, &mut reader)?;
+    let mut handle = DeskHandle::new(desk, drawer, 2);
+    let over_batches = seen_over_batches(rt, alloc, desk, &mut handle, &mut reader)?;
+    let over_limits = seen_over_limits(rt, alloc, &mut handle, &mut reader)?;
     Ok((over_batches, over_limits))
 }
 
@@ -412,9 +416,9 @@ fn seen_over_a_store<J: Index, R: Threads + Wait + Abort + Sync>(
 ) -> Result<(Vec<(usize, bool)>, Vec<(usize, bool)>), Fail>
     requires { unnamed.index.name ≡ J.name }
 {
-    let (ingest, passes) = named::<J, R>(rt, alloc, unnamed)?;
+    let (ingest, passes, drawer) = named::<J, R>(rt, alloc, unnamed)?;
     let desk = Mutex::new(ingest);
-    let seen = seen_by_one(rt, alloc, &desk, passes);
+    let seen = seen_by_one(rt, alloc, &desk, passes, drawer);
     let _disk = desk.into_inner().into_disk(rt);
     seen
 }

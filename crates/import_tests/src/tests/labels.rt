@@ -8,7 +8,7 @@ use explorer_model::label::Label;
 use import_run::{DeskHandle, import, import_alone};
 use ingest_desk::{Desk, ImportEnding, Importer, Ingest, Unnamed};
 use outside::{FreeGate, MemSource};
-use published_index::{Index, SharedSegment};
+use published_index::{Drawer, Index, SharedSegment};
 use segment_blocks::{Segment, Steps};
 use std::alloc::Global;
 use std::marker::Brand;
@@ -96,9 +96,9 @@ fn becomes<J: Index, R: Threads + Wait + Abort + Sync>(
 ) -> Result<bool, Fail>
     requires { unnamed.index.name ≡ J.name }
 {
-    let (ingest, _passes) = named::<J, R>(rt, alloc, unnamed)?;
+    let (ingest, _passes, drawer) = named::<J, R>(rt, alloc, unnamed)?;
     let desk = Mutex::new(ingest);
-    let stored = store_all(rt, alloc, &desk, case.comes);
+    let stored = store_all(rt, alloc, &desk, drawer, case.comes);
     let ingest = desk.into_inner();
     let are_so = has_batches(&ingest, case.batches);
     let _disk = ingest.into_disk(rt);
@@ -110,14 +110,16 @@ fn store_all<J: Index, R: Threads + Wait + Abort + Sync>(
     rt: &R,
     alloc: Global,
     desk: &Desk<MemDisk, J>,
+    drawer: Drawer<J>,
     comes: &[Coming],
 ) -> Result<(), Fail> {
+    let mut drawer = drawer;
     for (way, first, count) in comes {
         let texts = games(alloc, *first, *count)?;
         match *way {
-            Way::Alone(label) => import_locked(rt, alloc, desk, label, texts)?,
-            Way::Desk(label) => import_beside(rt, alloc, desk, label, texts)?,
-            Way::Body => import_body(rt, alloc, desk, texts.as_slice())?,
+            Way::Alone(label) => import_locked(rt, alloc, desk, &mut drawer, label, texts)?,
+            Way::Desk(label) => import_beside(rt, alloc, desk, &mut drawer, label, texts)?,
+            Way::Body => drawer = import_body(rt, alloc, desk, drawer, texts.as_slice())?,
         }
     }
     Ok(())
@@ -128,13 +130,23 @@ fn import_locked<J: Index, R: Threads + Wait + Sync>(
     rt: &R,
     alloc: Global,
     desk: &Desk<MemDisk, J>,
+    drawer: &mut Drawer<J>,
     label: &str,
     texts: Vec<u8>,
 ) -> Result<(), Fail> {
     let label = Label::of(label.as_bytes()).ok_or("a label")?;
     let mut source = MemSource::new(texts, 4096, Vec::new(alloc));
     let mut ingest = desk.lock(rt);
-    let report = import_alone(rt, alloc, &mut source, &mut ingest, label, 2, &FreeGate);
+    let report = import_alone(
+        rt,
+        alloc,
+        &mut source,
+        &mut ingest,
+        drawer,
+        label,
+        2,
+        &FreeGate,
+    );
     MutexGuard::unlock(ingest);
     has_ended(import_run::ending_of(&report.end))
 }
@@ -144,26 +156,31 @@ fn import_beside<J: Index, R: Threads + Wait + Sync>(
     rt: &R,
     alloc: Global,
     desk: &Desk<MemDisk, J>,
+    drawer: &mut Drawer<J>,
     label: &str,
     texts: Vec<u8>,
 ) -> Result<(), Fail> {
     let label = Label::of(label.as_bytes()).ok_or("a label")?;
     let mut source = MemSource::new(texts, 4096, Vec::new(alloc));
-    let report = import(rt, alloc, &mut source, desk, label, 2, &FreeGate);
+    let report = import(rt, alloc, &mut source, desk, drawer, label, 2, &FreeGate);
     has_ended(import_run::ending_of(&report.end))
 }
 
+/// Imports a body by a handle that has the drawer.
 fn import_body<J: Index, R: Threads + Wait + Sync>(
     rt: &R,
     alloc: Global,
     desk: &Desk<MemDisk, J>,
+    drawer: Drawer<J>,
     body: &[u8],
-) -> Result<(), Fail> {
+) -> Result<Drawer<J>, Fail> {
     if body.len() > 4_194_304 {
         return Err(Fail::from("too long"));
     }
-    let report = DeskHandle::new(desk, 2).import(rt, alloc, body);
-    has_ended(import_run::ending_of(&report.end))
+    let mut handle = DeskHandle::new(desk, drawer, 2);
+    let report = handle.import(rt, alloc, body);
+    has_ended(import_run::ending_of(&report.end))?;
+    Ok(handle.into_drawer())
 }
 
 fn has_ended(ending: ImportEnding) -> Result<(), Fail> {

@@ -8,7 +8,7 @@ ghost use Rattle.segment_blocks.specs.Segment.{span_of_both};
 use batch_tally::tally;
 use explorer_model::archive::{Bytes, Placed};
 use outside::FreeGate;
-use published_index::{Index, List, Note, Pass, Publisher, SharedSegment, Unnamed};
+use published_index::{Drawer, Index, List, Named, Note, Publisher, SharedSegment, Unnamed};
 use segment_blocks::Segment;
 use std::alloc::{AllocError, Global};
 use std::sync::{Arc, Wait};
@@ -19,12 +19,12 @@ use tally_rows::Tally;
 /// White's name and Black's.
 pub(super) type Names = (&'static str, &'static str);
 
-/// The publisher and the passes of an index.
+/// The publisher, the passes and the drawer of an index.
 pub(super) fn named<J: Index, R: Wait>(
     rt: &R,
     alloc: Global,
     unnamed: Unnamed,
-) -> Result<(Publisher<J>, Vec<Pass<J>>), Fail>
+) -> Result<Named<J>, Fail>
     requires { unnamed.name ≡ J.name }
 {
     match unnamed.named::<J>(alloc) {
@@ -41,6 +41,7 @@ pub(super) fn put<J: Index, R: Threads + Wait + Sync>(
     rt: &R,
     alloc: Global,
     publisher: &mut Publisher<J>,
+    drawer: &mut Drawer<J>,
     games: &[Names],
 ) -> Result<Note<J>, Fail> {
     publisher.retry(rt)?;
@@ -50,7 +51,7 @@ pub(super) fn put<J: Index, R: Threads + Wait + Sync>(
     let end = publisher.list().batches();
     let segment = segment_of(alloc, end, tally_of(rt, alloc, games)?)?;
     let segment = Arc::new(alloc, segment)?;
-    Ok(publisher.put(rt, segment)?)
+    Ok(publisher.put(rt, segment, drawer)?)
 }
 
 /// Publishes the first two segments of the list as one.

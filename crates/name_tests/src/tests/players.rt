@@ -7,7 +7,7 @@ use super::lists::{Names, join_first, named, put};
 use explorer_model::chess::Color;
 use explorer_model::text::Name;
 use player_index::PlayerIndex;
-use published_index::{Index, List, Pass, Publisher, Snapshot, Unnamed, open_list};
+use published_index::{Drawer, Index, List, Pass, Publisher, Snapshot, Unnamed, open_list};
 use segment_blocks::Steps;
 use std::alloc::{AllocError, Global};
 use std::marker::Brand;
@@ -82,6 +82,7 @@ fn extended<J: Index, R: Threads + Wait + Sync>(
     rt: &R,
     alloc: Global,
     publisher: &mut Publisher<J>,
+    drawer: &mut Drawer<J>,
     pass: &mut Pass<J>,
     way: &str,
 ) -> Result<PlayerIndex, Fail>
@@ -93,7 +94,7 @@ fn extended<J: Index, R: Threads + Wait + Sync>(
         match step {
             b'p' => {
                 let games = batches.next().ok_or("a batch")?;
-                let _note = put(rt, alloc, publisher, games)?;
+                let _note = put(rt, alloc, publisher, drawer, games)?;
             }
             b'j' => {
                 let _note = join_first(rt, alloc, publisher)?;
@@ -152,11 +153,12 @@ fn tells_ranges<J: Index, R: Threads + Wait + Abort + Sync>(
     rt: &R,
     alloc: Global,
     publisher: &mut Publisher<J>,
+    drawer: &mut Drawer<J>,
     mut passes: Vec<Pass<J>>,
     way: &str,
 ) -> Result<(), Fail> {
     let mut pass = passes.pop().ok_or("a pass")?;
-    let mut index = extended(rt, alloc, publisher, &mut pass, way)?;
+    let mut index = extended(rt, alloc, publisher, drawer, &mut pass, way)?;
     let snapshot = extend(alloc, &mut pass, &mut index)?;
     assert_ranges(rt, alloc, &index, &snapshot, way)
 }
@@ -169,9 +171,9 @@ fn goes_a_way<J: Index, R: Threads + Wait + Abort + Sync>(
 ) -> Result<(), Fail>
     requires { unnamed.name ≡ J.name }
 {
-    let (mut publisher, passes) = named::<J, R>(rt, alloc, unnamed)?;
+    let (mut publisher, passes, mut drawer) = named::<J, R>(rt, alloc, unnamed)?;
     let told = match WAYS.get(number) {
-        Some(way) => tells_ranges(rt, alloc, &mut publisher, passes, way),
+        Some(way) => tells_ranges(rt, alloc, &mut publisher, &mut drawer, passes, way),
         None => Err(Fail::from("a way")),
     };
     publisher.close(rt);

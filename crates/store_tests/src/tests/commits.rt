@@ -8,7 +8,7 @@ use explorer_model::archive::{Batch, Bytes, Texts};
 use explorer_model::label::Label;
 use ingest_desk::{Clashing, CommitFault, Ingest, Marks, Receipt, Standing, Unnamed};
 use manifest::{Manifest, create};
-use published_index::{Index, Pass};
+use published_index::{Drawer, Index, Pass};
 use record_log::AppendFault;
 use std::alloc::{AllocError, Global};
 use std::marker::Brand;
@@ -39,8 +39,8 @@ fn stores_three<J: Index, R: Threads + Wait + Abort + Sync>(
 ) -> Result<MemDisk, Fail>
     requires { unnamed.index.name ≡ J.name }
 {
-    let (mut ingest, _passes) = named::<J, _, R>(rt, alloc, unnamed)?;
-    let outcome = store_three(rt, alloc, &mut ingest);
+    let (mut ingest, _passes, mut drawer) = named::<J, _, R>(rt, alloc, unnamed)?;
+    let outcome = store_three(rt, alloc, &mut ingest, &mut drawer);
     let disk = ingest.into_disk(rt);
     outcome?;
     Ok(disk)
@@ -50,14 +50,21 @@ fn store_three<J: Index, R: Threads + Wait + Abort + Sync>(
     rt: &R,
     alloc: Global,
     ingest: &mut Ingest<MemDisk, J>,
+    drawer: &mut Drawer<J>,
 ) -> Result<(), Fail> {
-    assert_eq!(rt; commit_games(rt, alloc, ingest, 1, 1)?, Some((1, 0, 1)));
+    assert_eq!(rt;
+        commit_games(rt, alloc, ingest, drawer, 1, 1)?,
+        Some((1, 0, 1))
+    );
     let clash = Clashing {
         place: 1,
         number: 0,
     };
-    assert_eq!(rt; commit_again(rt, alloc, ingest)?, Some(clash));
-    assert_eq!(rt; commit_games(rt, alloc, ingest, 2, 2)?, Some((2, 1, 2)));
+    assert_eq!(rt; commit_again(rt, alloc, ingest, drawer)?, Some(clash));
+    assert_eq!(rt;
+        commit_games(rt, alloc, ingest, drawer, 2, 2)?,
+        Some((2, 1, 2))
+    );
     assert!(rt; matches!(ingest.catch_up(rt), Ok(None)));
     let spans = join_twice(rt, alloc, ingest)?;
     assert!(rt; spans.as_slice() == [Standing { first: 0, count: 2 }].as_slice());
@@ -70,12 +77,13 @@ fn commit_again<J: Index, R: Threads + Wait + Abort + Sync>(
     rt: &R,
     alloc: Global,
     ingest: &mut Ingest<MemDisk, J>,
+    drawer: &mut Drawer<J>,
 ) -> Result<Option<Clashing>, Fail> {
     let mut texts = Vec::new(alloc);
     texts.push(text(alloc, 2, 0, "")?)?;
     texts.push(text(alloc, 1, 0, "")?)?;
     let again = tally_of(rt, alloc, texts)?;
-    Ok(clash_of(ingest.commit(rt, alloc, again)))
+    Ok(clash_of(ingest.commit(rt, alloc, again, drawer)))
 }
 
 /// The first text that clashes.
@@ -101,7 +109,7 @@ fn batches_of<J: Index, R: Wait + Abort>(
 ) -> Result<(u32, MemDisk), Fail>
     requires { unnamed.index.name ≡ J.name }
 {
-    let (mut ingest, mut passes) = named::<J, _, R>(rt, alloc, unnamed)?;
+    let (mut ingest, mut passes, _drawer) = named::<J, _, R>(rt, alloc, unnamed)?;
     let stored = ingest.batches();
     let note = ingest.tell();
     let disk = ingest.into_disk(rt);
@@ -149,8 +157,8 @@ fn breaks<J: Index, R: Threads + Wait + Abort + Sync>(
 ) -> Result<MemDisk, Fail>
     requires { unnamed.index.name ≡ J.name }
 {
-    let (mut ingest, passes) = named::<J, _, R>(rt, alloc, unnamed)?;
-    let outcome = go_on_behind_a_fault(rt, alloc, &mut ingest, passes);
+    let (mut ingest, passes, mut drawer) = named::<J, _, R>(rt, alloc, unnamed)?;
+    let outcome = go_on_behind_a_fault(rt, alloc, &mut ingest, &mut drawer, passes);
     let disk = ingest.into_disk(rt);
     outcome?;
     Ok(disk)
@@ -161,13 +169,14 @@ fn go_on_behind_a_fault<J: Index, R: Threads + Wait + Abort + Sync>(
     rt: &R,
     alloc: Global,
     ingest: &mut Ingest<MemDisk, J>,
+    drawer: &mut Drawer<J>,
     mut passes: Vec<Pass<J>>,
 ) -> Result<(), Fail> {
     let mut pass = passes.pop().ok_or("a pass")?;
     let mut marks = Marks::new();
     let wanted = [None, Some(("disk fault", 0, 1)), Some(("closed", 0, 1))];
     for number in 0..3u32 {
-        let fault = commit_one(rt, alloc, ingest, &mut marks, number)?;
+        let fault = commit_one(rt, alloc, ingest, drawer, &mut marks, number)?;
         assert!(rt; fault == wanted[number as usize], "of game {number}");
         assert_eq!(rt; pass.enter(alloc)?.batches(), 1);
     }
@@ -181,11 +190,12 @@ fn commit_one<J: Index, R: Threads + Wait + Abort + Sync>(
     rt: &R,
     alloc: Global,
     ingest: &mut Ingest<MemDisk, J>,
+    drawer: &mut Drawer<J>,
     marks: &mut Marks,
     number: u32,
 ) -> Result<Option<(&'static str, u64, u64)>, Fail> {
     let tally = games(rt, alloc, number, 1)?;
-    Ok(fault_of(marks, ingest.commit(rt, alloc, tally)))
+    Ok(fault_of(marks, ingest.commit(rt, alloc, tally, drawer)))
 }
 
 /// How many batches a store has that holds nothing back, and how many a pass then knows.
@@ -248,8 +258,8 @@ fn fills_the_list<J: Index, R: Threads + Wait + Abort + Sync>(
 ) -> Result<(), Fail>
     requires { unnamed.index.name ≡ J.name }
 {
-    let (mut ingest, _passes) = named::<J, _, R>(rt, alloc, unnamed)?;
-    let outcome = fill_the_list(rt, alloc, &mut ingest);
+    let (mut ingest, _passes, mut drawer) = named::<J, _, R>(rt, alloc, unnamed)?;
+    let outcome = fill_the_list(rt, alloc, &mut ingest, &mut drawer);
     let _disk = ingest.into_disk(rt);
     outcome
 }
@@ -259,9 +269,10 @@ fn fill_the_list<J: Index, R: Threads + Wait + Abort + Sync>(
     rt: &R,
     alloc: Global,
     ingest: &mut Ingest<MemDisk, J>,
+    drawer: &mut Drawer<J>,
 ) -> Result<(), Fail> {
     for number in 0..65u32 {
-        if commit_games(rt, alloc, ingest, number, 1)?.is_none() {
+        if commit_games(rt, alloc, ingest, drawer, number, 1)?.is_none() {
             return Err(Fail::from("not stored"));
         }
         let list = ingest.publisher().list();

@@ -5,7 +5,7 @@ use super::stores::{commit_games, damage_of, games, join_twice, named, new_store
 use super::text;
 use disk_model::{Disk, MemDisk};
 use ingest_desk::{CommitFault, Ingest, Receipt, Standing, Unnamed};
-use published_index::Index;
+use published_index::{Drawer, Index};
 use std::alloc::{AllocError, Global};
 use std::marker::Brand;
 use std::process::Abort;
@@ -79,8 +79,8 @@ fn fills<J: Index, R: Threads + Wait + Abort + Sync>(
 ) -> Result<(), Fail>
     requires { unnamed.index.name ≡ J.name }
 {
-    let (mut ingest, _passes) = named::<J, _, R>(rt, alloc, unnamed)?;
-    let outcome = fill(rt, alloc, &mut ingest);
+    let (mut ingest, _passes, mut drawer) = named::<J, _, R>(rt, alloc, unnamed)?;
+    let outcome = fill(rt, alloc, &mut ingest, &mut drawer);
     let _disk = ingest.into_disk(rt);
     outcome
 }
@@ -90,13 +90,14 @@ fn fill<J: Index, R: Threads + Wait + Abort + Sync>(
     rt: &R,
     alloc: Global,
     ingest: &mut Ingest<MemDisk, J>,
+    drawer: &mut Drawer<J>,
 ) -> Result<(), Fail> {
     // Each text has 195 bytes.
-    let full = room_for(rt, alloc, ingest, LIMIT - 1, 2)?;
+    let full = room_for(rt, alloc, ingest, drawer, LIMIT - 1, 2)?;
     assert_eq!(rt; full, Some((262_143, 262_143 * 195)));
-    let last = commit_games(rt, alloc, ingest, LIMIT - 1, 1)?;
+    let last = commit_games(rt, alloc, ingest, drawer, LIMIT - 1, 1)?;
     assert_eq!(rt; last, Some((513, 262_143, 1)));
-    let full = room_for(rt, alloc, ingest, LIMIT, 1)?;
+    let full = room_for(rt, alloc, ingest, drawer, LIMIT, 1)?;
     assert_eq!(rt; full, Some((262_144, 262_144 * 195)));
     Ok(())
 }
@@ -106,11 +107,12 @@ fn room_for<J: Index, R: Threads + Wait + Abort + Sync>(
     rt: &R,
     alloc: Global,
     ingest: &mut Ingest<MemDisk, J>,
+    drawer: &mut Drawer<J>,
     first: u32,
     count: u32,
 ) -> Result<Option<(u64, u64)>, Fail> {
     let tally = games(rt, alloc, first, count)?;
-    Ok(room_of(ingest.commit(rt, alloc, tally)))
+    Ok(room_of(ingest.commit(rt, alloc, tally, drawer)))
 }
 
 /// How many games and bytes a full store has.
@@ -147,8 +149,8 @@ fn joins<J: Index, R: Threads + Wait + Abort + Sync>(
 ) -> Result<(), Fail>
     requires { unnamed.index.name ≡ J.name }
 {
-    let (mut ingest, _passes) = named::<J, _, R>(rt, alloc, unnamed)?;
-    let outcome = join_first_two(rt, alloc, &mut ingest);
+    let (mut ingest, _passes, mut drawer) = named::<J, _, R>(rt, alloc, unnamed)?;
+    let outcome = join_first_two(rt, alloc, &mut ingest, &mut drawer);
     let _disk = ingest.into_disk(rt);
     outcome
 }
@@ -158,9 +160,10 @@ fn join_first_two<J: Index, R: Threads + Wait + Abort + Sync>(
     rt: &R,
     alloc: Global,
     ingest: &mut Ingest<MemDisk, J>,
+    drawer: &mut Drawer<J>,
 ) -> Result<(), Fail> {
     for (first, count) in [(0, 512), (512, 512), (1024, 1)] {
-        if commit_games(rt, alloc, ingest, first, count)?.is_none() {
+        if commit_games(rt, alloc, ingest, drawer, first, count)?.is_none() {
             return Err(Fail::from("not stored"));
         }
     }

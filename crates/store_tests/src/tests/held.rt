@@ -7,7 +7,7 @@ use super::stores::{commit_games, games, named, opened, store_on};
 use disk_model::{Disk, MemDisk};
 use ingest_desk::{CommitFault, Ingest, InstallFault, Unnamed};
 use outside::{Failed, FreeGate};
-use published_index::Index;
+use published_index::{Drawer, Index};
 use segment_blocks::Segment;
 use segment_merge::merge;
 use std::alloc::{AllocError, Global};
@@ -150,8 +150,8 @@ fn holds_batch<J: Index, R: Threads + Wait + Abort + Sync>(
 ) -> Result<(), Fail>
     requires { unnamed.index.name ≡ J.name }
 {
-    let (mut ingest, _passes) = named::<J, _, R>(rt, alloc, unnamed)?;
-    let outcome = hold_batch(rt, alloc, &mut ingest, hoard);
+    let (mut ingest, _passes, mut drawer) = named::<J, _, R>(rt, alloc, unnamed)?;
+    let outcome = hold_batch(rt, alloc, &mut ingest, &mut drawer, hoard);
     let _disk = ingest.into_disk(rt);
     outcome
 }
@@ -161,13 +161,17 @@ fn hold_batch<J: Index, R: Threads + Wait + Abort + Sync>(
     rt: &R,
     alloc: Global,
     ingest: &mut Ingest<GreedyDisk<'_>, J>,
+    drawer: &mut Drawer<J>,
     hoard: &Hoard,
 ) -> Result<(), Fail> {
-    let held = commit_without_memory(rt, alloc, ingest, hoard)?;
+    let held = commit_without_memory(rt, alloc, ingest, drawer, hoard)?;
     assert!(rt; held == hoard.has_all.get());
     let published = if held { 0 } else { 1 };
     assert_eq!(rt; batches_of(ingest), (1, published));
-    assert_eq!(rt; commit_games(rt, alloc, ingest, 1, 1)?, Some((2, 1, 1)));
+    assert_eq!(rt;
+        commit_games(rt, alloc, ingest, drawer, 1, 1)?,
+        Some((2, 1, 1))
+    );
     assert_eq!(rt; batches_of(ingest), (2, 2));
     Ok(())
 }
@@ -177,11 +181,12 @@ fn commit_without_memory<J: Index, R: Threads + Wait + Abort + Sync>(
     rt: &R,
     alloc: Global,
     ingest: &mut Ingest<GreedyDisk<'_>, J>,
+    drawer: &mut Drawer<J>,
     hoard: &Hoard,
 ) -> Result<bool, Fail> {
     let first = games(rt, alloc, 0, 1)?;
     hoard.takes.set(true);
-    let answer = ingest.commit(rt, alloc, first);
+    let answer = ingest.commit(rt, alloc, first, drawer);
     hoard.takes.set(false);
     hoard.blocks.set(Vec::new(alloc));
     Ok(matches!(answer, Err(CommitFault::OutOfMemory { stored: true })))
@@ -210,8 +215,8 @@ fn holds_join<J: Index, R: Threads + Wait + Abort + Sync>(
 ) -> Result<(), Fail>
     requires { unnamed.index.name ≡ J.name }
 {
-    let (mut ingest, _passes) = named::<J, _, R>(rt, alloc, unnamed)?;
-    let outcome = hold_join(rt, alloc, &mut ingest);
+    let (mut ingest, _passes, mut drawer) = named::<J, _, R>(rt, alloc, unnamed)?;
+    let outcome = hold_join(rt, alloc, &mut ingest, &mut drawer);
     let _disk = ingest.into_disk(rt);
     outcome
 }
@@ -221,12 +226,16 @@ fn hold_join<J: Index, R: Threads + Wait + Abort + Sync>(
     rt: &R,
     alloc: Global,
     ingest: &mut Ingest<MemDisk, J>,
+    drawer: &mut Drawer<J>,
 ) -> Result<(), Fail> {
     let (held, has_all) = join_without_memory(rt, alloc, ingest)?;
     assert!(rt; held == has_all);
     let published = ingest.publisher().list().segments().len();
     assert_eq!(rt; published, if held { 2 } else { 1 });
-    assert_eq!(rt; commit_games(rt, alloc, ingest, 5, 1)?, Some((6, 5, 1)));
+    assert_eq!(rt;
+        commit_games(rt, alloc, ingest, drawer, 5, 1)?,
+        Some((6, 5, 1))
+    );
     let list = ingest.publisher().list();
     assert_eq!(rt; (list.batches(), list.segments().len()), (6, 2));
     Ok(())

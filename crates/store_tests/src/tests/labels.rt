@@ -5,7 +5,7 @@ use super::stores::{games, join_twice, named, new_store, opened};
 use disk_model::MemDisk;
 use explorer_model::label::Label;
 use ingest_desk::{Ingest, Unnamed};
-use published_index::{Index, SharedSegment};
+use published_index::{Drawer, Index, SharedSegment};
 use segment_blocks::{Segment, Steps};
 use std::alloc::Global;
 use std::marker::Brand;
@@ -57,12 +57,13 @@ fn store_labelled<J: Index, R: Threads + Wait + Sync>(
     rt: &R,
     alloc: Global,
     ingest: &mut Ingest<MemDisk, J>,
+    drawer: &mut Drawer<J>,
 ) -> Result<(), Fail> {
     let mut number = 0u32;
     for label in LABELS {
         let label = Label::of(label.as_bytes()).ok_or("a label")?;
         let tally = games(rt, alloc, number, 1)?.labelled(label);
-        if ingest.commit(rt, alloc, tally).is_err() {
+        if ingest.commit(rt, alloc, tally, drawer).is_err() {
             return Err(Fail::from("not stored"));
         }
         number = number.saturating_add(1);
@@ -78,8 +79,8 @@ fn stores_and_joins<J: Index, R: Threads + Wait + Abort + Sync>(
 ) -> Result<MemDisk, Fail>
     requires { unnamed.index.name ≡ J.name }
 {
-    let (mut ingest, _passes) = named::<J, _, R>(rt, alloc, unnamed)?;
-    let outcome = joins_labelled(rt, alloc, &mut ingest);
+    let (mut ingest, _passes, mut drawer) = named::<J, _, R>(rt, alloc, unnamed)?;
+    let outcome = joins_labelled(rt, alloc, &mut ingest, &mut drawer);
     let disk = ingest.into_disk(rt);
     outcome?;
     Ok(disk)
@@ -89,8 +90,9 @@ fn joins_labelled<J: Index, R: Threads + Wait + Abort + Sync>(
     rt: &R,
     alloc: Global,
     ingest: &mut Ingest<MemDisk, J>,
+    drawer: &mut Drawer<J>,
 ) -> Result<(), Fail> {
-    store_labelled(rt, alloc, ingest)?;
+    store_labelled(rt, alloc, ingest, drawer)?;
     assert!(rt; is_labelled(ingest, 3));
     let _spans = join_twice(rt, alloc, ingest)?;
     assert!(rt; is_labelled(ingest, 2));
@@ -105,7 +107,7 @@ fn are_read<J: Index, R: Wait>(
 ) -> Result<bool, Fail>
     requires { unnamed.index.name ≡ J.name }
 {
-    let (ingest, _passes) = named::<J, _, R>(rt, alloc, unnamed)?;
+    let (ingest, _passes, _drawer) = named::<J, _, R>(rt, alloc, unnamed)?;
     let count = ingest.publisher().list().segments().len();
     let are_read = is_labelled(&ingest, count);
     let _disk = ingest.into_disk(rt);

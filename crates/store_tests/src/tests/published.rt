@@ -2,10 +2,13 @@
 ghost use Rattle.std.specs.Prelude.{◌≡◌, IfOk};
 ghost use Rattle.std.specs.Arc.{arc_value};
 ghost use Rattle.published_index.specs.Changes.{CanJoin};
+ghost use Rattle.published_index.specs.Places.{HasAllParts};
 
 use super::{merged, one_game};
 use outside::FreeGate;
-use published_index::{Index, List, Note, Pass, Publisher, SharedSegment, Unnamed, open_list};
+use published_index::{
+    Drawer, Index, List, Named, Note, Pass, Publisher, SharedSegment, Unnamed, open_list,
+};
 use std::alloc::Global;
 use std::marker::Brand;
 use std::process::Abort;
@@ -16,13 +19,10 @@ use std::thread::{Threads, join};
 /// How many segments the list has at the end of the test of many puts.
 const PUTS: u32 = 60;
 
-/// The publisher and the passes of an index.
-fn named<J: Index, R: Wait>(
-    rt: &R,
-    alloc: Global,
-    unnamed: Unnamed,
-) -> Result<(Publisher<J>, Vec<Pass<J>>), Fail>
+/// The publisher, the passes and the drawer of an index.
+fn named<J: Index, R: Wait>(rt: &R, alloc: Global, unnamed: Unnamed) -> Result<Named<J>, Fail>
     requires { unnamed.name ≡ J.name }
+    ensures { IfOk result (λ index. HasAllParts index.2) }
 {
     match unnamed.named::<J>(alloc) {
         Ok(index) => Ok(index),
@@ -38,7 +38,10 @@ fn put<J: Index, R: Threads + Wait + Sync>(
     rt: &R,
     alloc: Global,
     publisher: &mut Publisher<J>,
-) -> Result<Note<J>, Fail> {
+    drawer: &mut Drawer<J>,
+) -> Result<Note<J>, Fail>
+    ensures { drawer.new.parts ≡ drawer.old.parts }
+{
     publisher.retry(rt)?;
     if publisher.list().segments().len() >= 64 {
         return Err(Fail::from("the list is full"));
@@ -46,7 +49,7 @@ fn put<J: Index, R: Threads + Wait + Sync>(
     let end = publisher.list().batches();
     let segment = one_game(rt, alloc, end, "1. e4 e5")?;
     let segment = Arc::new(alloc, segment)?;
-    Ok(publisher.put(rt, segment)?)
+    Ok(publisher.put(rt, segment, drawer)?)
 }
 
 /// What passes see of two puts.
@@ -65,14 +68,15 @@ fn put_twice<J: Index, R: Threads + Wait + Sync>(
     rt: &R,
     alloc: Global,
     publisher: &mut Publisher<J>,
+    drawer: &mut Drawer<J>,
     mut passes: Vec<Pass<J>>,
 ) -> Result<Seen, Fail> {
     let mut entering = passes.pop().ok_or("a pass")?;
     let mut learning = passes.pop().ok_or("a second pass")?;
-    put(rt, alloc, publisher)?;
+    put(rt, alloc, publisher, drawer)?;
     let first = entering.enter(alloc)?;
     let between = first.batches();
-    let note = put(rt, alloc, publisher)?;
+    let note = put(rt, alloc, publisher, drawer)?;
     let behind = entering.enter(alloc)?.batches();
     learning.learn(note);
     Ok(Seen {
@@ -90,8 +94,8 @@ fn sees_puts<J: Index, R: Threads + Wait + Abort + Sync>(
 ) -> Result<(), Fail>
     requires { unnamed.name ≡ J.name }
 {
-    let (mut publisher, passes) = named::<J, R>(rt, alloc, unnamed)?;
-    let seen = put_twice(rt, alloc, &mut publisher, passes);
+    let (mut publisher, passes, mut drawer) = named::<J, R>(rt, alloc, unnamed)?;
+    let seen = put_twice(rt, alloc, &mut publisher, &mut drawer, passes);
     publisher.close(rt);
     let wanted = Seen {
         between: 1,
@@ -128,10 +132,11 @@ fn put_many<J: Index, R: Threads + Wait + Sync>(
     rt: &R,
     alloc: Global,
     desk: &Mutex<Publisher<J>>,
+    mut drawer: Drawer<J>,
 ) -> Result<(), Fail> {
     for _ in 0..PUTS {
         let mut publisher = desk.lock(rt);
-        let note = put(rt, alloc, &mut *publisher);
+        let note = put(rt, alloc, &mut *publisher, &mut drawer);
         MutexGuard::unlock(publisher);
         let _note = note?;
     }
@@ -145,7 +150,7 @@ fn enters_during_puts<J: Index + Send + Sync, R: Threads + Wait + Abort + Sync>(
 ) -> Result<(), Fail>
     requires { unnamed.name ≡ J.name }
 {
-    let (publisher, mut passes) = named::<J, R>(rt, alloc, unnamed)?;
+    let (publisher, mut passes, drawer) = named::<J, R>(rt, alloc, unnamed)?;
     let first = passes.pop();
     let second = passes.pop();
     let desk = Mutex::new(publisher);
@@ -156,7 +161,7 @@ fn enters_during_puts<J: Index + Send + Sync, R: Threads + Wait + Abort + Sync>(
             || always_enters(alloc, first),
             || always_enters(alloc, second),
         ),
-        || put_many(rt, alloc, &desk),
+        || put_many(rt, alloc, &desk, drawer),
     );
     let publisher = desk.into_inner();
     let batches = publisher.list().batches();
@@ -192,11 +197,12 @@ fn join_while_held<J: Index, R: Threads + Wait + Sync>(
     rt: &R,
     alloc: Global,
     publisher: &mut Publisher<J>,
+    drawer: &mut Drawer<J>,
     mut passes: Vec<Pass<J>>,
 ) -> Result<(usize, usize, u32), Fail> {
     let mut pass = passes.pop().ok_or("a pass")?;
-    put(rt, alloc, publisher)?;
-    put(rt, alloc, publisher)?;
+    put(rt, alloc, publisher, drawer)?;
+    put(rt, alloc, publisher, drawer)?;
     let before = pass.enter(alloc)?;
     join_both(rt, alloc, publisher)?;
     let behind = pass.enter(alloc)?;
@@ -225,8 +231,8 @@ fn keeps_segments<J: Index, R: Threads + Wait + Abort + Sync>(
 ) -> Result<(), Fail>
     requires { unnamed.name ≡ J.name }
 {
-    let (mut publisher, passes) = named::<J, R>(rt, alloc, unnamed)?;
-    let seen = join_while_held(rt, alloc, &mut publisher, passes);
+    let (mut publisher, passes, mut drawer) = named::<J, R>(rt, alloc, unnamed)?;
+    let seen = join_while_held(rt, alloc, &mut publisher, &mut drawer, passes);
     publisher.close(rt);
     assert_eq!(rt; seen?, (2, 1, 2));
     Ok(())
@@ -245,9 +251,10 @@ fn shares_of_joined<J: Index, R: Threads + Wait + Sync>(
     rt: &R,
     alloc: Global,
     publisher: &mut Publisher<J>,
+    drawer: &mut Drawer<J>,
 ) -> Result<(usize, usize), Fail> {
-    put(rt, alloc, publisher)?;
-    put(rt, alloc, publisher)?;
+    put(rt, alloc, publisher, drawer)?;
+    put(rt, alloc, publisher, drawer)?;
     let first = publisher.list().segments().first().ok_or("a segment")?;
     let share = Arc::try_clone(first)?;
     let before = Arc::strong_count(&share);
@@ -262,8 +269,8 @@ fn lets_segments_go<J: Index, R: Threads + Wait + Abort + Sync>(
 ) -> Result<(), Fail>
     requires { unnamed.name ≡ J.name }
 {
-    let (mut publisher, _passes) = named::<J, R>(rt, alloc, unnamed)?;
-    let shares = shares_of_joined(rt, alloc, &mut publisher);
+    let (mut publisher, _passes, mut drawer) = named::<J, R>(rt, alloc, unnamed)?;
+    let shares = shares_of_joined(rt, alloc, &mut publisher, &mut drawer);
     publisher.close(rt);
     assert_eq!(rt; shares?, (3, 1));
     Ok(())
@@ -274,4 +281,45 @@ fn published_list_lets_joined_segments_go(rt: HostRuntime) -> Result<(), Fail> {
     let alloc: Global = rt.alloc();
     let unnamed = open_list(&rt, alloc, List::of(Vec::new(alloc)), 1)?;
     lets_segments_go::<Brand, _>(&rt, alloc, unnamed)
+}
+
+/// Two drawers put a batch each, one behind the other, and are one again. That each of the two places
+/// was drawn once is proved of what `settle` is lent.
+fn put_by_two<J: Index, R: Threads + Wait + Sync>(
+    rt: &R,
+    alloc: Global,
+    publisher: &mut Publisher<J>,
+    rest: &mut Drawer<J>,
+) -> Result<(), Fail>
+    requires { HasAllParts rest.old }
+{
+    let mut mine = publisher.another(rest);
+    put(rt, alloc, publisher, &mut mine)?;
+    put(rt, alloc, publisher, rest)?;
+    publisher.take(rest, mine);
+    publisher.settle(rt, rest);
+    Ok(())
+}
+
+fn settles<J: Index, R: Threads + Wait + Abort + Sync>(
+    rt: &R,
+    alloc: Global,
+    unnamed: Unnamed,
+) -> Result<(), Fail>
+    requires { unnamed.name ≡ J.name }
+{
+    let (mut publisher, _passes, mut rest) = named::<J, R>(rt, alloc, unnamed)?;
+    let outcome = put_by_two(rt, alloc, &mut publisher, &mut rest);
+    let batches = publisher.list().batches();
+    publisher.close(rt);
+    outcome?;
+    assert_eq!(rt; batches, 2);
+    Ok(())
+}
+
+#[test]
+fn two_drawers_put_and_are_one_again(rt: HostRuntime) -> Result<(), Fail> {
+    let alloc: Global = rt.alloc();
+    let unnamed = open_list(&rt, alloc, List::of(Vec::new(alloc)), 1)?;
+    settles::<Brand, _>(&rt, alloc, unnamed)
 }

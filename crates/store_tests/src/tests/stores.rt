@@ -4,10 +4,12 @@ ghost use Rattle.std.specs.Prelude.{◌≡◌, ◌≤◌};
 use super::{tally_of, text};
 use disk_model::{Disk, MemDisk};
 use explorer_model::store::LogFault;
-use ingest_desk::{CommitFault, Ingest, InstallFault, Receipt, Standing, Unnamed, fresh, open};
+use ingest_desk::{
+    CommitFault, Ingest, InstallFault, Named, Receipt, Standing, Unnamed, fresh, open,
+};
 use manifest::create;
 use outside::FreeGate;
-use published_index::{Index, Pass};
+use published_index::{Drawer, Index};
 use record_log::OpenFault;
 use segment_merge::merge;
 use std::alloc::Global;
@@ -79,12 +81,12 @@ pub(super) fn damage_of<R: Threads + Wait + Sync>(
     }
 }
 
-/// The ingest and its passes.
+/// The ingest, its passes and the drawer of one who stores there.
 pub(super) fn named<J: Index, D: Disk + Drop, R: Wait>(
     rt: &R,
     alloc: Global,
     unnamed: Unnamed<D>,
-) -> Result<(Ingest<D, J>, Vec<Pass<J>>), Fail>
+) -> Result<Named<D, J>, Fail>
     requires { unnamed.index.name ≡ J.name }
 {
     match unnamed.named::<J>(alloc) {
@@ -135,11 +137,12 @@ pub(super) fn commit_games<J: Index, D: Disk, R: Threads + Wait + Abort + Sync>(
     rt: &R,
     alloc: Global,
     ingest: &mut Ingest<D, J>,
+    drawer: &mut Drawer<J>,
     first: u32,
     count: u32,
 ) -> Result<Option<(u32, u32, u32)>, Fail> {
     let tally = games(rt, alloc, first, count)?;
-    Ok(stored(&ingest.commit(rt, alloc, tally)))
+    Ok(stored(&ingest.commit(rt, alloc, tally, drawer)))
 }
 
 fn stored<J: Index>(answer: &Result<Receipt<J>, CommitFault<J>>) -> Option<(u32, u32, u32)> {

@@ -78,5 +78,5 @@ returns g c = λ input.
     let uses = uses_both store file _ _ _ _ _ _ _ _ _ c.open_store.ensures.sized hands hands_file takes_file takes in
     let opened = c.in-Ok-open_store.ensures.opened in
     in_vain store file c.args.label _ _ _ _ before after uses
-    (record { kept = rw came.0 opened.kept; no_fault = rw came.0 opened.no_fault; })
+    (record { kept = rw came.0 opened.kept; no_fault = rw came.0 opened.no_fault })
     came.1 refl

@@ -2,7 +2,8 @@ use Rattle.std.proofs.Common.{rules, ◌≡◌, ◌+◌, ◌∷◌, ◌++◌, []
 use Rattle.host.specs.Hosts.{HostCall}
 use Rattle.ingest_desk.specs.Stored.{Stored, journal}
 use Rattle.explorer.specs.declared.workers.Worker.{Worker}
-use Rattle.explorer.specs.Workers.{AreNamed, CanReturn, GivenBack, IsTold, call_of, calls_of, name_at}
+use Rattle.explorer.specs.Workers.{AreNamed, CanReturn, GivenBack, HasTaken, IsTold, call_of, calls_of, drawings_in, name_at}
+use Rattle.explorer.proofs.DrawerLemmas.{took-last, took-none}
 use Rattle.explorer.proofs.WorkerLists.{calls-last, can-front, can-last, given-last, known-all, known-more, known-none, named-front, named-last}
 use Rattle.explorer.proofs.returning.give_back.Goals as goal
 use Rattle.explorer.proofs.returning.give_back.Goals.{After-len, In_default}
@@ -41,8 +42,9 @@ loop-worker-init g c = record {
   named = c.requires.named;
   out = c.requires.out;
   same = refl;
+  drawn = λ end taken. taken;
   back = λ end given. given;
-  known = known-none c.args.list.items None (journal c.args.ingest.now);
+  known = known-none c.args.list.items None (journal c.args.cabinet.now.ingest);
 }
 
 pub take_back-last-requires-clause-named : goal.take_back-last-requires-clause-named
@@ -68,18 +70,29 @@ loop-worker-preserved g c =
       out = can-front source door (calls_of source door names 0 rest) (name_at names c.len.result) c.in-Some.worker
           (g.H.Host.host c.loop-worker.host) (g.H.Host.host c.take_back-last.new.host) (out-all g at) c.take_back-last.ensures.back;
       same = c.take_back-last.ensures.same ∙ c.loop-worker.invariant.same;
+      drawn = λ end taken. c.loop-worker.invariant.drawn end
+          (took-last c.loop-worker.list.items rest c.in-Some.worker c.loop-worker.cabinet.drawer c.take_back-last.new.cabinet.drawer end
+          c.in-Some.ensures.items c.take_back-last.ensures.drawn taken);
       back = λ end given. c.loop-worker.invariant.back end
           (subst (λ (ws : List (Worker g.row.H-File.Denot g.row.H-Door.Denot g.row.J.Denot)). GivenBack source door names 0 ws (g.H.Host.host c.loop-worker.host) end) (sym c.in-Some.ensures.items)
           (given-last source door names 0 c.len.result rest c.in-Some.worker (g.H.Host.host c.loop-worker.host)
           (g.H.Host.host c.take_back-last.new.host) end (place g at) c.take_back-last.ensures.back given));
       known = known-more c.args.list.items c.loop-worker.list.items rest c.in-Some.worker c.loop-worker.last c.take_back-last.result
-          (journal c.args.ingest.now) c.in-Some.ensures.items c.take_back-last.ensures.kept c.take_back-last.ensures.found
+          (journal c.args.cabinet.now.ingest) c.in-Some.ensures.items c.take_back-last.ensures.kept c.take_back-last.ensures.found
           (λ heard. subst (λ (i : Stored g.row.H-Disk.Denot). IsTold (journal i) c.in-Some.worker) c.loop-worker.invariant.same
           (c.take_back-last.ensures.told heard))
           c.loop-worker.invariant.known;
     }
 
+pub returns-clause-drawn : goal.returns-clause-drawn
+returns-clause-drawn g c =
+    let none = left-none g (goal.at.returns-clause-drawn g c).In_default in
+    let drawer = c.loop-worker.cabinet.drawer in
+    c.loop-worker.invariant.drawn drawer
+    (subst (λ (ws : List (Worker g.row.H-File.Denot g.row.H-Door.Denot g.row.J.Denot)). HasTaken (drawings_in ws) drawer drawer) (sym none)
+    (took-none drawer))
+
 pub returns-clause-told : goal.returns-clause-told
 returns-clause-told g c =
-    known-all c.args.list.items c.loop-worker.list.items c.loop-worker.last (journal c.args.ingest.now)
+    known-all c.args.list.items c.loop-worker.list.items c.loop-worker.last (journal c.args.cabinet.now.ingest)
     (left-none g (goal.at.returns-clause-told g c).In_default) c.loop-worker.invariant.known

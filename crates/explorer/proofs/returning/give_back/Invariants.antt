@@ -1,7 +1,8 @@
 use Rattle.std.proofs.Common.{◌≡◌, map, string_bytes}
 use Rattle.host.specs.Hosts.{HostState}
 use Rattle.ingest_desk.specs.Stored.{journal}
-use Rattle.explorer.specs.Workers.{AreNamed, CanReturn, GivenBack, calls_of}
+use Rattle.published_index.specs.Places.{Drawing}
+use Rattle.explorer.specs.Workers.{AreNamed, CanReturn, GivenBack, HasTaken, calls_of, drawings_in}
 use Rattle.explorer.proofs.WorkerLists.{HasKnown}
 use Rattle.explorer.proofs.returning.give_back.Given as goal
 
@@ -10,11 +11,13 @@ invariant-loop-worker g l = record {
   named : AreNamed (map string_bytes l.names) 0 l.list.items;
   out : CanReturn (calls_of g.H.File.Source.source g.H.Door.Door.door (map string_bytes l.names) 0 l.list.items)
       (g.H.Host.host l.host);
-  same : l.ingest ≡ l.fn.ingest;
+  same : l.cabinet.ingest ≡ l.fn.cabinet.ingest;
+  drawn : (end : Drawing) → HasTaken (drawings_in l.list.items) l.cabinet.drawer end
+      → HasTaken (drawings_in l.fn.list.items) l.fn.cabinet.drawer end;
   back : (end : HostState)
       → GivenBack g.H.File.Source.source g.H.Door.Door.door (map string_bytes l.names) 0 l.list.items (g.H.Host.host l.host) end
       → GivenBack g.H.File.Source.source g.H.Door.Door.door (map string_bytes l.names) 0 l.fn.list.items (g.H.Host.host l.fn.host) end;
-  known : HasKnown l.fn.list.items l.list.items l.last (journal l.fn.ingest);
+  known : HasKnown l.fn.list.items l.list.items l.last (journal l.fn.cabinet.ingest);
 }
 
 abbrev pub decreases-loop-worker : goal.decreases-loop-worker

@@ -1,6 +1,7 @@
 use Rattle.std.proofs.Common.{◌≡◌, List, ℕ, sym, ap, subst, ◌∙◌, map, string_bytes}
 use Rattle.host.specs.Hosts.{AFile, IsOut, TakesFile}
 use Rattle.explorer.specs.Workers.{name_at}
+use Rattle.explorer.proofs.DrawerLemmas.{took-none, took-one}
 use Rattle.explorer.proofs.HostCalls.{door_is_out, file_is_out, name_is}
 use Rattle.explorer.proofs.returning.take_back.Goals as goal
 use Rattle.explorer.proofs.returning.take_back.Goals.{After-as_str}
@@ -25,3 +26,10 @@ returns-in-File-clause-back g c = rw c.in-File.is
 
 pub close_door-requires : goal.close_door-requires
 close_door-requires g c = door_is_out _ (g.H.Host.host c.args.host.now) (rw c.in-Reader.is at c.requires.out)
+
+pub returns-in-File-clause-drawn : goal.returns-in-File-clause-drawn
+returns-in-File-clause-drawn g c = rw c.in-File.is
+    (took-one c.in-File.file.drawer c.args.cabinet.now.drawer c.take.new.self.drawer c.take.ensures.drawer)
+
+pub returns-in-Merger-clause-drawn : goal.returns-in-Merger-clause-drawn
+returns-in-Merger-clause-drawn g c = rw c.in-Merger.is (took-none c.args.cabinet.now.drawer)

@@ -1,4 +1,6 @@
 use Rattle.std.proofs.Common.{rules, ◌≡◌, false, None, sym}
+use Rattle.ingest_desk.specs.Drawn.{DrawsFor, most_untold}
+use Rattle.ingest_desk.specs.Importers.{ending_of}
 use Rattle.import_run.specs.Alone.{ImportsAlone}
 use Rattle.import_run.specs.Upkeep.{Follows}
 use Rattle.import_run.proofs.AloneLemmas.{imports_alone}
@@ -14,7 +16,7 @@ returns-clause-alone g c =
     let mid = r.new.committer.ingest.now in
     let name = sym r.ensures.since.0 in
     tied (λ after. ImportsAlone c.args.label d.disk d.left_since old c.args.ingest.now new after r.result) mid _ (search rules)
-    (imports_alone d.disk d.left_since c.args.ingest.now mid r.ensures.since.1.since r.result old new c.batches-before.ensures.sound c.batches-before.ensures.keeps c.batches-after.ensures.sound c.batches-after.ensures.keeps r.ensures.told)
+    (imports_alone d.disk d.left_since c.args.ingest.now mid r.ensures.since.2.since r.result old new c.batches-before.ensures.sound c.batches-before.ensures.keeps c.batches-after.ensures.sound c.batches-after.ensures.keeps r.ensures.told)
 
 pub returns-clause-follows : goal.returns-clause-follows
 returns-clause-follows g c =
@@ -22,4 +24,11 @@ returns-clause-follows g c =
     let mid = r.new.committer.ingest.now in
     let name = sym r.ensures.since.0 in
     tied (λ after. r.new.committer.lacked ≡ false → after.manifest.fault ≡ None → Follows c.args.ingest.now after) mid _ (search rules)
-    (λ had sound. (r.ensures.since.1.keeps_up had sound).follows)
+    (λ had sound. (r.ensures.since.2.keeps_up had sound).follows)
+
+pub returns-clause-drawn : goal.returns-clause-drawn
+returns-clause-drawn g c =
+    let r = c.import_stream-report in
+    let mid = r.new.committer.drawer.now in
+    let name = sym r.ensures.since.1 in
+    tied (λ after. DrawsFor (most_untold (ending_of r.result.end)) r.result.receipts.items c.args.mine.now after) mid _ (search rules) r.ensures.drawn

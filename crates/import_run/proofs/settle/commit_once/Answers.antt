@@ -17,6 +17,7 @@ use Rattle.import_run.proofs.BesideLemmas.{more_beside, settles_beside}
 use Rattle.import_run.proofs.CloseLemmas.{clash_names, extended, notes_one, notes_same}
 use Rattle.import_run.proofs.LabelLemmas.{label_is}
 use Rattle.import_run.proofs.VerdictLemmas.{again, fewer_fresh, fewer_read, hand_made}
+use Rattle.import_run.proofs.DrawLemmas.{few-answered, few-none}
 use Rattle.import_run.proofs.settle.commit_once.Goals as goal
 
 pub name-requires-clause-few : goal.name-requires-clause-few
@@ -189,6 +190,34 @@ returns g c =
       ended_beside = λ label cuts r.
           settles_beside cuts c.args.counted c.args.places.items c.args.refused.items c.args.clashes.now.items c.reserve.new.self.items r (Err c.in-Err.fault) _
           (notes_same c.args.clashes.now.items c.reserve.new.self.items c.reserve.ensures.items) c.in-Err.ensures.answers refl refl;
+      drawn = c.in-Err.ensures.drawn;
+      drawn_few = tt;
       notes = notes_same c.args.clashes.now.items c.reserve.new.self.items c.reserve.ensures.items;
       since = c.commit.ensures.since;
     }
+
+-- ---- what is drawn
+
+pub returns-in_err-reserve-clause-drawn_few : goal.returns-in_err-reserve-clause-drawn_few
+returns-in_err-reserve-clause-drawn_few g c = on_err c.from_residual.result (few-none 1 _ _ refl)
+
+pub returns-in_err-named-in-Clash-clause-drawn_few : goal.returns-in_err-named-in-Clash-clause-drawn_few
+returns-in_err-named-in-Clash-clause-drawn_few g c =
+    let x = c.in-Clash in
+    on_err c.from_residual-in_err-named-in-Clash.result (few-none 1 _ _ (rw x.is at c.in-Err.ensures.drawn))
+
+pub returns-in_err-refused-in-Clash-clause-drawn_few : goal.returns-in_err-refused-in-Clash-clause-drawn_few
+returns-in_err-refused-in-Clash-clause-drawn_few g c =
+    let x = c.in-Clash in
+    on_err c.from_residual-in_err-refused-in-Clash.result (few-none 1 _ _ (rw x.is at c.in-Err.ensures.drawn))
+
+pub returns-in_err-again-in-Clash-clause-drawn_few : goal.returns-in_err-again-in-Clash-clause-drawn_few
+returns-in_err-again-in-Clash-clause-drawn_few g c =
+    let x = c.in-Clash in
+    on_err c.from_residual-in_err-again-in-Clash.result (few-none 1 _ _ (rw x.is at c.in-Err.ensures.drawn))
+
+pub returns-in-Clash-clause-drawn : goal.returns-in-Clash-clause-drawn
+returns-in-Clash-clause-drawn g c = let x = c.in-Clash in rw x.is at c.in-Err.ensures.drawn
+
+pub returns-in-OutOfMemory-clause-drawn_few : goal.returns-in-OutOfMemory-clause-drawn_few
+returns-in-OutOfMemory-clause-drawn_few g c = few-answered (Err c.in-Err.fault) _ _ c.in-Err.ensures.drawn

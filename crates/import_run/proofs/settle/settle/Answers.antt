@@ -1,4 +1,4 @@
-use Rattle.std.proofs.Common.{refl, subst, Option, None}
+use Rattle.std.proofs.Common.{◌∙◌, refl, subst, Option, None}
 use Rattle.tally_rows.specs.Tally.{Counted}
 use Rattle.import_run.specs.Committing.{Store}
 use Rattle.import_run.specs.Rounds.{Rounds}
@@ -15,6 +15,7 @@ settling-init g c = record {
   since = g.met.C.Committer.since_then c.args.committer.now;
   beside = λ cuts ascend holds. first_beside cuts c.in_ok-state.state c.args.clashes.now.items ascend (c.in_ok-state.ensures.tallied cuts ascend holds);
   notes = prefix-self c.args.clashes.now.items;
+  drawn = refl;
 }
 
 pub settling-preserved : goal.settling-preserved
@@ -36,6 +37,7 @@ settling-preserved g c =
           let P : Option Counted → Type 0 = λ t. RoundsBeside c.args.group.label cuts t l.state.places.items l.state.refused.items l.clashes.items in
           beside c.args.group.label cuts (subst P c.in-Some.is (l.invariant.beside cuts ascend holds));
       notes = prefix-trans c.args.clashes.now.items l.clashes.items c.commit_once.new.clashes.items l.invariant.notes c.commit_once.ensures.notes;
+      drawn = (rw x.is at c.in_ok-next.ensures.drawn) ∙ l.invariant.drawn;
     }
 
 pub returns-in_default-clause-settles : goal.returns-in_default-clause-settles

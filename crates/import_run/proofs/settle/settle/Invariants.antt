@@ -1,4 +1,4 @@
-use Rattle.std.proofs.Common.{List}
+use Rattle.std.proofs.Common.{◌≡◌, List}
 use Rattle.std.specs.Prelude.{IfSome}
 use Rattle.explorer_model.specs.Cuts.{Cut}
 use Rattle.explorer_model.specs.Timeline.{IsPrefix}
@@ -17,6 +17,7 @@ invariant-settling g l = record {
   beside : (cuts : List Cut) → Ascend cuts → IsGroupOf cuts l.fn.group
       → RoundsBeside l.fn.group.label cuts l.state.tally l.state.places.items l.state.refused.items l.clashes.items;
   notes : IsPrefix l.fn.clashes.items l.clashes.items;
+  drawn : g.C.Committer.drawing l.committer ≡ g.C.Committer.drawing l.fn.committer;
 }
 
 abbrev pub decreases-settling : goal.decreases-settling

@@ -7,6 +7,7 @@ use Rattle.import_run.proofs.LabelLemmas.{quietly_as, quietly_beside_as}
 use Rattle.import_run.proofs.ComeBesideLemmas.{lacking_within_beside}
 use Rattle.import_run.proofs.ComeLemmas.{lacking_within}
 use Rattle.import_run.proofs.TakingLemmas.{taken_none}
+use Rattle.import_run.proofs.DrawLemmas.{draws-none, draws-same, draws-told}
 use Rattle.import_run.proofs.stream.import_bytes.Goals as goal
 
 pub returns-in-Ok-clause-beside : goal.returns-in-Ok-clause-beside
@@ -76,3 +77,21 @@ returns-clause-told g c = λ start is.
     let P : Option Store → Type 0 = λ s. LacksWithin s c.args.bytes.now c.feed.new.self told' in
     quietly_as (c.feed.ensures.label ∙ c.new-import.ensures.label ∙ c.none.ensures)
     (lacking_within start c.report.result c.args.bytes.now (Some []) told' c.feed.new.self c.report.ensures.end c.report.ensures.receipts c.report.ensures.refused below (subst P is lacks))
+
+-- ---- what is drawn
+
+pub returns-in-Ok-clause-drawn : goal.returns-in-Ok-clause-drawn
+returns-in-Ok-clause-drawn g c =
+    let first = draws-same 0 [] _ _ _ c.new-import.ensures.receipts (draws-none (g.C.Committer.drawing c.args.committer.now)) in
+    c.end.ensures.drawn _ (c.in-Ok.ensures.drawn _ first)
+
+pub returns-in-Err-Fault-clause-drawn : goal.returns-in-Err-Fault-clause-drawn
+returns-in-Err-Fault-clause-drawn g c =
+    let first = draws-same 0 [] _ _ _ c.new-import.ensures.receipts (draws-none (g.C.Committer.drawing c.args.committer.now)) in
+    c.stopped.ensures.drawn _ _ ((rw c.in-Err-Fault.field-0-is at c.in-Err-Fault.ensures.drawn) _ first)
+
+pub returns-clause-drawn : goal.returns-clause-drawn
+returns-clause-drawn g c =
+    let first = draws-same 0 [] _ _ _ c.new-import.ensures.receipts (draws-none (g.C.Committer.drawing c.args.committer.now)) in
+    draws-told c.report.result _ _ _ c.report.ensures.end c.report.ensures.receipts
+    ((rw c.in-Err-OutOfMemory.field-0-is at c.in-Err-OutOfMemory.ensures.drawn) _ first)

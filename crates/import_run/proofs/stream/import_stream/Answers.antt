@@ -9,6 +9,7 @@ use Rattle.import_run.proofs.ComeBesideLemmas.{imports_bound_beside, imports_fai
 use Rattle.import_run.proofs.ComeLemmas.{comes_cut_off, lacking_within}
 use Rattle.import_run.proofs.ReadLemmas.{imports_bound, imports_failed, imports_quietly, longer, no_fault, one_read, read_last, read_more, read_nothing, read_on}
 use Rattle.import_run.proofs.TakingLemmas.{ready_none, taken_none}
+use Rattle.import_run.proofs.DrawLemmas.{draws-none, draws-same, draws-told}
 use Rattle.import_run.proofs.stream.import_stream.Goals as goal
 
 pub reading-init : goal.reading-init
@@ -22,6 +23,7 @@ reading-init g c =
       read = read_nothing told (g.S.Source.source c.args.source.now) _ c.new-import.result told
           (record { taken = []; cut = c.new-cutter.ensures.cuts; begun = λ some. absurd (omega (arith, some)); so_far = taken_none told c.new-import.result c.new-import.ensures.group c.new-import.ensures.receipts c.new-import.ensures.refused });
       since = g.met.C.Committer.since_then c.args.committer.now;
+      drawn = draws-same 0 [] _ _ _ c.new-import.ensures.receipts (draws-none _);
     }
 
 pub reading-preserved : goal.reading-preserved
@@ -39,6 +41,7 @@ reading-preserved g c =
       read = read_on told c.reading.taken c.in-Ok.count c.read.new.into _ _ _ (cuts_of_rest c.reading.cutter) (cuts_of_rest c.feed.new.cutter) c.reading.import c.feed.new.self
           (g.C.Committer.told c.reading.committer) (g.C.Committer.told c.feed.new.committer) before.read gives (c.in-Ok-feed.ensures.cut told before.read.stream);
       since = g.met.C.Committer.since_before c.args.committer.now c.reading.committer c.feed.new.committer before.since c.feed.ensures.since;
+      drawn = c.in-Ok-feed.ensures.drawn _ before.drawn;
     }
 
 pub returns-in_default-clause-told : goal.returns-in_default-clause-told
@@ -213,3 +216,24 @@ returns-in-Err-OutOfMemory-clause-beside g c =
     imports_beside_as (c.feed.ensures.label ∙ c.reading.invariant.label)
     (imports_quietly_beside old new c.report.result stream (read_more read.stream c.in-Ok.count c.read.new.into old mid new read.reads gives) (no_fault c.in-Ok.count c.read.new.into old mid new read.faults gives)
     (lacking_within_beside stream new.left c.report.result c.feed.new.self c.report.ensures.receipts c.report.ensures.clashes below c.report.ensures.refused start told c.report.ensures.end lacks))
+
+-- ---- what is drawn
+
+pub returns-in_default-clause-drawn : goal.returns-in_default-clause-drawn
+returns-in_default-clause-drawn g c = draws-same _ _ _ _ _ c.cut_off.ensures.receipts c.reading.invariant.drawn
+
+pub returns-then-count-eq0-clause-drawn : goal.returns-then-count-eq0-clause-drawn
+returns-then-count-eq0-clause-drawn g c = c.end.ensures.drawn _ c.reading.invariant.drawn
+
+pub returns-then-taken-eq-INPUT_LIMIT-clause-drawn : goal.returns-then-taken-eq-INPUT_LIMIT-clause-drawn
+returns-then-taken-eq-INPUT_LIMIT-clause-drawn g c =
+    draws-same _ _ _ _ _ c.cut_off-then-taken-eq-INPUT_LIMIT.ensures.receipts c.reading.invariant.drawn
+
+pub returns-in-Err-Fault-clause-drawn : goal.returns-in-Err-Fault-clause-drawn
+returns-in-Err-Fault-clause-drawn g c =
+    c.stopped.ensures.drawn _ _ ((rw c.in-Err-Fault.field-0-is at c.in-Err-Fault.ensures.drawn) _ c.reading.invariant.drawn)
+
+pub returns-in-Err-OutOfMemory-clause-drawn : goal.returns-in-Err-OutOfMemory-clause-drawn
+returns-in-Err-OutOfMemory-clause-drawn g c =
+    draws-told c.report.result _ _ _ c.report.ensures.end c.report.ensures.receipts
+    ((rw c.in-Err-OutOfMemory.field-0-is at c.in-Err-OutOfMemory.ensures.drawn) _ c.reading.invariant.drawn)

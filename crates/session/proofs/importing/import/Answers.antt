@@ -26,14 +26,17 @@ returns-clause-replied g c =
     let new = λ (is : c.are_behind.result ≡ true).
     let behind = subst (λ (rs : List (Receipt g.row.J.Denot)). AreBehind (length pass) rs) c.as_slice-2.ensures.value (subst (λ (n : ℕ). AreBehind n c.as_slice-2.result.now) c.front-seen.ensures (c.are_behind.ensures is)) in
     stand-behind (length pass) report.receipts.items c.import-report.ensures.reports.batches journal behind c.import-report.ensures.reports.are_receipts receipts in
+    let replied = replies-to c.args.body.now report (length pass) journal c.reply_to_end.result
+    (g.I.Importer.importer c.args.importer.now).drawing (g.I.Importer.importer c.import-report.new.self).drawing
+    c.import-report.ensures.reports c.import-report.ensures.in_memory receipts notes c.reply_to_end.ensures.knows by
+    (c.reply_to_end.ensures.new (length pass) journal c.import-report.ensures.reports.batches new) c.import-report.ensures.drawn in
     record {
       call = call_of c.args.body.now report;
       grew = prefix-trans pass pass1 journal c.learn_receipts.ensures.grew later;
       body_is = refl;
       counts = c.import-report.ensures.counts;
-      replies = replies-to c.args.body.now report (length pass) journal c.reply_to_end.result c.import-report.ensures.reports c.import-report.ensures.in_memory receipts notes c.reply_to_end.ensures.knows
-          by
-          (c.reply_to_end.ensures.new (length pass) journal c.import-report.ensures.reports.batches new);
+      replies = replied.0;
+      drawn = replied.1;
       readings = c.reply_to_end.ensures.readings ∙ (c.learn_notes.ensures.readings ∙ c.learn_receipts.ensures.readings);
       called = c.import-report.ensures.told;
     }

@@ -4,6 +4,7 @@ use Rattle.import_run.specs.Alone.{stored_in}
 use Rattle.import_run.specs.Committing.{Commits, Store}
 use Rattle.import_run.proofs.AloneLemmas.{clash, commits}
 use Rattle.import_run.proofs.AnswerLemmas.{answers-to}
+use Rattle.import_run.proofs.DrawLemmas.{place-of}
 use Rattle.import_run.proofs.FollowLemmas.{commit_alone}
 use Rattle.import_run.proofs.SinceLemmas.{commit_since}
 use Rattle.import_run.proofs.alone.LoneSeatCommitter.commit.Goals as goal
@@ -40,6 +41,12 @@ returns-clause-since g c =
     let since = commit_since d.disk d.left_since g.met.D.Disk.counts_now old mid c.args.tally.batch c.batches-after.ensures.keeps r.crash c.commit-answer.result
     _ c.args.tally old.index.held (r.refused r.sound.games r.sound.are_games) (r.behind r.sound.games r.sound.are_games) r.manifest r.stores r.failed in (
       refl,
+      refl,
       commit_alone d.disk d.left_since old mid c.merge_behind-lacks.new.ingest c.merge_behind-lacks.ensures.same c.args.tally r.sound c.commit-answer.result (r.refused r.sound.games r.sound.are_games)
           r.stores r.told r.list r.manifest since c.args.self.now.lacked c.merge_behind-lacks.result c.either-self.result c.merge_behind-lacks.ensures.merges c.either-self.ensures,
     )
+
+pub returns-clause-drawn : goal.returns-clause-drawn
+returns-clause-drawn g c =
+    let r = c.commit-answer.ensures in
+    place-of c.commit-answer.result (journal c.args.self.now.ingest.now) c.args.tally.batch _ _ r.receipt r.drawn

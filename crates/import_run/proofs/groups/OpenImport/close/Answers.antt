@@ -1,4 +1,4 @@
-use Rattle.std.proofs.Common.{◌∷◌, [], ◌∙◌, ◌<◌, List, Option, Some, ap, sym, subst, refl, arith, length}
+use Rattle.std.proofs.Common.{◌∷◌, [], ◌∙◌, ◌<◌, ◌-◌, List, Option, Some, ap, sym, subst, refl, arith, length}
 use Rattle.explorer_model.specs.Cuts.{Cut}
 use Rattle.explorer_model.specs.declared.fault.Refusal.{Refusal}
 use Rattle.import_run.specs.Beside.{last_batches}
@@ -12,6 +12,9 @@ use Rattle.import_run.proofs.HandLemmas.{lacks_still}
 use Rattle.import_run.specs.declared.text_group.TextGroup.{TextGroup}
 use Rattle.import_run.proofs.LabelLemmas.{progress_as}
 use Rattle.import_run.proofs.NextLemmas.{lacking, lacks_none, lacks_one, no_batch, one_batch}
+use Rattle.ingest_desk.specs.Drawn.{DrawsFor}
+use Rattle.import_run.specs.Draws.{DrawsAsAnswered, most_untold_by}
+use Rattle.import_run.proofs.DrawLemmas.{draws-few, draws-lacking, draws-receipt, draws-same, few-one, stopped-draws}
 use Rattle.import_run.proofs.groups.OpenImport.close.Goals as goal
 
 pub returns-in_err-reserve-clause-lacks : goal.returns-in_err-reserve-clause-lacks
@@ -133,3 +136,70 @@ returns-clause-stops g c = λ start closed hand ascend holds s.
       settled = subst (λ a. Settles c.args.self.now.group.label known hand (record { answer = a; refused = d.field-0.refused }) told') answer settled;
     })
     (omega (arith, few, long, c.in_ok-reserve-2.ensures.ok, c.len.ensures, c.len-2.ensures, c.replace-group.result.texts.ok.0, c.replace-group.result.unread.ok.0))
+
+-- ---- what is drawn
+
+pub returns-in_err-reserve-clause-drawn : goal.returns-in_err-reserve-clause-drawn
+returns-in_err-reserve-clause-drawn g c = λ before h.
+    draws-same (most_untold_by c.from_residual.result) c.args.self.now.receipts.items _ before _ c.reserve.ensures.items h
+
+pub returns-in_err-reserve-2-clause-drawn : goal.returns-in_err-reserve-2-clause-drawn
+returns-in_err-reserve-2-clause-drawn g c = λ before h.
+    draws-same (most_untold_by c.from_residual-in_err-reserve-2.result) c.args.self.now.receipts.items _ before _ c.reserve.ensures.items h
+
+pub returns-in_err-answer-clause-drawn : goal.returns-in_err-answer-clause-drawn
+returns-in_err-answer-clause-drawn g c = λ before h.
+    let same = draws-same 0 c.args.self.now.receipts.items _ before _ c.reserve.ensures.items h in
+    draws-lacking c.from_residual-in_err-answer.result _ before _ c.from_residual-in_err-answer.ensures.1
+    (draws-few 1 _ before _ _ same c.in_err-answer.ensures.drawn_few)
+
+pub returns-in_err-extend_from_slice-clause-drawn : goal.returns-in_err-extend_from_slice-clause-drawn
+returns-in_err-extend_from_slice-clause-drawn g c = λ before h.
+    let old = g.C.Committer.drawing c.args.committer.now in
+    let new = g.C.Committer.drawing c.settle.new.committer in
+    let drawn = subst (λ a. DrawsAsAnswered a old new) c.in_default.is c.in_ok-answer.ensures.drawn in
+    draws-same (most_untold_by c.from_residual-in_err-extend_from_slice.result) c.args.self.now.receipts.items _ before _ c.reserve.ensures.items
+    (subst (λ d. DrawsFor 0 c.args.self.now.receipts.items before d) (sym drawn) h)
+
+pub returns-in_default-clause-drawn : goal.returns-in_default-clause-drawn
+returns-in_default-clause-drawn g c = λ before h.
+    let old = g.C.Committer.drawing c.args.committer.now in
+    let new = g.C.Committer.drawing c.settle.new.committer in
+    let drawn = subst (λ a. DrawsAsAnswered a old new) c.in_default.is c.in_ok-answer.ensures.drawn in
+    draws-same 0 c.args.self.now.receipts.items _ before _ c.reserve.ensures.items
+    (subst (λ d. DrawsFor 0 c.args.self.now.receipts.items before d) (sym drawn) h)
+
+pub returns-then-batches-last_batches-clause-drawn : goal.returns-then-batches-last_batches-clause-drawn
+returns-then-batches-last_batches-clause-drawn g c = λ before h.
+    let old = g.C.Committer.drawing c.args.committer.now in
+    let new = g.C.Committer.drawing c.settle.new.committer in
+    let drawn = subst (λ a. DrawsAsAnswered a old new) (c.in-Some.is ∙ ap Some c.in-Ok.is) c.in_ok-answer.ensures.drawn in
+    let same = draws-same 0 c.args.self.now.receipts.items _ before _ c.reserve.ensures.items h in
+    draws-few 1 _ before _ _ same (few-one (c.in-Ok.receipt.batches - 1) _ _ drawn)
+
+pub returns-in_err-extend_from_slice-in-Ok-clause-drawn : goal.returns-in_err-extend_from_slice-in-Ok-clause-drawn
+returns-in_err-extend_from_slice-in-Ok-clause-drawn g c = λ before h.
+    let old = g.C.Committer.drawing c.args.committer.now in
+    let new = g.C.Committer.drawing c.settle.new.committer in
+    let drawn = subst (λ a. DrawsAsAnswered a old new) (c.in-Some.is ∙ ap Some c.in-Ok.is) c.in_ok-answer.ensures.drawn in
+    let same = draws-same 0 c.args.self.now.receipts.items _ before _ c.reserve.ensures.items h in
+    draws-lacking c.from_residual-in_err-extend_from_slice-in-Ok.result _ before _ c.from_residual-in_err-extend_from_slice-in-Ok.ensures.1
+    (draws-few 1 _ before _ _ same (few-one (c.in-Ok.receipt.batches - 1) _ _ drawn))
+
+pub returns-in-Ok-clause-drawn : goal.returns-in-Ok-clause-drawn
+returns-in-Ok-clause-drawn g c = λ before h.
+    let old = g.C.Committer.drawing c.args.committer.now in
+    let new = g.C.Committer.drawing c.settle.new.committer in
+    let drawn = subst (λ a. DrawsAsAnswered a old new) (c.in-Some.is ∙ ap Some c.in-Ok.is) c.in_ok-answer.ensures.drawn in
+    let receipts = extended c.push_reserved.new.self.items c.reserve.new.self.items (c.in-Ok.receipt ∷ []) c.args.self.now.receipts.items (c.in-Ok.receipt ∷ []) c.push_reserved.ensures.items c.reserve.ensures.items refl in
+    draws-same 0 _ _ before _ receipts (draws-receipt c.args.self.now.receipts.items c.in-Ok.receipt before _ _ h drawn)
+
+pub returns-clause-drawn : goal.returns-clause-drawn
+returns-clause-drawn g c = λ before h.
+    let answer = c.in-Some.is ∙ ap Some c.in-Err.is in
+    let decided = subst (λ a. AnswerDecided a) answer c.in_ok-answer.ensures.decided in
+    let old = g.C.Committer.drawing c.args.committer.now in
+    let new = g.C.Committer.drawing c.settle.new.committer in
+    let drawn = subst (λ a. DrawsAsAnswered a old new) answer c.in_ok-answer.ensures.drawn in
+    draws-same 0 c.args.self.now.receipts.items _ before _ c.reserve.ensures.items
+    (subst (λ d. DrawsFor 0 c.args.self.now.receipts.items before d) (sym (stopped-draws c.in-Err.fault _ _ decided drawn)) h)

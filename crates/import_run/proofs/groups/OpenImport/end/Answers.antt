@@ -11,6 +11,7 @@ use Rattle.import_run.proofs.ComeLemmas.{comes_whole, lacking_at_end}
 use Rattle.import_run.proofs.CutLemmas.{whole_cuts}
 use Rattle.import_run.proofs.PlaceLemmas.{ascend_of_stream}
 use Rattle.import_run.proofs.ShortLemmas.{short_first}
+use Rattle.import_run.proofs.DrawLemmas.{draws-same, draws-told}
 use Rattle.import_run.proofs.groups.OpenImport.end.Goals as goal
 
 pub finish-requires-clause-short : goal.finish-requires-clause-short
@@ -69,3 +70,15 @@ returns-in-Err-OutOfMemory-clause-beside g c = λ start stream left at_end below
     quietly_beside_as c.finish.ensures.label
     (lacking_at_end_beside stream left c.report-in-Err-OutOfMemory.result c.finish.new.self c.report-in-Err-OutOfMemory.ensures.receipts c.report-in-Err-OutOfMemory.ensures.clashes below c.report-in-Err-OutOfMemory.ensures.refused start told c.report-in-Err-OutOfMemory.ensures.end at_end
     (subst (λ (l : List Cut). LacksAtEnd start l c.finish.new.self told) all lacks))
+
+pub returns-in-Ok-clause-drawn : goal.returns-in-Ok-clause-drawn
+returns-in-Ok-clause-drawn g c = λ before h. draws-same _ _ _ before _ c.report.ensures.receipts (c.in-Ok.ensures.drawn before h)
+
+pub returns-in-Err-Fault-clause-drawn : goal.returns-in-Err-Fault-clause-drawn
+returns-in-Err-Fault-clause-drawn g c = λ before h.
+    c.stopped.ensures.drawn before _ ((rw c.in-Err-Fault.field-0-is at c.in-Err-Fault.ensures.drawn) before h)
+
+pub returns-in-Err-OutOfMemory-clause-drawn : goal.returns-in-Err-OutOfMemory-clause-drawn
+returns-in-Err-OutOfMemory-clause-drawn g c = λ before h.
+    draws-told c.report-in-Err-OutOfMemory.result _ before _ c.report-in-Err-OutOfMemory.ensures.end c.report-in-Err-OutOfMemory.ensures.receipts
+    ((rw c.in-Err-OutOfMemory.field-0-is at c.in-Err-OutOfMemory.ensures.drawn) before h)

@@ -8,6 +8,7 @@ use Rattle.import_run.proofs.CutLemmas.{cut_ascends, cut_bytes, cut_whole, lacks
 use Rattle.import_run.proofs.NextLemmas.{lacking}
 use Rattle.import_run.proofs.ShortLemmas.{short_first}
 use Rattle.import_run.proofs.TakingLemmas.{lacks_now, where_lacking, where_stopped}
+use Rattle.import_run.proofs.DrawLemmas.{draws-within}
 use Rattle.import_run.proofs.groups.OpenImport.feed.Goals as goal
 
 pub feeding-init : goal.feeding-init
@@ -18,6 +19,7 @@ feeding-init g c = record {
   label = refl;
   cut = λ start past so_far. cut_bytes start _ _ _ _ _ (sym (append-nil past)) so_far;
   since = g.met.C.Committer.since_then c.args.committer.now;
+  drawn = λ before h. h;
 }
 
 pub take-requires-clause-short : goal.take-requires-clause-short
@@ -44,6 +46,7 @@ feeding-preserved g c =
             so_far = c.in-Ok.ensures.taken start so_far.taken (cut_ascends _ (cuts_of_rest c.feed.new.self) _ cut) so_far.so_far;
           };
       since = g.met.C.Committer.since_before c.args.committer.now c.feeding.committer c.take.new.committer before.since c.take.ensures.since;
+      drawn = λ first h. c.in-Ok.ensures.drawn first (before.drawn first h);
     }
 
 pub returns-clause-cut : goal.returns-clause-cut
@@ -88,3 +91,12 @@ returns-in_err-fed-clause-since g c = c.feeding.invariant.since
 
 pub returns-in-Err-clause-since : goal.returns-in-Err-clause-since
 returns-in-Err-clause-since g c = g.met.C.Committer.since_before c.args.committer.now c.feeding.committer c.take.new.committer c.feeding.invariant.since c.take.ensures.since
+
+pub returns-clause-drawn : goal.returns-clause-drawn
+returns-clause-drawn g c = c.feeding.invariant.drawn
+
+pub returns-in_err-fed-clause-drawn : goal.returns-in_err-fed-clause-drawn
+returns-in_err-fed-clause-drawn g c = λ before h. draws-within 0 _ _ before _ (omega arith) (c.feeding.invariant.drawn before h)
+
+pub returns-in-Err-clause-drawn : goal.returns-in-Err-clause-drawn
+returns-in-Err-clause-drawn g c = λ before h. c.in-Err.ensures.drawn before (c.feeding.invariant.drawn before h)

@@ -28,3 +28,9 @@ returns-in-Err-clause-stops g c = where_stopped c.in-Err.stop _ _ (λ stopped en
 pub returns-in-Err-clause-lacks : goal.returns-in-Err-clause-lacks
 returns-in-Err-clause-lacks g c = where_lacking c.in-Err.stop _ _ (λ lacks start taken ascend so_far.
     lacks_at_last start (taken ++ cuts_in c.args.cut) c.take.new.self (g.C.Committer.told c.take.new.committer) (lacks start taken ascend so_far)) c.in-Err.ensures.lacks
+
+pub returns-in-Ok-clause-drawn : goal.returns-in-Ok-clause-drawn
+returns-in-Ok-clause-drawn g c = λ before h. c.close.ensures.drawn before (c.in-Ok.ensures.drawn before h)
+
+pub returns-in-Err-clause-drawn : goal.returns-in-Err-clause-drawn
+returns-in-Err-clause-drawn g c = λ before h. c.in-Err.ensures.drawn before h

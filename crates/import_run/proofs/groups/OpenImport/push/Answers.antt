@@ -6,6 +6,7 @@ use Rattle.import_run.specs.Grouping.{Ascend}
 use Rattle.import_run.specs.Taking.{TakenSoFar}
 use Rattle.import_run.proofs.NextLemmas.{lacking}
 use Rattle.import_run.proofs.TakingLemmas.{lacking_on, lacks_closed, lacks_open, on_ok_both, stopped_on, stops_closed, taken_closed}
+use Rattle.import_run.proofs.DrawLemmas.{draws-within}
 use Rattle.import_run.proofs.groups.OpenImport.push.Goals as goal
 
 pub returns-in_err-push-clause-lacks : goal.returns-in_err-push-clause-lacks
@@ -29,3 +30,9 @@ pub returns-clause-lacks : goal.returns-clause-lacks
 returns-clause-lacks g c = lacking_on c.close.result _ _ (λ lacks start taken.
     lacks_closed start taken _ c.args.self.now _ (g.C.Committer.told c.args.committer.now) c.in_ok-push.ensures.group c.push.ensures.label refl refl refl c.close.new.self (g.C.Committer.told c.close.new.committer)
     c.requires.ready.few (omega arith) lacks) c.close.ensures.lacks
+
+pub returns-in_err-push-clause-drawn : goal.returns-in_err-push-clause-drawn
+returns-in_err-push-clause-drawn g c = λ before h. draws-within 0 _ _ before _ (omega arith) h
+
+pub returns-clause-drawn : goal.returns-clause-drawn
+returns-clause-drawn g c = λ before h. c.close.ensures.drawn before h

@@ -3,6 +3,7 @@ use Rattle.explorer_model.specs.declared.fault.Refusal.{Refusal}
 use Rattle.explorer_model.specs.Cuts.{cuts}
 use Rattle.import_run.proofs.ComeBesideLemmas.{stopped_at_end_beside, stopped_within_beside}
 use Rattle.import_run.proofs.ComeLemmas.{stopped_at_end, stopped_within}
+use Rattle.import_run.proofs.DrawLemmas.{draws-same}
 use Rattle.import_run.proofs.groups.OpenImport.stopped.Goals as goal
 use Rattle.std.proofs.Common.{refl}
 
@@ -41,3 +42,9 @@ returns-in-Err-clause-beside_within g c = λ start stream left told below stops.
 pub returns-in-Err-clause-beside_at_end : goal.returns-in-Err-clause-beside_at_end
 returns-in-Err-clause-beside_at_end g c = λ start stream left told at_end below stops.
     absurd (omega (arith, stops.behind.room, c.in-Err.ensures.full, ap length c.as_slice.ensures.value))
+
+pub returns-in-Ok-clause-drawn : goal.returns-in-Ok-clause-drawn
+returns-in-Ok-clause-drawn g c = λ before after h. draws-same _ c.args.self.receipts.items _ before after c.report.ensures.receipts h
+
+pub returns-in-Err-clause-drawn : goal.returns-in-Err-clause-drawn
+returns-in-Err-clause-drawn g c = λ before after h. draws-same _ c.args.self.receipts.items _ before after c.report-in-Err.ensures.receipts h

@@ -1,7 +1,11 @@
+use Rattle.std.proofs.Common.{rules, sym}
 use Rattle.explorer_model.specs.Imports.{groups}
 use Rattle.explorer_model.specs.Cuts.{cuts}
 use Rattle.explorer_model.specs.Labels.{no_label}
 use Rattle.import_run.proofs.BodyLemmas.{imports_body}
+use Rattle.ingest_desk.specs.Drawn.{DrawsFor, most_untold}
+use Rattle.ingest_desk.specs.Importers.{ending_of}
+use Rattle.import_run.proofs.FollowLemmas.{tied}
 use Rattle.import_run.proofs.ComeBesideLemmas.{ends_in_memory, few_games, marked_so}
 use Rattle.import_run.proofs.handles.OwnIngestImporter.import.Goals as goal
 
@@ -24,10 +28,17 @@ with_call-requires g c = few_games c.args.body.now c.import_bytes-report.result 
 
 pub returns-clause-alone : goal.returns-clause-alone
 returns-clause-alone g c =
-    let since = c.import_bytes-report.ensures.since.1.since in
+    let since = c.import_bytes-report.ensures.since.2.since in
     imports_body g.D.Disk.disk g.D.Disk.left_since c.args.self.now.ingest c.import_bytes-report.new.committer.ingest.now since c.args.body.now c.import_bytes-report.result
     c.batches-before.ensures.sound c.batches-before.ensures.keeps c.batches-after.ensures.sound c.batches-after.ensures.keeps c.import_bytes-report.ensures.told
     c.import_bytes-report.ensures.beside
 
 pub returns-clause-follows : goal.returns-clause-follows
-returns-clause-follows g c = c.import_bytes-report.ensures.since.1.keeps_up
+returns-clause-follows g c = c.import_bytes-report.ensures.since.2.keeps_up
+
+pub returns-clause-drawn : goal.returns-clause-drawn
+returns-clause-drawn g c =
+    let r = c.import_bytes-report in
+    let mid = r.new.committer.drawer.now in
+    let name = sym r.ensures.since.1 in
+    tied (λ after. DrawsFor (most_untold (ending_of r.result.end)) r.result.receipts.items c.args.self.now.drawer after) mid _ (search rules) r.ensures.drawn

@@ -154,7 +154,7 @@ invariant_of-self-2 g c =
     let batches = ap (λ (s : CountedSpan). s.span.batches) c.deref.ensures ∙ made_of.batches in
     let batch = first_is _ tally.batch _ batches c.batch_of-batch.ensures in
     let all : journal_by c.put.new.self ≡ j ++ tally.batch ∷ [] =
-    made index c.put.new.self (AddOf (arc_value shared)) c.put.result none c.put.ensures
+    made index c.put.new.self (AddOf (arc_value shared)) c.put.result none c.put.ensures.makes
     ∙ ap (λ bs. j ++ bs) made_of.batches in
     let knows = register_same j s.inside.register c.reserve.new.self s.invariant.knows c.reserve.ensures.same in
     let R : List Batch → Type 0 = λ l. IsRegisterOf l c.enter.new.self in
@@ -187,7 +187,7 @@ returns-clause-kept g c =
     let batches = ap (λ (s : CountedSpan). s.span.batches) c.deref.ensures ∙ made_of.batches in
     let batch = first_is _ tally.batch _ batches c.batch_of-batch.ensures in
     let all : journal_by c.put.new.self ≡ j ++ tally.batch ∷ [] =
-    made index c.put.new.self (AddOf (arc_value c.in-Ok.segment)) c.put.result none c.put.ensures
+    made index c.put.new.self (AddOf (arc_value c.in-Ok.segment)) c.put.result none c.put.ensures.makes
     ∙ ap (λ bs. j ++ bs) made_of.batches in
     let I : List Batch → Type 0 = λ l. EachImage d.disk d.left_since c.store.new.self.disk (HasJournal l) in
     let stored = c.in_default-store.ensures.stored j is in
@@ -215,4 +215,12 @@ returns-clause-receipt g c =
             games = ap length c.classes-games.ensures ∙ long tally counted;
           }))
       | in-Err-put w ↦ rw w.result-is tt
+    ]
+
+pub returns-clause-drawn : goal.returns-clause-drawn
+returns-clause-drawn g c =
+    let s = c.self in
+    elim c.match-put.branch [
+      | in-Ok-put w ↦ rw w.result-is (rw (← s.view_is) c.put.ensures.drawn)
+      | in-Err-put w ↦ rw w.result-is (rw (← s.view_is) c.put.ensures.drawn)
     ]
