@@ -265,18 +265,6 @@ fn named_talk(alloc: Global) -> Result<Talk, AllocError> {
     Ok(talk)
 }
 
-#[test]
-fn answers_have_the_openings_of_the_book(rt: HostRuntime) -> Result<(), Fail> {
-    let alloc: Global = rt.alloc();
-    let Ok(book) = Book::read(alloc, b"B00\tKing's Pawn Game\t1. e4") else {
-        return Err(Fail::from("no book"));
-    };
-    let talks = vec![in alloc; named_talk(alloc)?]?;
-    let unnamed = new_store(&rt, alloc, Vec::new(alloc))?;
-    assert!(rt; replies_over_a_store::<Brand, _>(&rt, alloc, unnamed, talks.as_slice(), &book)?);
-    Ok(())
-}
-
 // ---- what is kept
 
 /// Imports a body, which is stored whole.
