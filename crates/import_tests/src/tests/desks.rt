@@ -15,7 +15,17 @@ use std::marker::Brand;
 use std::process::Abort;
 use std::sync::{Mutex, MutexGuard, Wait};
 use std::test::Fail;
-use std::thread::Threads;
+use std::thread::{Threads, join};
+
+#[test]
+fn two_threads_store_common_games_once(rt: HostRuntime) -> Result<(), Fail> {
+    let alloc: Global = rt.alloc();
+    let unnamed = new_store(&rt, alloc, Vec::new(alloc))?;
+    let (one, two) = import_two::<Brand, _>(&rt, alloc, unnamed, (0, 900), (300, 900))?;
+    // Of 1,800 games 600 are in both streams: each is stored once, and refused once.
+    assert_eq!(rt; stored_and_repeated(&[one, two]), Some((1200, 600)));
+    Ok(())
+}
 
 /// How many games the reports tell as stored, and how many as stored before, where nothing else is
 /// told.
@@ -46,8 +56,49 @@ fn stored(told: &Told) -> u32 {
     games
 }
 
+/// Imports two streams from two threads, of games that are told by the number of the first one and by
+/// how many there are.
+fn import_two<J: Index + Send + Sync, R: Threads + Wait + Abort + Sync>(
+    rt: &R,
+    alloc: Global,
+    unnamed: Unnamed<MemDisk>,
+    first: (usize, usize),
+    second: (usize, usize),
+) -> Result<(Told, Told), Fail>
+    requires { unnamed.index.name ≡ J.name }
+{
+    let (ingest, _passes, mut rest) = named::<J, R>(rt, alloc, unnamed)?;
+    let mut mine = ingest.another(&mut rest);
+    let desk = Mutex::new(ingest);
+    let told = import_both(rt, alloc, &desk, (&mut rest, first), (&mut mine, second));
+    let drained = drain(rt, alloc, &MergeDesk::of(&desk), 2);
+    let _disk = desk.into_inner().into_disk(rt);
+    assert_eq!(rt; drained.end, DrainEnd::Idle);
+    Ok(told?)
+}
+
 /// A drawer, and the games of a stream.
 type Mine<'a, J> = (&'a mut Drawer<J>, (usize, usize));
+
+/// Both streams at once, each from a thread of its own.
+fn import_both<J: Index + Send + Sync, D: Disk + Send, R: Threads + Wait + Sync>(
+    rt: &R,
+    alloc: Global,
+    desk: &Desk<D, J>,
+    first: Mine<'_, J>,
+    second: Mine<'_, J>,
+) -> Result<(Told, Told), AllocError> {
+    let (one, two) = join(
+        rt,
+        || -> Result<Told, AllocError>
+            requires { IsSync R.row }
+        { import_one(rt, alloc, desk, first) },
+        || -> Result<Told, AllocError>
+            requires { IsSync R.row }
+        { import_one(rt, alloc, desk, second) },
+    );
+    Ok((one?, two?))
+}
 
 fn import_one<J: Index, D: Disk, R: Threads + Wait + Sync>(
     rt: &R,
