@@ -1,4 +1,5 @@
 """The measures: each takes the options and answers tables of figures of one run."""
+import collections
 import contextlib
 import http.client
 import json
@@ -36,6 +37,10 @@ INSTRUCTED, POSITIONS = 500, 1000
 NAMED_TARGETS = {"start": {}, "after 1. e4": {"play": "e2e4"}, "after 1. e4 c5": {"play": "e2e4,c7c5"}}
 # How often an answer that is kept is asked for under callgrind, and how many answers a reader keeps.
 KEPT_ROUNDS, KEPT_ANSWERS = 100, 128
+# The games of a batch.
+BATCH = 512
+# The most readers of a server.
+READERS = 64
 START = "rnbqkbnr/pppppppp/8/8/8/8/PPPPPPPP/RNBQKBNR w KQkq -"
 
 
@@ -464,6 +469,11 @@ def held_after(port, process, targets):
         if reply.getheader("Connection") == "close":
             connection.close()
     connection.close()
+    return held_by(process)
+
+
+def held_by(process):
+    """How many KB a process holds."""
     status = pathlib.Path(f"/proc/{process.pid}/status").read_text(encoding="utf-8")
     return int(re.search(r"VmRSS:\s+(\d+)", status)[1])
 
@@ -541,6 +551,83 @@ def openings(options):
     lines = book.read_bytes().count(b"\n")
     return [table(f"Reading a file of openings of {lines:,} lines", ["instructions", "KB more at the peak"], [read]),
             table(f"Instructions of a reply over {options.many:,} games", ["", "without a book", "by the book", "more"], rows)]
+
+
+def player_target(player, **others):
+    return "/player?" + urllib.parse.urlencode({"player": player, "color": "white", **others})
+
+
+def most_frequent(texts):
+    """The player who has White most often, without regard to case, and in how many of the games."""
+    names = [name.lower() for text in texts for name in re.findall(rb'(?m)^\[White "(.*)"\]', text)]
+    [(name, count)] = collections.Counter(names).most_common(1)
+    return name.decode(), count
+
+
+def post(port, texts):
+    connection = http.client.HTTPConnection("127.0.0.1", port)
+    connection.request("POST", "/import", b"".join(texts))
+    told = connection.getresponse().read()
+    connection.close()
+    if b'"stored":%d}' % len(texts) not in told:
+        raise Trouble(f"games that are posted are not stored: {told[:200]}")
+
+
+def player_instructions(store, texts, more):
+    """Instructions of requests for a player's games, without those of a malformed one."""
+    with counting(store) as (process, port):
+        def asked(player, number):
+            return instructions_of(process, port, [player_target(player, round=number)])
+
+        base = [instructions_of(process, port, ["/player?color=white"]) for _ in range(2)][1]
+        whole, nothing = (asked("nobody", number) - base for number in range(2))
+        yield ["the reader's first, of a player without games", "", f"{whole:,}", ""]
+        yield ["of a player without games, nothing new", "", f"{nothing:,}", ""]
+        post(port, more)
+        settle(process)
+        yield [f"the same, behind a batch of {len(more)} games", "", f"{asked('nobody', 2) - base:,}", ""]
+        name, count = most_frequent([*texts, *more])
+        got = asked(name, 3) - base
+        yield ["of the most frequent player", count, f"{got:,}", f"{got / count:,.0f}"]
+
+
+def players(options):
+    """A player's games: a reader's index, and requests, by valgrind."""
+    measuring.need("valgrind", "valgrind")
+    texts = measuring.first_texts(measuring.games(options.archive, options.most).read_bytes(), options.most)
+    texts, more = texts[:-BATCH], texts[-BATCH:]
+    pgn = measuring.work_folder() / "players.pgn"
+    pgn.write_bytes(b"".join(texts))
+    store = measuring.work_folder() / "players.store"
+    store.unlink(missing_ok=True)
+    for words in (["create", store], ["import", store, pgn]):
+        Ran([measuring.explorer(), *words])
+    rows = list(player_instructions(store, texts, more))
+    held = held_by_readers(store)
+    store.unlink()
+    pgn.unlink()
+    title = f"Instructions of a request for a player's games over {len(texts):,} games, without those of a malformed one"
+    return [table(title, ["", "games", "instructions", "for each game"], rows),
+            table(f"KB that a server with {READERS} readers holds, once each was asked for a player", ["before", "then"], [held])]
+
+
+def held_by_readers(store):
+    """How many KB a server holds, before and once each of its readers was asked for a player's games."""
+    port = measuring.free_port()
+    words = [measuring.explorer(), "serve", store, f"127.0.0.1:{port}", "--readers", READERS]
+    with measuring.running(words) as process:
+        settle(process)
+        before = held_after(port, process, [target()])
+        connections = [http.client.HTTPConnection("127.0.0.1", port) for _ in range(READERS)]
+        # All are asked at once, so that each connection has a reader of its own.
+        for connection in connections:
+            connection.request("GET", player_target("nobody"))
+        for connection in connections:
+            connection.getresponse().read()
+        then = held_by(process)
+        for connection in connections:
+            connection.close()
+    return [f"{before:,}", f"{then:,}"]
 
 
 def perft(options):
@@ -626,7 +713,7 @@ def lookup(options):
 MEASURES = {
     "count": count, "instructions": instructions, "shares": shares, "import": imports, "query": query, "tally": tally,
     "segments": segments, "steps": steps, "store": store, "lookup": lookup, "lookups": lookups, "replies": replies,
-    "kept": kept, "openings": openings,
+    "kept": kept, "openings": openings, "players": players,
     "perft": perft, "wire": wire, "gate": gate,
 }
 # Those that are taken by a script with a program of its own, that ask for positions, and that read a store.

@@ -116,7 +116,7 @@ def page(program, behaviour, version, date, proved):
     return lines + [
         ".SH FILES",
         ".TP", "/usr/share/doc/explorer/docs/BEHAVIOUR.md", "every grammar, format and text",
-        ".TP", "/usr/share/doc/explorer/docs/QUERIES.md", "ten requests with their answers",
+        ".TP", "/usr/share/doc/explorer/docs/QUERIES.md", "eleven requests with their answers",
         ".TP", "/usr/share/doc/explorer/docs/SERVICE.md", "the service explorer.service, and nginx in front of it",
         ".TP", "/usr/share/doc/explorer/PROVED", plain(proved),
     ]

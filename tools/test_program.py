@@ -1,13 +1,15 @@
 #!/usr/bin/env python3
 """Tests of the program over pipes, files and sockets, beside those of the crates over a host in memory: groups of texts, stores that
-answer as a count does, and batches that are listed, and merged beside answers."""
+answer as a count does, batches that are listed, and merged beside answers, and a player's games beside imports."""
 import http.client
 import pathlib
 import shutil
 import struct
 import subprocess
 import tempfile
+import threading
 import unittest
+import urllib.parse
 
 import support
 
@@ -161,6 +163,74 @@ class Stores(unittest.TestCase):
             server.wait()
             server.stdout.close()
             server.stderr.close()
+        return found
+
+
+# How many games each batch of the players' store has, how many batches are posted, and how many requests each of two peers makes.
+GAMES, BATCHES, REQUESTS = 16, 30, 500
+
+
+def found_of_player(batches, average):
+    """The bytes of an answer for a player who is in every game of so many batches, all of which began with 1. e4 and White won."""
+    count = GAMES * batches
+    move = played(count, "e4", "e2e4")
+    del move["averageRating"]
+    latest = [listed(number) for number in range(count - 1, max(count - 5, -1), -1)]
+    return support.compact({"black": 0, "draws": 0, "moves": [{"averageOpponentRating": average, **move}] if count else [],
+                            "opening": None, "recentGames": latest, "white": count})
+
+
+class Players(unittest.TestCase):
+    def test_games_are_told_beside_imports(self):
+        faults = []
+        with support.explorer(served=("--readers", "3", "--connections", "10")) as address:
+            def ask(player, color, average):
+                connection, before = http.client.HTTPConnection(address), 0
+                for number in range(REQUESTS):
+                    connection.request("GET", "/player?" + urllib.parse.urlencode({"player": player, "color": color, "round": number}))
+                    reply = connection.getresponse()
+                    body, batches = reply.read(), int(reply.getheader("X-Explorer-Batches"))
+                    if batches < before or body != found_of_player(batches, average):
+                        faults.append((player, before, batches, body))
+                    before = batches
+                connection.close()
+
+            def send():
+                connection = http.client.HTTPConnection(address)
+                for batch in range(BATCHES):
+                    games = (game(batch * GAMES + number, "1-0", "1. e4 1-0") for number in range(GAMES))
+                    connection.request("POST", "/import", b"".join(games))
+                    stored = connection.getresponse().read()
+                    if not stored.endswith(f'"stored":{GAMES}}}'.encode()):
+                        faults.append(stored)
+                connection.close()
+
+            threads = [threading.Thread(target=send), threading.Thread(target=ask, args=("ann", "white", 1400)),
+                       threading.Thread(target=ask, args=("BOB", "black", 1500))]
+            for thread in threads:
+                thread.start()
+            for thread in threads:
+                thread.join()
+            self.assertEqual(faults[:3], [])
+            for player, color, average in (("Ann", "white", 1400), ("Bob", "black", 1500)):
+                self.assertEqual(self.reply(address, player=player, color=color), (200, found_of_player(BATCHES, average)))
+            self.assertEqual(self.reply(address, player="Ann", color="black"), (200, found_of_player(0, 0)))
+
+    def test_names_may_be_long_and_not_empty(self):
+        refused = {name: (400, support.compact({"error": "malformed parameter", "parameter": name})) for name in ("player", "color")}
+        with support.explorer() as address:
+            self.assertEqual(self.reply(address, color="white"), refused["player"])
+            self.assertEqual(self.reply(address, player="", color="white"), refused["player"])
+            self.assertEqual(self.reply(address, player="Ann", color="White"), refused["color"])
+            self.assertEqual(self.reply(address, player="x" * 8000, color="white"), (200, found_of_player(0, 0)))
+            self.assertEqual(self.reply(address, player="x" * 65_000, color="white")[0], 431)
+
+    def reply(self, address, **asked):
+        connection = http.client.HTTPConnection(address)
+        connection.request("GET", "/player?" + urllib.parse.urlencode(asked))
+        reply = connection.getresponse()
+        found = reply.status, reply.read()
+        connection.close()
         return found
 
 

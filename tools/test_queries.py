@@ -12,7 +12,7 @@ INDENT = " " * 8
 
 def requests():
     """The commands of the document with the lines of their answers."""
-    chapter = DOCUMENT.read_text(encoding="utf-8").partition("\n## Ten requests\n")[2].partition("\n## ")[0]
+    chapter = DOCUMENT.read_text(encoding="utf-8").partition("\n## Eleven requests\n")[2].partition("\n## ")[0]
     found = []
     for line in chapter.splitlines():
         if line.startswith(INDENT + "$ "):
@@ -29,7 +29,7 @@ def without_breaks(text):
 class Requests(unittest.TestCase):
     def test_each_answer_stands_in_the_document(self):
         asked = requests()
-        self.assertEqual(len(asked), 10)
+        self.assertEqual(len(asked), 11)
         with support.explorer() as address:
             for command, answer in asked:
                 with self.subTest(command):

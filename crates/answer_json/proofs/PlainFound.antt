@@ -8,7 +8,6 @@ use Rattle.std.proofs.lemmas.Str.Ascii.{IsAscii-nil}
 use Rattle.explorer_model.specs.Best.{best, best_one, others, better, worse}
 use Rattle.explorer_model.specs.declared.answer.Found.{Found}
 use Rattle.explorer_model.specs.declared.answer.Listed.{Listed}
-use Rattle.explorer_model.specs.declared.answer.MoveLine.{MoveLine}
 use Rattle.explorer_model.specs.declared.archive.Batch.{Batch}
 use Rattle.explorer_model.specs.declared.archive.Classes.{Classes}
 use Rattle.explorer_model.specs.declared.archive.Game.{Game}
@@ -22,15 +21,18 @@ use Rattle.explorer_model.specs.declared.notation.CheckMark.{CheckMark}
 use Rattle.explorer_model.specs.declared.notation.CheckMark.TheVariants.{Quiet, Check, Mate}
 use Rattle.explorer_model.specs.declared.notation.Start.{Start}
 use Rattle.explorer_model.specs.declared.notation.Start.TheVariants as starts
+use Rattle.explorer_model.specs.declared.player.PlayerFound.{PlayerFound}
+use Rattle.explorer_model.specs.declared.player.PlayerQuery.{PlayerQuery}
 use Rattle.explorer_model.specs.declared.query.Query.{Query}
-use Rattle.explorer_model.specs.Counting.{NumberedGame, game_with_move, game_with_move_by, games_with_move, listed, the_only, is_same_move, passes}
+use Rattle.explorer_model.specs.Counting.{NumberedGame, game_of_move, game_with_move, game_with_move_by, games_with_move, listed, the_only, is_same_move, passes}
 use Rattle.explorer_model.specs.Finds.{IsLineOf, IsRecount, IsFound}
 use Rattle.explorer_model.specs.Letters.{letter_of, file_letter, rank_digit, square_text}
+use Rattle.explorer_model.specs.Players.{IsPlayerFound, IsPlayerLineOf, IsPlayerRecount, is_wanted}
 use Rattle.explorer_model.specs.San.{role_text, start_text, capture_text, promotion_text, castling_text, mark_text, named_text, captures, MoveText, SanText}
 use Rattle.explorer_model.specs.Visits.{GameAt, IsTextOf, IsGameAt, texts_of}
 use Rattle.explorer_model.proofs.Lists.{filter-have}
 use Rattle.explorer_model.proofs.SoundClasses.{game-sound}
-use Rattle.answer_json.specs.Plain.{HasPlainId, IsPlainGame, IsPlainLine, IsPlainFound}
+use Rattle.answer_json.specs.Plain.{HasPlainId, IsPlainGame, IsPlainLine, IsPlainFound, IsPlainPlayerFound, IsPlainPlayerLine}
 
 -- ---- SAN
 
@@ -158,6 +160,11 @@ games_with_move-plain wanted first (s ∷ games_at) each =
     cons-some (game_with_move wanted (first, s)) (filter_map (game_with_move wanted) (enumerate_from (first + 1) games_at))
     (game_with_move-plain (wanted s.classes) first s.classes s.visit each.0) (games_with_move-plain wanted (first + 1) games_at each.1)
 
+wanted-plain : (wanted : Classes → Bool) (games_at : List GameAt) → AllByRecursion IsPlainGameAt games_at
+    → AllByRecursion IsPlainNumberedGame (games_with_move wanted games_at)
+unfolding games_with_move
+wanted-plain wanted games_at plain = games_with_move-plain wanted 0 games_at plain
+
 -- ---- the best of plain sightings
 
 module _ {X : Type 0} (P : X → Type 0) (before : X → X → Bool) where
@@ -200,21 +207,20 @@ only-plain [] each = tt
 only-plain (s ∷ []) each = each.0
 only-plain (s ∷ t ∷ games_with_move_of) each = tt
 
-line-plain : (query : Query) (games_at : List GameAt) (m : Move) (line : MoveLine) → AllByRecursion IsPlainNumberedGame (games_with_move (passes query.filter) games_at)
-    → IsLineOf query games_at m line → IsPlainLine line
-line-plain query games_at m line plain is =
+-- the game of a move that is one game's is plain
+game-of-move-plain : (m : Move) (wanted : Classes → Bool) (games_at : List GameAt) (game : Option Listed)
+    → AllByRecursion IsPlainNumberedGame (games_with_move wanted games_at) → game ≡ game_of_move m wanted games_at → IsPlainGame game
+game-of-move-plain m wanted games_at game plain is =
     let G : Option Listed → Type 0 = λ game. IsPlainGame game in
-    record {
-      san = san-ascii query.at m line.san is.san;
-      game = subst G (sym is.game) (only-plain _ (filter-have IsPlainNumberedGame (λ s. is_same_move m s.next) (games_with_move (passes query.filter) games_at) plain));
-    }
+    subst G (sym is) (only-plain _ (filter-have IsPlainNumberedGame (λ s. is_same_move m s.next) (games_with_move wanted games_at) plain))
 
-lines-plain : (query : Query) (games_at : List GameAt) (moves : List Move) (lines : List MoveLine) → AllByRecursion IsPlainNumberedGame (games_with_move (passes query.filter) games_at)
-    → AllZip (IsLineOf query games_at) moves lines → AllByRecursion IsPlainLine lines
-lines-plain query games_at [] [] plain each = tt
-lines-plain query games_at [] (line ∷ lines) plain each = absurd each
-lines-plain query games_at (m ∷ moves) [] plain each = absurd each
-lines-plain query games_at (m ∷ moves) (line ∷ lines) plain each = (line-plain query games_at m line plain each.0, lines-plain query games_at moves lines plain each.1)
+-- lines that are plain each by what they are are plain
+lines-plain : {L : Type 0} (IsLine : Move → L → Type 0) (IsPlain : L → Type 0) → ((m : Move) (line : L) → IsLine m line → IsPlain line)
+    → (moves : List Move) (lines : List L) → AllZip IsLine moves lines → AllByRecursion IsPlain lines
+lines-plain IsLine IsPlain plain [] [] each = tt
+lines-plain IsLine IsPlain plain [] (line ∷ lines) each = absurd each
+lines-plain IsLine IsPlain plain (m ∷ moves) [] each = absurd each
+lines-plain IsLine IsPlain plain (m ∷ moves) (line ∷ lines) each = (plain m line each.0, lines-plain IsLine IsPlain plain moves lines each.1)
 
 games-plain : (before : NumberedGame → NumberedGame → Bool) (n : ℕ) (games_with_move_of : List NumberedGame) (games : List Listed) → AllByRecursion IsPlainNumberedGame games_with_move_of
     → games ≡ map listed (best before n games_with_move_of) → All HasPlainId games
@@ -223,15 +229,35 @@ games-plain before n games_with_move_of games plain is =
     subst A (sym is) (All-from_recursion _ _ (listed-plain (best before n games_with_move_of) (best-have IsPlainNumberedGame before n games_with_move_of plain)))
 
 recount-plain : (query : Query) (games_at : List GameAt) (found : Found) → AllByRecursion IsPlainGameAt games_at → IsRecount query games_at found → IsPlainFound found
-unfolding games_with_move
 recount-plain query games_at found plain is =
-    let games_with_move_of : AllByRecursion IsPlainNumberedGame (games_with_move (passes query.filter) games_at) = games_with_move-plain (passes query.filter) 0 games_at plain in
+    let wanted : Classes → Bool = passes query.filter in
+    let with_move : AllByRecursion IsPlainNumberedGame (games_with_move wanted games_at) = wanted-plain wanted games_at plain in
     record {
-      moves = All-from_recursion _ _ (lines-plain query games_at _ found.moves games_with_move_of is.moves);
-      top = games-plain _ query.top (games_with_move (passes query.filter) games_at) found.top games_with_move_of is.top;
-      recent = games-plain _ query.recent (games_with_move (passes query.filter) games_at) found.recent games_with_move_of is.recent;
+      moves = All-from_recursion _ _ (lines-plain (IsLineOf query games_at) IsPlainLine
+          (λ m line of. record { san = san-ascii query.at m line.san of.san; game = game-of-move-plain m wanted games_at line.game with_move of.game })
+          _ found.moves is.moves);
+      top = games-plain _ query.top (games_with_move wanted games_at) found.top with_move is.top;
+      recent = games-plain _ query.recent (games_with_move wanted games_at) found.recent with_move is.recent;
     }
 
 pub plain-found : (journal : List Batch) (query : Query) (found : Found) → IsFound journal query found → IsPlainFound found
 plain-found journal query found is =
     recount-plain query is.answer.games_at found (games_at-plain query.at (texts_of journal) is.games is.answer.games_at is.are_games is.answer.are_games_at) is.answer.recount
+
+-- ---- what is found of a player's games
+
+player-recount-plain : (query : PlayerQuery) (games_at : List GameAt) (found : PlayerFound) → AllByRecursion IsPlainGameAt games_at
+    → IsPlayerRecount query games_at found → IsPlainPlayerFound found
+player-recount-plain query games_at found plain is =
+    let wanted : Classes → Bool = is_wanted query in
+    let with_move : AllByRecursion IsPlainNumberedGame (games_with_move wanted games_at) = wanted-plain wanted games_at plain in
+    record {
+      moves = All-from_recursion _ _ (lines-plain (IsPlayerLineOf query games_at) IsPlainPlayerLine
+          (λ m line of. record { san = san-ascii query.query.at m line.san of.san; game = game-of-move-plain m wanted games_at line.game with_move of.game })
+          _ found.moves is.moves);
+      recent = games-plain _ query.query.recent (games_with_move wanted games_at) found.recent with_move is.recent;
+    }
+
+pub plain-player-found : (journal : List Batch) (query : PlayerQuery) (found : PlayerFound) → IsPlayerFound journal query found → IsPlainPlayerFound found
+plain-player-found journal query found is =
+    player-recount-plain query is.games_at found (games_at-plain query.query.at (texts_of journal) is.games is.games_at is.are_games is.are_games_at) is.recount

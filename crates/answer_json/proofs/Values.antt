@@ -17,8 +17,12 @@ use Rattle.explorer_model.specs.declared.archive.Outcome.TheVariants as outcomes
 use Rattle.explorer_model.specs.declared.fault.Refusal.{Refusal}
 use Rattle.explorer_model.specs.declared.opening.Naming.{Naming}
 use Rattle.explorer_model.specs.declared.opening.Opening.{Opening}
+use Rattle.explorer_model.specs.declared.player.PlayerFound.{PlayerFound}
+use Rattle.explorer_model.specs.declared.player.PlayerLine.{PlayerLine}
 use Rattle.explorer_model.specs.Answer.{items_by, array_by, winner_value, listed_value, game_value, opening_value, move_value, move_items, month_value, answer_value}
+use Rattle.explorer_model.specs.Players.{player_move_items, player_move_value, player_value}
 use Rattle.explorer_model.specs.Replies.{refusal_value}
+use Rattle.answer_json.specs.Items.{items_with}
 
 items_of-map : {A : Type 0} (value : A → Data) (xs : List A) → items_of (map value xs) ≡ items_by value xs
 items_of-map value [] = refl
@@ -43,49 +47,50 @@ all_valued value values xs n all are =
     view-Array values
     ∙ ap (λ (items : Items). array items) (ap items_of (are ∙ ap (λ ys. map value ys) (take_whole n xs all)) ∙ items_of-map value xs)
 
--- ---- moves with their openings
+-- ---- lines of moves with their openings
 
--- the value of each move with its opening; a move that the openings do not reach has none
-abbrev pub move_values : List MoveLine → List (Option Opening) → List Data
-move_values [] openings = []
-move_values (line ∷ lines) [] = move_value line None ∷ move_values lines []
-move_values (line ∷ lines) (opening ∷ openings) = move_value line opening ∷ move_values lines openings
+module _ {A : Type 0} (value : A → Option Opening → Data) where
+  -- the value of each line with its opening; a line that the openings do not reach has none
+  abbrev pub values_with : List A → List (Option Opening) → List Data
+  values_with [] openings = []
+  values_with (line ∷ lines) [] = value line None ∷ values_with lines []
+  values_with (line ∷ lines) (opening ∷ openings) = value line opening ∷ values_with lines openings
 
-items_of-moves : (lines : List MoveLine) (openings : List (Option Opening)) → items_of (move_values lines openings) ≡ move_items lines openings
-items_of-moves [] openings = refl
-items_of-moves (line ∷ lines) [] = ap (λ (items : Items). item (move_value line None) items) (items_of-moves lines [])
-items_of-moves (line ∷ lines) (opening ∷ openings) = ap (λ (items : Items). item (move_value line opening) items) (items_of-moves lines openings)
+  items_of-with : (lines : List A) (openings : List (Option Opening)) → items_of (values_with lines openings) ≡ items_with value lines openings
+  items_of-with [] openings = refl
+  items_of-with (line ∷ lines) [] = ap (λ (items : Items). item (value line None) items) (items_of-with lines [])
+  items_of-with (line ∷ lines) (opening ∷ openings) = ap (λ (items : Items). item (value line opening) items) (items_of-with lines openings)
 
-length-moves : (lines : List MoveLine) (openings : List (Option Opening)) → length (move_values lines openings) ≡ length lines
-length-moves [] openings = refl
-length-moves (line ∷ lines) [] = ap suc (length-moves lines [])
-length-moves (line ∷ lines) (opening ∷ openings) = ap suc (length-moves lines openings)
+  length-with : (lines : List A) (openings : List (Option Opening)) → length (values_with lines openings) ≡ length lines
+  length-with [] openings = refl
+  length-with (line ∷ lines) [] = ap suc (length-with lines [])
+  length-with (line ∷ lines) (opening ∷ openings) = ap suc (length-with lines openings)
 
-get_or-moves : (lines : List MoveLine) (openings : List (Option Opening)) (i : ℕ) (d : MoveLine) (e : Data) → i < length lines
-    → get_or (move_values lines openings) i e ≡ move_value (get_or lines i d) (get_or openings i None)
-get_or-moves [] openings i d e within = absurd (omega (arith, within))
-get_or-moves (line ∷ lines) [] zero d e within = refl
-get_or-moves (line ∷ lines) [] (suc i) d e within = get_or-moves lines [] i d e (omega (arith, within))
-get_or-moves (line ∷ lines) (opening ∷ openings) zero d e within = refl
-get_or-moves (line ∷ lines) (opening ∷ openings) (suc i) d e within = get_or-moves lines openings i d e (omega (arith, within))
+  get_or-with : (lines : List A) (openings : List (Option Opening)) (i : ℕ) (d : A) (e : Data) → i < length lines
+      → get_or (values_with lines openings) i e ≡ value (get_or lines i d) (get_or openings i None)
+  get_or-with [] openings i d e within = absurd (omega (arith, within))
+  get_or-with (line ∷ lines) [] zero d e within = refl
+  get_or-with (line ∷ lines) [] (suc i) d e within = get_or-with lines [] i d e (omega (arith, within))
+  get_or-with (line ∷ lines) (opening ∷ openings) zero d e within = refl
+  get_or-with (line ∷ lines) (opening ∷ openings) (suc i) d e within = get_or-with lines openings i d e (omega (arith, within))
 
--- one more of the moves has its value
-pub one_more_move : (values new : List Value) (one : Value) (lines : List MoveLine) (openings : List (Option Opening)) (i : ℕ) (d : MoveLine)
-    → map view values ≡ take i (move_values lines openings) → i < length lines
-    → view one ≡ move_value (get_or lines i d) (get_or openings i None) → new ≡ values ++ one ∷ [] → map view new ≡ take (i + 1) (move_values lines openings)
-one_more_move values new one lines openings i d before within is pushed =
-    let value : Data = move_value (get_or lines i d) (get_or openings i None) in
-    let inside : i < length (move_values lines openings) = rw (length-moves lines openings) within in
-    let more : take (i + 1) (move_values lines openings) ≡ take i (move_values lines openings) ++ get_or (move_values lines openings) i value ∷ [] =
-    take_more (move_values lines openings) i value inside in
-    rw (pushed, more, map-append view values (one ∷ []), before, is, get_or-moves lines openings i d value within) refl
+  -- one more of the lines has its value
+  pub one_more_with : (values new : List Value) (one : Value) (lines : List A) (openings : List (Option Opening)) (i : ℕ) (d : A)
+      → map view values ≡ take i (values_with lines openings) → i < length lines
+      → view one ≡ value (get_or lines i d) (get_or openings i None) → new ≡ values ++ one ∷ [] → map view new ≡ take (i + 1) (values_with lines openings)
+  one_more_with values new one lines openings i d before within is pushed =
+      let here : Data = value (get_or lines i d) (get_or openings i None) in
+      let inside : i < length (values_with lines openings) = rw (length-with lines openings) within in
+      let more : take (i + 1) (values_with lines openings) ≡ take i (values_with lines openings) ++ get_or (values_with lines openings) i here ∷ [] =
+      take_more (values_with lines openings) i here inside in
+      rw (pushed, more, map-append view values (one ∷ []), before, is, get_or-with lines openings i d here within) refl
 
--- all of the moves have their values
-pub all_moves_valued : (values : Vec Value Global) (lines : List MoveLine) (openings : List (Option Opening)) (n : ℕ) → length lines ≤ n
-    → map view values.items ≡ take n (move_values lines openings) → view (Array values) ≡ array (move_items lines openings)
-all_moves_valued values lines openings n all are =
-    let whole : take n (move_values lines openings) ≡ move_values lines openings = take_whole n (move_values lines openings) (rw (length-moves lines openings) all) in
-    view-Array values ∙ ap (λ (items : Items). array items) (ap items_of (are ∙ whole) ∙ items_of-moves lines openings)
+  -- all of the lines have their values
+  pub all_valued_with : (values : Vec Value Global) (lines : List A) (openings : List (Option Opening)) (n : ℕ) → length lines ≤ n
+      → map view values.items ≡ take n (values_with lines openings) → view (Array values) ≡ array (items_with value lines openings)
+  all_valued_with values lines openings n all are =
+      let whole : take n (values_with lines openings) ≡ values_with lines openings = take_whole n (values_with lines openings) (rw (length-with lines openings) all) in
+      view-Array values ∙ ap (λ (items : Items). array items) (ap items_of (are ∙ whole) ∙ items_of-with lines openings)
 
 -- ---- no value is a float
 
@@ -131,6 +136,18 @@ with_months found naming (Some months) =
 
 pub no_float-answer : (found : Found) (naming : Naming) → has_float (answer_value found naming) ≡ false
 no_float-answer found naming = with_months found naming found.history
+
+no_float-player_move : (line : PlayerLine) (opening : Option Opening) → has_float (player_move_value line opening) ≡ false
+no_float-player_move line opening = rw (no_float-game line.game, no_float-opening opening) refl
+
+no_float-player_moves : (lines : List PlayerLine) (openings : List (Option Opening)) → items_have_float (player_move_items lines openings) ≡ false
+no_float-player_moves [] openings = refl
+no_float-player_moves (line ∷ lines) [] = rw (no_float-player_move line None) (no_float-player_moves lines [])
+no_float-player_moves (line ∷ lines) (opening ∷ openings) = rw (no_float-player_move line opening) (no_float-player_moves lines openings)
+
+pub no_float-player : (found : PlayerFound) (naming : Naming) → has_float (player_value found naming) ≡ false
+no_float-player found naming =
+    rw (no_float-player_moves found.moves naming.moves, no_float-opening naming.whole, no_float_in listed_value no_float-listed found.recent) refl
 
 pub no_float-refusal : (refusal : Refusal) → has_float (refusal_value refusal) ≡ false
 no_float-refusal refusal = refl

@@ -5,6 +5,8 @@ use Rattle.std.specs.Str.{IsAscii}
 use Rattle.explorer_model.specs.declared.answer.Found.{Found}
 use Rattle.explorer_model.specs.declared.answer.Listed.{Listed}
 use Rattle.explorer_model.specs.declared.answer.MoveLine.{MoveLine}
+use Rattle.explorer_model.specs.declared.player.PlayerFound.{PlayerFound}
+use Rattle.explorer_model.specs.declared.player.PlayerLine.{PlayerLine}
 
 abbrev pub HasPlainId : Listed → Type 0
 HasPlainId game = IsAscii game.classes.id.bytes
@@ -20,4 +22,12 @@ pub record IsPlainLine (line : MoveLine) : Type 0 where
 pub record IsPlainFound (found : Found) : Type 0 where
   pub moves : All IsPlainLine found.moves
   pub top : All HasPlainId found.top
+  pub recent : All HasPlainId found.recent
+
+pub record IsPlainPlayerLine (line : PlayerLine) : Type 0 where
+  pub san : IsAscii line.san
+  pub game : IsPlainGame line.game
+
+pub record IsPlainPlayerFound (found : PlayerFound) : Type 0 where
+  pub moves : All IsPlainPlayerLine found.moves
   pub recent : All HasPlainId found.recent

@@ -3,16 +3,25 @@ ghost use Rattle.std.specs.Prelude.{◌≡◌, List, [], map};
 ghost use Rattle.explorer_model.specs.declared.answer.Found.{Found};
 ghost use Rattle.explorer_model.specs.declared.archive.Batch.{Batch};
 ghost use Rattle.explorer_model.specs.declared.opening.Naming.{Naming};
+ghost use Rattle.explorer_model.specs.declared.player.PlayerFound.{PlayerFound};
+ghost use Rattle.explorer_model.specs.declared.player.PlayerQuery.{PlayerQuery};
 ghost use Rattle.explorer_model.specs.declared.query.Query.{Query};
 ghost use Rattle.explorer_model.specs.Answer.{answer_body, named_body};
 ghost use Rattle.explorer_model.specs.Finds.{IsFound};
 ghost use Rattle.explorer_model.specs.Openings.{IsNaming};
-ghost use Rattle.answer_json.specs.Plain.{IsPlainFound};
+ghost use Rattle.explorer_model.specs.Players.{IsPlayerFound};
+ghost use Rattle.answer_json.specs.Plain.{IsPlainFound, IsPlainPlayerFound};
 
 /// What is found in a journal has a body: its SAN texts and the ids of its games are ASCII.
 pub fn what_is_found_is_plain()
     ensures { (journal : List Batch) (query : Query) (found : Found) → IsFound journal query found
         → IsPlainFound found }
+{}
+
+/// What is found of a player's games has a body too.
+pub fn what_a_player_has_is_plain()
+    ensures { (journal : List Batch) (query : PlayerQuery) (found : PlayerFound)
+        → IsPlayerFound journal query found → IsPlainPlayerFound found }
 {}
 
 /// By a book without a line an answer is written as where no opening is known.

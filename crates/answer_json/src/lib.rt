@@ -7,8 +7,10 @@ pub mod laws;
 mod line;
 mod opening;
 mod pieces;
+mod player;
 pub mod refusal;
 mod stored;
 mod texts;
 
+pub use player::player_body;
 pub use stored::stored_body;

@@ -15,7 +15,7 @@ use Rattle.published_index.specs.States.{watching}
 use Rattle.session.specs.Doors.{AreServed}
 use Rattle.session.specs.Exchanges.{AreExchanges, Backend, Exchange, backend, moment_of}
 use Rattle.session.specs.Laws.{IsDrawnAmong, IsDrawnFor}
-use Rattle.session.specs.Replies.{Offer, by_book}
+use Rattle.session.specs.Replies.{Offer, with_players}
 use Rattle.session.proofs.DrawnLemmas.{drawn-among}
 use Rattle.session.proofs.ExchangeLemmas.{exchanges-grow}
 use Rattle.explorer.specs.Laws.{IsDrawnAtDoor, IsDrawnForFile, IsExchangedIn}
@@ -127,12 +127,12 @@ drawn_by_run : (book : List NamedPosition) (opening journal : List Batch) (door 
     → IsSeenIn book opening journal door run → Contains doors run → Contains run.drawing.drawn place
     → IsDrawnAtDoor book place opening journal doors
 drawn_by_run book opening journal door run doors place seen is_run c =
-    by (drawn_at (by_book book) (backend (watching opening) new_importer) seen.from.served.came seen.from.served.went seen.from.last place
+    by (drawn_at (with_players book) (backend (watching opening) new_importer) seen.from.served.came seen.from.served.went seen.from.last place
     seen.from.served.served (subst (λ (d : Drawing). Contains d.drawn place) seen.from.drawn c))
   where
     by : Contains [] place
-        ⊎ ((x : Exchange) × IsExchangedIn (by_book book) x (backend (watching opening) new_importer) seen.from.served.came seen.from.served.went
-        seen.from.last seen.from.served.served × IsDrawnFor (by_book book) place seen.from.last.pass.seen x)
+        ⊎ ((x : Exchange) × IsExchangedIn (with_players book) x (backend (watching opening) new_importer) seen.from.served.came seen.from.served.went
+        seen.from.last seen.from.served.served × IsDrawnFor (with_players book) place seen.from.last.pass.seen x)
         → IsDrawnAtDoor book place opening journal doors
     by (inl none) = absurd (none_in place none)
     by (inr some) = record {

@@ -33,7 +33,7 @@ use Rattle.import_run.specs.EndingBeside.{ImportsBeside, StandsBeside}
 use Rattle.session.specs.declared.doors.DoorEnd.{DoorEnd}
 use Rattle.session.specs.declared.doors.DoorEnd.TheVariants as door_ends
 use Rattle.session.specs.Doors.{AreServed, DoorServed, EndsDoor}
-use Rattle.session.specs.Replies.{Offer, by_book}
+use Rattle.session.specs.Replies.{Offer, with_players}
 use Rattle.session.specs.Exchanges.{Backend, backend}
 use Rattle.session.specs.Steps.{KnowsEnd}
 use Rattle.session.proofs.DrawnLemmas.{parts-stay}
@@ -312,20 +312,20 @@ module _ {F G J : Type 0} (book : List NamedPosition) (source : F → Stream) (d
       let lent : s.lent ≡ new_drawing = some-same s.lent new_drawing (sym s.lent_is ∙ is.2) in
       let before = λ (p : Watching). λ (d : Drawing). backend p (importer_with d) in
       let last = backend reader'.pass s.importer in
-      let served = subst (λ (d : Drawing). DoorServed (by_book book) handed (before (watching opening) d) (door reader'.door) last) lent
-      (subst (λ (p : Watching). DoorServed (by_book book) handed (before p s.lent) (door reader'.door) last) is.1
-      (subst (λ (d : Connections). DoorServed (by_book book) d (before reader.pass s.lent) (door reader'.door) last) is.0 s.served)) in
+      let served = subst (λ (d : Drawing). DoorServed (with_players book) handed (before (watching opening) d) (door reader'.door) last) lent
+      (subst (λ (p : Watching). DoorServed (with_players book) handed (before p s.lent) (door reader'.door) last) is.1
+      (subst (λ (d : Connections). DoorServed (with_players book) d (before reader.pass s.lent) (door reader'.door) last) is.0 s.served)) in
       let ended = subst (λ (d : Connections). EndsDoor reader'.end d (door reader'.door)) is.0 s.ends in
       let mine : drawings_of {F = F} {G = G} {J = J} (Reader reader') ≡ s.importer.drawing ∷ [] =
       ap drawings_by s.drawer in
       let part : s.importer.drawing.parts ≡ 1 =
-      parts-stay (by_book book) (backend (watching opening) new_importer) served.came served.went last served.served in
+      parts-stay (with_players book) (backend (watching opening) new_importer) served.came served.went last served.served in
       let from : IsServedFrom book opening handed run = record {
         last = last;
         served = served;
         ends = ended;
         drawn = refl;
-        begins = served-grows (by_book book) (backend (watching opening) new_importer) served.came served.went last served.served;
+        begins = served-grows (with_players book) (backend (watching opening) new_importer) served.came served.went last served.served;
       } in
       record {
         runs = run ∷ rest.runs;

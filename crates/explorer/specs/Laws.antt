@@ -21,7 +21,7 @@ use Rattle.import_run.specs.Ending.{EndsIn}
 use Rattle.session.specs.Doors.{AreServed}
 use Rattle.session.specs.Exchanges.{Backend, Exchange, backend}
 use Rattle.session.specs.Laws.{IsDrawnFor}
-use Rattle.session.specs.Replies.{Answer, Offer, by_book, route_of}
+use Rattle.session.specs.Replies.{Offer, Route, with_players, route_of}
 use Rattle.command_line.specs.Task.{Task, Count, Query, Serve}
 use Rattle.explorer.specs.declared.fault.Fault.{Fault}
 use Rattle.explorer.specs.Book.{LacksBook}
@@ -254,15 +254,15 @@ IsExchangedIn offer exchange before (link ∷ came) (back ∷ went) after served
     Contains served.2.exchanges exchange
     ⊎ IsExchangedIn offer exchange served.1 came went after served.3
 
--- A connection of a door asked for an answer to the query string, and was replied this body over so
--- many batches, with the openings of the book. What was seen at the door is a front of the journal.
-pub record IsAnswered (book : List NamedPosition) (text : List ℕ) (batches : ℕ) (body : List ℕ)
+-- A connection of a door asked for an answer, and was replied this body over so many batches, with
+-- the openings of the book. What was seen at the door is a front of the journal.
+pub record IsAnswered (book : List NamedPosition) (route : Route) (batches : ℕ) (body : List ℕ)
     (opening journal : List Batch) (door : Connections) (run : DoorRun) : Type 0 where
   pub seen : IsSeenIn book opening journal door run
   pub exchange : Exchange
-  pub among : IsExchangedIn (by_book book) exchange (backend (watching opening) new_importer)
+  pub among : IsExchangedIn (with_players book) exchange (backend (watching opening) new_importer)
       seen.from.served.came seen.from.served.went seen.from.last seen.from.served.served
-  pub asked : route_of (by_book book) exchange.asked ≡ Answer text
+  pub asked : route_of (with_players book) exchange.asked ≡ route
   pub replied : exchange.reply ≡ Found batches body
 
 -- a file's drawer drew the place: a batch of the file stands there, or one of which it has no receipt
@@ -277,6 +277,6 @@ pub record IsDrawnAtDoor (book : List NamedPosition) (place : ℕ) (opening jour
   pub is_run : Contains doors run
   pub seen : IsSeenIn book opening journal door run
   pub exchange : Exchange
-  pub among : IsExchangedIn (by_book book) exchange (backend (watching opening) new_importer)
+  pub among : IsExchangedIn (with_players book) exchange (backend (watching opening) new_importer)
       seen.from.served.came seen.from.served.went seen.from.last seen.from.served.served
-  pub drawn : IsDrawnFor (by_book book) place seen.from.last.pass.seen exchange
+  pub drawn : IsDrawnFor (with_players book) place seen.from.last.pass.seen exchange

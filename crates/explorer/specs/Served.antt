@@ -29,7 +29,7 @@ use Rattle.session.specs.declared.doors.DoorEnd.TheVariants as ends
 use Rattle.session.specs.Doors.{DoorServed, EndsDoor}
 use Rattle.session.specs.Exchanges.{Backend, backend}
 use Rattle.session.specs.Imports.{DrewPlacesOf, HasNoRoom, HasStoredBody, IsRepeatOf}
-use Rattle.session.specs.Replies.{by_book}
+use Rattle.session.specs.Replies.{with_players}
 use Rattle.explorer.specs.declared.fault.Fault.{Fault}
 use Rattle.explorer.specs.declared.fault.Fault.TheVariants.{CannotAccept, Full, OutOfMemory, ReadFault, TooMuchInput}
 use Rattle.explorer.specs.Report.{report_line}
@@ -179,7 +179,7 @@ new_importer = importer_with new_drawing
 pub record IsServedFrom (book : List NamedPosition) (opening : List Batch) (door : Connections)
     (run : DoorRun) : Type 0 where
   pub last : Backend
-  pub served : DoorServed (by_book book) door (backend (watching opening) new_importer)
+  pub served : DoorServed (with_players book) door (backend (watching opening) new_importer)
       run.connections last
   pub ends : EndsDoor run.end door run.connections
   pub drawn : run.drawing ≡ last.importer.drawing

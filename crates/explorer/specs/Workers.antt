@@ -17,7 +17,7 @@ use Rattle.ingest_desk.specs.Importers.{ImporterState, ending_of}
 use Rattle.import_run.specs.EndingBeside.{ImportsBeside}
 use Rattle.session.specs.Doors.{DoorServed, EndsDoor}
 use Rattle.session.specs.Exchanges.{backend}
-use Rattle.session.specs.Replies.{by_book}
+use Rattle.session.specs.Replies.{with_players}
 use Rattle.session.specs.Steps.{KnowsEnd, KnowsNotes, KnowsReceipts}
 use Rattle.explorer.specs.declared.fault.Fault.{Fault}
 use Rattle.explorer.specs.declared.fault.Fault.TheVariants.{OutOfMemory}
@@ -45,7 +45,7 @@ pub record ServesDoor {G J : Type 0} (book : List NamedPosition) (door : G → C
   pub lent : Drawing
   pub lent_is : before.drawer ≡ Some lent
   pub importer : ImporterState
-  pub served : DoorServed (by_book book) (door before.door)
+  pub served : DoorServed (with_players book) (door before.door)
       (backend before.pass (importer_with lent))
       (door after.door) (backend after.pass importer)
   pub drawer : after.drawer ≡ Some importer.drawing

@@ -13,10 +13,12 @@ ghost use Rattle.explorer_model.specs.declared.archive.Batch.{Batch};
 ghost use Rattle.explorer_model.specs.declared.archive.Game.{Game};
 ghost use Rattle.explorer_model.specs.declared.fault.Refusal.{Refusal};
 ghost use Rattle.explorer_model.specs.declared.query.Query.{Query};
+ghost use Rattle.explorer_model.specs.Players.{IsPlayerFoundIn};
 ghost use Rattle.host.specs.Hosts.{HostState};
 ghost use Rattle.manifest.specs.Manifest.{HasJournal};
 ghost use Rattle.import_run.specs.Ending.{IsCutOff, IsTooMuch};
 ghost use Rattle.import_run.specs.SoFar.{AreInGroups};
+ghost use Rattle.session.specs.Replies.{Answer, PlayerAnswer};
 ghost use Rattle.explorer.specs.Book.{HasBook, StopsAtBook};
 ghost use Rattle.explorer.specs.Count.{Answers};
 ghost use Rattle.explorer.specs.Create.{CreatesBy};
@@ -275,22 +277,34 @@ pub fn a_serving_is_determined()
     opening_is_determined();
 }
 
-/// What is answered to a query string at a door of `serve` is over the first batches of the journal
-/// of the disk given back, as many as the answer names. Over as many batches that stand in the
-/// journals of two runs, or of one, and by one book, it is one thing at whatever door, connection and
-/// moment.
+/// What is answered at a door of `serve` to a query string, also to one for a player's games, is over
+/// the first batches of the journal of the disk given back, as many as the answer names. Over as many
+/// batches that stand in the journals of two runs, or of one, and by one book, it is one thing at
+/// whatever door, connection and moment.
 pub fn answers_at_doors_agree()
     ensures fronts { (book : List NamedPosition) (text : List ℕ) (batches : ℕ) (body : List ℕ)
         (opening journal : List Batch) (door : Connections) (run : DoorRun)
-        → IsAnswered book text batches body opening journal door run
+        → IsAnswered book (Answer text) batches body opening journal door run
         → (batches ≤ length journal)
         × IsNamedFoundIn book text (take batches journal) batches body }
+    ensures player_fronts { (book : List NamedPosition) (text : List ℕ) (batches : ℕ)
+        (body : List ℕ) (opening journal : List Batch) (door : Connections) (run : DoorRun)
+        → IsAnswered book (PlayerAnswer text) batches body opening journal door run
+        → (batches ≤ length journal)
+        × IsPlayerFoundIn book text (take batches journal) batches body }
     ensures agree { (book : List NamedPosition) (text : List ℕ) (batches : ℕ)
         (body body' : List ℕ) (opening journal opening' journal' : List Batch)
         (door door' : Connections) (run run' : DoorRun)
         → take batches journal ≡ take batches journal'
-        → IsAnswered book text batches body opening journal door run
-        → IsAnswered book text batches body' opening' journal' door' run'
+        → IsAnswered book (Answer text) batches body opening journal door run
+        → IsAnswered book (Answer text) batches body' opening' journal' door' run'
+        → body ≡ body' }
+    ensures player_agree { (book : List NamedPosition) (text : List ℕ) (batches : ℕ)
+        (body body' : List ℕ) (opening journal opening' journal' : List Batch)
+        (door door' : Connections) (run run' : DoorRun)
+        → take batches journal ≡ take batches journal'
+        → IsAnswered book (PlayerAnswer text) batches body opening journal door run
+        → IsAnswered book (PlayerAnswer text) batches body' opening' journal' door' run'
         → body ≡ body' }
 {
     replies_are_determined();

@@ -15,6 +15,7 @@ use explorer_model::label::Label;
 use import_run::{DeskHandle, drain, import};
 use ingest_desk::{Desk, End, Ingest, MergeDesk, Report};
 use outside::{Door, FreeGate, Source};
+use player_index::PlayerIndex;
 use published_index::{Drawer, Index, Pass};
 use session::{DoorEnd, serve_door};
 use std::alloc::{AllocError, Global};
@@ -87,7 +88,16 @@ impl<F: Source, G: Door, J: Index> Worker<F, G, J> {
                     unreachable!()
                 };
                 let mut importer = DeskHandle::new(desk, mine, order.workers);
-                *end = serve_door(rt, alloc, door, pass, &mut importer, &order.book);
+                let mut players = PlayerIndex::new(alloc);
+                *end = serve_door(
+                    rt,
+                    alloc,
+                    door,
+                    pass,
+                    &mut importer,
+                    &order.book,
+                    &mut players,
+                );
                 *drawer = Some(importer.into_drawer());
             }
             Worker::Merger => {

@@ -1,3 +1,4 @@
+mod NewIndexes
 mod NoReports
 mod RouteExamples
 mod SendLemmas

@@ -5,6 +5,7 @@ mod doors;
 mod imports;
 mod kept;
 mod labels;
+mod players;
 
 ghost use Rattle.std.specs.Prelude.{◌≡◌, IfOk};
 ghost use Rattle.published_index.specs.Places.{HasAllParts};

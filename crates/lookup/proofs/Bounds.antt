@@ -5,7 +5,7 @@ use Rattle.std.proofs.lemmas.List.Elements.{All-nil, All-append, All-map, All-fi
 use Rattle.std.proofs.lemmas.List.Sums.{sum_by-cons, count_by-le-length}
 use Rattle.best_lists.specs.Ranking.{before_by_rating, before_by_month}
 use Rattle.best_lists.specs.declared.entry.Entry.{Entry}
-use Rattle.lookup.specs.Hits.{look_limit}
+use Rattle.row_sums.specs.Hits.{look_limit}
 use Rattle.explorer_model.specs.Visits.{texts_of}
 use Rattle.tally_rows.specs.declared.row_key.RowKey.{RowKey}
 use Rattle.tally_rows.specs.declared.row.Row.{Row}
@@ -19,8 +19,9 @@ use Rattle.tally_rows.proofs.AddsUp.{count-outcomes}
 use Rattle.tally_rows.proofs.Members.{IsIn, All-from_IsIn, All-IsIn}
 use Rattle.tally_rows.proofs.Sums.{sum_by-add}
 use Rattle.tally_rows.proofs.TrackBounds.{ratings-bound, track-ratings, best-fit}
-use Rattle.lookup.specs.Hits.{NumberedRow, rows_from, games_counted, games_of, IsSound, AreSound}
-use Rattle.lookup.specs.Sums.{sum_where}
+use Rattle.row_sums.specs.Hits.{NumberedRow, games_of, IsSound, AreSound}
+use Rattle.lookup.specs.Hits.{rows_from, games_counted}
+use Rattle.row_sums.specs.Sums.{sum_where}
 use Rattle.lookup.specs.Parts.{tracks_in}
 use Rattle.lookup.proofs.Bridges.{rows_in, tracks-length, sum-picked}
 use Rattle.lookup.proofs.Numbered.{numbered}

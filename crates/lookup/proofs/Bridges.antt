@@ -23,8 +23,9 @@ use Rattle.tally_rows.specs.Recount.{all_of, picks, picked_sum, picked_lists, co
 use Rattle.tally_rows.specs.Row.{row_key_of}
 use Rattle.tally_rows.specs.Tally.{IsTrackOf}
 use Rattle.lookup.specs.Parts.{Part, IsPart}
-use Rattle.lookup.specs.Hits.{NumberedRow, rows_from}
-use Rattle.lookup.specs.Sums.{sum_where, totals_where, ratings_where, entries_where, is_of_month, top_where, recent_where, moves_in, months_in, before_by_total, history_in}
+use Rattle.row_sums.specs.Hits.{NumberedRow}
+use Rattle.lookup.specs.Hits.{rows_from}
+use Rattle.row_sums.specs.Sums.{sum_where, totals_where, ratings_where, entries_where, is_of_month, top_where, recent_where, moves_in, months_in, before_by_total, history_in}
 use Rattle.lookup.specs.Parts.{tracks_in}
 use Rattle.lookup.proofs.Numbered.{numbered}
 

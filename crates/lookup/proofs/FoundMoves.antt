@@ -16,7 +16,7 @@ use Rattle.explorer_model.specs.Chess.{IsValid, Legal, Same}
 use Rattle.explorer_model.specs.Visits.{AreGamesOf, FirstVisit, GameAt, IsGameAt, IsTextOf, counted_stages, stage_limit, texts_of}
 use Rattle.explorer_model.proofs.LegalGames.{game-legal}
 use Rattle.lookup.proofs.Bridge.{Laws, visit-legal}
-use Rattle.lookup.proofs.RowNexts.{distinct-have}
+use Rattle.row_sums.proofs.RowNexts.{distinct-have}
 
 -- ---- what holds of each value of a list holds of its best
 

@@ -13,8 +13,8 @@ use Rattle.tally_rows.specs.Cover.{listing, only_entry}
 use Rattle.tally_rows.specs.Recount.{all_of}
 use Rattle.lookup.specs.Parts.{Part, IsPart}
 use Rattle.lookup.specs.FromRows.{IsRowsLine, rows_history, IsFromRows}
-use Rattle.lookup.specs.Hits.{NumberedRow}
-use Rattle.lookup.specs.Sums.{any_row, plays, totals_where, ratings_where, top_where, recent_where, moves_in, before_by_total, history_in}
+use Rattle.row_sums.specs.Hits.{NumberedRow}
+use Rattle.row_sums.specs.Sums.{any_row, plays, totals_where, ratings_where, top_where, recent_where, moves_in, before_by_total, history_in}
 use Rattle.lookup.specs.Parts.{tracks_in}
 use Rattle.lookup.proofs.Bridges.{rows_in, hits_of, totals-are, ratings-are, top-is, recent-is, first-moves-are, history-is}
 

@@ -18,9 +18,10 @@ use Rattle.lookup.specs.Parts.{Part, IsPart}
 use Rattle.tally_rows.specs.Track.{Track, visit, row_keys_at, has}
 use Rattle.tally_rows.proofs.Members.{IsIn, Found, All-IsIn, Found-from_Any, recursion-IsIn}
 use Rattle.tally_rows.proofs.Visits.{has-row_keys_at}
-use Rattle.lookup.specs.Hits.{NumberedRow, rows_from}
-use Rattle.lookup.specs.Sums.{moves_in}
-use Rattle.lookup.proofs.RowNexts.{moves-have}
+use Rattle.row_sums.specs.Hits.{NumberedRow}
+use Rattle.lookup.specs.Hits.{rows_from}
+use Rattle.row_sums.specs.Sums.{moves_in}
+use Rattle.row_sums.proofs.RowNexts.{moves-have}
 
 -- ---- a row's games play its move in its position
 

@@ -1,14 +1,13 @@
 -- The games of entries are found by their numbers.
-use Rattle.std.proofs.Common.{◌≡◌, ℕ, suc, ◌+◌, ◌-◌, ◌==◌, Bool, true, false, ◌&&◌, ◌||◌, cond, ◌⊎◌, inl, inr, List, [], ◌∷◌, ◌++◌, length, take, map, filter, Option, Some, None, is_some, option_map, Result, Ok, Err, IfOk, bytes_eq, refl, sym, ap, ◌∙◌, subst, arith}
+use Rattle.std.proofs.Common.{◌≡◌, ℕ, suc, ◌+◌, ◌-◌, ◌==◌, Bool, true, false, ◌&&◌, cond, inl, inr, List, [], ◌∷◌, ◌++◌, length, take, map, filter, Option, Some, None, is_some, option_map, Result, Ok, Err, IfOk, bytes_eq, refl, sym, ap, ◌∙◌, subst, arith}
 use Rattle.std.specs.Prelude.{option_and_then, filter_map}
-use Rattle.std.specs.List.{All, AllByRecursion, AllZip, Contains, find, flat_map, list_any, slice_get, enumerate_from, cons_option}
+use Rattle.std.specs.List.{All, AllByRecursion, AllZip, Contains, list_any, slice_get, enumerate_from, cons_option}
 use Rattle.std.proofs.lemmas.Bool.Decides.{nat_tests}
 use Rattle.std.proofs.lemmas.List.{map-append, length-map}
 use Rattle.std.proofs.lemmas.List.Elements.{All-take}
 use Rattle.std.proofs.lemmas.Slice.Eq.{bytes_eq-Decides}
 use Rattle.std.proofs.lemmas.Option.{slice_get-map, slice_get_within}
 use Rattle.best_lists.proofs.BestLaws.{All-best}
-use Rattle.best_lists.specs.Entry.{moved_by}
 use Rattle.best_lists.specs.Ranking.{before_by_rating, before_by_month}
 use Rattle.best_lists.specs.declared.entry.Entry.{Entry}
 use Rattle.explorer_model.specs.Best.{best}
@@ -17,11 +16,15 @@ use Rattle.explorer_model.specs.declared.answer.Listed.{Listed}
 use Rattle.explorer_model.specs.declared.archive.Classes.{Classes}
 use Rattle.explorer_model.specs.declared.archive.Game.{Game}
 use Rattle.explorer_model.specs.declared.chess.Move.{Move}
-use Rattle.lookup.specs.Hits.{NumberedRow, rows_from}
-use Rattle.lookup.specs.Listing.{lists_number, next_where, all_classes, listed_where, AreBestOf, IsListingOf}
-use Rattle.lookup.specs.Sums.{any_row, entries_where}
+use Rattle.row_sums.specs.Hits.{NumberedRow}
+use Rattle.lookup.specs.Hits.{rows_from}
+use Rattle.row_sums.specs.Listing.{classes_in, lists_number, next_where, listed_where, AreBestOf}
+use Rattle.segment_blocks.specs.Segment.{CountedSpan}
+use Rattle.lookup.specs.Listing.{all_classes, IsListingOf}
+use Rattle.row_sums.specs.Sums.{any_row, entries_where}
 use Rattle.lookup.specs.Parts.{tracks_in}
-use Rattle.lookup.proofs.Places.{get-left, get-right}
+use Rattle.row_sums.proofs.ListedRows.{IsFirst, best-stand, find-first, in-either, kept, stands-listed}
+use Rattle.row_sums.proofs.Places.{get-left, get-right}
 use Rattle.tally_rows.specs.declared.row_key.RowKey.{RowKey}
 use Rattle.tally_rows.specs.declared.row.Row.{Row}
 use Rattle.tally_rows.specs.Cover.{meets, listing, listed_by}
@@ -29,9 +32,9 @@ use Rattle.tally_rows.specs.Recount.{all_of, picks}
 use Rattle.tally_rows.specs.Row.{row_key_of}
 use Rattle.tally_rows.specs.Tallied.{entries, has_move, rating_sum, track_month, IsTally}
 use Rattle.tally_rows.specs.Tally.{IsTrackOf}
-use Rattle.lookup.specs.Parts.{Part, IsPart}
+use Rattle.lookup.specs.Parts.{Part, IsPart, segment_part}
 use Rattle.tally_rows.specs.Track.{Track, visit, row_keys_at, has}
-use Rattle.tally_rows.proofs.Members.{IsIn, All-from_IsIn, All-IsIn, IsIn-from_Contains, Contains-IsIn, Found-map}
+use Rattle.tally_rows.proofs.Members.{IsIn, All-from_IsIn, All-IsIn, IsIn-from_Contains, Found-map}
 use Rattle.tally_rows.proofs.Visits.{has-row_keys_at}
 
 -- ---- the game of an entry of a row
@@ -124,25 +127,6 @@ pub record Tells (list : Row → List Entry) (key : List ℕ) (first : ℕ) (tra
   pub is : entry.number + hit.first ≡ first + place
   pub played : IsPlayedAt key tracks place hit.row
 
-pub in-either : {X : Type 0} (xs ys : List X) (x : X) → IsIn x (xs ++ ys) → IsIn x xs ⊎ IsIn x ys
-in-either [] ys x m = inr m
-in-either (y ∷ xs) ys x (inl e) = inl (inl e)
-in-either (y ∷ xs) ys x (inr m) = elim (in-either xs ys x m) [ inl l ↦ inl (inr l) | inr r ↦ inr r ]
-
-record IsKept {X : Type 0} (p : X → Bool) (x : X) (xs : List X) : Type 0 where
-  is_in : IsIn x xs
-  passes : p x ≡ true
-
-kept-by : {X : Type 0} (p : X → Bool) (x y : X) (ys : List X) (b : Bool) → p y ≡ b → (IsIn x (filter p ys) → IsKept p x ys)
-    → IsIn x (cond b (y ∷ filter p ys) (filter p ys)) → IsKept p x (y ∷ ys)
-kept-by p x y ys true e later (inl is) = record { is_in = inl is; passes = ap p is ∙ e }
-kept-by p x y ys true e later (inr m) = (let k = later m in record { is_in = inr k.is_in; passes = k.passes })
-kept-by p x y ys false e later m = (let k = later m in record { is_in = inr k.is_in; passes = k.passes })
-
-kept : {X : Type 0} (p : X → Bool) (xs : List X) (x : X) → IsIn x (filter p xs) → IsKept p x xs
-kept p [] x m = absurd m
-kept p (y ∷ ys) x m = kept-by p x y ys (p y) refl (kept p ys x) m
-
 games-long : (games : List Game) (tracks : List Track) → AllZip IsTrackOf games tracks → map (λ game. game.classes) games ≡ map (λ track. track.classes) tracks
 games-long [] [] zip = refl
 games-long [] (t ∷ tracks) zip = absurd zip
@@ -220,59 +204,6 @@ classes-tracks (part ∷ parts) each =
     ∙ ap (λ l. map {A = Track} (λ track. track.classes) each.0.tally.tracks ++ l) (classes-tracks parts each.1)
     ∙ sym (map-append (λ track. track.classes) each.0.tally.tracks (all_of (tracks_in parts each.1)))
 
--- ---- the first row that lists a number
-
-record IsFirst {X : Type 0} (p : X → Bool) (xs : List X) : Type 0 where
-  value : X
-  is : find p xs ≡ Some value
-  is_in : IsIn value xs
-  passes : p value ≡ true
-
-first-by : {X : Type 0} (p : X → Bool) (y : X) (ys : List X) (b : Bool) → p y ≡ b → (list_any p ys ≡ true → IsFirst p ys)
-    → (b || list_any p ys) ≡ true → IsFirst p (y ∷ ys)
-first-by p y ys true e later some =
-    record { value = y; is = ap (λ b. cond b (Some y) (find p ys)) e; is_in = inl refl; passes = e }
-first-by p y ys false e later some =
-    let rest = later some in
-    record { value = rest.value; is = ap (λ b. cond b (Some y) (find p ys)) e ∙ rest.is; is_in = inr rest.is_in; passes = rest.passes }
-
-find-first : {X : Type 0} (p : X → Bool) (xs : List X) → list_any p xs ≡ true → IsFirst p xs
-find-first p [] some = cc
-find-first p (y ∷ ys) some = first-by p y ys (p y) refl (find-first p ys) some
-
-or-right : (a b : Bool) → b ≡ true → (a || b) ≡ true
-or-right true b e = refl
-or-right false b e = e
-
-any-IsIn : {X : Type 0} (p : X → Bool) (xs : List X) (x : X) → IsIn x xs → p x ≡ true → list_any p xs ≡ true
-any-IsIn p [] x m e = absurd m
-any-IsIn p (y ∷ ys) x (inl is) e = ap (λ b. b || list_any p ys) (ap p (sym is) ∙ e)
-any-IsIn p (y ∷ ys) x (inr m) e = or-right (p y) (list_any p ys) (any-IsIn p ys x m e)
-
--- an entry of the rows is listed by one of them
-moved-lists : (list : Row → List Entry) (hit : NumberedRow) (entry : Entry) → IsIn entry (map (moved_by hit.first) (list hit.row))
-    → lists_number list entry.number hit ≡ true
-moved-lists list hit entry m =
-    let found = Found-map (moved_by hit.first) (list hit.row) entry m in
-    let same : found.value.number + hit.first ≡ entry.number = ap (λ e. e.number) found.holds in
-    any-IsIn (λ e. e.number + hit.first == entry.number) (list hit.row) found.value found.is_in (grind (arith, nat_tests))
-
-part-lists : (list : Row → List Entry) (hit : NumberedRow) (entry : Entry) (b : Bool) → IsIn entry (cond b (map (moved_by hit.first) (list hit.row)) [])
-    → lists_number list entry.number hit ≡ true
-part-lists list hit entry true m = moved-lists list hit entry m
-part-lists list hit entry false m = absurd m
-
-stands-listed : (list : Row → List Entry) (test : Row → Bool) (hits : List NumberedRow) (entry : Entry) → IsIn entry (entries_where hits test list)
-    → list_any (lists_number list entry.number) hits ≡ true
-unfolding entries_where
-stands-listed list test [] entry m = absurd m
-stands-listed list test (hit ∷ hits) entry m =
-    elim (in-either (cond (test hit.row) (map (moved_by hit.first) (list hit.row)) [])
-    (flat_map (λ h. cond (test h.row) (map (moved_by h.first) (list h.row)) []) hits) entry m) [
-      | inl here ↦ ap (λ b. b || list_any (lists_number list entry.number) hits) (part-lists list hit entry (test hit.row) here)
-      | inr later ↦ or-right (lists_number list entry.number hit) (list_any (lists_number list entry.number) hits) (stands-listed list test hits entry later)
-    ]
-
 -- ---- the game of an entry is found
 
 both-found : (next : Option Move) (classes : Option Classes) (m : Move) (c : Classes) → next ≡ Some m → classes ≡ Some c
@@ -300,7 +231,7 @@ module _ (list : Row → List Entry) (lists : ListsGames list) (key : List ℕ) 
   next-is hits first m is = ap (option_and_then (λ (hit : NumberedRow). hit.row.next)) first.is ∙ is
 
   entry-found : (hits : List NumberedRow) → All (Contains (rows_from key pick 0 parts)) hits → list_any (lists_number list entry.number) hits ≡ true
-      → IsFoundAs key (all_of (tracks_in parts each)) entry (listed_where list parts hits entry.number)
+      → IsFoundAs key (all_of (tracks_in parts each)) entry (listed_where list (all_classes parts) hits entry.number)
   entry-found hits are listed =
       let tracks = all_of (tracks_in parts each) in
       let first = find-first (lists_number list entry.number) hits listed in
@@ -338,20 +269,27 @@ entries-found key tracks h (e ∷ es) each =
 
 -- what is looked up by the numbers of entries are their games
 pub listings : (list : Row → List Entry) → ListsGames list → (parts : List Part) (hits : List NumberedRow) (entries : List Entry) (listed : List Listed)
-    → listed ≡ filter_map (λ entry. listed_where list parts hits entry.number) entries
+    → listed ≡ filter_map (λ entry. listed_where list (all_classes parts) hits entry.number) entries
     → IsListingOf list parts hits entries listed
 listings list lists parts hits entries listed is = λ key wanted test each are.
-    ap (map Some) is ∙ entries-found key (all_of (tracks_in parts each)) (λ entry. listed_where list parts hits entry.number) entries
+    ap (map Some) is ∙ entries-found key (all_of (tracks_in parts each)) (λ entry. listed_where list (all_classes parts) hits entry.number) entries
     (λ entry m. entry-found list lists key (meets wanted any_next) parts each entry hits are.rows
     (stands-listed list test hits entry
     (IsIn-from_Contains (entries_where hits test list) entry
     (All-IsIn (λ e. Contains (entries_where hits test list) e) entries are.stand entry m))))
 
--- the best of entries stand among them
-pub best-stand : (before : Entry → Entry → Bool) (n : ℕ) (entries : List Entry) → All (λ entry. Contains entries entry) (best before n entries)
-best-stand before n entries =
-    All-best before (λ entry. Contains entries entry) n entries
-    (All-from_IsIn (λ entry. Contains entries entry) entries (λ entry m. Contains-IsIn entries entry m))
+-- what segments say of their games
+pub segment-classes : (segments : List CountedSpan) → classes_in segments ≡ all_classes (map segment_part segments)
+segment-classes [] = refl
+segment-classes (segment ∷ segments) = ap (λ l. segment.classes ++ l) (segment-classes segments)
+
+-- so is what is looked up in segments
+pub looked-up : (list : Row → List Entry) → ListsGames list → (segments : List CountedSpan) (hits : List NumberedRow) (entries : List Entry) (listed : List Listed)
+    → listed ≡ filter_map (λ entry. listed_where list (classes_in segments) hits entry.number) entries
+    → IsListingOf list (map segment_part segments) hits entries listed
+looked-up list lists segments hits entries listed is =
+    listings list lists (map segment_part segments) hits entries listed
+    (is ∙ ap (λ games. filter_map (λ entry. listed_where list games hits entry.number) entries) (segment-classes segments))
 
 -- the games of the first few of the best entries of rows, where they are looked up in rows that list them
 pub listed-among : (list : Row → List Entry) (before : Entry → Entry → Bool) (parts : List Part) (hits rows : List NumberedRow) (best_four : List Entry)

@@ -1,47 +1,28 @@
 -- What is put together of hits is an answer that is made from them.
 use Rattle.std.proofs.Common.{◌≡◌, ℕ, Bool, List, [], ◌∷◌, map, take, refl, subst}
 use Rattle.std.specs.List.{AllByRecursion, AllZip, Contains}
-use Rattle.std.proofs.lemmas.List.Elements.{All-from_recursion, recursion_from_All, All-take}
+use Rattle.std.proofs.lemmas.List.Elements.{All-take}
 use Rattle.best_lists.specs.declared.entry.Entry.{Entry}
 use Rattle.best_lists.specs.Ranking.{before_by_rating, before_by_month}
-use Rattle.best_lists.proofs.BestLaws.{All-best}
 use Rattle.explorer_model.specs.Best.{best}
 use Rattle.explorer_model.specs.declared.answer.Found.{Found}
 use Rattle.explorer_model.specs.declared.answer.MoveLine.{MoveLine}
 use Rattle.explorer_model.specs.declared.chess.Move.{Move}
 use Rattle.explorer_model.specs.declared.query.Query.{Query}
-use Rattle.lookup.specs.declared.moves.MoveSum.{MoveSum}
+use Rattle.row_sums.specs.declared.moves.MoveSum.{MoveSum}
 use Rattle.lookup.specs.FromRows.{IsFromRows}
-use Rattle.lookup.specs.Hits.{NumberedRow}
+use Rattle.row_sums.specs.Hits.{NumberedRow}
 use Rattle.lookup.specs.Lines.{IsLineMade, IsPutTogether}
 use Rattle.lookup.specs.Listing.{AreEntriesOf}
-use Rattle.lookup.specs.MoveSums.{sum_as}
-use Rattle.lookup.specs.Sums.{any_row, entries_where, moves_in, before_by_total}
+use Rattle.row_sums.specs.MoveSums.{sum_as}
+use Rattle.row_sums.specs.Sums.{any_row, entries_where, moves_in, before_by_total}
 use Rattle.lookup.specs.Parts.{tracks_in}
 use Rattle.lookup.proofs.Bridges.{rows_in, hits_of}
 use Rattle.lookup.proofs.FromHits.{IsHitsLine, IsFromHits, from-hits}
-use Rattle.lookup.proofs.Listings.{best-stand}
+use Rattle.row_sums.proofs.ListedRows.{best-stand}
 use Rattle.tally_rows.specs.declared.row.Row.{Row}
 use Rattle.lookup.specs.Parts.{Part, IsPart}
 use Rattle.tally_rows.proofs.Members.{All-from_IsIn, Contains-IsIn}
-
--- ---- the sums of moves
-
--- what holds of each move of rows holds of the moves that are listed first
-pub sums-have : (P : Move → Type 0) (hits : List NumberedRow) (most : ℕ) → AllByRecursion P (moves_in hits)
-    → AllByRecursion (λ (sum : MoveSum). P sum.next) (map (sum_as hits) (best (before_by_total hits) most (moves_in hits)))
-sums-have P hits most each =
-    mapped (best (before_by_total hits) most (moves_in hits))
-    (recursion_from_All P (best (before_by_total hits) most (moves_in hits))
-    (All-best (before_by_total hits) P most (moves_in hits) (All-from_recursion P (moves_in hits) each)))
-  where
-    mapped : (moves : List Move) → AllByRecursion P moves → AllByRecursion (λ (sum : MoveSum). P sum.next) (map (sum_as hits) moves)
-    mapped [] each = tt
-    mapped (m ∷ moves) each = (each.0, mapped moves each.1)
-
-pub sums-are : (hits : List NumberedRow) (moves : List Move) → AllByRecursion (λ (sum : MoveSum). sum ≡ sum_as hits sum.next) (map (sum_as hits) moves)
-sums-are hits [] = tt
-sums-are hits (m ∷ moves) = (refl, sums-are hits moves)
 
 -- ---- the answer
 

@@ -11,7 +11,8 @@ use Rattle.tally_rows.specs.Row.{row_key_of}
 use Rattle.lookup.specs.Parts.{Part}
 use Rattle.explorer_model.specs.declared.query.Filter.{Filter}
 use Rattle.explorer_model.specs.Counting.{any_next}
-use Rattle.lookup.specs.Hits.{NumberedRow, rows_from, games_counted}
+use Rattle.row_sums.specs.Hits.{NumberedRow}
+use Rattle.lookup.specs.Hits.{rows_from, games_counted}
 
 -- a row with the number of the first game of its batch
 abbrev pub numbered : ℕ → Row → NumberedRow

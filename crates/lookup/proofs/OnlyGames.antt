@@ -12,12 +12,15 @@ use Rattle.explorer_model.specs.Counting.{is_move}
 use Rattle.explorer_model.specs.declared.answer.Listed.{Listed}
 use Rattle.explorer_model.specs.declared.archive.Classes.{Classes}
 use Rattle.explorer_model.specs.declared.chess.Move.{Move}
-use Rattle.lookup.specs.GroupSums.{shown_by}
-use Rattle.lookup.specs.Hits.{NumberedRow, rows_from}
-use Rattle.lookup.specs.Listing.{all_classes, listed_as, shown_game}
+use Rattle.row_sums.specs.GroupSums.{shown_by}
+use Rattle.row_sums.specs.Hits.{NumberedRow}
+use Rattle.lookup.specs.Hits.{rows_from}
+use Rattle.lookup.specs.Listing.{all_classes}
+use Rattle.row_sums.specs.Listing.{listed_as, shown_game}
 use Rattle.lookup.specs.Parts.{Part, IsPart, tracks_in}
-use Rattle.lookup.specs.Sums.{entries_where, plays, top_where}
-use Rattle.lookup.proofs.Listings.{in-either, rows-tell, classes-tracks, track-listed, top-lists, Tells}
+use Rattle.row_sums.specs.Sums.{entries_where, plays, top_where}
+use Rattle.row_sums.proofs.ListedRows.{in-either}
+use Rattle.lookup.proofs.Listings.{rows-tell, classes-tracks, track-listed, top-lists, Tells}
 use Rattle.tally_rows.specs.Cover.{listing, only_entry}
 use Rattle.tally_rows.specs.Recount.{all_of}
 use Rattle.tally_rows.specs.Track.{Track}
@@ -62,7 +65,7 @@ module _ (key : List ℕ) (pick : RowKey → Bool) (parts : List Part) (each : A
   abbrev tracks : List Track
   tracks = all_of (tracks_in parts each)
 
-  entry-listed : (entry : Entry) → IsIn entry (entries_where hits (plays m) (λ row. row.top)) → listed_as parts m entry.number ≡ listing key tracks entry
+  entry-listed : (entry : Entry) → IsIn entry (entries_where hits (plays m) (λ row. row.top)) → listed_as (all_classes parts) m entry.number ≡ listing key tracks entry
   entry-listed entry is_in =
       let of = of-rows (plays m) hits entry is_in in
       let told : Tells (λ row. row.top) key 0 tracks of.hit of.own =
@@ -82,7 +85,7 @@ module _ (key : List ℕ) (pick : RowKey → Bool) (parts : List Part) (each : A
       ∙ sym (track-listed key (slice_get tracks entry.number) track next at told.played.plays.of_track)
 
   by-entries : (entries : List Entry) → entries_where hits (plays m) (λ row. row.top) ≡ entries
-      → shown_game parts m (shown_by entries) ≡ option_and_then (listing key tracks) (only_entry (best before_by_rating 4 entries))
+      → shown_game (all_classes parts) m (shown_by entries) ≡ option_and_then (listing key tracks) (only_entry (best before_by_rating 4 entries))
   unfolding best others
   by-entries [] is = refl
   by-entries (e ∷ []) is =
@@ -91,6 +94,6 @@ module _ (key : List ℕ) (pick : RowKey → Bool) (parts : List Part) (each : A
   by-entries (e ∷ f ∷ es) is = refl
 
   -- what is shown of a move is the game of the one entry of its rows
-  pub only-game : shown_game parts m (shown_by (entries_where hits (plays m) (λ row. row.top)))
+  pub only-game : shown_game (all_classes parts) m (shown_by (entries_where hits (plays m) (λ row. row.top)))
       ≡ option_and_then (listing key tracks) (only_entry (top_where hits (plays m)))
   only-game = by-entries (entries_where hits (plays m) (λ row. row.top)) refl

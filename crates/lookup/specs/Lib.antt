@@ -1,10 +1,6 @@
 pub mod FromRows
-pub mod Groups
-pub mod GroupSums
 pub mod Hits
 pub mod Lines
 pub mod Listing
-pub mod MoveSums
 pub mod SegmentRows
-pub mod Sums
 pub mod Parts

@@ -1,5 +1,5 @@
 -- The line of a move, made of rows.
-use Rattle.std.specs.Prelude.{◌≡◌, ◌/◌, ℕ, ◌*◌, ◌<◌, ◌≤◌, List, map, take, cond, Some, None, option_and_then}
+use Rattle.std.specs.Prelude.{◌≡◌, ◌/◌, ℕ, List, map, take, cond, Some, None, option_and_then}
 use Rattle.std.specs.List.{AllByRecursion, AllZip}
 use Rattle.explorer_model.specs.Best.{best}
 use Rattle.explorer_model.specs.declared.answer.Found.{Found}
@@ -10,21 +10,16 @@ use Rattle.explorer_model.specs.declared.query.Filter.{Filter}
 use Rattle.explorer_model.specs.declared.query.Query.{Query}
 use Rattle.explorer_model.specs.Counting.{any_next, total}
 use Rattle.explorer_model.specs.San.{SanText}
-use Rattle.lookup.specs.Hits.{NumberedRow, rows_from, look_limit}
-use Rattle.lookup.specs.declared.moves.MoveSum.{MoveSum}
+use Rattle.row_sums.specs.Hits.{NumberedRow}
+use Rattle.lookup.specs.Hits.{rows_from}
+use Rattle.row_sums.specs.declared.moves.MoveSum.{MoveSum}
 use Rattle.lookup.specs.Listing.{IsListingOf}
-use Rattle.lookup.specs.MoveSums.{sum_as}
-use Rattle.lookup.specs.Sums.{any_row, totals_where, ratings_where, top_where, recent_where, moves_in, before_by_total, history_in, plays}
+use Rattle.row_sums.specs.MoveSums.{sum_as}
+use Rattle.row_sums.specs.Sums.{any_row, totals_where, ratings_where, top_where, recent_where, moves_in, before_by_total, history_in, plays}
 use Rattle.lookup.specs.Parts.{tracks_in}
 use Rattle.tally_rows.specs.Cover.{meets, listing, only_entry}
 use Rattle.tally_rows.specs.Recount.{all_of}
 use Rattle.lookup.specs.Parts.{Part, IsPart}
-
--- the move has games, no more than are counted, and the mean rating of those who play it is below 2^16
-pub record IsAveraged (hits : List NumberedRow) (m : Move) : Type 0 where
-  pub played : 0 < total (totals_where hits (plays m))
-  pub few : total (totals_where hits (plays m)) ≤ look_limit
-  pub rated : ratings_where hits (plays m) ≤ 65535 * total (totals_where hits (plays m))
 
 -- the line of a move, with its game found among all games by the tracks that these have
 pub record IsLineIn (at : Position) (key : List ℕ) (parts : List Part)

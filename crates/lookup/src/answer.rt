@@ -7,23 +7,18 @@ ghost use Rattle.explorer_model.specs.Chess.{IsValid, Legal};
 ghost use Rattle.explorer_model.specs.Finds.{IsFound};
 ghost use Rattle.explorer_model.specs.Spans.{Covers};
 ghost use Rattle.explorer_model.specs.Tidy.{IsTidyKey};
-ghost use Rattle.lookup.specs.Hits.{hit_as, games_counted, look_limit, rows_from, AreSound};
+ghost use Rattle.row_sums.specs.Hits.{hit_as, look_limit, AreSound};
+ghost use Rattle.lookup.specs.Hits.{games_counted, rows_from};
 ghost use Rattle.lookup.specs.Lines.{IsPutTogether};
 ghost use Rattle.lookup.specs.Parts.{IsPart, parts_in, journal_of};
 ghost use Rattle.lookup.specs.SegmentRows.{row_steps};
-ghost use Rattle.lookup.specs.Sums.{history_in, moves_in};
+ghost use Rattle.row_sums.specs.Sums.{history_in, moves_in};
 ghost use Rattle.segment_blocks.specs.Segment.{CountedSpan};
 ghost use Rattle.tally_rows.specs.Cover.{passes_row_key};
 
-use crate::best_games::best_of;
-use crate::history::history_of;
-use crate::hits::{Hit, picked_rows_are_sound};
-use crate::laws::{parts_recount, tracks_tell_legal_moves};
+use crate::laws::{parts_recount, picked_rows_are_sound, tracks_tell_legal_moves};
 use crate::lines::lines_of;
-use crate::listing::{listed_by_month, listed_by_rating};
-use crate::moves::first_moves;
 use crate::segment_rows::rows_of_segments;
-use crate::totals::totals_of;
 use best_lists::{ByMonth, ByRating, Entry};
 use explorer_model::answer::{Found, MonthLine};
 use explorer_model::list::Items;
@@ -31,6 +26,9 @@ use explorer_model::query::Query;
 use legal_moves::board::Board;
 use legal_moves::laws::tidy_is_determined;
 use packed_keys::pack;
+use row_sums::{
+    Hit, best_of, first_moves, history_of, listed_by_month, listed_by_rating, totals_of,
+};
 use segment_blocks::{Segment, Steps};
 use std::alloc::{AllocError, Global};
 use std::sync::Arc;

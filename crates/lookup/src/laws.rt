@@ -1,5 +1,5 @@
 //! Laws of looking up. Each is the contract of a function that only cites the laws below it.
-ghost use Rattle.std.specs.Prelude.{◌≡◌, ℕ, Bool, List, length, map, Some};
+ghost use Rattle.std.specs.Prelude.{◌≡◌, ℕ, ◌≤◌, Bool, List, length, map, Some};
 ghost use Rattle.explorer_model.specs.declared.answer.Found.{Found};
 ghost use Rattle.explorer_model.specs.declared.archive.Batch.{Batch};
 ghost use Rattle.explorer_model.specs.declared.archive.Classes.{Classes};
@@ -14,9 +14,12 @@ ghost use Rattle.explorer_model.specs.Spans.{Span, Covers};
 ghost use Rattle.explorer_model.specs.Tidy.{IsTidyKey};
 ghost use Rattle.explorer_model.specs.Visits.{AreGamesOf, GameAt, IsTextOf, IsGameAt};
 ghost use Rattle.std.specs.List.{AllByRecursion, AllZip};
+ghost use Rattle.lookup.specs.Hits.{games_counted, rows_from};
 ghost use Rattle.lookup.specs.Parts.{Part, IsPart, journal_of, tracks_in};
 ghost use Rattle.lookup.specs.FromRows.{AreTallied, IsAnswerable, IsFromRows};
+ghost use Rattle.row_sums.specs.Hits.{AreSound, look_limit};
 ghost use Rattle.tally_rows.specs.declared.row.Row.{Row};
+ghost use Rattle.tally_rows.specs.declared.row_key.RowKey.{RowKey};
 ghost use Rattle.tally_rows.specs.Cover.{game_at};
 ghost use Rattle.tally_rows.specs.Tally.{IsTrackOf};
 ghost use Rattle.tally_rows.specs.Track.{Track, visit};
@@ -54,6 +57,15 @@ pub fn tracks_tell_legal_moves()
     same_positions_have_the_same_moves();
     equal_keys_mean_equal_positions();
     games_begin_validly();
+}
+
+/// Rows that are picked of parts are sound, however they are picked.
+pub fn picked_rows_are_sound()
+    ensures { (parts : List Part) → AllByRecursion IsPart parts → games_counted parts ≤ look_limit
+        → (key : List ℕ) (pick : RowKey → Bool) → AreSound (rows_from key pick 0 parts) }
+{
+    tally_rows::laws::cover_gives_what_is_picked();
+    tally_rows::laws::tallied_rows_are_sound();
 }
 
 /// The law of covers: whatever spans of batches cover a journal, what is made of the rows that are

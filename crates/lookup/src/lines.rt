@@ -1,22 +1,17 @@
 //! The lines of moves in an answer.
-ghost use Rattle.std.specs.Prelude.{◌≡◌, ◌≢◌, ◌↔◌, ◌/◌, ◌*◌, ◌<◌, ◌≤◌, map, IfOk};
+ghost use Rattle.std.specs.Prelude.{◌≡◌, ◌≢◌, ◌↔◌, map, IfOk};
 ghost use Rattle.std.specs.List.{AllByRecursion, AllPairs, AllZip, Contains};
 ghost use Rattle.explorer_model.specs.declared.chess.Move.{Move};
 ghost use Rattle.explorer_model.specs.Chess.{Legal};
-ghost use Rattle.explorer_model.specs.Counting.{total};
-ghost use Rattle.lookup.specs.Hits.{hit_as, look_limit, AreSound};
-ghost use Rattle.lookup.specs.Lines.{IsAveraged, IsLineMade};
-ghost use Rattle.lookup.specs.Listing.{shown_game};
-ghost use Rattle.lookup.specs.MoveSums.{sum_as};
+ghost use Rattle.lookup.specs.Lines.{IsLineMade};
 ghost use Rattle.lookup.specs.Parts.{parts_in};
+ghost use Rattle.row_sums.specs.Hits.{hit_as, AreSound};
+ghost use Rattle.row_sums.specs.MoveSums.{IsAveraged, sum_as};
 
-use crate::hits::Hit;
-use crate::listing::listed;
-use crate::moves::{MoveSum, Shown};
-use crate::notation::san_of;
-use explorer_model::answer::{Listed, MoveLine};
+use explorer_model::answer::MoveLine;
 use explorer_model::chess::Move as Step;
 use legal_moves::board::Board;
+use row_sums::{Hit, MoveSum, average_of, only_game, san_of};
 use segment_blocks::Segment;
 use std::alloc::{AllocError, Global};
 use std::sync::Arc;
@@ -72,25 +67,4 @@ fn line_of(
         totals: sum.totals,
         game: only_game(segments, sum)?,
     })
-}
-
-/// The mean rating of those who played the move, rounded down.
-fn average_of(sum: &MoveSum) -> u32
-    requires played { 0 < total sum.now.totals }
-    requires few { total sum.now.totals ≤ look_limit }
-    requires rated { sum.now.ratings ≤ 65535 * total sum.now.totals }
-    ensures { result ≡ sum.now.ratings / total sum.now.totals }
-{
-    (sum.ratings / (sum.totals.white + sum.totals.draws + sum.totals.black)) as u32
-}
-
-/// The game of a move that just one game plays.
-fn only_game(segments: &[Arc<Segment>], sum: &MoveSum) -> Result<Option<Listed>, AllocError>
-    ensures { IfOk result
-        (λ game. game ≡ shown_game (parts_in segments.now) sum.now.next sum.now.shown) }
-{
-    match sum.shown {
-        Shown::One(entry) => listed(segments, sum.next, entry.number),
-        Shown::Nothing | Shown::Several => Ok(None),
-    }
 }

@@ -2,7 +2,8 @@
 ghost use Rattle.std.specs.Prelude.{◌≡◌, ℕ, ◌+◌, ◌≤◌, ◌<◌, ◌^◌, ◌++◌, ◌∷◌, [], map, filter, length, IfOk, OnOk};
 ghost use Rattle.std.specs.Arc.{arc_value};
 ghost use Rattle.std.specs.List.{All, AllByRecursion, sum_by};
-ghost use Rattle.lookup.specs.Hits.{hit_as, rows_from, games_counted, look_limit};
+ghost use Rattle.row_sums.specs.Hits.{hit_as, look_limit};
+ghost use Rattle.lookup.specs.Hits.{rows_from, games_counted};
 ghost use Rattle.lookup.specs.Parts.{IsPart, parts_in};
 ghost use Rattle.lookup.specs.SegmentRows.{row_steps};
 ghost use Rattle.segment_blocks.specs.HeldRow.{row_in};
@@ -11,9 +12,8 @@ ghost use Rattle.segment_blocks.specs.Walk.{has_key};
 ghost use Rattle.tally_rows.specs.Cover.{passes_row_key};
 ghost use Rattle.tally_rows.specs.Row.{row_key_of};
 
-use crate::filter::takes;
-use crate::hits::Hit;
 use explorer_model::query::Filter;
+use row_sums::{Hit, takes};
 use segment_blocks::{HeldRow, Segment, Steps};
 use std::alloc::{AllocError, Global};
 use std::sync::Arc;

@@ -7,7 +7,6 @@ use Rattle.std.proofs.lemmas.List.{length-take-le, take_more}
 use Rattle.std.proofs.lemmas.Option.{none-some, same_Some}
 use Rattle.std.proofs.lemmas.Slice.Eq.{bytes_eq-Decides}
 use Rattle.explorer_model.specs.declared.chess.Position.{Position}
-use Rattle.explorer_model.specs.declared.opening.Opening.{Opening}
 use Rattle.explorer_model.specs.Chess.{Same}
 use Rattle.explorer_model.specs.Keys.{key}
 use Rattle.explorer_model.specs.Openings.{OpeningOf}

@@ -6,6 +6,7 @@ use Rattle.explorer_model.specs.declared.answer.MoveLine.{MoveLine}
 use Rattle.explorer_model.specs.declared.chess.Move.{Move}
 use Rattle.explorer_model.specs.declared.chess.Position.{Position}
 use Rattle.explorer_model.specs.declared.opening.Opening.{Opening}
+use Rattle.explorer_model.specs.declared.player.PlayerLine.{PlayerLine}
 use Rattle.explorer_model.specs.Chess.{Legal, after}
 use Rattle.explorer_model.specs.Openings.{LastOpening, NamedPosition, OpeningOf, positions_on}
 use Rattle.explorer_model.specs.Visits.{AreLegalFrom}
@@ -95,6 +96,10 @@ each-at P (x ∷ xs) each (suc i) d within = each-at P xs each.1 i d (omega arit
 pub lines-legal : (at : Position) (lines : List MoveLine) → AllByRecursion (λ line. Legal at line.next) lines → AllByRecursion (λ m. Legal at m) (map (λ line. line.next) lines)
 lines-legal at [] each = tt
 lines-legal at (line ∷ lines) each = (each.0, lines-legal at lines each.1)
+
+pub player-lines-legal : (at : Position) (lines : List PlayerLine) → AllByRecursion (λ line. Legal at line.next) lines → AllByRecursion (λ m. Legal at m) (map (λ line. line.next) lines)
+player-lines-legal at [] each = tt
+player-lines-legal at (line ∷ lines) each = (each.0, player-lines-legal at lines each.1)
 
 pub zip-push : {A B : Type 0} (R : A → B → Type 0) (xs : List A) (ys : List B) (x : A) (y : B) → AllZip R xs ys → R x y → AllZip R (xs ++ x ∷ []) (ys ++ y ∷ [])
 zip-push R xs ys x y each last = zip-append R xs (x ∷ []) ys (y ∷ []) each (last, tt)

@@ -1,5 +1,5 @@
 -- A book as it is held: its lines with their keys, and the first place of each key.
-use Rattle.std.specs.Prelude.{◌≡◌, ℕ, ◌+◌, Bool, List, [], ◌∷◌, length, map, bytes_eq, cond, Option, None, Some, option_map}
+use Rattle.std.specs.Prelude.{◌≡◌, ℕ, ◌+◌, List, [], ◌∷◌, length, bytes_eq, cond, Option, None, Some, option_map}
 use Rattle.std.specs.HashMap.{HashMap, get}
 use Rattle.std.specs.List.{AllByRecursion, find}
 use Rattle.explorer_model.specs.declared.opening.Opening.{Opening}

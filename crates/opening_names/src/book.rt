@@ -1,5 +1,5 @@
 //! Books of openings.
-ghost use Rattle.std.specs.Prelude.{◌≡◌, ◌≤◌, [], length, map, option_map, IfOk};
+ghost use Rattle.std.specs.Prelude.{◌≡◌, ◌≤◌, ◌==◌, [], length, map, option_map, IfOk};
 ghost use Rattle.explorer_model.specs.Openings.{BookReads, OpeningOf};
 ghost use Rattle.explorer_model.specs.Stop.{Answers};
 ghost use Rattle.std.specs.Result.{result_map_both};
@@ -58,6 +58,13 @@ impl Book {
         let lines = read_lines(alloc, text)?;
         let places = places_of(alloc, lines.as_slice())?;
         Ok(Book { lines, places })
+    }
+
+    /// Whether it has no line.
+    pub fn is_empty(&self) -> bool
+        ensures { result ≡ (length self.now == 0) }
+    {
+        self.lines.is_empty()
     }
 
     /// The opening of the first line that ends in the same position (FIDE 9.2.3), or None exactly

@@ -11,4 +11,4 @@ mod places;
 mod words;
 
 pub use book::Book;
-pub use names::{name_moves, naming};
+pub use names::{name_moves, naming, player_naming};

@@ -11,6 +11,7 @@ use explorer_model::answer::{Found, MoveLine};
 use explorer_model::chess::Move;
 use explorer_model::list::Items;
 use explorer_model::opening::{Naming, Opening};
+use explorer_model::player::{PlayerFound, PlayerLine, PlayerQuery};
 use explorer_model::query::Query;
 use legal_moves::board::Board;
 use std::alloc::{AllocError, Global};
@@ -32,6 +33,25 @@ pub fn naming(
 {
     let played = moves_of(alloc, found.moves.as_slice())?;
     name_moves(alloc, book, query, played.as_slice())
+}
+
+/// The same of the answer to a query for a player's games.
+pub fn player_naming(
+    alloc: Global,
+    book: &Book,
+    asked: &PlayerQuery,
+    found: &PlayerFound,
+) -> Result<Naming, AllocError>
+    requires root { IsValid asked.now.query.root }
+    requires plays { AreLegalFrom asked.now.query.root asked.now.query.plays }
+    requires at { last_or None (positions_on asked.now.query.root asked.now.query.plays)
+        ≡ Some asked.now.query.at }
+    requires moves { AllByRecursion (λ line. Legal asked.now.query.at line.next) found.now.moves }
+    ensures { IfOk result
+        (IsNaming book.now asked.now.query (map (λ line. line.next) found.now.moves)) }
+{
+    let played = player_moves_of(alloc, found.moves.as_slice())?;
+    name_moves(alloc, book, &asked.query, played.as_slice())
 }
 
 /// The same of moves that are given by themselves.
@@ -109,6 +129,17 @@ fn copy_of(alloc: Global, opening: Option<&Opening>) -> Result<Option<Opening>, 
 
 /// The moves of the lines.
 fn moves_of(alloc: Global, lines: &[MoveLine]) -> Result<Vec<Move>, AllocError>
+    ensures { IfOk result (λ moves. moves.items ≡ map (λ line. line.next) lines.now) }
+{
+    let mut moves = Vec::with_capacity(alloc, lines.len())?;
+    for line in lines {
+        moves.push(line.next)?;
+    }
+    Ok(moves)
+}
+
+/// The moves of the lines of a player.
+fn player_moves_of(alloc: Global, lines: &[PlayerLine]) -> Result<Vec<Move>, AllocError>
     ensures { IfOk result (λ moves. moves.items ≡ map (λ line. line.next) lines.now) }
 {
     let mut moves = Vec::with_capacity(alloc, lines.len())?;

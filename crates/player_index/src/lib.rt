@@ -20,3 +20,4 @@ mod search;
 
 pub use entry::Entry;
 pub use index::PlayerIndex;
+pub use query_params::player_query;

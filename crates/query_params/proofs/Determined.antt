@@ -4,10 +4,13 @@ use Rattle.explorer_model.specs.declared.chess.Move.{Move}
 use Rattle.explorer_model.specs.declared.chess.Position.{Position}
 use Rattle.explorer_model.specs.declared.notation.FenFault.{FenFault}
 use Rattle.explorer_model.specs.declared.notation.UciFault.{UciFault}
+use Rattle.explorer_model.specs.declared.player.BadPlayerParameter.{BadPlayerParameter}
+use Rattle.explorer_model.specs.declared.player.PlayerQuery.{PlayerQuery}
 use Rattle.explorer_model.specs.declared.query.BadParameter.{BadParameter}
 use Rattle.explorer_model.specs.declared.query.Query.{Query}
 use Rattle.explorer_model.specs.Chess.{after}
 use Rattle.explorer_model.specs.Fen.{FenReads}
+use Rattle.explorer_model.specs.Players.{PlayerQueryReads, player_query_by}
 use Rattle.explorer_model.specs.Query.{Line, RootReads, MovesRead, PlayReads, LineReads, QueryReads, onto_line, pieces_of, pairs_of, value_in}
 use Rattle.query_params.specs.Lines.{query_by}
 use Rattle.explorer_model.specs.declared.query.Parameter.TheVariants.{Fen, Play}
@@ -53,12 +56,24 @@ module _ (are : AreDetermined) where
   line_determined (Err fault) value r s first second = first ∙ sym second
   line_determined (Ok root) value r s first second = play_determined root value r s first second
 
-  pub query_determined : (text : List ℕ) (r s : Result Query BadParameter) → QueryReads text r → QueryReads text s → r ≡ s
-  query_determined text r s (root, line, rooted, lined, is) (root', line', rooted', lined', is') =
-      let pairs = pairs_of text in
+  -- what is made of the position and of the line is determined
+  made_determined : {A : Type 0} (pairs : List (List ℕ × List ℕ)) (made : Result Position BadParameter → Result Line BadParameter → A)
+      (root root' : Result Position BadParameter) (line line' : Result Line BadParameter)
+      → RootReads (value_in Fen pairs) root → LineReads root (value_in Play pairs) line
+      → RootReads (value_in Fen pairs) root' → LineReads root' (value_in Play pairs) line' → made root line ≡ made root' line'
+  made_determined pairs made root root' line line' rooted lined rooted' lined' =
       let same_root : root' ≡ root = root_determined (value_in Fen pairs) root' root rooted' rooted in
       let P : Result Position BadParameter → Type 0 = λ x. LineReads x (value_in Play pairs) line' in
       let same_line : line ≡ line' = line_determined root (value_in Play pairs) line line' lined (subst P same_root lined') in
-      let first : query_by pairs root line ≡ query_by pairs root line' = ap (λ y. query_by pairs root y) same_line in
-      let second : query_by pairs root line' ≡ query_by pairs root' line' = ap (λ x. query_by pairs x line') (sym same_root) in
-      is ∙ (first ∙ (second ∙ sym is'))
+      ap (λ y. made root y) same_line ∙ ap (λ x. made x line') (sym same_root)
+
+  pub query_determined : (text : List ℕ) (r s : Result Query BadParameter) → QueryReads text r → QueryReads text s → r ≡ s
+  query_determined text r s (root, line, rooted, lined, is) (root', line', rooted', lined', is') =
+      let pairs = pairs_of text in
+      is ∙ (made_determined pairs (query_by pairs) root root' line line' rooted lined rooted' lined' ∙ sym is')
+
+  pub player_query_determined : (text : List ℕ) (r s : Result PlayerQuery BadPlayerParameter)
+      → PlayerQueryReads text r → PlayerQueryReads text s → r ≡ s
+  player_query_determined text r s (root, line, rooted, lined, is) (root', line', rooted', lined', is') =
+      let pairs = pairs_of text in
+      is ∙ (made_determined pairs (player_query_by pairs) root root' line line' rooted lined rooted' lined' ∙ sym is')

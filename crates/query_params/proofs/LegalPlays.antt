@@ -4,11 +4,15 @@ use Rattle.std.specs.List.{last_or}
 use Rattle.explorer_model.specs.declared.chess.Move.{Move}
 use Rattle.explorer_model.specs.declared.chess.Position.{Position}
 use Rattle.explorer_model.specs.declared.notation.UciForm.{UciForm}
+use Rattle.explorer_model.specs.declared.player.BadPlayerParameter.{BadPlayerParameter}
+use Rattle.explorer_model.specs.declared.player.PlayerParameter.TheVariants as players
+use Rattle.explorer_model.specs.declared.player.PlayerQuery.{PlayerQuery}
 use Rattle.explorer_model.specs.declared.query.BadParameter.{BadParameter}
 use Rattle.explorer_model.specs.declared.query.Parameter.TheVariants.{Variant, Play, Speeds, Ratings, Since, Until, Moves, TopGames, RecentGames, History}
 use Rattle.explorer_model.specs.declared.query.Query.{Query}
 use Rattle.explorer_model.specs.Chess.{after, Legal}
 use Rattle.explorer_model.specs.Openings.{positions_on}
+use Rattle.explorer_model.specs.Players.{PlayerQueryReads, bad_player, color_named, common, demanded, modes_in, player_named, player_query_by}
 use Rattle.explorer_model.specs.Query.{Line, MovesRead, PlayReads, LineReads, QueryReads, all_given, asked, bound_named, group_names, most_games, most_moves, names_given, pairs_of, pieces_of, query_from, speed_names, standard_only, switch_named, value_in}
 use Rattle.explorer_model.specs.Stop.{◌>>=◌}
 use Rattle.explorer_model.specs.Uci.{UciAnswersAs, uci_form}
@@ -87,3 +91,41 @@ query-plays text query (root, line, rooted, lined, is) =
     let pairs = pairs_of text in
     let P : Result Query BadParameter → Type 0 = λ r. IfOk r PlaysLegally in
     subst P (sym is) (bind-if PlaysLegally (asked standard_only true Variant pairs) (λ standard. root >>= λ p. line >>= λ l. query_from pairs p l) (λ standard. behind-root pairs root line lined))
+
+-- ---- the query for a player's games
+
+abbrev PlayerPlaysLegally : PlayerQuery → Type 0
+PlayerPlaysLegally asked = PlaysLegally asked.query
+
+-- a parameter that queries have in common is what it is in each
+common-if : {A : Type 0} (P : A → Type 0) (reading : Result A BadParameter) → IfOk reading P → IfOk (common reading) P
+common-if P reading holds = if-map P P (λ value. value) (λ bad. bad_player (players.Common bad.name)) reading (λ value has. has) holds
+
+behind-both : (pairs : List (List ℕ × List ℕ)) (root : Result Position BadParameter) (line : Result Line BadParameter)
+    (made : Position → Line → Result PlayerQuery BadPlayerParameter) → LineReads root (value_in Play pairs) line
+    → ((p : Position) (l : Line) → LeadsFrom p l → IfOk (made p l) PlayerPlaysLegally)
+    → IfOk (common root >>= λ p. common line >>= λ l. made p l) PlayerPlaysLegally
+behind-both pairs (Err fault) line made reads each = tt
+behind-both pairs (Ok p) line made reads each =
+    bind-if-given (LeadsFrom p) PlayerPlaysLegally (common line) (λ l. made p l)
+    (common-if (LeadsFrom p) line (play-leads (value_in Play pairs) p line reads)) (λ l leads. each p l leads)
+
+by-parameters : (pairs : List (List ℕ × List ℕ)) (root : Result Position BadParameter) (line : Result Line BadParameter)
+    → LineReads root (value_in Play pairs) line → IfOk (player_query_by pairs root line) PlayerPlaysLegally
+unfolding player_query_by
+by-parameters pairs root line lined =
+    bind-if PlayerPlaysLegally (demanded player_named players.Player pairs) _ (λ player.
+    bind-if PlayerPlaysLegally (demanded color_named players.Color pairs) _ (λ color.
+    bind-if PlayerPlaysLegally (common (asked standard_only true Variant pairs)) _ (λ standard.
+    behind-both pairs root line _ lined (λ p l leads.
+    bind-if PlayerPlaysLegally (common (asked (names_given speed_names) (all_given speed_names) Speeds pairs)) _ (λ speeds.
+    bind-if PlayerPlaysLegally (modes_in pairs) _ (λ modes.
+    bind-if PlayerPlaysLegally (common (asked bound_named None Since pairs)) _ (λ since.
+    bind-if PlayerPlaysLegally (common (asked bound_named None Until pairs)) _ (λ until.
+    bind-if PlayerPlaysLegally (common (asked most_moves 12 Moves pairs)) _ (λ moves.
+    bind-if PlayerPlaysLegally (common (asked most_games 4 RecentGames pairs)) _ (λ recent. leads))))))))))
+
+pub player_query-plays : (text : List ℕ) (asked : PlayerQuery) → PlayerQueryReads text (Ok asked) → PlayerPlaysLegally asked
+player_query-plays text query (root, line, rooted, lined, is) =
+    let P : Result PlayerQuery BadPlayerParameter → Type 0 = λ r. IfOk r PlayerPlaysLegally in
+    subst P (sym is) (by-parameters (pairs_of text) root line lined)

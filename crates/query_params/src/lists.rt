@@ -2,6 +2,7 @@
 ghost use Rattle.std.specs.Prelude.{◌≡◌, ◌∷◌, map, length};
 ghost use Rattle.std.specs.List.{list_all};
 ghost use Rattle.std.specs.Option.{option_copied};
+ghost use Rattle.explorer_model.specs.Players.{mode_names};
 ghost use Rattle.explorer_model.specs.Query.{pieces_of, is_among, names_given, speed_names, group_names};
 ghost use Rattle.query_params.specs.Given.{pieces_left};
 
@@ -97,6 +98,19 @@ pub fn groups_named(text: &str) -> Option<[bool; 9]>
         return None;
     }
     let mut given = [false; 9];
+    mark_given(&names, text, &mut given);
+    Some(given)
+}
+
+#[tactic(auto, using(crate::proofs::Names::names_refused, crate::proofs::Names::names_listed))]
+pub fn modes_named(text: &str) -> Option<[bool; 2]>
+    ensures { result ≡ names_given mode_names text.now }
+{
+    let names = ["rated", "casual"];
+    if !are_among(&names, text) {
+        return None;
+    }
+    let mut given = [false; 2];
     mark_given(&names, text, &mut given);
     Some(given)
 }

@@ -1,9 +1,8 @@
 //! The pairs of a query string, decoded.
 ghost use Rattle.std.specs.Prelude.{◌≡◌, IfOk, map, option_map};
-ghost use Rattle.explorer_model.specs.Query.{pairs_of, value_in};
+ghost use Rattle.explorer_model.specs.Query.{pairs_of, value_named};
 ghost use Rattle.query_params.specs.Given.{texts};
 
-use explorer_model::query::Parameter;
 use explorer_model::text::Name;
 use form_urlencoded::parse;
 use std::alloc::{AllocError, Global};
@@ -28,15 +27,13 @@ pub fn pairs_of(alloc: Global, text: &[u8]) -> Result<Vec<Pair>, AllocError>
     Ok(pairs)
 }
 
-/// The value of the parameter, which is empty where it is not given; `None` where it is given
-/// twice.
-#[tactic(auto, unfolding(explorer_model::specs::Query::value_in))]
-pub fn value_of(pairs: &[Pair], name: Parameter) -> Option<&str>
-    ensures { option_map (λ value. value.now) result ≡ value_in name (map texts pairs.now) }
+/// The value under a name, which is empty where it is not given; `None` where it is given twice.
+pub fn value_named<'a>(pairs: &'a [Pair], name: &str) -> Option<&'a str>
+    ensures { option_map (λ value. value.now) result ≡ value_named name.now (map texts pairs.now) }
 {
     let mut found: Option<&str> = None;
     for pair in pairs {
-        if pair.name.as_str() == name.as_str() {
+        if pair.name.as_str() == name {
             if found.is_some() {
                 return None;
             }

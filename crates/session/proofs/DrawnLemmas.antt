@@ -1,5 +1,5 @@
 -- What the drawer of an importer draws while connections are served, and that it keeps its parts.
-use Rattle.std.proofs.Common.{◌≡◌, ◌⊎◌, inl, inr, ℕ, suc, ◌<◌, List, [], ◌∷◌, ◌++◌, Option, length, take, refl, ap, subst, ◌∙◌, arith}
+use Rattle.std.proofs.Common.{◌≡◌, ◌⊎◌, inl, inr, ℕ, suc, List, [], ◌∷◌, ◌++◌, Option, take, refl, ap, subst, ◌∙◌, arith}
 use Rattle.std.specs.List.{Contains}
 use Rattle.std.proofs.lemmas.List.Elements.{Contains-append_cases}
 use Rattle.explorer_model.specs.declared.archive.Batch.{Batch}
@@ -8,14 +8,14 @@ use Rattle.outside.specs.Stream.{Stream}
 use Rattle.published_index.specs.Places.{Drawing}
 use Rattle.ingest_desk.specs.declared.report.ImportCall.{ImportCall}
 use Rattle.session.specs.Doors.{AreServed}
-use Rattle.session.specs.Exchanges.{AreExchanges, Backend, Exchange, Grants, GrantsImport, Moment, moment_of}
+use Rattle.session.specs.Exchanges.{AreExchanges, Backend, Exchange, Grants, Moment, moment_of}
 use Rattle.session.specs.Laws.{IsDrawnAmong, IsDrawnFor}
 use Rattle.session.specs.Replies.{Answer, Fixed, Import, Offer, PlayerAnswer, Route, Silence, route_of}
 
 granted-parts : (offer : Offer) (route : Route) (journal : List Batch) (before after : Moment) (call : Option ImportCall) (reply : Reply)
     → Grants offer route journal before after call reply → after.drawing.parts ≡ before.drawing.parts
 granted-parts offer (Answer text) journal before after call reply g = ap (λ (d : Drawing). d.parts) g.undrawn
-granted-parts offer (PlayerAnswer text) journal before after call reply g = absurd g
+granted-parts offer (PlayerAnswer text) journal before after call reply g = ap (λ (d : Drawing). d.parts) g.undrawn
 granted-parts offer (Import body) journal before after call reply g = ap (λ (d : Drawing). d.parts) g.drawn.drawn
 granted-parts offer (Fixed fixed) journal before after call reply g = ap (λ (m : Moment). m.drawing.parts) g.stays
 granted-parts offer Silence journal before after call reply g = absurd g
@@ -49,7 +49,7 @@ drawn-by : (offer : Offer) (x : Exchange) (journal : List Batch) (before after :
     → Grants offer route (take after.seen journal) before after x.call x.reply → Contains after.drawing.drawn place
     → Contains before.drawing.drawn place ⊎ IsDrawnFor offer place journal x
 drawn-by offer x journal before after place (Answer text) is g c = inl (subst (λ (d : Drawing). Contains d.drawn place) g.undrawn c)
-drawn-by offer x journal before after place (PlayerAnswer text) is g c = absurd g
+drawn-by offer x journal before after place (PlayerAnswer text) is g c = inl (subst (λ (d : Drawing). Contains d.drawn place) g.undrawn c)
 drawn-by offer x journal before after place (Import body) is g c =
     by (Contains-append_cases before.drawing.drawn (g.drawn.places ++ g.drawn.untold) place
     (subst (λ (d : Drawing). Contains d.drawn place) g.drawn.drawn c))

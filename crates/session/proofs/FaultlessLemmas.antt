@@ -2,11 +2,14 @@
 use Rattle.std.proofs.Common.{◌≡◌, inl, inr, ℕ, List, Option, Result, Ok, Err, length, refl}
 use Rattle.explorer_model.specs.declared.archive.Batch.{Batch}
 use Rattle.explorer_model.specs.declared.fault.Refusal.{Refusal}
+use Rattle.explorer_model.specs.declared.player.BadPlayerParameter.{BadPlayerParameter}
+use Rattle.explorer_model.specs.declared.player.PlayerQuery.{PlayerQuery}
 use Rattle.explorer_model.specs.declared.query.BadParameter.{BadParameter}
 use Rattle.explorer_model.specs.declared.query.Query.{Query}
 use Rattle.explorer_model.specs.declared.wire.Reply.{Reply}
 use Rattle.explorer_model.specs.declared.wire.Reply.TheVariants as replies
 use Rattle.explorer_model.specs.Openings.{NamedPosition}
+use Rattle.explorer_model.specs.Players.{PlayerQueryReads, bad_player}
 use Rattle.explorer_model.specs.Query.{QueryReads}
 use Rattle.ingest_desk.specs.Importers.{CountsRose}
 use Rattle.ingest_desk.specs.declared.report.ImportCall.{ImportCall}
@@ -14,11 +17,11 @@ use Rattle.ingest_desk.specs.declared.report.ImportEnding.{ImportEnding}
 use Rattle.ingest_desk.specs.declared.report.ImportEnding.TheVariants as endings
 use Rattle.session.specs.Exchanges.{GrantsImport, Moment}
 use Rattle.session.specs.Imports.{HasStoredBody, RepliesTo, TellsEnding}
-use Rattle.session.specs.Laws.{IsAnswered, IsStored, NoneRose}
-use Rattle.session.specs.Replies.{AnswersQuery, Readings}
+use Rattle.session.specs.Laws.{IsAnswered, IsPlayerAnswered, IsStored, NoneRose}
+use Rattle.session.specs.Replies.{AnswersPlayerQuery, AnswersQuery, Readings}
 
-not-both : (query : Query) (fault : BadParameter) → ◌≡◌ {A = Result Query BadParameter} (Ok query) (Err fault) → ⊥
-not-both query fault is = cc
+not-both : {A B : Type 0} (value : A) (fault : B) → ◌≡◌ {A = Result A B} (Ok value) (Err fault) → ⊥
+not-both value fault is = cc
 
 pub answered : ((text : List ℕ) (r s : Result Query BadParameter) → QueryReads text r → QueryReads text s → r ≡ s)
     → (book : List NamedPosition) (text : List ℕ) (query : Query) (journal : List Batch) (before after : Readings) (reply : Reply)
@@ -29,16 +32,18 @@ answered once book text query journal before after (replies.BadParameter name) r
     absurd (not-both query fault (once text (Ok query) (Err fault) reads answers.0))
 answered once book text query journal before after replies.NoMemory reads answers = tt
 answered once book text query journal before after replies.Unread reads answers = answers.1
-answered once book text query journal before after (replies.Stored batches body) reads answers = absurd answers
-answered once book text query journal before after (replies.BadPlayerParameter name) reads answers = absurd answers
-answered once book text query journal before after replies.BadRequest reads answers = absurd answers
-answered once book text query journal before after replies.NotFound reads answers = absurd answers
-answered once book text query journal before after (replies.NotAllowed allow) reads answers = absurd answers
-answered once book text query journal before after replies.TooLarge reads answers = absurd answers
-answered once book text query journal before after replies.HeadTooLarge reads answers = absurd answers
-answered once book text query journal before after (replies.DiskFault stored) reads answers = absurd answers
-answered once book text query journal before after (replies.Closed stored) reads answers = absurd answers
-answered once book text query journal before after (replies.Full games bytes stored) reads answers = absurd answers
+answered once book text query journal before after _ reads answers = absurd answers.0
+
+pub player-answered : ((text : List ℕ) (r s : Result PlayerQuery BadPlayerParameter) → PlayerQueryReads text r → PlayerQueryReads text s → r ≡ s)
+    → (book : List NamedPosition) (text : List ℕ) (query : PlayerQuery) (journal : List Batch) (before after : Readings) (reply : Reply)
+    → PlayerQueryReads text (Ok query) → AnswersPlayerQuery book text journal before after reply
+    → IsPlayerAnswered book text journal before after reply
+player-answered once book text query journal before after (replies.Found batches body) reads answers = answers.0
+player-answered once book text query journal before after (replies.BadPlayerParameter name) reads answers =
+    absurd (not-both query (bad_player name) (once text (Ok query) (Err (bad_player name)) reads answers.0))
+player-answered once book text query journal before after replies.NoMemory reads answers = tt
+player-answered once book text query journal before after replies.Unread reads answers = answers.1
+player-answered once book text query journal before after _ reads answers = absurd answers.0
 
 told-whole : (body : List ℕ) (journal : List Batch) (games : ℕ) (refused : List Refusal) (reply : Reply)
     → HasStoredBody journal body games refused → TellsEnding endings.Whole (length journal) games refused reply

@@ -1,16 +1,9 @@
 -- What follows of exchanges.
-use Rattle.std.proofs.Common.{◌≡◌, ℕ, ◌+◌, ◌≤◌, Bool, true, false, List, [], ◌∷◌, map, Option, Some, None, Result, Ok, Err, length, take, refl, sym, ◌∙◌, ap, subst, inl, inr, arith}
-use Rattle.std.specs.List.{AllByRecursion, AllZip, cons_option}
+use Rattle.std.proofs.Common.{◌≡◌, ℕ, ◌+◌, ◌≤◌, Bool, true, false, List, [], ◌∷◌, Option, Some, None, length, take, refl, sym, ◌∙◌, ap, subst, inl, inr, arith}
+use Rattle.std.specs.List.{AllByRecursion, cons_option}
 use Rattle.std.proofs.lemmas.List.{length-take}
-use Rattle.explorer_model.specs.declared.answer.Found.{Found}
 use Rattle.explorer_model.specs.declared.archive.Batch.{Batch}
 use Rattle.explorer_model.specs.declared.fault.Refusal.{Refusal}
-use Rattle.explorer_model.specs.declared.answer.MoveLine.{MoveLine}
-use Rattle.explorer_model.specs.declared.chess.Move.{Move}
-use Rattle.explorer_model.specs.declared.chess.Position.{Position}
-use Rattle.explorer_model.specs.declared.opening.Naming.{Naming}
-use Rattle.explorer_model.specs.declared.query.BadParameter.{BadParameter}
-use Rattle.explorer_model.specs.declared.query.Query.{Query}
 use Rattle.explorer_model.specs.declared.wire.Asked.{Asked}
 use Rattle.explorer_model.specs.declared.wire.Asked.TheVariants as asks
 use Rattle.explorer_model.specs.declared.wire.Method.{Method}
@@ -20,19 +13,16 @@ use Rattle.explorer_model.specs.declared.wire.Path.TheVariants as paths
 use Rattle.explorer_model.specs.declared.wire.Reply.{Reply}
 use Rattle.explorer_model.specs.declared.wire.Reply.TheVariants as replies
 use Rattle.explorer_model.specs.declared.wire.RequestFault.TheVariants as faults
-use Rattle.explorer_model.specs.Answer.{answer_body, named_body, unnamed}
-use Rattle.explorer_model.specs.Chess.{after}
-use Rattle.explorer_model.specs.Finds.{IsFound}
-use Rattle.explorer_model.specs.Openings.{IsNaming, LastOpening, NamedPosition, OpeningOf, positions_on}
-use Rattle.explorer_model.specs.Query.{QueryReads}
-use Rattle.explorer_model.specs.Replies.{IsFoundIn, IsNamedFoundIn}
+use Rattle.explorer_model.specs.Openings.{NamedPosition}
+use Rattle.explorer_model.specs.Players.{IsPlayerAnswerOf, IsPlayerFoundIn}
+use Rattle.explorer_model.specs.Replies.{IsNamedAnswerOf, IsNamedFoundIn}
 use Rattle.ingest_desk.specs.declared.report.ImportCall.{ImportCall}
 use Rattle.ingest_desk.specs.declared.report.ImportEnding.{ImportEnding}
 use Rattle.ingest_desk.specs.declared.report.ImportEnding.TheVariants as endings
 use Rattle.session.specs.Exchanges.{Exchange, Grants, Moment, AreExchanges}
 use Rattle.session.specs.Imports.{TellsEnding}
-use Rattle.session.specs.Laws.{AscendFrom, IsOverFront, IsTold, number_of, numbers, unread_in, unread_one}
-use Rattle.session.specs.Replies.{AnswersQuery, Answer, Fixed, Import, Offer, PlayerAnswer, Readings, Route, Silence, player_route, route_by, route_of}
+use Rattle.session.specs.Laws.{AscendFrom, IsOverFront, number_of, numbers, unread_in, unread_one}
+use Rattle.session.specs.Replies.{AnswersBy, Answer, Fixed, Import, Offer, PlayerAnswer, Readings, Route, Silence, player_route, route_by, route_of}
 
 length-front : (n : ℕ) (xs : List Batch) → n ≤ length xs → length (take n xs) ≡ n
 length-front n xs few = omega (arith, length-take n xs)
@@ -45,6 +35,9 @@ over-front : (offer : Offer) (journal : List Batch) (route : Route) (seen : ℕ)
 over-front offer journal (Answer text) seen before after call (replies.Found batches body) few grants =
     let number : batches ≡ seen = grants.answers.0.number ∙ length-front seen journal few in
     (omega (arith, number), subst (λ (n : ℕ). IsNamedFoundIn offer.book text (take n journal) batches body) (sym number) grants.answers.0)
+over-front offer journal (PlayerAnswer text) seen before after call (replies.Found batches body) few grants =
+    let number : batches ≡ seen = grants.answers.0.number ∙ length-front seen journal few in
+    (omega (arith, number), subst (λ (n : ℕ). IsPlayerFoundIn offer.book text (take n journal) batches body) (sym number) grants.answers.0)
 over-front offer journal _ seen before after call _ few grants = tt
 
 pub all-over-fronts : (offer : Offer) (journal : List Batch) (before after : Moment) (xs : List Exchange)
@@ -61,11 +54,23 @@ all-over-fronts offer journal before after (x ∷ xs) s = (
 same-number : (reply fixed : Reply) (n : ℕ) → number_of fixed ≡ None → reply ≡ fixed → number_of reply ≡ Some n → ⊥
 same-number reply fixed n none is e = let same = ap number_of is in cc
 
-answer-number : (book : List NamedPosition) (text : List ℕ) (journal : List Batch) (before after : Readings) (reply : Reply) (n : ℕ)
-    → AnswersQuery book text journal before after reply → number_of reply ≡ Some n → n ≡ length journal
-answer-number book text journal before after (replies.Found batches body) n a e = let number = a.0.number in cc
-answer-number book text journal before after (replies.Stored batches body) n a e = absurd a
-answer-number book text journal before after _ n a e = absurd (cc)
+-- an answer names the number of the journal's batches, and no answer says that something is stored
+record SpeaksOf (IsAnswer : Reply → Type 0) (journal : List Batch) : Type 0 where
+  number : (batches : ℕ) (body : List ℕ) → IsAnswer (replies.Found batches body) → batches ≡ length journal
+  unstored : (batches : ℕ) (body : List ℕ) → IsAnswer (replies.Stored batches body) → ⊥
+
+queries-speak : (book : List NamedPosition) (text : List ℕ) (journal : List Batch) → SpeaksOf (IsNamedAnswerOf book text journal) journal
+queries-speak book text journal = record { number = λ batches body is. is.number; unstored = λ batches body is. is }
+
+players-speak : (book : List NamedPosition) (text : List ℕ) (journal : List Batch) → SpeaksOf (IsPlayerAnswerOf book text journal) journal
+players-speak book text journal = record { number = λ batches body is. is.number; unstored = λ batches body is. is }
+
+answer-number : (IsAnswer : Reply → Type 0) (journal : List Batch) → SpeaksOf IsAnswer journal → (before after : Readings) (reply : Reply)
+    (n : ℕ) → AnswersBy IsAnswer before after reply → number_of reply ≡ Some n → n ≡ length journal
+answer-number IsAnswer journal speaks before after (replies.Found batches body) n a e =
+    let number : batches ≡ length journal = speaks.number batches body a.0 in cc
+answer-number IsAnswer journal speaks before after (replies.Stored batches body) n a e = absurd (speaks.unstored batches body a.0)
+answer-number IsAnswer journal speaks before after _ n a e = absurd (cc)
 
 ending-number : (ending : ImportEnding) (batches games : ℕ) (refused : List Refusal) (reply : Reply) (n : ℕ)
     → TellsEnding ending batches games refused reply → number_of reply ≡ Some n → n ≡ batches
@@ -86,8 +91,10 @@ IsUnnumbered _ = Unit {0}
 route-number : (offer : Offer) (route : Route) (journal : List Batch) (before after : Moment) (call : Option ImportCall) (reply : Reply)
     (n : ℕ) → IsUnnumbered route → Grants offer route journal before after call reply → number_of reply ≡ Some n → n ≡ length journal
 unfolding IsUnnumbered
-route-number offer (Answer text) journal before after call reply n none a e = answer-number offer.book text journal before.readings after.readings reply n a.answers e
-route-number offer (PlayerAnswer text) journal before after call reply n none a e = absurd a
+route-number offer (Answer text) journal before after call reply n none a e =
+    answer-number (IsNamedAnswerOf offer.book text journal) journal (queries-speak offer.book text journal) before.readings after.readings reply n a.answers e
+route-number offer (PlayerAnswer text) journal before after call reply n none a e =
+    answer-number (IsPlayerAnswerOf offer.book text journal) journal (players-speak offer.book text journal) before.readings after.readings reply n a.answers e
 route-number offer (Import body) journal before after call reply n none a e =
     ending-number a.made.ending (length journal) a.made.games a.replies.refused reply n a.replies.tells e
 route-number offer (Fixed fixed) journal before after call reply n none a e = absurd (same-number reply fixed n none a.is_fixed e)
@@ -180,15 +187,12 @@ numbers-ascend offer journal before after (x ∷ xs) s =
 
 -- ---- readings that were not given
 
-answer-unread : (book : List NamedPosition) (text : List ℕ) (journal : List Batch) (before after : Readings) (reply : Reply)
-    → AnswersQuery book text journal before after reply → before.unread + unread_one reply ≤ after.unread
-answer-unread book text journal before after (replies.Found batches body) a =
+answer-unread : (IsAnswer : Reply → Type 0) (before after : Readings) (reply : Reply) → AnswersBy IsAnswer before after reply
+    → before.unread + unread_one reply ≤ after.unread
+answer-unread IsAnswer before after replies.NoMemory a = omega (arith, a.1)
+answer-unread IsAnswer before after replies.Unread a = omega (arith, a.1)
+answer-unread IsAnswer before after _ a =
     let same : after.unread ≡ before.unread = ap (λ (r : Readings). r.unread) a.1 in omega (arith, same)
-answer-unread book text journal before after (replies.BadParameter name) a =
-    let same : after.unread ≡ before.unread = ap (λ (r : Readings). r.unread) a.1 in omega (arith, same)
-answer-unread book text journal before after replies.NoMemory a = omega (arith, a.1)
-answer-unread book text journal before after replies.Unread a = omega (arith, a.1)
-answer-unread book text journal before after _ a = absurd a
 
 ending-unread : (ending : ImportEnding) (batches games : ℕ) (refused : List Refusal) (reply : Reply)
     → TellsEnding ending batches games refused reply → unread_one reply ≡ 0
@@ -205,8 +209,10 @@ route-unread : (offer : Offer) (route : Route) (journal : List Batch) (before af
     → IsRead route → Grants offer route journal before after call reply
     → before.readings.unread + unread_one reply ≤ after.readings.unread
 unfolding IsRead
-route-unread offer (Answer text) journal before after call reply read a = answer-unread offer.book text journal before.readings after.readings reply a.answers
-route-unread offer (PlayerAnswer text) journal before after call reply read a = absurd a
+route-unread offer (Answer text) journal before after call reply read a =
+    answer-unread (IsNamedAnswerOf offer.book text journal) before.readings after.readings reply a.answers
+route-unread offer (PlayerAnswer text) journal before after call reply read a =
+    answer-unread (IsPlayerAnswerOf offer.book text journal) before.readings after.readings reply a.answers
 route-unread offer (Import body) journal before after call reply read a =
     let none = ending-unread a.made.ending (length journal) a.made.games a.replies.refused reply a.replies.tells in
     let same : after.readings.unread ≡ before.readings.unread = ap (λ (r : Readings). r.unread) a.readings in
@@ -225,96 +231,3 @@ unread-counted offer journal before after (x ∷ xs) s =
     let first = route-unread offer (route_of offer x.asked) (take s.0.seen journal) before s.0 x.call x.reply (is-read offer x.asked) s.3 in
     let later = unread-counted offer journal s.0 after xs s.4 in
     omega (arith, first, later)
-
--- ---- one answer
-
--- what two readings of a query string, two recounts and two namings are is one
-pub record AreDetermined : Type 0 where
-  pub queries : (text : List ℕ) (r s : Result Query BadParameter) → QueryReads text r → QueryReads text s → r ≡ s
-  pub answers : (journal : List Batch) (query : Query) (found other : Found) → IsFound journal query found
-      → IsFound journal query other → found ≡ other
-  pub namings : (book : List NamedPosition) (query : Query) (played : List Move) (naming other : Naming)
-      → IsNaming book query played naming → IsNaming book query played other → naming ≡ other
-
--- the moves that are found
-moves_in : Found → List Move
-moves_in found = map (λ line. line.next) found.moves
-
-found-once : AreDetermined → (book : List NamedPosition) (text : List ℕ) (journal : List Batch) (batches batches' : ℕ)
-    (body body' : List ℕ) → IsNamedFoundIn book text journal batches body → IsNamedFoundIn book text journal batches' body'
-    → replies.Found batches body ≡ replies.Found batches' body'
-unfolding moves_in
-found-once once book text journal batches batches' body body' a b =
-    let queries : Ok a.query ≡ Ok b.query = once.queries text (Ok a.query) (Ok b.query) a.asks b.asks in
-    let query : a.query ≡ b.query = cc in
-    let others : IsFound journal a.query b.found = subst (λ (q : Query). IsFound journal q b.found) (sym query) b.is_found in
-    let found : a.found ≡ b.found = once.answers journal a.query a.found b.found a.is_found others in
-    let by_query : IsNaming book a.query (moves_in b.found) b.naming =
-    subst (λ (q : Query). IsNaming book q (moves_in b.found) b.naming) (sym query) b.is_naming in
-    let by_moves : IsNaming book a.query (moves_in a.found) b.naming =
-    subst (λ (f : Found). IsNaming book a.query (moves_in f) b.naming) (sym found) by_query in
-    let naming : a.naming ≡ b.naming = once.namings book a.query (moves_in a.found) a.naming b.naming a.is_naming by_moves in
-    let number : batches ≡ batches' = a.number ∙ sym b.number in
-    let same : named_body a.found a.naming ≡ named_body b.found b.naming =
-    ap (λ (f : Found). named_body f a.naming) found ∙ ap (λ (n : Naming). named_body b.found n) naming in
-    let bodies : body ≡ body' = a.is_body ∙ (same ∙ sym b.is_body) in
-    cc
-
--- the reply to a query string that reads so, where it is malformed
-named : Result Query BadParameter → Reply
-named (Ok query) = replies.NoMemory
-named (Err bad) = replies.BadParameter bad.name
-
-pub one-answer : AreDetermined → (book : List NamedPosition) (text : List ℕ) (journal : List Batch) (before after later : Readings)
-    (reply other : Reply) → IsTold reply → IsTold other → AnswersQuery book text journal before after reply
-    → AnswersQuery book text journal before later other → reply ≡ other
-unfolding named
-one-answer once book text journal before after later (replies.Found n body) (replies.Found m text') told told' a b =
-    found-once once book text journal n m body text' a.0 b.0
-one-answer once book text journal before after later (replies.BadParameter name) (replies.BadParameter other) told told' a b =
-    ap named (once.queries text (Err (record { name = name })) (Err (record { name = other })) a.0 b.0)
-one-answer once book text journal before after later (replies.Found n body) (replies.BadParameter other) told told' a b =
-    let same : Ok a.0.query ≡ Err _ = once.queries text _ _ a.0.asks b.0 in absurd (cc)
-one-answer once book text journal before after later (replies.BadParameter name) (replies.Found m body) told told' a b =
-    let same : Ok b.0.query ≡ Err _ = once.queries text _ _ b.0.asks a.0 in absurd (cc)
-one-answer once book text journal before after later (replies.Found n body) _ told told' a b = absurd told'
-one-answer once book text journal before after later (replies.BadParameter name) _ told told' a b = absurd told'
-one-answer once book text journal before after later _ other told told' a b = absurd told
-
--- ---- a book without a line
-
--- by it no opening is named
-none-behind : (at : Position) (lines : List MoveLine)
-    → AllZip (λ m opening. OpeningOf [] (after at m) opening) (map (λ line. line.next) lines) (unnamed lines).moves
-none-behind at [] = tt
-none-behind at (line ∷ lines) = (refl, none-behind at lines)
-
-none-on : (positions : List Position) → LastOpening [] positions None
-none-on [] = refl
-none-on (p ∷ positions) = (None, None, refl, none-on positions, refl)
-
-pub named-plainly : (text : List ℕ) (journal : List Batch) (batches : ℕ) (body : List ℕ) → IsFoundIn text journal batches body
-    → IsNamedFoundIn [] text journal batches body
-named-plainly text journal batches body a = record {
-  number = a.number;
-  query = a.query;
-  asks = a.asks;
-  found = a.found;
-  is_found = a.is_found;
-  naming = unnamed a.found.moves;
-  is_naming = record { whole = none-on (positions_on a.query.root a.query.plays); moves = none-behind a.query.at a.found.moves };
-  is_body = a.is_body;
-}
-
-pub plainly-named : ((query : Query) (found : Found) (naming : Naming)
-    → IsNaming [] query (map (λ line. line.next) found.moves) naming → named_body found naming ≡ answer_body found)
-    → (text : List ℕ) (journal : List Batch) (batches : ℕ) (body : List ℕ) → IsNamedFoundIn [] text journal batches body
-    → IsFoundIn text journal batches body
-plainly-named nothing text journal batches body a = record {
-  number = a.number;
-  query = a.query;
-  asks = a.asks;
-  found = a.found;
-  is_found = a.is_found;
-  is_body = a.is_body ∙ nothing a.query a.found a.naming a.is_naming;
-}

@@ -5,6 +5,9 @@ pub mod ExchangeLemmas
 pub mod ConnectionLemmas
 pub mod DoorLemmas
 pub mod LawLemmas
+pub mod OneAnswer
+pub mod EmptyBook
+pub mod ReaderLemmas
 pub mod AskedLemmas
 pub mod ReplyLemmas
 pub mod FaultlessLemmas

@@ -4,15 +4,15 @@ use Rattle.std.specs.List.{flat_map}
 use Rattle.explorer_model.specs.declared.archive.Batch.{Batch}
 use Rattle.explorer_model.specs.declared.wire.Asked.{Asked}
 use Rattle.explorer_model.specs.declared.wire.Reply.{Reply}
-use Rattle.explorer_model.specs.Openings.{NamedPosition}
-use Rattle.explorer_model.specs.Replies.{reply_text}
+use Rattle.explorer_model.specs.Players.{IsPlayerAnswerOf}
+use Rattle.explorer_model.specs.Replies.{IsNamedAnswerOf, reply_text}
 use Rattle.published_index.specs.Places.{Drawing}
 use Rattle.published_index.specs.States.{Watching}
 use Rattle.ingest_desk.specs.Drawn.{most_untold}
 use Rattle.ingest_desk.specs.declared.report.ImportCall.{ImportCall}
 use Rattle.ingest_desk.specs.Importers.{CountsRose, ImportCounts, ImporterState}
 use Rattle.session.specs.Imports.{DrewPlacesOf, RepliesTo}
-use Rattle.session.specs.Replies.{AnswersQuery, Offer, Readings, Route, Answer, PlayerAnswer, Import, Fixed, Silence, closes, readings_of, route_of}
+use Rattle.session.specs.Replies.{AnswersBy, Offer, Readings, Route, Answer, PlayerAnswer, Import, Fixed, Silence, closes, readings_of, route_of}
 
 -- what stays from one connection to the next: the pass, and the importer
 pub record Backend : Type 0 where
@@ -45,10 +45,10 @@ pub record Exchange : Type 0 where
 
 -- ---- one exchange
 
--- the reply answers the query string over the journal by the book, and nothing is imported
-pub record GrantsAnswer (book : List NamedPosition) (text : List ℕ) (journal : List Batch)
-    (before after : Moment) (call : Option ImportCall) (reply : Reply) : Type 0 where
-  pub answers : AnswersQuery book text journal before.readings after.readings reply
+-- the reply is an answer, or says why there is none, and nothing is imported
+pub record GrantsAnswer (IsAnswer : Reply → Type 0) (before after : Moment)
+    (call : Option ImportCall) (reply : Reply) : Type 0 where
+  pub answers : AnswersBy IsAnswer before.readings after.readings reply
   pub unmoved : after.readings.entered ≡ before.readings.entered → after.seen ≡ before.seen
   pub uncalled : call ≡ None
   pub counts : after.counts ≡ before.counts
@@ -74,12 +74,13 @@ pub record GrantsFixed (fixed : Reply) (before after : Moment) (call : Option Im
   pub stays : after ≡ before
 
 -- The reply is one to what is asked for, over the journal that the pass has seen then, by what is
--- offered. There are no answers over a player's games yet, so that none is granted to their route.
+-- offered.
 abbrev pub Grants : Offer → Route → List Batch → Moment → Moment → Option ImportCall → Reply
     → Type 0
 Grants offer (Answer text) journal before after call reply =
-    GrantsAnswer offer.book text journal before after call reply
-Grants offer (PlayerAnswer text) journal before after call reply = ⊥
+    GrantsAnswer (IsNamedAnswerOf offer.book text journal) before after call reply
+Grants offer (PlayerAnswer text) journal before after call reply =
+    GrantsAnswer (IsPlayerAnswerOf offer.book text journal) before after call reply
 Grants offer (Import body) journal before after call reply =
     GrantsImport body journal before after call reply
 Grants offer (Fixed fixed) journal before after call reply =

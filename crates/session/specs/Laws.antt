@@ -8,7 +8,8 @@ use Rattle.explorer_model.specs.declared.wire.Reply.{Reply}
 use Rattle.explorer_model.specs.declared.wire.Reply.TheVariants as replies
 use Rattle.explorer_model.specs.declared.fault.Refusal.{Refusal}
 use Rattle.explorer_model.specs.Openings.{NamedPosition}
-use Rattle.explorer_model.specs.Replies.{IsNamedFoundIn, stored_body}
+use Rattle.explorer_model.specs.Players.{IsPlayerAnswerOf, IsPlayerFoundIn}
+use Rattle.explorer_model.specs.Replies.{IsNamedAnswerOf, IsNamedFoundIn, stored_body}
 use Rattle.explorer_model.specs.Timeline.{IsPrefix}
 use Rattle.explorer_model.specs.Wire.{IsAsked}
 use Rattle.outside.specs.Stream.{Rises}
@@ -17,7 +18,7 @@ use Rattle.session.specs.declared.serving.Ended.{Ended}
 use Rattle.session.specs.declared.serving.Ended.TheVariants as ends
 use Rattle.session.specs.Exchanges.{Exchange, GrantsImport, Moment, asked_in}
 use Rattle.session.specs.Imports.{HasStoredBody}
-use Rattle.session.specs.Replies.{Offer, Readings, Route, Answer, Import, route_of}
+use Rattle.session.specs.Replies.{Offer, Readings, Route, Answer, Import, PlayerAnswer, route_of}
 
 -- the number of batches that a reply names
 abbrev pub number_of : Reply → Option ℕ
@@ -38,6 +39,8 @@ AscendFrom least (n ∷ ns) = (least ≤ n) × AscendFrom n ns
 abbrev pub IsOverFront : List NamedPosition → List Batch → Route → Reply → Type 0
 IsOverFront book journal (Answer text) (replies.Found batches body) =
     (batches ≤ length journal) × IsNamedFoundIn book text (take batches journal) batches body
+IsOverFront book journal (PlayerAnswer text) (replies.Found batches body) =
+    (batches ≤ length journal) × IsPlayerFoundIn book text (take batches journal) batches body
 IsOverFront book journal _ _ = ⊤
 
 -- one reply says that the journal could not be read, or none
@@ -54,6 +57,7 @@ unread_in (x ∷ xs) = unread_one x.reply + unread_in xs
 abbrev pub IsTold : Reply → Type 0
 IsTold (replies.Found batches body) = ⊤
 IsTold (replies.BadParameter name) = ⊤
+IsTold (replies.BadPlayerParameter name) = ⊤
 IsTold _ = ⊥
 
 -- ---- what is asked and not answered
@@ -96,14 +100,26 @@ IsDrawnAmong offer place journal exchanges =
 
 -- ---- what is replied where nothing fails
 
--- The query is answered, or memory was wanting, or a reading was not given, which the pass counts.
+-- What is found is an answer, or memory was wanting, or a reading was not given, which the pass
+-- counts.
+abbrev pub IsAnsweredBy : (Reply → Type 0) → Readings → Readings → Reply → Type 0
+IsAnsweredBy IsAnswer before after (replies.Found batches body) =
+    IsAnswer (replies.Found batches body)
+IsAnsweredBy IsAnswer before after replies.NoMemory = ⊤
+IsAnsweredBy IsAnswer before after replies.Unread = before.unread < after.unread
+IsAnsweredBy IsAnswer before after _ = ⊥
+
+-- so it is with a query
 abbrev pub IsAnswered : List NamedPosition → List ℕ → List Batch → Readings → Readings → Reply
     → Type 0
-IsAnswered book text journal before after (replies.Found batches body) =
-    IsNamedFoundIn book text journal batches body
-IsAnswered book text journal before after replies.NoMemory = ⊤
-IsAnswered book text journal before after replies.Unread = before.unread < after.unread
-IsAnswered book text journal before after _ = ⊥
+IsAnswered book text journal before after reply =
+    IsAnsweredBy (IsNamedAnswerOf book text journal) before after reply
+
+-- and with a query for a player's games
+abbrev pub IsPlayerAnswered : List NamedPosition → List ℕ → List Batch → Readings → Readings
+    → Reply → Type 0
+IsPlayerAnswered book text journal before after reply =
+    IsAnsweredBy (IsPlayerAnswerOf book text journal) before after reply
 
 -- no count of the importer rose
 pub record NoneRose (before after : ImportCounts) : Type 0 where

@@ -5,5 +5,6 @@ pub mod Exchanges
 pub mod Serving
 pub mod Doors
 pub mod KeptAnswers
+pub mod Readers
 pub mod Laws
 pub mod Steps

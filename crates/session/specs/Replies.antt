@@ -1,5 +1,5 @@
 -- Statement: what is replied to what a connection asks.
-use Rattle.std.specs.Prelude.{◌≡◌, ◌⊎◌, ◌+◌, ◌<◌, ℕ, Bool, true, false, List, [], Err}
+use Rattle.std.specs.Prelude.{◌≡◌, ◌⊎◌, ◌+◌, ◌<◌, ℕ, Bool, true, false, List, []}
 use Rattle.explorer_model.specs.declared.archive.Batch.{Batch}
 use Rattle.explorer_model.specs.declared.wire.Asked.{Asked}
 use Rattle.explorer_model.specs.declared.wire.Asked.TheVariants as asks
@@ -12,8 +12,8 @@ use Rattle.explorer_model.specs.declared.wire.Reply.TheVariants as replies
 use Rattle.explorer_model.specs.declared.wire.RequestFault.{RequestFault}
 use Rattle.explorer_model.specs.declared.wire.RequestFault.TheVariants as faults
 use Rattle.explorer_model.specs.Openings.{NamedPosition}
-use Rattle.explorer_model.specs.Query.{QueryReads}
-use Rattle.explorer_model.specs.Replies.{IsNamedFoundIn}
+use Rattle.explorer_model.specs.Players.{IsPlayerAnswerOf}
+use Rattle.explorer_model.specs.Replies.{IsNamedAnswerOf}
 use Rattle.published_index.specs.States.{Watching}
 
 -- ---- what is asked for
@@ -28,6 +28,10 @@ pub record Offer : Type 0 where
 -- answers are named by the book, and no player's games are offered
 abbrev pub by_book : List NamedPosition → Offer
 by_book book = record { book = book; players = false }
+
+-- answers are named by the book, and a player's games are offered
+abbrev pub with_players : List NamedPosition → Offer
+with_players book = record { book = book; players = true }
 
 -- no opening is named
 abbrev pub no_offer : Offer
@@ -80,7 +84,7 @@ abbrev pub closes : Asked → Bool
 closes (asks.Wanted request) = request.last
 closes _ = true
 
--- ---- the answer to a query
+-- ---- answers to queries
 
 -- how often a pass has entered, and how many readings it was not given
 pub record Readings : Type 0 where
@@ -99,17 +103,26 @@ abbrev pub MayEnter : Readings → Readings → Type 0
 MayEnter before after =
     (after.entered ≡ before.entered) ⊎ (after.entered ≡ before.entered + 1)
 
+-- The reply tells an answer that is one, with one entering, or what is malformed, with none. Want of
+-- memory is free, and a reading that was not given is counted.
+abbrev pub AnswersBy : (Reply → Type 0) → Readings → Readings → Reply → Type 0
+AnswersBy IsAnswer before after (replies.Found batches body) =
+    IsAnswer (replies.Found batches body) × Enters before after
+AnswersBy IsAnswer before after replies.NoMemory =
+    MayEnter before after × (after.unread ≡ before.unread)
+AnswersBy IsAnswer before after replies.Unread =
+    (after.entered ≡ before.entered) × (before.unread < after.unread)
+AnswersBy IsAnswer before after reply = IsAnswer reply × (after ≡ before)
+
 -- The reply answers the query string over the journal that the pass has seen then, with the
--- openings that the book names for it, or names its first malformed parameter. Want of memory is
--- free, and a reading that was not given is counted.
+-- openings that the book names for it, or names its first malformed parameter.
 abbrev pub AnswersQuery : List NamedPosition → List ℕ → List Batch → Readings → Readings → Reply
     → Type 0
-AnswersQuery book text journal before after (replies.Found batches body) =
-    IsNamedFoundIn book text journal batches body × Enters before after
-AnswersQuery book text journal before after (replies.BadParameter name) =
-    QueryReads text (Err (record { name = name })) × (after ≡ before)
-AnswersQuery book text journal before after replies.NoMemory =
-    MayEnter before after × (after.unread ≡ before.unread)
-AnswersQuery book text journal before after replies.Unread =
-    (after.entered ≡ before.entered) × (before.unread < after.unread)
-AnswersQuery book text journal before after _ = ⊥
+AnswersQuery book text journal before after reply =
+    AnswersBy (IsNamedAnswerOf book text journal) before after reply
+
+-- The same of a query for a player's games.
+abbrev pub AnswersPlayerQuery : List NamedPosition → List ℕ → List Batch → Readings → Readings
+    → Reply → Type 0
+AnswersPlayerQuery book text journal before after reply =
+    AnswersBy (IsPlayerAnswerOf book text journal) before after reply

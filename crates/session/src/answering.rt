@@ -1,15 +1,16 @@
 //! Answers to queries.
-ghost use Rattle.std.specs.Prelude.{◌≡◌, ◌<◌, ◌≤◌, [], IfOk, Ok, length};
+ghost use Rattle.std.specs.Prelude.{◌≡◌, ◌<◌, ◌≤◌, [], IfOk, Ok};
 ghost use Rattle.explorer_model.specs.Chess.{IsValid};
 ghost use Rattle.explorer_model.specs.Query.{QueryReads};
-ghost use Rattle.explorer_model.specs.Replies.{IsNamedFoundIn};
 ghost use Rattle.explorer_model.specs.Timeline.{IsPrefix};
 ghost use Rattle.published_index.specs.Cover.{journal_of};
+ghost use Rattle.session.specs.KeptAnswers.{IsBodyFor};
 ghost use Rattle.session.specs.Naming.{IsNamedBody, IsPlayed};
 ghost use Rattle.session.specs.Replies.{AnswersQuery, readings_of};
+ghost use Rattle.session.specs.declared.kept_answers.Asking.TheVariants.{Games};
 
-use crate::kept_answers::Answers;
-use answer_json::answer::named_body;
+use crate::kept_answers::{Answers, Asking};
+use answer_json::answer::{body, named_body};
 use answer_json::laws::what_is_found_is_plain;
 use explorer_model::archive::Bytes;
 use explorer_model::fault::Stop;
@@ -92,14 +93,14 @@ fn body_by<J: Index>(
     requires top { query.now.top ≤ 4 }
     requires recent { query.now.recent ≤ 4 }
     ensures found { IfOk result (λ body.
-        IsNamedFoundIn kept.old text.now pass.now.seen (length pass.now.seen) body.items) }
+        IsBodyFor Games kept.old text.now pass.now.seen body.items) }
     ensures book { kept.new ≡ kept.old }
 {
-    if let Some(body) = kept.find(alloc, pass, text) {
+    if let Some(body) = kept.find(alloc, pass, Asking::Games, text) {
         return Ok(body);
     }
     let body = body_for(alloc, kept.book(), snapshot, query)?;
-    kept.keep(alloc, pass, text, body.as_slice());
+    kept.keep(alloc, pass, Asking::Games, text, body.as_slice());
     Ok(body)
 }
 
@@ -143,6 +144,9 @@ fn body_uncounted<L: Ledger>(
     found_moves_are_legal();
     let mut steps = Steps::<L>::new(blank);
     let found = look(alloc, snapshot, query, &mut steps)?;
+    if book.is_empty() {
+        return body(alloc, &found);
+    }
     let names = naming(alloc, book, query, &found)?;
     let text = named_body(alloc, &found, &names)?;
     Ok(text)

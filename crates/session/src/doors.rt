@@ -1,13 +1,18 @@
 //! Doors.
+ghost use Rattle.std.specs.Prelude.{◌≡◌};
+ghost use Rattle.explorer_model.specs.Timeline.{IsPrefix};
 ghost use Rattle.session.specs.Doors.{DoorServed, EndsDoor};
 ghost use Rattle.session.specs.Exchanges.{backend};
-ghost use Rattle.session.specs.Replies.{by_book};
+ghost use Rattle.session.specs.Readers.{IsCovered, offer_of};
+ghost use Rattle.session.specs.Replies.{with_players};
 
 use crate::kept_answers::Answers;
+use crate::reader::Reader;
 use crate::serving::serve_by;
 use ingest_desk::Importer;
 use opening_names::Book;
 use outside::{Door, Failed};
+use player_index::PlayerIndex;
 use published_index::{Index, Pass};
 use std::alloc::Global;
 use std::sync::Wait;
@@ -21,8 +26,8 @@ pub enum DoorEnd {
     AcceptFault,
 }
 
-/// Serves the connections of a door, one after another, with the openings that the book names, and
-/// gives each back to it. It may wait for a peer.
+/// Serves the connections of a door, one after another, with the openings that the book names and
+/// with a player's games, and gives each back to it. It may wait for a peer.
 pub fn serve_door<J: Index, D: Door, I: Importer<J>, R: Wait + Threads + Sync>(
     rt: &R,
     alloc: Global,
@@ -30,18 +35,43 @@ pub fn serve_door<J: Index, D: Door, I: Importer<J>, R: Wait + Threads + Sync>(
     pass: &mut Pass<J>,
     importer: &mut I,
     book: &Book,
+    players: &mut PlayerIndex,
 ) -> DoorEnd
-    ensures served { DoorServed (by_book book.now) (D.door door.old)
+    requires { IsPrefix players.old.batches pass.old.seen }
+    ensures served { DoorServed (with_players book.now) (D.door door.old)
         (backend pass.old (I.importer importer.old))
         (D.door door.new) (backend pass.new (I.importer importer.new)) }
     ensures ends { EndsDoor result (D.door door.old) (D.door door.new) }
+    ensures covered { IsPrefix players.new.batches pass.new.seen }
 {
-    let mut kept = Answers::new(alloc, book);
+    let mut reader = Reader::with_players(alloc, Answers::new(alloc, book), players);
+    let end = serve_door_by(rt, alloc, door, pass, importer, &mut reader);
+    reader.give_back(players);
+    end
+}
+
+/// The same, by what the reader offers.
+fn serve_door_by<J: Index, D: Door, I: Importer<J>, R: Wait + Threads + Sync>(
+    rt: &R,
+    alloc: Global,
+    door: &mut D,
+    pass: &mut Pass<J>,
+    importer: &mut I,
+    reader: &mut Reader<'_, J>,
+) -> DoorEnd
+    requires { IsCovered reader.old.players pass.old.seen }
+    ensures served { DoorServed (offer_of reader.old) (D.door door.old)
+        (backend pass.old (I.importer importer.old))
+        (D.door door.new) (backend pass.new (I.importer importer.new)) }
+    ensures ends { EndsDoor result (D.door door.old) (D.door door.new) }
+    ensures covered { IsCovered reader.new.players pass.new.seen }
+    ensures offer { offer_of reader.new ≡ offer_of reader.old }
+{
     'accepting: loop {
         match door.accept() {
             Ok(Some(link)) => {
                 let mut link = link;
-                let _ = serve_by(rt, alloc, &mut link, pass, importer, &mut kept);
+                let _ = serve_by(rt, alloc, &mut link, pass, importer, reader);
                 door.finish(link);
             }
             Ok(None) => return DoorEnd::Whole,

@@ -1,6 +1,6 @@
 //! Answers that were given, kept for whoever asks the same again.
-ghost use Rattle.std.specs.Prelude.{◌≡◌, IfOk, IfSome, length};
-ghost use Rattle.explorer_model.specs.Replies.{IsNamedFoundIn};
+ghost use Rattle.std.specs.Prelude.{◌≡◌, IfOk, IfSome};
+ghost use Rattle.session.specs.KeptAnswers.{IsBodyFor};
 
 use lru::LruCache;
 use opening_names::Book;
@@ -18,11 +18,21 @@ const COUNT_LIMIT: usize = 128;
 /// string above 8,192, so a reader that serves connections keeps at most 3 MiB.
 const SIZE_LIMIT: usize = 16_384;
 
-/// An answer that was given: the query string, what the pass had seen then, and the body. That the
-/// one is the other's stands in the value itself, whatever becomes of the map that holds it. By which
-/// book it is named is there for contracts alone.
+/// Of which games an answer is: each has a path of its own.
+#[derive(Clone, Copy, Debug, PartialEq, Eq, Hash)]
+pub enum Asking {
+    /// All games.
+    Games,
+    /// The games of a player.
+    Player,
+}
+
+/// An answer that was given: what was asked by which query string, what the pass had seen then, and
+/// the body. That the one is the other's stands in the value itself, whatever becomes of the map that
+/// holds it. By which book it is named is there for contracts alone.
 #[derive(Drop)]
 pub struct KeptAnswer<J: Index> {
+    asking: Asking,
     text: Vec<u8>,
     note: Note<J>,
     book: Snapshot<Book>,
@@ -30,13 +40,12 @@ pub struct KeptAnswer<J: Index> {
 }
 
 impl<J: Index> Model for KeptAnswer<J> {
-    ghost use Rattle.std.specs.Prelude.{length};
-    ghost use Rattle.explorer_model.specs.Replies.{IsNamedFoundIn};
     ghost use Rattle.session.specs.KeptAnswers as answers;
 
     ghost Value = { answers.KeptAnswer };
 
     ghost view = { λ kept. record {
+      asking = kept.asking;
       text = kept.text.items;
       journal = kept.note;
       book = kept.book.value;
@@ -44,18 +53,18 @@ impl<J: Index> Model for KeptAnswer<J> {
     } };
 
     // The body answers the query string over the journal, by the book.
-    ghost invariant = { λ kept. IsNamedFoundIn kept.book.value kept.text.items kept.note
-        (length kept.note) kept.body.items };
+    ghost invariant = { λ kept. answers.IsBodyFor kept.asking kept.book.value kept.text.items
+        kept.note kept.body.items };
 }
 
 impl<J: Index> KeptAnswer<J> {
-    /// The body, where the query string is its own and the pass has seen just what it is over. A merge
-    /// leaves what is seen as it is.
-    fn body_for(&self, pass: &Pass<J>, text: &[u8]) -> Option<&[u8]>
-        ensures { IfSome result (λ body. IsNamedFoundIn self.now.book text.now pass.now.seen
-            (length pass.now.seen) body.now) }
+    /// The body, where just this was asked and the pass has seen just what it is over. A merge leaves
+    /// what is seen as it is.
+    fn body_for(&self, pass: &Pass<J>, asking: Asking, text: &[u8]) -> Option<&[u8]>
+        ensures { IfSome result (λ body.
+            IsBodyFor asking self.now.book text.now pass.now.seen body.now) }
     {
-        if self.text.as_slice() == text && pass.is_at(&self.note) {
+        if self.asking == asking && self.text.as_slice() == text && pass.is_at(&self.note) {
             Some(self.body.as_slice())
         } else {
             None
@@ -69,7 +78,7 @@ impl<J: Index> KeptAnswer<J> {
 #[derive(Drop)]
 pub struct Answers<'a, J: Index> {
     book: &'a Book,
-    /// By a hash of the query string. Nothing rests on the hash, since the string is compared.
+    /// By a hash of what is asked. Nothing rests on the hash, since that is compared.
     kept: Option<LruCache<u64, KeptAnswer<J>>>,
 }
 
@@ -119,29 +128,35 @@ impl<'a, J: Index> Answers<'a, J> {
 
     /// A copy of the body that answers the query string over all that the pass has seen, where one is
     /// kept and there is memory for the copy.
-    pub fn find(&mut self, alloc: Global, pass: &Pass<J>, text: &[u8]) -> Option<Vec<u8>>
-        ensures found { IfSome result (λ body. IsNamedFoundIn self.old text.now pass.now.seen
-            (length pass.now.seen) body.items) }
+    pub fn find(
+        &mut self,
+        alloc: Global,
+        pass: &Pass<J>,
+        asking: Asking,
+        text: &[u8],
+    ) -> Option<Vec<u8>>
+        ensures found { IfSome result (λ body.
+            IsBodyFor asking self.old text.now pass.now.seen body.items) }
         ensures book { self.new ≡ self.old }
     {
-        let key = hash_of(text);
+        let key = hash_of(asking, text);
         self.touch(key);
         let kept = self.kept_at(key)?;
-        let body = kept.body_for(pass, text)?;
+        let body = kept.body_for(pass, asking, text)?;
         body.to_vec(alloc).ok()
     }
 
     /// Keeps an answer over all that the pass has seen, where neither the query string nor the body
     /// has more than 16,384 bytes and there is memory.
-    pub fn keep(&mut self, alloc: Global, pass: &Pass<J>, text: &[u8], body: &[u8])
-        requires { IsNamedFoundIn self.old text.now pass.now.seen (length pass.now.seen) body.now }
+    pub fn keep(&mut self, alloc: Global, pass: &Pass<J>, asking: Asking, text: &[u8], body: &[u8])
+        requires { IsBodyFor asking self.old text.now pass.now.seen body.now }
         ensures { self.new ≡ self.old }
     {
         if self.kept.is_none() || text.len() > SIZE_LIMIT || body.len() > SIZE_LIMIT {
             return;
         }
-        if let Ok(kept) = kept_answer(alloc, self.book, pass, text, body) {
-            self.put(hash_of(text), kept);
+        if let Ok(kept) = kept_answer(alloc, self.book, pass, asking, text, body) {
+            self.put(hash_of(asking, text), kept);
         }
     }
 
@@ -177,13 +192,15 @@ fn kept_answer<J: Index>(
     alloc: Global,
     book: &Book,
     pass: &Pass<J>,
+    asking: Asking,
     text: &[u8],
     body: &[u8],
 ) -> Result<KeptAnswer<J>, AllocError>
-    requires { IsNamedFoundIn book.now text.now pass.now.seen (length pass.now.seen) body.now }
+    requires { IsBodyFor asking book.now text.now pass.now.seen body.now }
     ensures { IfOk result (λ kept. kept.book ≡ book.now) }
 {
     Ok(KeptAnswer {
+        asking,
         text: text.to_vec(alloc)?,
         note: pass.tell(),
         book: Snapshot::of(book),
@@ -191,9 +208,10 @@ fn kept_answer<J: Index>(
     })
 }
 
-/// A number that tells most query strings apart.
-fn hash_of(text: &[u8]) -> u64 {
+/// A number that tells apart most of what is asked.
+fn hash_of(asking: Asking, text: &[u8]) -> u64 {
     let mut state = DefaultHasher::new();
+    asking.hash(&mut state);
     text.hash(&mut state);
     state.finish()
 }

@@ -3,24 +3,27 @@
 ghost use Rattle.std.specs.Prelude.{◌≡◌, ◌⊎◌, ◌≤◌, ◌+◌, ℕ, List, [], Ok, Option};
 ghost use Rattle.std.specs.List.{AllByRecursion, Contains};
 ghost use Rattle.explorer_model.specs.declared.archive.Batch.{Batch};
+ghost use Rattle.explorer_model.specs.declared.player.PlayerQuery.{PlayerQuery};
 ghost use Rattle.explorer_model.specs.declared.query.Query.{Query};
 ghost use Rattle.explorer_model.specs.declared.wire.Reply.{Reply};
 ghost use Rattle.explorer_model.specs.Openings.{NamedPosition};
+ghost use Rattle.explorer_model.specs.Players.{PlayerQueryReads};
 ghost use Rattle.explorer_model.specs.Query.{QueryReads};
 ghost use Rattle.explorer_model.specs.Replies.{IsFoundIn, IsNamedFoundIn};
 ghost use Rattle.ingest_desk.specs.declared.report.ImportCall.{ImportCall};
 ghost use Rattle.outside.specs.Stream.{Stream};
 ghost use Rattle.session.specs.declared.serving.Ended.{Ended};
 ghost use Rattle.session.specs.Exchanges.{Backend, Exchange, GrantsImport, Moment, AreExchanges};
-ghost use Rattle.session.specs.Laws.{AscendFrom, IsAllAnswered, IsAnswered, IsDrawnAmong, IsOverFront, IsStored};
+ghost use Rattle.session.specs.Laws.{AscendFrom, IsAllAnswered, IsAnswered, IsDrawnAmong, IsOverFront, IsPlayerAnswered, IsStored};
 ghost use Rattle.session.specs.Laws.{IsTold, NoneRose, numbers, unread_in};
-ghost use Rattle.session.specs.Replies.{AnswersQuery, Offer, Readings, route_of};
+ghost use Rattle.session.specs.Replies.{AnswersPlayerQuery, AnswersQuery, Offer, Readings, route_of};
 ghost use Rattle.session.specs.Serving.{Served};
 
 use answer_json::laws::an_empty_book_names_nothing;
 use lookup::laws::answers_are_determined;
 use opening_names::laws::naming_is_determined;
-use query_params::laws::query_is_determined;
+use player_lookup::laws::answers_are_determined as player_answers_are_determined;
+use query_params::laws::{player_query_is_determined, query_is_determined};
 
 /// Each answer is over the first batches of what the pass has seen in the end, as many as its
 /// number says. The numbers of replies do not fall, and the first is no less than what the pass had
@@ -61,16 +64,22 @@ pub fn all_that_is_asked_is_answered()
 {}
 
 /// A query string has one answer over a journal by a book, where the journal could be read and
-/// memory was there.
+/// memory was there, and so has one for a player's games.
 pub fn replies_are_determined()
-    ensures { (book : List NamedPosition) (text : List ℕ) (journal : List Batch)
+    ensures queries { (book : List NamedPosition) (text : List ℕ) (journal : List Batch)
         (before after later : Readings) (reply other : Reply) → IsTold reply → IsTold other
         → AnswersQuery book text journal before after reply
         → AnswersQuery book text journal before later other → reply ≡ other }
+    ensures players { (book : List NamedPosition) (text : List ℕ) (journal : List Batch)
+        (before after later : Readings) (reply other : Reply) → IsTold reply → IsTold other
+        → AnswersPlayerQuery book text journal before after reply
+        → AnswersPlayerQuery book text journal before later other → reply ≡ other }
 {
     query_is_determined();
     answers_are_determined();
     naming_is_determined();
+    player_query_is_determined();
+    player_answers_are_determined();
 }
 
 /// By a book without a line an answer is what it is where no opening is known.
@@ -84,14 +93,20 @@ pub fn an_empty_book_changes_no_answer()
 }
 
 /// A query that is accepted is answered with what is found, unless memory was wanting or a reading
-/// was not given, which the pass counts.
+/// was not given, which the pass counts. So is one for a player's games.
 pub fn accepted_queries_are_answered()
-    ensures { (book : List NamedPosition) (text : List ℕ) (query : Query) (journal : List Batch)
+    ensures queries { (book : List NamedPosition) (text : List ℕ) (query : Query) (journal : List Batch)
         (before after : Readings) (reply : Reply) → QueryReads text (Ok query)
         → AnswersQuery book text journal before after reply
         → IsAnswered book text journal before after reply }
+    ensures players { (book : List NamedPosition) (text : List ℕ) (query : PlayerQuery)
+        (journal : List Batch) (before after : Readings) (reply : Reply)
+        → PlayerQueryReads text (Ok query)
+        → AnswersPlayerQuery book text journal before after reply
+        → IsPlayerAnswered book text journal before after reply }
 {
     query_is_determined();
+    player_query_is_determined();
 }
 
 /// A body during whose import no count of the importer rose is stored, unless memory was wanting.

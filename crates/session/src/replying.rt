@@ -3,12 +3,14 @@ ghost use Rattle.std.specs.Prelude.{◌≡◌, ◌≤◌, length};
 ghost use Rattle.explorer_model.specs.Wire.{body_limit};
 ghost use Rattle.explorer_model.specs.declared.wire.Asked.TheVariants.{Wanted};
 ghost use Rattle.session.specs.Exchanges.{backend};
-ghost use Rattle.session.specs.Replies.{by_book, closes, refusal_reply};
+ghost use Rattle.session.specs.Readers.{IsCovered, offer_of};
+ghost use Rattle.session.specs.Replies.{closes, refusal_reply};
 ghost use Rattle.session.specs.Steps.{IsReplied, Replied};
 
 use crate::answering::answer_by;
 use crate::importing::import;
-use crate::kept_answers::Answers;
+use crate::player_answering::answer_player;
+use crate::reader::Reader;
 use explorer_model::wire::{Asked, Method, Path, Reply, Request, RequestFault};
 use ingest_desk::Importer;
 use published_index::{Index, Pass};
@@ -26,23 +28,25 @@ pub fn closes(asked: &Asked) -> bool
     }
 }
 
-/// The reply to what is asked, with the openings that the book of the kept answers names.
+/// The reply to what is asked, by what the reader offers.
 pub fn reply_to<J: Index, I: Importer<J>, R: Wait + Threads + Sync>(
     rt: &R,
     alloc: Global,
     asked: &Asked,
     pass: &mut Pass<J>,
     importer: &mut I,
-    kept: &mut Answers<'_, J>,
+    reader: &mut Reader<'_, J>,
 ) -> Reply
-    requires { IsReplied asked.now }
-    ensures replied { Replied (by_book kept.old) asked.now
+    requires replied { IsReplied asked.now }
+    requires covered { IsCovered reader.old.players pass.old.seen }
+    ensures replied { Replied (offer_of reader.old) asked.now
         (backend pass.old (I.importer importer.old)) result
         (backend pass.new (I.importer importer.new)) }
-    ensures book { kept.new ≡ kept.old }
+    ensures covered { IsCovered reader.new.players pass.new.seen }
+    ensures offer { offer_of reader.new ≡ offer_of reader.old }
 {
     match asked {
-        Asked::Wanted(request) => reply_to_request(rt, alloc, request, pass, importer, kept),
+        Asked::Wanted(request) => reply_to_request(rt, alloc, request, pass, importer, reader),
         Asked::Refused(fault) => refusal_reply(*fault),
         Asked::NoMemory => Reply::NoMemory,
         Asked::Done | Asked::Cut | Asked::ReadFault => unreachable!(),
@@ -65,18 +69,30 @@ fn reply_to_request<J: Index, I: Importer<J>, R: Wait + Threads + Sync>(
     request: &Request,
     pass: &mut Pass<J>,
     importer: &mut I,
-    kept: &mut Answers<'_, J>,
+    reader: &mut Reader<'_, J>,
 ) -> Reply
-    requires { length request.now.body ≤ body_limit }
-    ensures replied { Replied (by_book kept.old) (Wanted request.now)
+    requires short { length request.now.body ≤ body_limit }
+    requires covered { IsCovered reader.old.players pass.old.seen }
+    ensures replied { Replied (offer_of reader.old) (Wanted request.now)
         (backend pass.old (I.importer importer.old)) result
         (backend pass.new (I.importer importer.new)) }
-    ensures book { kept.new ≡ kept.old }
+    ensures covered { IsCovered reader.new.players pass.new.seen }
+    ensures offer { offer_of reader.new ≡ offer_of reader.old }
 {
     match request.path {
         Path::Lichess => match request.method {
-            Method::Get => answer_by(alloc, pass, kept, request.query.as_slice()),
+            Method::Get => answer_by(alloc, pass, &mut reader.kept, request.query.as_slice()),
             _ => Reply::NotAllowed { allow: Method::Get },
+        },
+        Path::Player => match &mut reader.players {
+            Some(players) => match request.method {
+                Method::Get => {
+                    let text = request.query.as_slice();
+                    answer_player(alloc, pass, &mut reader.kept, players, text)
+                }
+                _ => Reply::NotAllowed { allow: Method::Get },
+            },
+            None => Reply::NotFound,
         },
         Path::Import => match request.method {
             Method::Post => import(rt, alloc, pass, importer, request.body.as_slice()),
@@ -84,8 +100,6 @@ fn reply_to_request<J: Index, I: Importer<J>, R: Wait + Threads + Sync>(
                 allow: Method::Post,
             },
         },
-        // No player's games are offered.
-        Path::Player => Reply::NotFound,
         Path::Other => Reply::NotFound,
     }
 }

@@ -1,18 +1,22 @@
 //! Connections.
 ghost use Rattle.std.specs.Prelude.{◌≡◌, ◌<◌, IfNone, IfSome};
+ghost use Rattle.explorer_model.specs.Timeline.{IsPrefix};
 ghost use Rattle.outside.specs.Stream.{Stream};
 ghost use Rattle.session.specs.Exchanges.{Backend, backend};
-ghost use Rattle.session.specs.Replies.{by_book, no_offer};
+ghost use Rattle.session.specs.Readers.{IsCovered, offer_of};
+ghost use Rattle.session.specs.Replies.{by_book, no_offer, with_players};
 ghost use Rattle.session.specs.Serving.{Served};
 ghost use Rattle.session.specs.Steps.{IsServing};
 
 use crate::kept_answers::Answers;
+use crate::reader::Reader;
 use crate::replying::{closes, reply_to};
 use explorer_model::wire::Asked;
 use http_wire::Wire;
 use ingest_desk::Importer;
 use opening_names::Book;
 use outside::Link;
+use player_index::PlayerIndex;
 use published_index::{Index, Pass};
 use std::alloc::Global;
 use std::sync::Wait;
@@ -58,26 +62,52 @@ pub fn serve_named<J: Index, L: Link, I: Importer<J>, R: Wait + Threads + Sync>(
         (backend pass.old (I.importer importer.old)) result
         (L.source link.new) (backend pass.new (I.importer importer.new)) }
 {
-    serve_by(rt, alloc, link, pass, importer, &mut Answers::none(book))
+    let mut reader = Reader::new(Answers::none(book));
+    serve_by(rt, alloc, link, pass, importer, &mut reader)
 }
 
-/// The same, with answers that are kept, and named by their book.
+/// The same, where a player's games are answered for too. The index covers more of what the pass has
+/// seen when they are asked for, and what it covers is right for any pass that has seen as much.
+pub fn serve_all<J: Index, L: Link, I: Importer<J>, R: Wait + Threads + Sync>(
+    rt: &R,
+    alloc: Global,
+    link: &mut L,
+    pass: &mut Pass<J>,
+    importer: &mut I,
+    book: &Book,
+    players: &mut PlayerIndex,
+) -> Ended
+    requires { IsPrefix players.old.batches pass.old.seen }
+    ensures served { Served (with_players book.now) (L.source link.old)
+        (backend pass.old (I.importer importer.old)) result
+        (L.source link.new) (backend pass.new (I.importer importer.new)) }
+    ensures covered { IsPrefix players.new.batches pass.new.seen }
+{
+    let mut reader = Reader::with_players(alloc, Answers::none(book), players);
+    let ended = serve_by(rt, alloc, link, pass, importer, &mut reader);
+    reader.give_back(players);
+    ended
+}
+
+/// The same, by what the reader offers.
 pub fn serve_by<J: Index, L: Link, I: Importer<J>, R: Wait + Threads + Sync>(
     rt: &R,
     alloc: Global,
     link: &mut L,
     pass: &mut Pass<J>,
     importer: &mut I,
-    kept: &mut Answers<'_, J>,
+    reader: &mut Reader<'_, J>,
 ) -> Ended
-    ensures served { Served (by_book kept.old) (L.source link.old)
+    requires { IsCovered reader.old.players pass.old.seen }
+    ensures served { Served (offer_of reader.old) (L.source link.old)
         (backend pass.old (I.importer importer.old)) result
         (L.source link.new) (backend pass.new (I.importer importer.new)) }
-    ensures book { kept.new ≡ kept.old }
+    ensures covered { IsCovered reader.new.players pass.new.seen }
+    ensures offer { offer_of reader.new ≡ offer_of reader.old }
 {
     let mut wire = Wire::new();
     'serving: loop {
-        if let Some(ended) = serve_one(rt, alloc, &mut wire, link, pass, importer, kept) {
+        if let Some(ended) = serve_one(rt, alloc, &mut wire, link, pass, importer, reader) {
             return ended;
         }
     }
@@ -91,22 +121,24 @@ fn serve_one<J: Index, L: Link, I: Importer<J>, R: Wait + Threads + Sync>(
     link: &mut L,
     pass: &mut Pass<J>,
     importer: &mut I,
-    kept: &mut Answers<'_, J>,
+    reader: &mut Reader<'_, J>,
 ) -> Option<Ended>
-    requires { 0 < wire.old.more }
+    requires more { 0 < wire.old.more }
+    requires covered { IsCovered reader.old.players pass.old.seen }
     ensures serving { (before : Stream) (start : Backend)
-        → IsServing (by_book kept.old) before start wire.old (L.source link.old)
+        → IsServing (offer_of reader.old) before start wire.old (L.source link.old)
         (backend pass.old (I.importer importer.old))
-        → IfNone result (IsServing (by_book kept.old) before start wire.new (L.source link.new)
+        → IfNone result (IsServing (offer_of reader.old) before start wire.new (L.source link.new)
         (backend pass.new (I.importer importer.new))) }
     ensures served { (before : Stream) (start : Backend)
-        → IsServing (by_book kept.old) before start wire.old (L.source link.old)
+        → IsServing (offer_of reader.old) before start wire.old (L.source link.old)
         (backend pass.old (I.importer importer.old))
-        → IfSome result (λ ended. Served (by_book kept.old) before start ended (L.source link.new)
+        → IfSome result (λ ended. Served (offer_of reader.old) before start ended (L.source link.new)
         (backend pass.new (I.importer importer.new))) }
     ensures more { IfNone result (0 < wire.new.more) }
     ensures fewer { IfNone result (wire.new.more < wire.old.more) }
-    ensures book { kept.new ≡ kept.old }
+    ensures covered { IsCovered reader.new.players pass.new.seen }
+    ensures offer { offer_of reader.new ≡ offer_of reader.old }
 {
     let asked = wire.next(alloc, link);
     match asked {
@@ -115,7 +147,7 @@ fn serve_one<J: Index, L: Link, I: Importer<J>, R: Wait + Threads + Sync>(
         Asked::ReadFault => return Some(Ended::ReadFault),
         _ => {}
     }
-    let reply = reply_to(rt, alloc, &asked, pass, importer, kept);
+    let reply = reply_to(rt, alloc, &asked, pass, importer, reader);
     let last = closes(&asked);
     let Ok(()) = wire.reply(link, &reply, last) else {
         return Some(Ended::WriteFault);

@@ -1,7 +1,7 @@
 //! Stores that are served over a host in memory.
 ghost use Rattle.std.specs.Prelude.{◌≡◌, [], IfOk};
 
-use super::{NO_GAME, ONE_WHITE, ends, games, joined, named};
+use super::{NO_GAME, ONE_WHITE, ends, game, games, joined, listed, named};
 use disk_model::MemDisk;
 use host::{MemCall, MemFile, MemHost, MemLinks};
 use outside::{MemLink, MemSink, MemSource};
@@ -214,5 +214,69 @@ fn imports_a_file_of_two_groups(rt: HostRuntime) -> Result<(), Fail> {
     assert!(rt; was_written(&host, 0, ""));
     let batches = (0, "1 512 \n2 1 \n", "");
     assert!(rt; ends(&rt, &mut host, &["batches", "s"], batches)?);
+    Ok(())
+}
+
+const AS_WHITE: &str = "GET /player?player=ANN&color=white HTTP/1.1\r\n\r\n";
+
+const AS_BLACK: &str = "GET /player?player=ann&color=black HTTP/1.1\r\n\r\n";
+
+/// The answer for a player who has no game in that colour.
+const NO_GAME_OF_PLAYER: &str =
+    "{\"black\":0,\"draws\":0,\"moves\":[],\"opening\":null,\"recentGames\":[],\"white\":0}";
+
+/// The answer for the player who won one game with White, which began with `1. e4`, where that move
+/// has this opening.
+fn won_game(alloc: Global, opening: &str) -> Result<String, AllocError> {
+    let game = listed(alloc, "aaaaaaa1", "e2e4", "white")?;
+    format!(in alloc;
+        "{{\"black\":0,\"draws\":0,\"moves\":[{{\"averageOpponentRating\":1400,\"black\":0,\
+         \"draws\":0,\"game\":{game},\"opening\":{opening},\"san\":\"e4\",\"uci\":\"e2e4\",\
+         \"white\":1}}],\"opening\":null,\"recentGames\":[{game}],\"white\":1}}"
+    )
+}
+
+#[test]
+fn tells_the_games_of_a_player(rt: HostRuntime) -> Result<(), Fail> {
+    let alloc = rt.alloc();
+    let posted = post(alloc, game(alloc, "1-0", "1. e4 1-0")?.as_str())?;
+    let post = posted.as_str();
+    let links = two_links(alloc, &[AS_WHITE, post, AS_WHITE], &[AS_BLACK, AS_WHITE])?;
+    let mut host = host_with(alloc, &[], links, &[])?;
+    assert!(rt; ends(&rt, &mut host, &SERVE, (0, "listening a\n", ""))?);
+    let text = won_game(alloc, "null")?;
+    let won = (Some("1"), text.as_str());
+    let none = (Some("0"), NO_GAME_OF_PLAYER);
+    assert!(rt; was_told(alloc, &host, 0, &[none, (Some("1"), STORED), won])?);
+    assert!(rt; was_told(alloc, &host, 1, &[(Some("1"), NO_GAME_OF_PLAYER), won])?);
+    Ok(())
+}
+
+#[test]
+fn names_the_openings_of_a_players_games(rt: HostRuntime) -> Result<(), Fail> {
+    let alloc = rt.alloc();
+    let posted = post(alloc, game(alloc, "1-0", "1. e4 1-0")?.as_str())?;
+    let links = one_link(alloc, &[posted.as_str(), AS_WHITE])?;
+    let mut host = host_with(alloc, &[], links, &[])?;
+    let book = MemFile {
+        bytes: b"B00\tKing's Pawn Game\t1. e4".to_vec(alloc)?,
+        failing: Vec::new(alloc),
+    };
+    host.add_file("openings", book)?;
+    let words = [
+        "serve",
+        "s",
+        "a",
+        "--openings",
+        "openings",
+        "--readers",
+        "1",
+        "--connections",
+        "1",
+    ];
+    assert!(rt; ends(&rt, &mut host, &words, (0, "listening a\n", ""))?);
+    let text = won_game(alloc, "{\"eco\":\"B00\",\"name\":\"King's Pawn Game\"}")?;
+    let stored = (Some("1"), STORED);
+    assert!(rt; was_told(alloc, &host, 0, &[stored, (Some("1"), text.as_str())])?);
     Ok(())
 }

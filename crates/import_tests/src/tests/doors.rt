@@ -6,6 +6,7 @@ use explorer_model::archive::Bytes;
 use ingest_desk::{End, ImportCall, ImportEnding, Importer, Report};
 use opening_names::Book;
 use outside::{MemDoor, MemLink, MemSink, MemSource};
+use player_index::PlayerIndex;
 use published_index::{Index, List, Pass, Unnamed, open_list};
 use session::{DoorEnd, serve_door};
 use std::alloc::Global;
@@ -175,7 +176,8 @@ fn served<J: Index, R: Threads + Wait + Sync>(
 ) -> Result<(DoorEnd, MemDoor), Fail> {
     let mut door = door(alloc)?;
     let book = Book::empty(alloc);
-    let end = serve_door(rt, alloc, &mut door, pass, importer, &book);
+    let mut players = PlayerIndex::new(alloc);
+    let end = serve_door(rt, alloc, &mut door, pass, importer, &book, &mut players);
     Ok((end, door))
 }
 

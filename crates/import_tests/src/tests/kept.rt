@@ -8,8 +8,9 @@ use import_run::{DeskHandle, drain};
 use ingest_desk::{Desk, Importer, MergeDesk, Unnamed};
 use opening_names::Book;
 use outside::{MemDoor, MemLink, MemSink, MemSource};
+use player_index::PlayerIndex;
 use published_index::{Drawer, Index, Pass};
-use session::{Answers, DoorEnd, answer_by, serve_door};
+use session::{Answers, Asking, DoorEnd, answer_by, serve_door};
 use std::alloc::{AllocError, Global};
 use std::marker::Brand;
 use std::process::Abort;
@@ -171,7 +172,10 @@ fn door_of(alloc: Global, talks: &[Talk]) -> Result<MemDoor, Fail> {
     for talk in talks {
         links.push(link(alloc, talk.requests.as_slice())?)?;
     }
-    Ok(MemDoor::new(alloc, links, 3, Vec::new(alloc))?)
+    let Ok(connections) = u32::try_from(talks.len()) else {
+        return Err(Fail::from("too many"));
+    };
+    Ok(MemDoor::new(alloc, links, connections, Vec::new(alloc))?)
 }
 
 /// Whether each link got the replies of its talk, and nothing else.
@@ -201,7 +205,8 @@ fn replies_so<J: Index, R: Threads + Wait + Sync>(
     let pass = passes.first_mut().ok_or("a pass")?;
     let mut door = door_of(alloc, talks)?;
     let mut handle = DeskHandle::new(desk, drawer, 2);
-    let end = serve_door(rt, alloc, &mut door, pass, &mut handle, book);
+    let mut players = PlayerIndex::new(alloc);
+    let end = serve_door(rt, alloc, &mut door, pass, &mut handle, book, &mut players);
     Ok(end == DoorEnd::Whole && have_replies(door.taken_back(), talks))
 }
 
@@ -265,6 +270,18 @@ fn named_talk(alloc: Global) -> Result<Talk, AllocError> {
     Ok(talk)
 }
 
+#[test]
+fn answers_have_the_openings_of_the_book(rt: HostRuntime) -> Result<(), Fail> {
+    let alloc: Global = rt.alloc();
+    let Ok(book) = Book::read(alloc, b"B00\tKing's Pawn Game\t1. e4") else {
+        return Err(Fail::from("no book"));
+    };
+    let talks = vec![in alloc; named_talk(alloc)?]?;
+    let unnamed = new_store(&rt, alloc, Vec::new(alloc))?;
+    assert!(rt; replies_over_a_store::<Brand, _>(&rt, alloc, unnamed, talks.as_slice(), &book)?);
+    Ok(())
+}
+
 // ---- what is kept
 
 /// Imports a body, which is stored whole.
@@ -304,7 +321,7 @@ impl<'a, J: Index> Reader<'a, J> {
     /// is kept that is given again over it.
     fn enters(&mut self, alloc: Global, text: &[u8]) -> Result<(usize, bool), Fail> {
         let snapshot = self.pass.enter(alloc)?;
-        let found = self.kept.find(alloc, &self.pass, text);
+        let found = self.kept.find(alloc, &self.pass, Asking::Games, text);
         Ok((snapshot.segments().len(), found.is_some()))
     }
 }

@@ -44,12 +44,27 @@ pub(super) fn put<J: Index, R: Threads + Wait + Sync>(
     drawer: &mut Drawer<J>,
     games: &[Names],
 ) -> Result<Note<J>, Fail> {
+    let mut texts = Vec::new(alloc);
+    for (number, names) in games.iter().enumerate() {
+        texts.push(text(alloc, number, *names)?)?;
+    }
+    put_texts(rt, alloc, publisher, drawer, texts)
+}
+
+/// Puts a batch of texts, where the list has room for it.
+pub(super) fn put_texts<J: Index, R: Threads + Wait + Sync>(
+    rt: &R,
+    alloc: Global,
+    publisher: &mut Publisher<J>,
+    drawer: &mut Drawer<J>,
+    texts: Vec<Placed>,
+) -> Result<Note<J>, Fail> {
     publisher.retry(rt)?;
     if publisher.list().segments().len() >= 64 {
         return Err(Fail::from("the list is full"));
     }
     let end = publisher.list().batches();
-    let segment = segment_of(alloc, end, tally_of(rt, alloc, games)?)?;
+    let segment = segment_of(alloc, end, tally_of(rt, alloc, texts)?)?;
     let segment = Arc::new(alloc, segment)?;
     Ok(publisher.put(rt, segment, drawer)?)
 }
@@ -79,12 +94,8 @@ fn text(alloc: Global, number: usize, names: Names) -> Result<Placed, AllocError
     })
 }
 
-/// The tally of a batch of games of these players, where they are few and short.
-fn tally_of<R: Threads + Sync>(rt: &R, alloc: Global, games: &[Names]) -> Result<Tally, Fail> {
-    let mut texts = Vec::new(alloc);
-    for (number, names) in games.iter().enumerate() {
-        texts.push(text(alloc, number, *names)?)?;
-    }
+/// The tally of a batch of texts, where they are few and short.
+fn tally_of<R: Threads + Sync>(rt: &R, alloc: Global, texts: Vec<Placed>) -> Result<Tally, Fail> {
     if 512 < texts.len() || !are_short(texts.as_slice()) {
         return Err(Fail::from("many texts, or a long one"));
     }

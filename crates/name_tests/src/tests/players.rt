@@ -63,7 +63,7 @@ const WAYS: [&str; 5] = [
 ];
 
 /// Covers what the pass sees.
-fn extend<J: Index>(
+pub(super) fn extend<J: Index>(
     alloc: Global,
     pass: &mut Pass<J>,
     index: &mut PlayerIndex,

@@ -1,4 +1,6 @@
 //! What query strings ask, and the first of their parameters that is malformed.
+mod players;
+
 ghost use Rattle.std.specs.Prelude.{◌<◌};
 
 use explorer_model::archive::Month;

@@ -1,4 +1,6 @@
 //! Printed answers, and the words of refusals.
+mod players;
+
 ghost use Rattle.std.specs.Prelude.{◌≡◌, ◌∷◌, [], IfOk};
 ghost use Rattle.std.specs.List.{All};
 ghost use Rattle.answer_json.specs.Plain.{HasPlainId, IsPlainLine, IsPlainFound};

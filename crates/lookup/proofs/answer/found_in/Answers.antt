@@ -8,16 +8,19 @@ use Rattle.explorer_model.specs.declared.answer.MoveLine.{MoveLine}
 use Rattle.explorer_model.specs.declared.chess.Move.{Move}
 use Rattle.explorer_model.specs.declared.chess.Position.{Position}
 use Rattle.explorer_model.specs.Chess.{Legal}
+use Rattle.std.specs.Arc.{arc_value}
 use Rattle.lookup.specs.Parts.{Part, parts_in}
-use Rattle.lookup.specs.declared.moves.MoveSum.{MoveSum}
-use Rattle.lookup.specs.Hits.{NumberedRow, hit_as}
-use Rattle.lookup.specs.Lines.{IsAveraged, IsLineMade}
+use Rattle.row_sums.specs.declared.moves.MoveSum.{MoveSum}
+use Rattle.row_sums.specs.Hits.{NumberedRow, hit_as}
+use Rattle.row_sums.specs.MoveSums.{IsAveraged}
+use Rattle.lookup.specs.Lines.{IsLineMade}
 use Rattle.lookup.specs.Listing.{IsListingOf}
-use Rattle.lookup.specs.MoveSums.{sum_as}
-use Rattle.lookup.specs.Sums.{any_row, top_where, recent_where, moves_in, before_by_total}
-use Rattle.lookup.proofs.Averages.{averaged}
-use Rattle.lookup.proofs.Listings.{listed-among}
-use Rattle.lookup.proofs.Looking.{sums-have, sums-are}
+use Rattle.row_sums.specs.MoveSums.{sum_as}
+use Rattle.row_sums.specs.Sums.{any_row, top_where, recent_where, moves_in, before_by_total}
+use Rattle.row_sums.proofs.Averages.{averaged}
+use Rattle.lookup.proofs.Listings.{listed-among, looked-up, recent-lists, top-lists}
+use Rattle.segment_blocks.specs.Segment.{CountedSpan}
+use Rattle.row_sums.proofs.SortedLines.{sums-have, sums-are}
 use Rattle.lookup.proofs.answer.found_in.Goals as goal
 
 sums : (c : goal.After-as_slice) → c.as_slice.result.now ≡ map (sum_as (map hit_as c.args.hits.now)) (best (before_by_total (map hit_as c.args.hits.now)) c.args.query.now.moves (moves_in (map hit_as c.args.hits.now)))
@@ -42,6 +45,7 @@ lines_of-requires-clause-sums c =
 pub returns : goal.returns
 returns c =
     let hits : List NumberedRow = map hit_as c.args.hits.now in
+    let segments : List CountedSpan = map arc_value c.args.segments.now in
     let parts : List Part = parts_in c.args.segments.now in
     let query = c.args.query.now in
     let moves : List Move = best (before_by_total hits) query.moves (moves_in hits) in
@@ -55,13 +59,15 @@ returns c =
     let top_found : top top_rows (take query.top c.in_ok-top.top) c.in_ok-top-2.top.items =
     subst (λ (rows : List NumberedRow). top rows (take query.top c.in_ok-top.top) c.in_ok-top-2.top.items) (ap (map hit_as) c.as_slice-2.ensures.value)
     (subst (λ (entries : List Entry). top (map hit_as c.as_slice-2.result.now) entries c.in_ok-top-2.top.items)
-    (c.first-entries.ensures ∙ ap (take query.top) c.entries.ensures.entries) c.in_ok-top-2.ensures) in
+    (c.first-entries.ensures ∙ ap (take query.top) c.entries.ensures.entries)
+    (looked-up (λ row. row.top) top-lists segments (map hit_as c.as_slice-2.result.now) c.first-entries.result.now c.in_ok-top-2.top.items c.in_ok-top-2.ensures)) in
     let recent : List NumberedRow → List Entry → List Listed → Type 0 = λ rows entries listed. IsListingOf (λ row. row.recent) parts rows entries listed in
     let recent_rows : List NumberedRow = map hit_as c.in_ok-recent.rows.items in
     let recent_found : recent recent_rows (take query.recent c.in_ok-recent.recent) c.in_ok-recent-2.recent.items =
     subst (λ (rows : List NumberedRow). recent rows (take query.recent c.in_ok-recent.recent) c.in_ok-recent-2.recent.items) (ap (map hit_as) c.as_slice-3.ensures.value)
     (subst (λ (entries : List Entry). recent (map hit_as c.as_slice-3.result.now) entries c.in_ok-recent-2.recent.items)
-    (c.first-entries-2.ensures ∙ ap (take query.recent) c.entries-2.ensures.entries) c.in_ok-recent-2.ensures) in
+    (c.first-entries-2.ensures ∙ ap (take query.recent) c.entries-2.ensures.entries)
+    (looked-up (λ row. row.recent) recent-lists segments (map hit_as c.as_slice-3.result.now) c.first-entries-2.result.now c.in_ok-recent-2.recent.items c.in_ok-recent-2.ensures)) in
     record {
       totals = c.totals_of.ensures;
       lines = subst OfLines (sym c.from_vec.ensures) (subst OfSums sums (subst AtBoard c.requires.board c.in_ok-moves.ensures));

@@ -4,10 +4,11 @@ use Rattle.explorer_model.specs.declared.chess.Position.{Position}
 use Rattle.explorer_model.specs.Chess.{Legal}
 use Rattle.explorer_model.specs.Counting.{any_next}
 use Rattle.explorer_model.specs.Finds.{IsFound}
-use Rattle.lookup.specs.Hits.{NumberedRow, hit_as, rows_from, AreSound}
+use Rattle.row_sums.specs.Hits.{NumberedRow, hit_as, AreSound}
+use Rattle.lookup.specs.Hits.{rows_from}
 use Rattle.lookup.specs.Lines.{IsPutTogether}
 use Rattle.lookup.specs.Parts.{Part, journal_of, parts_in}
-use Rattle.lookup.specs.Sums.{moves_in}
+use Rattle.row_sums.specs.Sums.{moves_in}
 use Rattle.lookup.proofs.LegalMoves.{moves-legal}
 use Rattle.lookup.proofs.Listings.{if-ok}
 use Rattle.lookup.proofs.Looking.{put-together}

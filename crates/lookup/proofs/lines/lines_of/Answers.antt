@@ -4,10 +4,10 @@ use Rattle.explorer_model.specs.declared.answer.MoveLine.{MoveLine}
 use Rattle.explorer_model.specs.declared.chess.Move.{Move}
 use Rattle.explorer_model.specs.Chess.{Legal}
 use Rattle.lookup.specs.Parts.{parts_in}
-use Rattle.lookup.specs.Hits.{hit_as}
+use Rattle.row_sums.specs.Hits.{hit_as}
 use Rattle.lookup.specs.Lines.{IsLineMade}
-use Rattle.lookup.specs.declared.moves.MoveSum.{MoveSum}
-use Rattle.lookup.proofs.LineLoops.{each-at, zip-next}
+use Rattle.row_sums.specs.declared.moves.MoveSum.{MoveSum}
+use Rattle.row_sums.proofs.LineLoops.{each-at, zip-next}
 use Rattle.lookup.proofs.lines.lines_of.Goals as goal
 
 pub line_of-requires-clause-each : goal.line_of-requires-clause-each

@@ -1,7 +1,7 @@
 use Rattle.std.proofs.Common.{map, take}
 use Rattle.std.specs.List.{AllZip}
 use Rattle.lookup.specs.Parts.{parts_in}
-use Rattle.lookup.specs.Hits.{hit_as}
+use Rattle.row_sums.specs.Hits.{hit_as}
 use Rattle.lookup.specs.Lines.{IsLineMade}
 use Rattle.lookup.proofs.lines.lines_of.Given as goal
 

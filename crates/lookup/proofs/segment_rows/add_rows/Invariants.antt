@@ -1,5 +1,5 @@
 use Rattle.std.proofs.Common.{◌≡◌, ◌+◌, ◌++◌, map, filter, length}
-use Rattle.lookup.specs.Hits.{hit_as}
+use Rattle.row_sums.specs.Hits.{hit_as}
 use Rattle.lookup.proofs.Numbered.{numbered}
 use Rattle.tally_rows.specs.Cover.{passes_row_key}
 use Rattle.tally_rows.specs.Row.{row_key_of}

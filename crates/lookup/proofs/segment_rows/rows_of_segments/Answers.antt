@@ -3,11 +3,12 @@ use Rattle.std.specs.Arc.{arc_value}
 use Rattle.std.specs.List.{sum_by}
 use Rattle.std.proofs.lemmas.List.{take_all}
 use Rattle.std.proofs.lemmas.List.Sums.{sum_by_more, sum_by-take-le}
-use Rattle.lookup.specs.Hits.{hit_as, rows_from, games_counted}
+use Rattle.row_sums.specs.Hits.{hit_as}
+use Rattle.lookup.specs.Hits.{rows_from, games_counted}
 use Rattle.lookup.specs.Parts.{Part, IsPart, segment_part}
 use Rattle.lookup.specs.SegmentRows.{row_steps}
 use Rattle.lookup.proofs.Numbered.{numbered, picked-rows, rows_from-nil, rows_from-more, AllByRecursion-more}
-use Rattle.lookup.proofs.PartLoops.{mapped-at, mapped-past, mapped-within}
+use Rattle.row_sums.proofs.PartLoops.{mapped-at, mapped-past, mapped-within}
 use Rattle.lookup.proofs.SegmentRowLemmas.{cost-more}
 use Rattle.segment_blocks.specs.Segment.{CountedSpan, IsSegment}
 use Rattle.segment_blocks.specs.Walk.{has_key}

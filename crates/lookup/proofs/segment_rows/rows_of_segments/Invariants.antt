@@ -1,7 +1,8 @@
 use Rattle.std.proofs.Common.{◌≡◌, ℕ, ◌+◌, ◌<◌, ◌≤◌, ◌^◌, ◌*◌, length, map, take}
 use Rattle.std.specs.Arc.{arc_value}
 use Rattle.std.specs.List.{All, AllByRecursion, sum_by}
-use Rattle.lookup.specs.Hits.{hit_as, rows_from, games_counted}
+use Rattle.row_sums.specs.Hits.{hit_as}
+use Rattle.lookup.specs.Hits.{rows_from, games_counted}
 use Rattle.lookup.specs.Parts.{IsPart, segment_part}
 use Rattle.lookup.specs.SegmentRows.{row_steps}
 use Rattle.segment_blocks.specs.Segment.{CountedSpan}

@@ -1,7 +1,6 @@
-use Rattle.std.proofs.Common.{◌≡◌, ◌<◌, ◌≤◌, nat_le, length, true, false, List, ℕ, Option, Some, None, Ok, Result, sym, ap, subst, ◌∙◌, arith}
+use Rattle.std.proofs.Common.{◌≡◌, ◌<◌, ◌≤◌, nat_le, length, true, false, Option, Some, Ok, sym, subst, arith}
 use Rattle.std.proofs.lemmas.Bool.Decides.{nat_tests}
 use Rattle.explorer_model.specs.declared.chess.Position.{Position}
-use Rattle.explorer_model.specs.declared.opening.BookCause.{BookCause}
 use Rattle.explorer_model.specs.declared.opening.Opening.{Opening}
 use Rattle.explorer_model.specs.Chess.{start}
 use Rattle.explorer_model.specs.Openings.{ColumnsRead, Leads, NamedPosition, move_limit, words_of}

@@ -1,7 +1,6 @@
-use Rattle.std.proofs.Common.{◌≡◌, ◌+◌, ◌∷◌, ◌++◌, [], length, List, Option, take, ap, sym, subst, ◌∙◌, arith}
+use Rattle.std.proofs.Common.{◌∷◌, ◌++◌, [], List, Option, take, ap, sym, subst, ◌∙◌}
 use Rattle.std.specs.List.{AllZip}
-use Rattle.std.specs.Option.{option_copied}
-use Rattle.std.proofs.lemmas.List.{take_all, take_more}
+use Rattle.std.proofs.lemmas.List.{take_more}
 use Rattle.explorer_model.specs.declared.chess.Move.{Move}
 use Rattle.explorer_model.specs.declared.chess.Position.{Position}
 use Rattle.explorer_model.specs.declared.opening.Opening.{Opening}

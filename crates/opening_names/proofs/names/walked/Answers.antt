@@ -1,7 +1,6 @@
-use Rattle.std.proofs.Common.{◌≡◌, ◌+◌, ◌∷◌, length, List, Option, drop, get_or, ap, sym, subst, ◌∙◌, arith}
-use Rattle.std.specs.Option.{option_copied, option_or}
+use Rattle.std.proofs.Common.{◌+◌, ◌∷◌, Option, drop, ap, sym, subst, ◌∙◌, arith}
+use Rattle.std.specs.Option.{option_copied}
 use Rattle.std.proofs.lemmas.List.{drop_all, drop_more}
-use Rattle.explorer_model.specs.declared.chess.Move.{Move}
 use Rattle.explorer_model.specs.declared.opening.Opening.{Opening}
 use Rattle.opening_names.proofs.Walking.{Walks, begins, copied-or, ends-at, ends-named, first-legal, goes_on}
 use Rattle.opening_names.proofs.names.walked.Goals as goal

@@ -1,6 +1,6 @@
-use Rattle.std.proofs.Common.{◌≡◌, ◌+◌, ◌≤◌, length, false, true, sym, ap, subst, ◌∙◌, arith}
+use Rattle.std.proofs.Common.{◌≡◌, length, false, true, sym, ap, ◌∙◌, arith}
 use Rattle.std.specs.Option.{option_copied}
-use Rattle.explorer_model.specs.Openings.{is_empty, without_number, words_of}
+use Rattle.explorer_model.specs.Openings.{is_empty, without_number}
 use Rattle.opening_names.specs.Reading.{size_left, words_left}
 use Rattle.opening_names.proofs.WordLemmas.{empty-is, words-skipped, words-taken}
 use Rattle.opening_names.proofs.words.count_words.Goals as goal

@@ -1,4 +1,4 @@
-use Rattle.session.proofs.LawLemmas.{named-plainly, plainly-named}
+use Rattle.session.proofs.EmptyBook.{named-plainly, plainly-named}
 use Rattle.session.proofs.laws.an_empty_book_changes_no_answer.Goals as goal
 
 pub returns : goal.returns

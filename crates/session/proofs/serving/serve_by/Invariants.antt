@@ -1,16 +1,17 @@
 use Rattle.std.proofs.Common.{◌≡◌, ◌<◌}
 use Rattle.session.specs.Exchanges.{backend}
-use Rattle.session.specs.Replies.{by_book}
+use Rattle.session.specs.Readers.{IsCovered, offer_of}
 use Rattle.session.specs.Steps.{IsServing}
 use Rattle.session.proofs.serving.serve_by.Given as goal
 
 abbrev pub invariant-serving : goal.invariant-serving
 invariant-serving g l = record {
-  serving : IsServing (by_book l.fn.kept) (g.L.Source.source l.fn.link)
+  serving : IsServing (offer_of l.fn.reader) (g.L.Source.source l.fn.link)
       (backend l.fn.pass (g.I.Importer.importer l.fn.importer))
       l.wire (g.L.Source.source l.link) (backend l.pass (g.I.Importer.importer l.importer));
   more : 0 < l.wire.more;
-  book : l.kept ≡ l.fn.kept;
+  covered : IsCovered l.reader.players l.pass.seen;
+  offer : offer_of l.reader ≡ offer_of l.fn.reader;
 }
 
 abbrev pub decreases-serving : goal.decreases-serving

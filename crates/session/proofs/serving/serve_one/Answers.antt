@@ -5,16 +5,16 @@ use Rattle.explorer_model.specs.Replies.{reply_text}
 use Rattle.http_wire.specs.Asking.{Buffer}
 use Rattle.session.specs.declared.serving.Ended.TheVariants as ends
 use Rattle.session.specs.Exchanges.{backend}
-use Rattle.session.specs.Replies.{by_book}
+use Rattle.session.specs.Readers.{offer_of}
 use Rattle.session.proofs.ConnectionLemmas.{comes-next, exchanged, reads-keep, served-idle, served-last, served-unwritten, serving-on}
 use Rattle.session.proofs.ExchangeLemmas.{more-left}
 use Rattle.session.proofs.serving.serve_one.Goals as goal
 
 pub returns-in-Done-clause-served : goal.returns-in-Done-clause-served
 returns-in-Done-clause-served g c link before i =
-    let a = c.in-Done.ensures.asks c.requires in
+    let a = c.in-Done.ensures.asks c.requires.more in
     let write_faults = reads-keep a.got (g.L.Source.source c.args.link.now) (g.L.Source.source c.next-asked.new.link) a.reads in
-    served-idle (by_book c.args.kept.now) link before c.args.wire.now (g.L.Source.source c.args.link.now)
+    served-idle (offer_of c.args.reader.now) link before c.args.wire.now (g.L.Source.source c.args.link.now)
     (backend c.args.pass.now (g.I.Importer.importer c.args.importer.now)) (g.L.Source.source c.next-asked.new.link)
     ends.Done a.got i a.reads (λ text wrote. wrote)
     (λ xs open_still count. inr (comes-next Done xs _ _ count open_still a.first, a.ended))
@@ -22,9 +22,9 @@ returns-in-Done-clause-served g c link before i =
 
 pub returns-in-Cut-clause-served : goal.returns-in-Cut-clause-served
 returns-in-Cut-clause-served g c link before i =
-    let a = c.in-Cut.ensures.asks c.requires in
+    let a = c.in-Cut.ensures.asks c.requires.more in
     let write_faults = reads-keep a.got (g.L.Source.source c.args.link.now) (g.L.Source.source c.next-asked.new.link) a.reads in
-    served-idle (by_book c.args.kept.now) link before c.args.wire.now (g.L.Source.source c.args.link.now)
+    served-idle (offer_of c.args.reader.now) link before c.args.wire.now (g.L.Source.source c.args.link.now)
     (backend c.args.pass.now (g.I.Importer.importer c.args.importer.now)) (g.L.Source.source c.next-asked.new.link)
     ends.Cut a.got i a.reads (λ text wrote. wrote)
     (λ xs open_still count. (comes-next Cut xs _ _ count open_still a.first, a.ended))
@@ -32,10 +32,10 @@ returns-in-Cut-clause-served g c link before i =
 
 pub returns-in-ReadFault-clause-served : goal.returns-in-ReadFault-clause-served
 returns-in-ReadFault-clause-served g c link before i =
-    let a = c.in-ReadFault.ensures.asks c.requires in
+    let a = c.in-ReadFault.ensures.asks c.requires.more in
     let write_faults = reads-keep a.got (g.L.Source.source c.args.link.now) (g.L.Source.source c.next-asked.new.link) a.reads in
     let rises = subst (λ (n : ℕ). Rises n (g.L.Source.source c.next-asked.new.link).read_faults) i.read_faults a.faults in
-    served-idle (by_book c.args.kept.now) link before c.args.wire.now (g.L.Source.source c.args.link.now)
+    served-idle (offer_of c.args.reader.now) link before c.args.wire.now (g.L.Source.source c.args.link.now)
     (backend c.args.pass.now (g.I.Importer.importer c.args.importer.now)) (g.L.Source.source c.next-asked.new.link)
     ends.ReadFault a.got i a.reads (λ text wrote. wrote)
     (λ xs open_still count. comes-next ReadFault xs _ _ count open_still a.first)
@@ -43,7 +43,7 @@ returns-in-ReadFault-clause-served g c link before i =
 
 pub returns-in_default-reply-clause-served : goal.returns-in_default-reply-clause-served
 returns-in_default-reply-clause-served g c link before i =
-    let a = c.next-asked.ensures.asks c.requires in
+    let a = c.next-asked.ensures.asks c.requires.more in
     let l1 = g.L.Source.source c.args.link.now in
     let l2 = g.L.Source.source c.next-asked.new.link in
     let l3 = g.L.Source.source c.reply.new.link in
@@ -51,13 +51,13 @@ returns-in_default-reply-clause-served g c link before i =
     let b2 = backend c.reply_to-reply.new.pass (g.I.Importer.importer c.reply_to-reply.new.importer) in
     let asked = c.next-asked.result in
     let reply = c.reply_to-reply.result in
-    let e = exchanged (by_book c.args.kept.now) link before c.args.wire.now c.next-asked.new.self l1 l2 b1 b2 asked reply c.requires i a c.reply_to-reply.ensures.replied in
+    let e = exchanged (offer_of c.args.reader.now) link before c.args.wire.now c.next-asked.new.self l1 l2 b1 b2 asked reply c.requires.more i a c.reply_to-reply.ensures.replied in
     let fails = subst (λ (last : Bool). FailsToTake (reply_text reply last) l2 l3) c.closes-last.ensures c.in_default-reply.ensures.fails in
-    served-unwritten (by_book c.args.kept.now) link before asked reply c.next-asked.new.self.pending l2 b2 c.args.wire.now.more l3 e fails
+    served-unwritten (offer_of c.args.reader.now) link before asked reply c.next-asked.new.self.pending l2 b2 c.args.wire.now.more l3 e fails
 
 pub returns-then-last-clause-served : goal.returns-then-last-clause-served
 returns-then-last-clause-served g c link before i =
-    let a = c.next-asked.ensures.asks c.requires in
+    let a = c.next-asked.ensures.asks c.requires.more in
     let l1 = g.L.Source.source c.args.link.now in
     let l2 = g.L.Source.source c.next-asked.new.link in
     let l3 = g.L.Source.source c.reply.new.link in
@@ -65,13 +65,13 @@ returns-then-last-clause-served g c link before i =
     let b2 = backend c.reply_to-reply.new.pass (g.I.Importer.importer c.reply_to-reply.new.importer) in
     let asked = c.next-asked.result in
     let reply = c.reply_to-reply.result in
-    let e = exchanged (by_book c.args.kept.now) link before c.args.wire.now c.next-asked.new.self l1 l2 b1 b2 asked reply c.requires i a c.reply_to-reply.ensures.replied in
+    let e = exchanged (offer_of c.args.reader.now) link before c.args.wire.now c.next-asked.new.self l1 l2 b1 b2 asked reply c.requires.more i a c.reply_to-reply.ensures.replied in
     let takes = subst (λ (last : Bool). Takes (reply_text reply last) l2 l3) c.closes-last.ensures c.in-Ok.ensures.takes in
-    served-last (by_book c.args.kept.now) link before asked reply c.next-asked.new.self.pending l2 b2 c.args.wire.now.more l3 e takes (sym c.closes-last.ensures ∙ c.if-last.true)
+    served-last (offer_of c.args.reader.now) link before asked reply c.next-asked.new.self.pending l2 b2 c.args.wire.now.more l3 e takes (sym c.closes-last.ensures ∙ c.if-last.true)
 
 pub returns-clause-serving : goal.returns-clause-serving
 returns-clause-serving g c link before i =
-    let a = c.next-asked.ensures.asks c.requires in
+    let a = c.next-asked.ensures.asks c.requires.more in
     let l1 = g.L.Source.source c.args.link.now in
     let l2 = g.L.Source.source c.next-asked.new.link in
     let l3 = g.L.Source.source c.reply.new.link in
@@ -79,24 +79,24 @@ returns-clause-serving g c link before i =
     let b2 = backend c.reply_to-reply.new.pass (g.I.Importer.importer c.reply_to-reply.new.importer) in
     let asked = c.next-asked.result in
     let reply = c.reply_to-reply.result in
-    let e = exchanged (by_book c.args.kept.now) link before c.args.wire.now c.next-asked.new.self l1 l2 b1 b2 asked reply c.requires i a c.reply_to-reply.ensures.replied in
+    let e = exchanged (offer_of c.args.reader.now) link before c.args.wire.now c.next-asked.new.self l1 l2 b1 b2 asked reply c.requires.more i a c.reply_to-reply.ensures.replied in
     let takes = subst (λ (last : Bool). Takes (reply_text reply last) l2 l3) c.closes-last.ensures c.in-Ok.ensures.takes in
     let stays = sym c.closes-last.ensures ∙ c.if-last.false in
-    let left = more-left asked c.args.wire.now.more _ _ stays c.requires a.first in
+    let left = more-left asked c.args.wire.now.more _ _ stays c.requires.more a.first in
     let pending = ap (λ (b : Buffer). b.pending) c.in-Ok.ensures.same in
     let more = ap (λ (b : Buffer). b.more + 1) c.in-Ok.ensures.same ∙ (ap (λ n. n + 1) a.more ∙ left.0) in
-    serving-on (by_book c.args.kept.now) link before asked reply c.next-asked.new.self.pending l2 b2 c.args.wire.now.more l3 e c.reply.new.self pending more takes stays
+    serving-on (offer_of c.args.reader.now) link before asked reply c.next-asked.new.self.pending l2 b2 c.args.wire.now.more l3 e c.reply.new.self pending more takes stays
 
 pub returns-clause-more : goal.returns-clause-more
 returns-clause-more g c =
-    let a = c.next-asked.ensures.asks c.requires in
+    let a = c.next-asked.ensures.asks c.requires.more in
     let stays = sym c.closes-last.ensures ∙ c.if-last.false in
-    let left = more-left c.next-asked.result c.args.wire.now.more _ _ stays c.requires a.first in
+    let left = more-left c.next-asked.result c.args.wire.now.more _ _ stays c.requires.more a.first in
     rw (c.in-Ok.ensures.same, a.more) left.1
 
 pub returns-clause-fewer : goal.returns-clause-fewer
 returns-clause-fewer g c =
-    let a = c.next-asked.ensures.asks c.requires in
+    let a = c.next-asked.ensures.asks c.requires.more in
     let stays = sym c.closes-last.ensures ∙ c.if-last.false in
-    let left = more-left c.next-asked.result c.args.wire.now.more _ _ stays c.requires a.first in
+    let left = more-left c.next-asked.result c.args.wire.now.more _ _ stays c.requires.more a.first in
     rw (c.in-Ok.ensures.same, a.more) (omega (arith, left.0))

@@ -1,8 +1,0 @@
-use Rattle.std.proofs.Common.{map, take}
-use Rattle.lookup.specs.Hits.{hit_as}
-use Rattle.lookup.specs.Listing.{AreBestOf}
-use Rattle.lookup.proofs.best_games.best_of.Given as goal
-
-abbrev pub invariant-loop-hit : goal.invariant-loop-hit
-invariant-loop-hit g l =
-    AreBestOf g.O.Ranking.before g.O.ListsGames.list (map hit_as l.hits) (take l.hit-index (map hit_as l.hits)) (map hit_as l.rows.items) l.best

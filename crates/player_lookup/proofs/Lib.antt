@@ -1,0 +1,15 @@
+mod Deciding
+mod Determined
+mod Finding
+mod FoundMoves
+mod KeptGames
+mod Latest
+mod Looking
+mod Lookups
+mod MadeAnswers
+mod OnlyGame
+mod Ranged
+mod Recounts
+mod RowLoops
+mod SegmentLemmas
+mod Singles

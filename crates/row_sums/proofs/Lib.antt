@@ -1,0 +1,15 @@
+pub mod RowNexts
+pub mod Averages
+pub mod LineLoops
+pub mod Sorting
+pub mod SortedLines
+pub mod Grouping
+pub mod GroupedRows
+pub mod Rows
+pub mod Once
+pub mod RowMoves
+pub mod Places
+pub mod KeptLists
+pub mod KeptRows
+pub mod PartLoops
+pub mod ListedRows
