@@ -48,7 +48,7 @@ def needs(*names):
 
 def count(query, games):
     """What `explorer count QUERY` makes of games, as (status, output, error lines)."""
-    run = subprocess.run([program(), "count", query], input=games, capture_output=True, check=False)
+    run = subprocess.run([program(), "count", query], input=games, capture_output=True, check=False, timeout=600)
     return run.returncode, run.stdout.rstrip(b"\n"), run.stderr.decode().splitlines()
 
 
@@ -139,18 +139,29 @@ def explorer(games=b"", *words, served=()):
 
 
 @contextlib.contextmanager
-def serving(words):
-    """A server that is started by these words, as its process; it is ended by SIGTERM where it still runs."""
+def serving(words, limit=120):
+    """A server that is started by these words, as its process; it is ended by SIGTERM where it still runs. Where it neither listens nor
+    ends within some seconds, or is not ended by then, it is killed."""
     server = subprocess.Popen(words, stdout=subprocess.PIPE)
+    killing = threading.Timer(limit, server.kill)
+    killing.start()
     try:
         line = server.stdout.readline()
+        killing.cancel()
         if not line.startswith(b"listening "):
-            raise RuntimeError(f"the explorer does not listen: {line!r}, status {server.wait()}")
+            raise RuntimeError(f"the explorer does not listen: {line!r}, status {server.wait(limit)}")
         yield server
     finally:
+        killing.cancel()
         server.terminate()
-        server.wait()
-        server.stdout.close()
+        try:
+            server.wait(limit)
+        except subprocess.TimeoutExpired:
+            server.kill()
+            server.wait()
+            raise
+        finally:
+            server.stdout.close()
 
 
 def plain_site(port, address):

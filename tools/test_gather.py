@@ -4,6 +4,7 @@ import contextlib
 import json
 import re
 import unittest
+import urllib.request
 
 import support
 
@@ -46,8 +47,12 @@ EMPTY = {"black": 0, "draws": 0, "moves": [], "opening": None, "recentGames": []
 PARTS = [b"".join(map(game, range(start, start + 15))) for start in range(0, 60, 15)]
 
 
+AVERAGES = ("averageRating", "averageOpponentRating")
+NO_GAMES_OF_A_PLAYER = {name: value for name, value in EMPTY.items() if name != "topGames"}
+
+
 def without_averages(answer):
-    moves = [{name: value for name, value in move.items() if name not in ("about", "averageRating")} for move in answer["moves"]]
+    moves = [{name: value for name, value in move.items() if name not in ("about", *AVERAGES)} for move in answer["moves"]]
     return {**answer, "moves": moves}
 
 
@@ -77,6 +82,22 @@ class Joining(unittest.TestCase):
             output = support.run_tool(TOOL, *addresses, "--query", query.replace(" ", "%20"))[1]
             answer, whole = json.loads(output), json.loads(support.count(query, b"".join(parts))[1])
             self.assertEqual(without_averages(answer), without_averages(whole))
+
+    def test_a_players_games_in_four_parts_are_those_of_the_whole(self):
+        addresses, [whole] = self.stores(PARTS), self.stores([b"".join(PARTS)])
+        for query in ("player=w1&color=white", "player=B3&color=black&moves=1&recentGames=2", "player=w1&color=white&speeds=blitz",
+                      "player=w2&color=white&play=e2e4&since=2020-03", "player=w2&color=white&modes=casual", "player=w1&color=black"):
+            with self.subTest(query):
+                with urllib.request.urlopen(f"http://{whole}/player?{query}", timeout=60) as reply:
+                    wanted = reply.read()
+                status, output, errors = support.run_tool(TOOL, whole, "--player", "--query", query)
+                self.assertEqual((status, output.rstrip("\n").encode(), errors), (0, wanted, ""))
+                status, output, errors = support.run_tool(TOOL, *addresses, "--player", "--query", query)
+                self.assertEqual((status, errors), (0, ""))
+                answer, wanted = json.loads(output), json.loads(wanted)
+                self.assertEqual(without_averages(answer), without_averages(wanted))
+                for move, one in zip(answer["moves"], wanted["moves"]):
+                    self.assertIn(one["averageOpponentRating"] - move["averageOpponentRating"], (0, 1) if "about" in move else (0,))
 
     def test_one_store_is_printed_as_it_answers(self):
         addresses = self.stores(PARTS[:1])
@@ -108,6 +129,65 @@ class Averages(unittest.TestCase):
             for addresses, about in [((first,), {}), ((first, second), {"e2e4": (["averageRating"], 1999)})]:
                 moves = json.loads(support.run_tool(TOOL, *addresses)[1])["moves"]
                 self.assertEqual({move["uci"]: (move["about"], move["averageRating"]) for move in moves if "about" in move}, about)
+
+
+def listed(number, month):
+    return {"black": {"name": "Bob", "rating": 1400}, "id": f"{number:08}", "mode": "rated", "month": month, "speed": "blitz",
+            "uci": "e2e4", "white": {"name": "Ann", "rating": 1500}, "winner": "white", "year": int(month[:4])}
+
+
+class Players(unittest.TestCase):
+    """A player's games, over stand-ins for the explorers."""
+
+    def setUp(self):
+        self.contexts = contextlib.ExitStack()
+        self.addCleanup(self.contexts.close)
+
+    def answering(self, *bodies, status=200):
+        stand_ins = [support.CannedExplorer(status, json.dumps(body).encode()) for body in bodies]
+        return stand_ins, [self.contexts.enter_context(stand_in.running()) for stand_in in stand_ins]
+
+    def gather(self, addresses, query="player=ann&color=white"):
+        return support.run_tool(TOOL, *addresses, "--player", "--query", query)
+
+    def test_their_answers_are_joined(self):
+        def body(games, *moves):
+            lines = [{"averageOpponentRating": rating, "black": 0, "draws": 1, "game": only, "opening": None, "san": uci, "uci": uci,
+                      "white": white} for uci, rating, white, only in moves]
+            return {"black": 0, "draws": len(moves), "moves": lines, "opening": None, "recentGames": games,
+                    "white": sum(line["white"] for line in lines)}
+
+        games = [listed(number, f"2020-{month}") for number, month in enumerate(("03", "01", "03", "02", "01"))]
+        bodies = [body(games[:2], ("e2e4", 2000, 2, None), ("d2d4", 1900, 1, None)),
+                  body(games[2:], ("e2e4", 1999, 1, None), ("c2c4", 1700, 0, games[3]))]
+        stand_ins, addresses = self.answering(*bodies)
+        status, output, errors = self.gather(addresses)
+        self.assertEqual((status, errors), (0, ""))
+        moves = [("e2e4", 1999, 3, 2, None), ("d2d4", 1900, 1, 1, None), ("c2c4", 1700, 0, 1, games[3])]
+        lines = [{"averageOpponentRating": rating, "black": 0, "draws": draws, "game": only, "opening": None, "san": uci, "uci": uci,
+                  "white": white} for uci, rating, white, draws, only in moves]
+        lines[0]["about"] = ["averageOpponentRating"]
+        self.assertEqual(json.loads(output), {"black": 0, "draws": 4, "moves": lines, "opening": None, "white": 4,
+                                              "recentGames": [games[2], games[0], games[3], games[4]]})
+        asked = "/player?player=ann&color=white&moves=999999"
+        self.assertEqual([stand_in.asked[0][1] for stand_in in stand_ins], [asked, asked])
+        status, output, _ = self.gather(addresses, "player=ann&color=white&moves=1&recentGames=0")
+        self.assertEqual((status, [move["uci"] for move in json.loads(output)["moves"]]), (0, ["e2e4"]))
+        self.assertEqual(json.loads(output)["recentGames"], [])
+
+    def test_one_store_is_printed_as_it_answers(self):
+        _, addresses = self.answering(NO_GAMES_OF_A_PLAYER)
+        self.assertEqual(self.gather(addresses), (0, support.compact(NO_GAMES_OF_A_PLAYER).decode() + "\n", ""))
+
+    def test_what_an_explorer_refuses_is_told(self):
+        for status, body, words in [
+            (400, {"error": "malformed parameter", "parameter": "player"},
+             " answers 400: malformed parameter player; docs/QUERIES.md has what each parameter takes\n"),
+            (404, {"error": "not found"}, " answers 404: not found; the path of a proxy goes behind the address, as HOST:PORT/2024\n"),
+            (200, {"white": 1}, " does not answer as an explorer does; is that its address?\n"),
+        ]:
+            _, [address] = self.answering(body, status=status)
+            self.assertEqual(self.gather([address], "color=white"), (1, "", f"gather: {address}{words}"))
 
 
 class Openings(unittest.TestCase):

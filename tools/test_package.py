@@ -280,6 +280,9 @@ class Package(unittest.TestCase):
                 self.assertEqual(ask(here, "POST", "/import", 4_194_305 * b"x", context=trusted)[0], 413)
                 self.assertEqual(ask(here, "POST", "/lichess", b"xx", context=trusted)[0], 413)
                 self.assertEqual(ask(here, target="/lichess?fen=8/8", context=trusted)[0], 400)
+                player = "/player?player=edward+lasker&color=white"
+                self.assertEqual(ask(here, target=player, context=trusted), ask(self.address, target=player))
+                self.assertEqual(json.loads(ask(here, target=player, context=trusted)[1])["white"], 1)
                 status, page = ask(here, target="/", context=trusted)
                 self.assertEqual((status, b"<title>Opening explorer</title>" in page), (200, True))
                 for name in re.findall(rb'(?:src|href)="([^"]+)"', page):

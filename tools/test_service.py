@@ -121,8 +121,9 @@ class Site(unittest.TestCase):
             self.assertEqual((status, body, headers["X-Explorer-Batches"]), (200, EMPTY, "0"))
             games = 20_000 * b"[Event \"x\"]\n\n1. e4 1-0\n\n"
             self.assertEqual(json.loads(self.ask("POST", "/import", games)[2])["stored"], 5)
+            self.assertEqual(self.ask(target="/player?player=Zo%C3%A9+B.&color=white")[::2], (200, EMPTY))
         self.assertEqual([(method, path, body) for method, path, _, body in stand_in.asked],
-                         [("GET", "/lichess?play=e2e4", b""), ("POST", "/import", games)])
+                         [("GET", "/lichess?play=e2e4", b""), ("POST", "/import", games), ("GET", "/player?player=Zo%C3%A9+B.&color=white", b"")])
         for _, _, headers, _ in stand_in.asked:
             self.assertEqual(headers["Connection"], "close")
             self.assertLessEqual(set(headers), {"Host", "Connection", "Content-Length"})
@@ -131,8 +132,10 @@ class Site(unittest.TestCase):
         stand_in = support.CannedExplorer(200, EMPTY)
         with stand_in.running() as address, self.site(address):
             self.assertEqual(self.ask("POST", "/import", 4_194_305 * b"x")[0], 413)
-            self.assertEqual(self.ask("POST", "/lichess", b"xx")[0], 413)
-            self.assertEqual(self.ask(target="/masters")[0], 404)
+            for target in ("/lichess", "/player"):
+                self.assertEqual(self.ask("POST", target, b"xx")[0], 413)
+            for target in ("/masters", "/players", "/player/ann"):
+                self.assertEqual(self.ask(target=target)[0], 404)
         self.assertEqual(stand_in.asked, [])
 
     def test_refusals_of_the_explorer_are_passed_on(self):

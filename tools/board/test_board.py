@@ -1,5 +1,5 @@
 #!/usr/bin/env python3
-"""Tests of the board's server, and of the page's rules of chess and cutting where node is installed."""
+"""Tests of the board's server, and of what the page reads, cuts and asks where node is installed."""
 import json
 import pathlib
 import re
@@ -54,19 +54,19 @@ class Passing(unittest.TestCase):
         with stand_in.running() as address, board_for(address) as (_, line):
             status, headers, body = ask(place_of(line), "/lichess?play=e2e4&fen=")
             self.assertEqual((status, headers["X-Explorer-Batches"], body), (200, "0", b'{"white":1}'))
+            self.assertEqual(ask(place_of(line), "/player?player=Zo%C3%A9&color=white")[::2], (200, b'{"white":1}'))
             ask(place_of(line), "/import", b"games")
-        first, second = stand_in.asked
-        self.assertEqual(first[:2], ("GET", "/lichess?play=e2e4&fen="))
-        self.assertEqual((second[0], second[1], second[3]), ("POST", "/import", b"games"))
-        self.assertEqual({asked[2]["Connection"] for asked in (first, second)}, {"close"})
+        self.assertEqual([(method, target, body) for method, target, _, body in stand_in.asked], [
+            ("GET", "/lichess?play=e2e4&fen=", b""), ("GET", "/player?player=Zo%C3%A9&color=white", b""), ("POST", "/import", b"games")])
+        self.assertEqual({headers["Connection"] for _, _, headers, _ in stand_in.asked}, {"close"})
 
     def test_faults_of_the_explorer_are_passed_on(self):
         for status, body in [(400, b'{"error":"malformed parameter","parameter":"fen"}'),
                              (503, b'{"error":"out of memory"}'),
                              (507, b'{"bytes":12416,"error":"full","games":64,"stored":0}')]:
             with support.CannedExplorer(status, body).running() as address, board_for(address) as (_, line):
-                self.assertEqual(ask(place_of(line), "/lichess")[::2], (status, body))
-                self.assertEqual(ask(place_of(line), "/import", b"games")[::2], (status, body))
+                for target, games in (("/lichess", None), ("/player", None), ("/import", b"games")):
+                    self.assertEqual(ask(place_of(line), target, games)[::2], (status, body))
 
     def test_an_explorer_that_does_not_answer_is_told(self):
         address = f"127.0.0.1:{support.free_port()}"
@@ -84,7 +84,8 @@ class Passing(unittest.TestCase):
         with stand_in.running() as address, board_for(address) as (_, line):
             place = place_of(line)
             self.assertEqual(ask(place, "/import", b"x", Origin="http://elsewhere.example")[0], 403)
-            self.assertEqual(ask(place, "/lichess", Host="elsewhere.example")[0], 403)
+            for target in ("/lichess", "/player"):
+                self.assertEqual(ask(place, target, Host="elsewhere.example")[0], 403)
             self.assertEqual(ask(place, "/import", b"x", Origin=place)[0], 200)
         self.assertEqual(len(stand_in.asked), 1)
 
@@ -92,7 +93,8 @@ class Passing(unittest.TestCase):
         with board_for("127.0.0.1:1") as (_, line):
             place = place_of(line)
             self.assertEqual(ask(place, "/import", b"x", **{"Content-Length": "4194305"})[0], 413)
-            self.assertEqual(ask(place, "/lichess", b"x")[0], 404)
+            for target in ("/lichess", "/player"):
+                self.assertEqual(ask(place, target, b"x")[0], 404)
             self.assertEqual(ask(place, "/import")[0], 404)
 
     def test_games_come_back_as_the_program_counts_them(self):
@@ -102,6 +104,9 @@ class Passing(unittest.TestCase):
             for query in ("", "play=e2e4&history=true", "speeds=blitz"):
                 self.assertEqual(ask(place, f"/lichess?{query}")[2], support.count(query, games)[1])
             self.assertEqual(ask(place, "/lichess?fen=8/8")[0], 400)
+            self.assertIn(b'"averageOpponentRating":2400,', ask(place, "/player?player=edward+lasker&color=white")[2])
+            refused = 400, b'{"error":"malformed parameter","parameter":"player"}'
+            self.assertEqual(ask(place, "/player?color=white")[::2], refused)
 
 
 class Command(unittest.TestCase):
@@ -122,8 +127,8 @@ class Command(unittest.TestCase):
 
 @unittest.skipUnless(shutil.which("node"), "node is not installed")
 class Page(unittest.TestCase):
-    def test_rules_of_chess_cutting_and_links(self):
-        for name in ("test_chess.mjs", "test_cutting.mjs", "test_link.mjs"):
+    def test_rules_of_chess_cutting_links_and_players(self):
+        for name in ("test_chess.mjs", "test_cutting.mjs", "test_link.mjs", "test_player.mjs"):
             run = subprocess.run(["node", "--test", name], cwd=HERE, capture_output=True, check=False)
             self.assertEqual(run.returncode, 0, run.stdout.decode())
 

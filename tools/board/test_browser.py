@@ -77,11 +77,12 @@ class Page(unittest.TestCase):
         self.open(self.own.enter_context(stand_in.running()))
         return stand_in
 
-    def open_answering(self, answer):
-        """Opens the page over an explorer whose replies to queries a function gives, of their parameters."""
+    def open_answering(self, answer, *words):
+        """Opens the page over an explorer whose replies to queries a function gives, of their parameters and some words."""
         stand_in = support.CannedExplorer(200, EMPTY)
-        stand_in.reply_to = lambda _, target, *__: answer(dict(urllib.parse.parse_qsl(target.partition("?")[2])))
+        stand_in.reply_to = lambda _, target, *__: answer(dict(urllib.parse.parse_qsl(target.partition("?")[2])), *words)
         self.open(self.own.enter_context(stand_in.running()))
+        return stand_in
 
     def open_with_games(self, games=None, **look):
         archive = os.environ.get("ARCHIVE", support.GAMES)
@@ -293,6 +294,145 @@ SPECIAL = [
 ]
 
 
+def players_reply(asked):
+    """The reply to a query, or to one for the games of a player who won two games of four with White and one with Black."""
+    if "player" not in asked:
+        return 200, EMPTY
+    if asked.get("color") not in ("white", "black"):
+        return 400, b'{"error":"malformed parameter","parameter":"color"}'
+    name = asked["player"]
+    if name == "Nobody":
+        return 200, support.compact({"black": 0, "draws": 0, "moves": [], "opening": None, "recentGames": [], "white": 0})
+    won = {"black": 1, "draws": 1, "white": 2}
+    listed = {"black": {"name": "Bob", "rating": 1400}, "id": "00000001", "mode": "rated", "month": "2020-01", "speed": "blitz",
+              "uci": "e2e4", "white": {"name": name, "rating": 1500}, "winner": "white", "year": 2020}
+    move = {"averageOpponentRating": 1450, **won, "game": None, "opening": opening("B00", "King's Pawn Game"), "san": "e4", "uci": "e2e4"}
+    moves = [] if asked.get("play") else [move]
+    return 200, support.compact({**won, "moves": moves, "opening": None, "recentGames": [listed], "white": 2})
+
+
+class Players(Page):
+    def ask_for(self, name):
+        self.browser.write("#player", name)
+        self.browser.key("Enter")
+        self.settled()
+
+    def last_asked(self, stand_in):
+        """The path and the parameters that the page asked for last, without those that are the same in all questions."""
+        path, _, query = stand_in.asked[-1][1].partition("?")
+        return path, {name: value for name, value in urllib.parse.parse_qsl(query) if name != "moves"}
+
+    def is_seen(self, selector):
+        return self.browser.on(selector, "return node.offsetHeight > 0;")
+
+    def bar(self):
+        """The words of the bar of the first move, and its colours from left to right."""
+        return self.browser.on("#moves .bar", "return [node.title, [...node.children].map((part) => part.className)];")
+
+    def test_the_games_of_a_player_are_told_from_the_players_side(self):
+        stand_in = self.open_answering(players_reply)
+        self.ask_for("Ann")
+        self.assertEqual(self.last_asked(stand_in), ("/player", {"player": "Ann", "color": "white"}))
+        self.assertEqual(self.text("#totals"), "4 games of Ann with White: 50% won, 25% drawn, 25% lost")
+        self.assertEqual(self.text("#moves thead"), "MoveGamesShareWon, drawn, lostOpponents’ rating")
+        self.assertEqual(self.rows("#moves"), [["e4", "4", "100%", "50%25%25%B00 King's Pawn Game", "1450"]])
+        self.assertEqual(self.bar(), ["2 won, 1 drawn, 1 lost", ["white", "draws", "black"]])
+        self.assertIn("Ann (1500) – Bob (1400)1-02020-01", self.text("#recent-games"))
+        for selector in ("#top-games", "#history", "#ratings"):
+            self.assertFalse(self.is_seen(selector), selector)
+        self.browser.click("#color label:nth-child(2)")
+        self.see("#totals", "4 games of Ann with Black: 25% won, 25% drawn, 50% lost")
+        self.assertEqual(self.bar(), ["1 won, 1 drawn, 2 lost", ["black", "draws", "white"]])
+        self.browser.click("#modes label:nth-child(2)")
+        self.browser.click("#speeds [value=blitz] + span")
+        self.settled()
+        self.browser.click("[data-uci=e2e4] button")
+        self.see("#moves", "No move was played here.")
+        self.assertEqual(self.last_asked(stand_in), (
+            "/player", {"player": "Ann", "color": "black", "modes": "casual", "play": "e2e4", "speeds": "blitz"}))
+        self.ask_for("Nobody")
+        self.assertEqual(self.text("#totals"), "No game of Nobody with Black comes to this position with these filters.")
+
+    def test_without_a_name_the_page_is_that_of_all_games(self):
+        stand_in = self.open_answering(players_reply)
+        wanted = "/lichess", {"history": "true"}
+        self.assertEqual(self.last_asked(stand_in), wanted)
+        self.browser.click("#color label:nth-child(2)")
+        self.ask_for("  ")
+        self.assertEqual(self.last_asked(stand_in), wanted)
+        for clear in ("#everybody", None):
+            self.ask_for(" Ann ")
+            self.assertEqual(self.last_asked(stand_in)[1]["player"], "Ann")
+            if clear:
+                self.browser.click(clear)
+            else:
+                self.ask_for("")
+            self.see("#totals", "No game of the store comes to this position with these filters.")
+            self.assertEqual(self.last_asked(stand_in), wanted)
+            for selector in ("#top-games", "#history", "#ratings"):
+                self.assertTrue(self.is_seen(selector), selector)
+        self.assertTrue(self.browser.evaluate("document.querySelector('#everybody').disabled"))
+
+    def test_a_link_leads_to_the_games_of_a_player(self):
+        stand_in = self.open_answering(players_reply)
+        self.ask_for("Müller, K.")
+        self.browser.click("#color label:nth-child(2)")
+        self.browser.click("#modes label:nth-child(1)")
+        self.see("#totals", "with Black")
+        self.settled()
+        self.browser.click("#link")
+        self.browser.wait("document.querySelector('#linked').textContent !== ''")
+        link, asked = self.browser.evaluate("location.href"), self.last_asked(stand_in)
+        self.assertEqual(link, f"{self.place}/#player=M%C3%BCller,+K.&color=black&modes=rated")
+        self.browser.show("about:blank")
+        self.browser.show(link)
+        self.settled()
+        self.assertEqual(self.browser.evaluate("document.querySelector('#player').value"), "Müller, K.")
+        self.assertEqual((self.text("#totals").partition(":")[0], self.last_asked(stand_in)), ("4 games of Müller, K. with Black", asked))
+        self.browser.evaluate("location.hash = ''")
+        self.see("#totals", "No game of the store")
+        self.ask_for("Ann")
+        self.assertEqual(self.last_asked(stand_in), ("/player", {"player": "Ann", "color": "white"}))
+
+    def test_what_is_refused_is_told(self):
+        self.open_answering(players_reply)
+        self.browser.show(f"{self.place}/#player=Ann")
+        self.see("#error", "A player's games are those of one colour: pick white or black.")
+        self.assertEqual(self.text("#totals"), "")
+        self.browser.click("#color label:nth-child(1)")
+        self.see("#totals", "4 games of Ann with White")
+        self.assertTrue(self.browser.evaluate("document.querySelector('#error').hidden"))
+        for status, body, words in [
+            (400, b'{"error":"malformed parameter","parameter":"player"}', "A player's games are found by the player's name, which is missing."),
+            (404, b'{"error":"not found"}', "What answers knows no games of a player"),
+            (503, b'{"error":"out of memory"}', "The explorer had no memory for this."),
+        ]:
+            self.open_answering(lambda asked, *reply: reply if "player" in asked else (200, EMPTY), status, body)
+            self.ask_for("Ann")
+            self.see("#error", words)
+            self.assertFalse(self.is_seen(".games"))
+            self.browser.click("#everybody")
+            self.see("#totals", "No game of the store")
+
+    def test_a_player_on_a_phone(self):
+        self.open_answering(players_reply)
+        self.browser.call("Emulation.setDeviceMetricsOverride", width=390, height=800, deviceScaleFactor=1, mobile=True)
+        self.ask_for("<b>" + 60 * "N")
+        self.assertIn("<b>NNN", self.text("#totals"))
+        self.assertTrue(self.browser.evaluate("document.documentElement.scrollWidth <= innerWidth"))
+
+    def test_the_games_of_a_player_are_those_of_the_store(self):
+        self.open_with_games(support.GAMES.read_bytes())
+        self.ask_for("edward lasker")
+        self.see("#totals", "1 game of edward lasker with White: 100% won")
+        self.assertEqual([(cells[0], cells[-1]) for cells in self.rows("#moves")], [("d4", "2400")])
+        self.browser.click("#color label:nth-child(2)")
+        self.see("#totals", "No game of edward lasker with Black")
+        self.browser.click("#modes label:nth-child(1)")
+        self.browser.click("#color label:nth-child(1)")
+        self.see("#totals", "No game of edward lasker with White")
+
+
 class Imports(Page):
     def test_a_bad_game_is_reported(self):
         self.open_with_games(height=800)
@@ -371,6 +511,12 @@ class Site(Page):
             self.open_at(f"http://127.0.0.1:{port}")
             self.play("e2", "e4")
             self.assertIn("play=e2e4", stand_in.asked[-1][1])
+            self.browser.write("#player", "Ann")
+            self.browser.key("Enter")
+            self.see("#totals", "No game of Ann with White")
+            self.assertTrue(stand_in.asked[-1][1].startswith("/player?"))
+            self.browser.click("#everybody")
+            self.see("#totals", "No game of the store")
             self.file(game(1).encode())
             self.browser.click("#send")
             self.see("#imported", "Done: 1 game stored")

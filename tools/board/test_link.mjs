@@ -4,7 +4,7 @@ import { test } from "node:test";
 import { START } from "./page/chess.mjs";
 import { askedBy, gameOf, hashOf } from "./page/link.mjs";
 
-const NOTHING = { fen: "", play: "", speeds: "", ratings: "", since: "", until: "" };
+const NOTHING = { fen: "", play: "", player: "", color: "", modes: "", speeds: "", ratings: "", since: "", until: "" };
 
 test("what a link is made of is what it asks for", () => {
   for (const asked of [

@@ -3,6 +3,7 @@
 import { counted, drawn, element, grouped } from "./dom.mjs";
 
 const RESULTS = [["white", "White won"], ["draws", "drawn"], ["black", "Black won"]];
+const COLORS = { white: "White", black: "Black" };
 const MONTHS_SHOWN = 120;
 const CHART = { height: 150, left: 44, right: 16, bottom: 20, top: 8 };
 
@@ -14,11 +15,35 @@ function percent(part, whole) {
   return rounded === 100 && part < whole ? ">99%" : `${rounded}%`;
 }
 
-export function totalsInWords(answer) {
+const OF_ALL = {
+  games: "game of the store",
+  whose: "",
+  results: RESULTS,
+  resultsHead: "White, draws, Black",
+  rating: "averageRating",
+  ratingHead: "Rating",
+};
+
+// How an answer is told: that of all games by White and Black, that of a player's games from the player's side, the
+// wins first and in the player's colour, with the ratings of the opponents.
+export function viewOf({ player, color }) {
+  if (!player) return OF_ALL;
+  const whose = ` of ${player} with ${COLORS[color]}`;
+  return {
+    games: `game${whose}`,
+    whose,
+    results: [[color, "won"], ["draws", "drawn"], [color === "white" ? "black" : "white", "lost"]],
+    resultsHead: "Won, drawn, lost",
+    rating: "averageOpponentRating",
+    ratingHead: "Opponents’ rating",
+  };
+}
+
+export function totalsInWords(answer, { games, whose, results }) {
   const total = totalOf(answer);
-  if (total === 0) return "No game of the store comes to this position with these filters.";
-  const parts = RESULTS.map(([name, words]) => `${percent(answer[name], total)} ${words}`);
-  return `${counted(total, "game", "games")}: ${parts.join(", ")}`;
+  if (total === 0) return `No ${games} comes to this position with these filters.`;
+  const parts = results.map(([name, words]) => `${percent(answer[name], total)} ${words}`);
+  return `${counted(total, "game", "games")}${whose}: ${parts.join(", ")}`;
 }
 
 // The code and the name of an opening, as parts of a text; none where the position has no name.
@@ -28,10 +53,10 @@ export function openingInWords(opening) {
   return [element("span", { class: "code" }, eco), name && ` ${name}`];
 }
 
-// A bar of white, draws and black, with the shares as its text.
-function resultBar(totals) {
+// A bar of the results in their order, with the shares as its text.
+function resultBar(totals, results) {
   const total = totalOf(totals);
-  const shown = RESULTS.filter(([name]) => totals[name] > 0);
+  const shown = results.filter(([name]) => totals[name] > 0);
   const label = shown.map(([name, words]) => `${grouped(totals[name])} ${words}`).join(", ");
   const parts = shown.map(([name]) => {
     const share = totals[name] / total;
@@ -43,7 +68,7 @@ function resultBar(totals) {
 
 const openingLine = (opening) => (opening ? [element("div", { class: "opening" }, ...openingInWords(opening))] : []);
 
-function moveRow(entry, whole, { onPlay, onPoint }) {
+function moveRow(entry, whole, view, { onPlay, onPoint }) {
   const total = totalOf(entry);
   const point = (uci) => () => onPoint(uci);
   return element("tr", { "data-uci": entry.uci, onmouseenter: point(entry.uci), onmouseleave: point(null) },
@@ -52,8 +77,8 @@ function moveRow(entry, whole, { onPlay, onPoint }) {
     }, entry.san)),
     element("td", { class: "number" }, grouped(total)),
     element("td", { class: "number share" }, percent(total, whole)),
-    element("td", { class: "results" }, resultBar(entry), ...openingLine(entry.opening)),
-    element("td", { class: "number" }, String(entry.averageRating)));
+    element("td", { class: "results" }, resultBar(entry, view.results), ...openingLine(entry.opening)),
+    element("td", { class: "number" }, String(entry[view.rating])));
 }
 
 // A table's head of columns, each a word and the class of its cells.
@@ -62,15 +87,15 @@ export function tableHead(columns) {
   return element("thead", {}, element("tr", {}, ...cells));
 }
 
-const MOVE_COLUMNS = [
-  ["Move"], ["Games", "number"], ["Share", "number share"], ["White, draws, Black", "results"], ["Rating", "number"],
+const moveColumns = ({ resultsHead, ratingHead }) => [
+  ["Move"], ["Games", "number"], ["Share", "number share"], [resultsHead, "results"], [ratingHead, "number"],
 ];
 
-export function movesTable(answer, actions) {
+export function movesTable(answer, view, actions) {
   if (answer.moves.length === 0) return element("p", { class: "none" }, "No move was played here.");
   const whole = totalOf(answer);
-  const rows = answer.moves.map((entry) => moveRow(entry, whole, actions));
-  return element("table", { class: "moves" }, tableHead(MOVE_COLUMNS), element("tbody", {}, ...rows));
+  const rows = answer.moves.map((entry) => moveRow(entry, whole, view, actions));
+  return element("table", { class: "moves" }, tableHead(moveColumns(view)), element("tbody", {}, ...rows));
 }
 
 const RESULT_OF = { white: "1-0", black: "0-1" };

@@ -2,7 +2,12 @@
 
 import { counted, grouped } from "./dom.mjs";
 
+const PLAYER = "/player";
+
 const PARAMETERS = {
+  player: "A player's games are found by the player's name, which is missing.",
+  color: "A player's games are those of one colour: pick white or black.",
+  modes: "The explorer does not take these modes.",
   variant: "The explorer knows standard chess alone.",
   fen: "The explorer does not take this position in FEN.",
   play: "The explorer does not take the moves that lead here.",
@@ -25,7 +30,7 @@ const CAUSES = {
   "404 not found": () => "What answers is no explorer: it does not know this path.",
   "405 method not allowed": () => "What answers does not take this kind of request.",
   "413 body too large": () => "The part of the file is larger than the explorer takes at once.",
-  "431 head too large": () => "The line of moves is longer than the explorer takes in a request.",
+  "431 head too large": () => "The line of moves, or the name, is longer than the explorer takes in a request.",
   "500 disk fault": (body) =>
     `The explorer's disk failed, and it stores nothing more until it is started again. ${stored(body)}`,
   "500 closed": () => "The explorer stores nothing more since its disk failed. It has to be started again.",
@@ -46,18 +51,25 @@ const CAUSES = {
 const IN_FRONT = {
   403: "The web server in front of the explorer takes no games from here.",
   413: "The part of the file is larger than the web server takes at once.",
-  414: "The line of moves is longer than the web server takes in a request.",
+  414: "The line of moves, or the name, is longer than the web server takes in a request.",
   429: "The web server takes no more requests from here just now. Try again.",
   502: "The web server reaches no explorer. Is it running?",
   503: "The web server takes no more requests just now. Try again.",
   504: "The explorer did not answer the web server in time.",
 };
 
+const NO_PLAYERS = "What answers knows no games of a player: the explorer, or the web server in front of it, is of an earlier form.";
+
+function faultInWords(status, body, target) {
+  if (status === 404 && target.startsWith(PLAYER)) return NO_PLAYERS;
+  const words = CAUSES[`${status} ${body.error}`];
+  if (words) return words(body);
+  return (body.error === undefined && IN_FRONT[status]) || `The explorer answered with status ${status}.`;
+}
+
 export class ExplorerFault extends Error {
-  constructor(status, body) {
-    const words = CAUSES[`${status} ${body.error}`];
-    const others = (body.error === undefined && IN_FRONT[status]) || `The explorer answered with status ${status}.`;
-    super(words ? words(body) : others);
+  constructor(status, body, target = "") {
+    super(faultInWords(status, body, target));
     this.status = status;
     this.parameter = body.parameter;
   }
@@ -74,12 +86,15 @@ async function request(target, options, member) {
   }
   const told = await reply.json().catch(() => null);
   const body = told !== null && typeof told === "object" ? told : {};
-  if (!reply.ok) throw new ExplorerFault(reply.status, body);
+  if (!reply.ok) throw new ExplorerFault(reply.status, body, target);
   if (!(member in body)) throw new ExplorerFault(0, { error: "other answer" });
   return { body, batches: Number(reply.headers.get("X-Explorer-Batches")) };
 }
 
-export const ask = (parameters, signal) =>
-  request(`/lichess?${new URLSearchParams(parameters)}`, { signal, cache: "no-store" }, "moves");
+// Asks for a player's games where there is a player, else for all games.
+export function ask(parameters, signal) {
+  const path = parameters.player ? PLAYER : "/lichess";
+  return request(`${path}?${new URLSearchParams(parameters)}`, { signal, cache: "no-store" }, "moves");
+}
 
 export const send = (bytes, signal) => request("/import", { method: "POST", body: bytes, signal }, "stored");

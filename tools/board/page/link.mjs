@@ -1,9 +1,9 @@
-// The link to what the page shows: the position that the game begins in, the moves from there and the filters. All of it stands behind
-// the "#" of the page's address, so that no server has to know of it.
+// The link to what the page shows: the position that the game begins in, the moves from there, the player and the filters. All of it
+// stands behind the "#" of the page's address, so that no server has to know of it.
 
 import * as chess from "./chess.mjs";
 
-const NAMES = ["fen", "play", "speeds", "ratings", "since", "until"];
+const NAMES = ["fen", "play", "player", "color", "modes", "speeds", "ratings", "since", "until"];
 
 // What stands behind the page's address, with the "#". What has its default is left out.
 export function hashOf(asked) {

@@ -1,7 +1,7 @@
 // The page: where the game stands, what is asked, and what is shown.
 
 import * as chess from "./chess.mjs";
-import { gamesList, historyChart, movesTable, openingInWords, totalsInWords, unitsOf } from "./answer.mjs";
+import { gamesList, historyChart, movesTable, openingInWords, totalsInWords, unitsOf, viewOf } from "./answer.mjs";
 import { BoardView } from "./boardview.mjs";
 import { byId, counted, element, showText } from "./dom.mjs";
 import { ExplorerFault, ask } from "./explorer.mjs";
@@ -9,6 +9,8 @@ import { importFile } from "./importing.mjs";
 import { askedBy, gameOf, hashOf, made } from "./link.mjs";
 
 const SPEEDS = ["ultraBullet", "bullet", "blitz", "rapid", "classical", "correspondence"];
+const MODES = ["rated", "casual"];
+const COLORS = ["white", "black"];
 const RATINGS = ["0", "1000", "1200", "1400", "1600", "1800", "2000", "2200", "2500"];
 
 // The root as a text and a position, the moves from it as { move, uci, san, position }, and how
@@ -19,43 +21,57 @@ let asking = new AbortController();
 const here = () => (game.played === 0 ? game.root : game.moves[game.played - 1].position);
 const playedMoves = () => game.moves.slice(0, game.played);
 
-function chips(node, values) {
+function chips(node, values, attributes) {
   node.replaceChildren(...values.map((value) => {
-    const box = element("input", { type: "checkbox", value, onchange: refresh });
+    const box = element("input", { type: "checkbox", value, ...attributes });
     return element("label", {}, box, element("span", {}, value));
   }));
 }
 
 const ticked = (id) => [...byId(id).querySelectorAll("input:checked")].map((box) => box.value).join(",");
 
+function tick(id, values) {
+  for (const box of byId(id).querySelectorAll("input")) box.checked = values.includes(box.value);
+}
+
+const playerName = () => byId("player").value.trim();
+
+// What is asked: without a player's name for all games, and then neither the colour nor the modes count.
 function parameters() {
-  return {
+  const asked = {
     fen: game.fen === chess.START ? "" : game.fen,
     play: playedMoves().map(({ uci }) => uci).join(","),
     speeds: ticked("speeds"),
-    ratings: ticked("ratings"),
     since: byId("since").value,
     until: byId("until").value,
     moves: "999",
-    history: "true",
   };
+  const player = playerName();
+  if (player !== "") return { ...asked, player, color: ticked("color"), modes: ticked("modes") };
+  return { ...asked, ratings: ticked("ratings"), history: "true" };
 }
 
-function showAnswer({ body, batches }) {
+// What the explorer answers for all games alone.
+function showRest(body) {
+  byId("top-games").replaceChildren(gamesList(body.topGames, playUci));
+  const history = unitsOf(body.history);
+  byId("history-unit").textContent = history.unit;
+  byId("history").replaceChildren(historyChart(history, Math.max(280, byId("history").clientWidth)));
+}
+
+function showAnswer({ body, batches }, asked) {
+  const view = viewOf(asked);
   showText(byId("error"), null);
   byId("answer").classList.remove("faulty");
   byId("batches").textContent = counted(batches, "batch of games", "batches of games");
   byId("opening").replaceChildren(...openingInWords(body.opening));
-  byId("totals").textContent = totalsInWords(body);
+  byId("totals").textContent = totalsInWords(body, view);
   const actions = { onPlay: playUci, onPoint: (uci) => board.hint(uci && chess.moveOfUci(here(), uci)) };
   const isByKeys = byId("moves").querySelector(":focus-visible") !== null;
-  byId("moves").replaceChildren(movesTable(body, actions));
+  byId("moves").replaceChildren(movesTable(body, view, actions));
   if (isByKeys) byId("moves").querySelector("button")?.focus();
-  byId("top-games").replaceChildren(gamesList(body.topGames, playUci));
   byId("recent-games").replaceChildren(gamesList(body.recentGames, playUci));
-  const history = unitsOf(body.history);
-  byId("history-unit").textContent = history.unit;
-  byId("history").replaceChildren(historyChart(history, Math.max(280, byId("history").clientWidth)));
+  if (!asked.player) showRest(body);
 }
 
 function showFault(error) {
@@ -69,12 +85,15 @@ async function refresh() {
   asking.abort();
   asking = new AbortController();
   const { signal } = asking;
-  byId("link").hash = hashOf(parameters());
+  const asked = parameters();
+  byId("link").hash = hashOf(asked);
   byId("linked").textContent = "";
   byId("answer").setAttribute("aria-busy", "true");
+  byId("answer").classList.toggle("of-player", Boolean(asked.player));
+  byId("everybody").disabled = !asked.player;
   try {
-    const answer = await ask(parameters(), signal);
-    if (!signal.aborted) showAnswer(answer);
+    const answer = await ask(asked, signal);
+    if (!signal.aborted) showAnswer(answer, asked);
   } catch (error) {
     if (signal.aborted) return;
     if (!(error instanceof ExplorerFault)) throw error;
@@ -150,10 +169,9 @@ async function followLink() {
   const asked = askedBy(location.hash);
   const { fault, ...linked } = gameOf(asked);
   Object.assign(game, linked, { played: linked.moves.length });
-  for (const name of ["speeds", "ratings"]) {
-    for (const box of byId(name).querySelectorAll("input")) box.checked = asked[name].split(",").includes(box.value);
-  }
-  for (const name of ["since", "until"]) byId(name).value = asked[name];
+  for (const name of ["speeds", "ratings", "modes"]) tick(name, asked[name].split(","));
+  tick("color", [asked.color || (asked.player ? "" : "white")]);
+  for (const name of ["player", "since", "until"]) byId(name).value = asked[name];
   await show();
   if (fault && byId("error").hidden) showText(byId("error"), fault);
 }
@@ -214,6 +232,21 @@ function clearFilters() {
   refresh();
 }
 
+function refreshPlayer() {
+  if (playerName() !== "") refresh();
+}
+
+// A name that has changed is asked for by then; one that has not is asked for again.
+function showPlayer(event) {
+  event.preventDefault();
+  if (byId("answer").getAttribute("aria-busy") !== "true") refresh();
+}
+
+function clearPlayer() {
+  byId("player-form").reset();
+  refresh();
+}
+
 function listen() {
   byId("first").addEventListener("click", KEYS.Home);
   byId("back").addEventListener("click", KEYS.ArrowLeft);
@@ -226,6 +259,9 @@ function listen() {
   byId("flip").addEventListener("click", KEYS.f);
   byId("start").addEventListener("click", () => setRoot(chess.START, chess.readFen(chess.START).position));
   byId("clear").addEventListener("click", clearFilters);
+  byId("player").addEventListener("change", refresh);
+  byId("player-form").addEventListener("submit", showPlayer);
+  byId("everybody").addEventListener("click", clearPlayer);
   byId("since").addEventListener("change", refresh);
   byId("until").addEventListener("change", refresh);
   byId("import-form").addEventListener("submit", startImport);
@@ -238,7 +274,10 @@ function listen() {
   });
 }
 
-chips(byId("speeds"), SPEEDS);
-chips(byId("ratings"), RATINGS);
+chips(byId("speeds"), SPEEDS, { onchange: refresh });
+chips(byId("ratings"), RATINGS, { onchange: refresh });
+chips(byId("modes"), MODES, { onchange: refreshPlayer });
+chips(byId("color"), COLORS, { type: "radio", name: "color", onchange: refreshPlayer });
+byId("color").querySelector("input").defaultChecked = true;
 listen();
 followLink();
