@@ -2,3 +2,4 @@ pub mod Writing
 pub mod Values
 pub mod Unnamed
 pub mod PlainFound
+pub mod Strings

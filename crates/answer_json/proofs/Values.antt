@@ -22,7 +22,6 @@ use Rattle.explorer_model.specs.declared.player.PlayerLine.{PlayerLine}
 use Rattle.explorer_model.specs.Answer.{items_by, array_by, winner_value, listed_value, game_value, opening_value, move_value, move_items, month_value, answer_value}
 use Rattle.explorer_model.specs.Players.{player_move_items, player_move_value, player_value}
 use Rattle.explorer_model.specs.Replies.{refusal_value}
-use Rattle.answer_json.specs.Items.{items_with}
 
 items_of-map : {A : Type 0} (value : A → Data) (xs : List A) → items_of (map value xs) ≡ items_by value xs
 items_of-map value [] = refl
@@ -56,41 +55,18 @@ module _ {A : Type 0} (value : A → Option Opening → Data) where
   values_with (line ∷ lines) [] = value line None ∷ values_with lines []
   values_with (line ∷ lines) (opening ∷ openings) = value line opening ∷ values_with lines openings
 
-  items_of-with : (lines : List A) (openings : List (Option Opening)) → items_of (values_with lines openings) ≡ items_with value lines openings
-  items_of-with [] openings = refl
-  items_of-with (line ∷ lines) [] = ap (λ (items : Items). item (value line None) items) (items_of-with lines [])
-  items_of-with (line ∷ lines) (opening ∷ openings) = ap (λ (items : Items). item (value line opening) items) (items_of-with lines openings)
-
-  length-with : (lines : List A) (openings : List (Option Opening)) → length (values_with lines openings) ≡ length lines
+  pub length-with : (lines : List A) (openings : List (Option Opening)) → length (values_with lines openings) ≡ length lines
   length-with [] openings = refl
   length-with (line ∷ lines) [] = ap suc (length-with lines [])
   length-with (line ∷ lines) (opening ∷ openings) = ap suc (length-with lines openings)
 
-  get_or-with : (lines : List A) (openings : List (Option Opening)) (i : ℕ) (d : A) (e : Data) → i < length lines
+  pub get_or-with : (lines : List A) (openings : List (Option Opening)) (i : ℕ) (d : A) (e : Data) → i < length lines
       → get_or (values_with lines openings) i e ≡ value (get_or lines i d) (get_or openings i None)
   get_or-with [] openings i d e within = absurd (omega (arith, within))
   get_or-with (line ∷ lines) [] zero d e within = refl
   get_or-with (line ∷ lines) [] (suc i) d e within = get_or-with lines [] i d e (omega (arith, within))
   get_or-with (line ∷ lines) (opening ∷ openings) zero d e within = refl
   get_or-with (line ∷ lines) (opening ∷ openings) (suc i) d e within = get_or-with lines openings i d e (omega (arith, within))
-
-  -- one more of the lines has its value
-  pub one_more_with : (values new : List Value) (one : Value) (lines : List A) (openings : List (Option Opening)) (i : ℕ) (d : A)
-      → map view values ≡ take i (values_with lines openings) → i < length lines
-      → view one ≡ value (get_or lines i d) (get_or openings i None) → new ≡ values ++ one ∷ [] → map view new ≡ take (i + 1) (values_with lines openings)
-  one_more_with values new one lines openings i d before within is pushed =
-      let here : Data = value (get_or lines i d) (get_or openings i None) in
-      let inside : i < length (values_with lines openings) = rw (length-with lines openings) within in
-      let more : take (i + 1) (values_with lines openings) ≡ take i (values_with lines openings) ++ get_or (values_with lines openings) i here ∷ [] =
-      take_more (values_with lines openings) i here inside in
-      rw (pushed, more, map-append view values (one ∷ []), before, is, get_or-with lines openings i d here within) refl
-
-  -- all of the lines have their values
-  pub all_valued_with : (values : Vec Value Global) (lines : List A) (openings : List (Option Opening)) (n : ℕ) → length lines ≤ n
-      → map view values.items ≡ take n (values_with lines openings) → view (Array values) ≡ array (items_with value lines openings)
-  all_valued_with values lines openings n all are =
-      let whole : take n (values_with lines openings) ≡ values_with lines openings = take_whole n (values_with lines openings) (rw (length-with lines openings) all) in
-      view-Array values ∙ ap (λ (items : Items). array items) (ap items_of (are ∙ whole) ∙ items_of-with lines openings)
 
 -- ---- no value is a float
 

@@ -1,4 +1,4 @@
--- Lines of moves as items of an array, each with its opening.
+-- Bridge: lines of moves as items of an array, each with its opening.
 use Rattle.std.specs.Prelude.{◌≡◌, refl, List, [], ◌∷◌, Option, None}
 use Rattle.std.proofs.Common.{ap}
 use Rattle.serde_json.specs.Data.{Data, Items, no_items, item}

@@ -1,4 +1,5 @@
--- Answers whose texts, but for the names of players, are plain: the bytes of each are below 128.
+-- Statement: answers whose texts, but for the names of players, are plain: the bytes of each are
+-- below 128.
 use Rattle.std.specs.Prelude.{Option, None, Some}
 use Rattle.std.specs.List.{All}
 use Rattle.std.specs.Str.{IsAscii}

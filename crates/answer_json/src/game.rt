@@ -1,11 +1,13 @@
 //! The games that an answer lists.
-ghost use Rattle.std.specs.Prelude.{◌≡◌, IfOk, None, Some};
+ghost use Rattle.std.specs.Prelude.{◌≡◌, ◌++◌, IfOk, None, OnOk, Some, codes};
 ghost use Rattle.std.specs.Option.{option_copied};
 ghost use Rattle.std.specs.List.{All};
 ghost use Rattle.serde_json.specs.View.{view};
+ghost use Rattle.serde_json.specs.Written.{compact_text};
 ghost use Rattle.explorer_model.specs.Answer.{array_by, player_value, winner_value, listed_value, game_value};
 ghost use Rattle.answer_json.specs.Plain.{HasPlainId, IsPlainGame};
 
+use crate::pieces::push_value;
 use crate::texts::{mode_text, month_text, speed_text, text_of};
 use explorer_model::answer::Listed;
 use explorer_model::archive::{Outcome, Player};
@@ -52,15 +54,17 @@ fn listed_value(alloc: Global, game: &Listed) -> Result<Value, AllocError>
     })
 }
 
-/// The game, or null where there is none.
-pub fn game_value(alloc: Global, game: Option<&Listed>) -> Result<Value, AllocError>
+/// Writes the member with the game of a move, or null where there is none.
+pub fn push_game(alloc: Global, body: &mut Vec<u8>, game: Option<&Listed>) -> Result<(), AllocError>
     requires { IsPlainGame (option_copied game) }
-    ensures { IfOk result (λ value. view value ≡ game_value (option_copied game.entry)) }
+    ensures { OnOk result (body.new.items ≡ body.old.items
+        ++ (codes ",\"game\":" ++ compact_text (game_value (option_copied game.entry)))) }
 {
-    match game {
-        None => Ok(Value::Null),
-        Some(game) => listed_value(alloc, game),
-    }
+    let Some(game) = game else {
+        return body.extend_from_slice(b",\"game\":null");
+    };
+    let value = listed_value(alloc, game)?;
+    push_value(alloc, body, b",\"game\":", &value)
 }
 
 pub fn games_value(alloc: Global, games: &[Listed]) -> Result<Value, AllocError>

@@ -12,5 +12,5 @@ pub mod refusal;
 mod stored;
 mod texts;
 
-pub use player::player_body;
+pub use player::{lent_player_body, player_body};
 pub use stored::stored_body;

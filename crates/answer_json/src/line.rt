@@ -1,21 +1,24 @@
 //! The lines of an answer: one for a move, of all games or of a player's, and one for a month.
-ghost use Rattle.std.specs.Prelude.{◌≡◌, ◌++◌, List, Option, IfOk, OnOk};
+ghost use Rattle.std.specs.Prelude.{◌≡◌, ◌++◌, List, Option, IfOk, OnOk, codes, decimal, map};
 ghost use Rattle.std.specs.List.{All};
 ghost use Rattle.std.specs.Option.{option_copied};
-ghost use Rattle.serde_json.specs.Data.{Data, Items, array};
+ghost use Rattle.std.specs.Str.{IsAscii};
+ghost use Rattle.serde_json.specs.Data.{Data, Items, array, string};
 ghost use Rattle.serde_json.specs.View.{view};
 ghost use Rattle.serde_json.specs.Written.{compact_text};
 ghost use Rattle.explorer_model.specs.Answer.{array_by, move_items, move_value, month_value};
 ghost use Rattle.explorer_model.specs.Players.{player_move_items, player_move_value};
+ghost use Rattle.explorer_model.specs.Uci.{uci_text};
 ghost use Rattle.explorer_model.specs.declared.opening.Opening.{Opening};
 ghost use Rattle.answer_json.specs.Items.{items_with, move_items-are, player_move_items-are};
 ghost use Rattle.answer_json.specs.Plain.{IsPlainLine, IsPlainPlayerLine};
 
-use crate::game::game_value;
-use crate::opening::{opening_at, opening_value};
-use crate::pieces::push_value;
+use crate::game::push_game;
+use crate::opening::{opening_at, push_opening};
+use crate::pieces::{push_count, push_text, push_value};
 use crate::texts::{month_text, text_of};
-use explorer_model::answer::{MonthLine, MoveLine};
+use explorer_model::answer::{MonthLine, MoveLine, Totals};
+use explorer_model::chess::Move;
 use explorer_model::opening::Opening;
 use explorer_model::player::PlayerLine;
 use fen_uci::write_uci;
@@ -30,11 +33,17 @@ pub trait LineOfMove {
 
     ghost items: { List Self → List (Option Opening) → Items };
 
-    /// The line, with null where there is no opening.
-    fn value_with(&self, alloc: Global, opening: Option<&Opening>) -> Result<Value, AllocError>
+    /// Writes what stands before the line, and the line, with null where there is no opening.
+    fn push_with(
+        &self,
+        alloc: Global,
+        body: &mut Vec<u8>,
+        before: &[u8],
+        opening: Option<&Opening>,
+    ) -> Result<(), AllocError>
         requires { is_plain self.now }
-        ensures { IfOk result (λ written. view written
-            ≡ value self.now (option_copied opening.entry)) };
+        ensures { OnOk result (body.new.items ≡ body.old.items
+            ++ (before.now ++ compact_text (value self.now (option_copied opening.entry)))) };
 
     ghost items_are: { (lines : List Self) (openings : List (Option Opening))
         → items lines openings ≡ items_with value lines openings };
@@ -49,18 +58,21 @@ impl LineOfMove for MoveLine {
 
     ghost items_are = { move_items-are };
 
-    fn value_with(&self, alloc: Global, opening: Option<&Opening>) -> Result<Value, AllocError> {
-        let uci = write_uci(self.next);
-        json!(in alloc; {
-            "averageRating": self.average,
-            "black": self.totals.black,
-            "draws": self.totals.draws,
-            "game": game_value(alloc, self.game.as_ref())?,
-            "opening": opening_value(alloc, opening)?,
-            "san": text_of(self.san.as_slice()),
-            "uci": text_of(uci.as_slice()),
-            "white": self.totals.white
-        })
+    fn push_with(
+        &self,
+        alloc: Global,
+        body: &mut Vec<u8>,
+        before: &[u8],
+        opening: Option<&Opening>,
+    ) -> Result<(), AllocError> {
+        body.extend_from_slice(before)?;
+        push_counts(body, b"{\"averageRating\":", self.average, &self.totals)?;
+        push_game(alloc, body, self.game.as_ref())?;
+        push_opening(alloc, body, opening)?;
+        push_play(alloc, body, self.san.as_slice(), self.next)?;
+        push_count(body, b",\"white\":", self.totals.white)?;
+        body.push(b'}')?;
+        Ok(())
     }
 }
 
@@ -73,35 +85,77 @@ impl LineOfMove for PlayerLine {
 
     ghost items_are = { player_move_items-are };
 
-    fn value_with(&self, alloc: Global, opening: Option<&Opening>) -> Result<Value, AllocError> {
-        let uci = write_uci(self.next);
-        json!(in alloc; {
-            "averageOpponentRating": self.average,
-            "black": self.totals.black,
-            "draws": self.totals.draws,
-            "game": game_value(alloc, self.game.as_ref())?,
-            "opening": opening_value(alloc, opening)?,
-            "san": text_of(self.san.as_slice()),
-            "uci": text_of(uci.as_slice()),
-            "white": self.totals.white
-        })
+    fn push_with(
+        &self,
+        alloc: Global,
+        body: &mut Vec<u8>,
+        before: &[u8],
+        opening: Option<&Opening>,
+    ) -> Result<(), AllocError> {
+        body.extend_from_slice(before)?;
+        push_counts(
+            body,
+            b"{\"averageOpponentRating\":",
+            self.average,
+            &self.totals,
+        )?;
+        push_game(alloc, body, self.game.as_ref())?;
+        push_opening(alloc, body, opening)?;
+        push_play(alloc, body, self.san.as_slice(), self.next)?;
+        push_count(body, b",\"white\":", self.totals.white)?;
+        body.push(b'}')?;
+        Ok(())
     }
 }
 
-/// The lines, each with its opening; a line that the openings do not reach has none.
-pub fn moves_value<L: LineOfMove>(
-    alloc: Global,
-    lines: &[L],
-    openings: &[Option<Opening>],
-) -> Result<Value, AllocError>
-    requires { All L.is_plain lines.now }
-    ensures { IfOk result (λ value. view value ≡ array (L.items lines.now openings.now)) }
+/// Writes the average behind its name, and the first of the counts.
+fn push_counts(
+    body: &mut Vec<u8>,
+    before: &[u8],
+    average: u32,
+    totals: &Totals,
+) -> Result<(), AllocError>
+    ensures { OnOk result (body.new.items ≡ body.old.items ++ (before.now ++ decimal average
+        ++ codes ",\"black\":" ++ decimal totals.now.black
+        ++ codes ",\"draws\":" ++ decimal totals.now.draws)) }
 {
-    let mut values = Vec::with_capacity(alloc, lines.len())?;
+    push_count(body, before, u64::from(average))?;
+    push_count(body, b",\"black\":", totals.black)?;
+    push_count(body, b",\"draws\":", totals.draws)
+}
+
+/// Writes the move in both notations.
+fn push_play(alloc: Global, body: &mut Vec<u8>, san: &[u8], next: Move) -> Result<(), AllocError>
+    requires { IsAscii san.now }
+    ensures { OnOk result (body.new.items ≡ body.old.items
+        ++ (codes ",\"san\":" ++ compact_text (string san.now)
+        ++ codes ",\"uci\":" ++ compact_text (string (uci_text next)))) }
+{
+    let uci = write_uci(next);
+    push_text(alloc, body, b",\"san\":", text_of(san))?;
+    push_text(alloc, body, b",\"uci\":", text_of(uci.as_slice()))
+}
+
+/// Writes the lines as an array, each with its opening; a line that the openings do not reach has
+/// none.
+pub fn push_moves<L: LineOfMove>(
+    alloc: Global,
+    body: &mut Vec<u8>,
+    lines: &[L],
+    openings: &[Option<&Opening>],
+) -> Result<(), AllocError>
+    requires { All L.is_plain lines.now }
+    ensures { OnOk result (body.new.items ≡ body.old.items
+        ++ compact_text (array (L.items lines.now (map option_copied openings.now)))) }
+{
+    body.push(b'[')?;
+    let mut comma: &[u8] = b"";
     for (place, line) in lines.iter().enumerate() {
-        values.push(line.value_with(alloc, opening_at(openings, place))?)?;
+        line.push_with(alloc, body, comma, opening_at(openings, place))?;
+        comma = b",";
     }
-    Ok(Value::Array(values))
+    body.push(b']')?;
+    Ok(())
 }
 
 fn month_value(alloc: Global, line: &MonthLine) -> Result<Value, AllocError>

@@ -1,15 +1,16 @@
 //! The answers to queries for a player's games.
-ghost use Rattle.std.specs.Prelude.{◌≡◌, IfOk};
-ghost use Rattle.serde_json.specs.View.{view};
-ghost use Rattle.explorer_model.specs.Players.{player_body, player_value};
+ghost use Rattle.std.specs.Prelude.{◌≡◌, IfOk, map};
+ghost use Rattle.std.specs.Option.{option_copied};
+ghost use Rattle.explorer_model.specs.Players.{player_body};
 ghost use Rattle.answer_json.specs.Plain.{IsPlainPlayerFound};
 
+use crate::answer::ROOM;
 use crate::game::games_value;
-use crate::line::moves_value;
-use crate::opening::opening_value;
-use explorer_model::opening::Naming;
+use crate::line::push_moves;
+use crate::opening::{lend, push_opening};
+use crate::pieces::{push_count, push_value};
+use explorer_model::opening::{Naming, Opening};
 use explorer_model::player::PlayerFound;
-use serde_json::{Value, json};
 use std::alloc::{AllocError, Global};
 
 /// The body that answers a query for a player's games, with the openings that its naming has; a move
@@ -22,20 +23,34 @@ pub fn player_body(
     requires { IsPlainPlayerFound found.now }
     ensures { IfOk result (λ bytes. bytes.items ≡ player_body found.now naming.now) }
 {
-    player_value(alloc, found, naming)?.to_vec(alloc)
+    let openings = lend(alloc, naming.moves.as_slice())?;
+    lent_player_body(alloc, found, naming.whole.as_ref(), openings.as_slice())
 }
 
-fn player_value(alloc: Global, found: &PlayerFound, naming: &Naming) -> Result<Value, AllocError>
+/// The same, with openings that are lent: that of the whole, and those of the moves. It is written
+/// member by member.
+pub fn lent_player_body(
+    alloc: Global,
+    found: &PlayerFound,
+    whole: Option<&Opening>,
+    openings: &[Option<&Opening>],
+) -> Result<Vec<u8>, AllocError>
     requires { IsPlainPlayerFound found.now }
-    ensures { IfOk result (λ value. view value ≡ player_value found.now naming.now) }
+    ensures { IfOk result (λ bytes. bytes.items ≡ player_body found.now (record {
+      whole = option_copied whole.entry;
+      moves = map option_copied openings.now;
+    })) }
 {
     let totals = &found.totals;
-    json!(in alloc; {
-        "black": totals.black,
-        "draws": totals.draws,
-        "moves": moves_value(alloc, found.moves.as_slice(), naming.moves.as_slice())?,
-        "opening": opening_value(alloc, naming.whole.as_ref())?,
-        "recentGames": games_value(alloc, found.recent.as_slice())?,
-        "white": totals.white
-    })
+    let mut body = Vec::with_capacity(alloc, ROOM)?;
+    push_count(&mut body, b"{\"black\":", totals.black)?;
+    push_count(&mut body, b",\"draws\":", totals.draws)?;
+    body.extend_from_slice(b",\"moves\":")?;
+    push_moves(alloc, &mut body, found.moves.as_slice(), openings)?;
+    push_opening(alloc, &mut body, whole)?;
+    let recent = games_value(alloc, found.recent.as_slice())?;
+    push_value(alloc, &mut body, b",\"recentGames\":", &recent)?;
+    push_count(&mut body, b",\"white\":", totals.white)?;
+    body.push(b'}')?;
+    Ok(body)
 }

@@ -1,3 +1,4 @@
+//! The words of a refusal in a report.
 ghost use Rattle.std.specs.Prelude.{◌≡◌, IfOk};
 ghost use Rattle.explorer_model.specs.Refusals.{why_text};
 

@@ -5,3 +5,4 @@ mod LineLemmas
 mod PieceLemmas
 mod Walking
 mod WordLemmas
+pub mod KeyLemmas

@@ -1,4 +1,4 @@
--- A book as it is held: its lines with their keys, and the first place of each key.
+-- Bridge: a book as it is held: its lines with their keys, and the first place of each key.
 use Rattle.std.specs.Prelude.{◌≡◌, ℕ, ◌+◌, List, [], ◌∷◌, length, bytes_eq, cond, Option, None, Some, option_map}
 use Rattle.std.specs.HashMap.{HashMap, get}
 use Rattle.std.specs.List.{AllByRecursion, find}

@@ -1,2 +1,4 @@
+pub mod Hashed
 pub mod Held
+pub mod Lent
 pub mod Reading

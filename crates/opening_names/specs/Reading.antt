@@ -1,4 +1,4 @@
--- How the code reads a file of openings, piece by piece.
+-- Bridge: how the code reads a file of openings, piece by piece.
 use Rattle.std.specs.Prelude.{◌≡◌, ℕ, ◌+◌, ◌<◌, Bool, List, [], ◌∷◌, ◌++◌, length, Option, None, Some, Result}
 use Rattle.std.specs.Result.{result_map_both}
 use Rattle.std.specs.List.{position_or_len, slice_split}

@@ -1,19 +1,25 @@
 //! Books of openings.
-ghost use Rattle.std.specs.Prelude.{◌≡◌, ◌≤◌, ◌==◌, [], length, map, option_map, IfOk};
+ghost use Rattle.std.specs.Prelude.{◌≡◌, ◌≤◌, ◌==◌, [], length, map, option_map, IfOk, IfSome};
+ghost use Rattle.explorer_model.specs.declared.chess.Position.{Position};
+ghost use Rattle.explorer_model.specs.Chess.{Legal, after};
 ghost use Rattle.explorer_model.specs.Openings.{BookReads, OpeningOf};
 ghost use Rattle.explorer_model.specs.Stop.{Answers};
+ghost use Rattle.explorer_model.specs.Tidy.{IsTidyKey};
 ghost use Rattle.std.specs.Result.{result_map_both};
+ghost use Rattle.opening_names.specs.Hashed.{ArePacked};
 ghost use Rattle.opening_names.specs.Held.{AreKeyed, named_line};
 
 use crate::line::{NamedLine, is_passed, read_line};
 use crate::pieces::split_line;
 use crate::places::{Places, places_of};
+use crate::tidy_key::TidyKey;
+use explorer_model::chess::Move;
 use explorer_model::fault::Stop;
 use explorer_model::opening::{BookFault, Opening};
 use legal_moves::board::Board;
 use legal_moves::laws::tidy_forms_decide_same;
 use packed_keys::laws::equal_keys_mean_equal_positions;
-use packed_keys::pack;
+use packed_keys::pack_squares;
 use std::alloc::Global;
 use std::collections::HashMap;
 use std::marker::Model;
@@ -72,13 +78,45 @@ impl Book {
     pub fn at(&self, board: &Board) -> Option<&Opening>
         ensures { OpeningOf self.now board.now (option_map (λ opening. opening.now) result) }
     {
-        // laws: positions are the same exactly where their tidy forms have equal keys
-        tidy_forms_decide_same();
-        equal_keys_mean_equal_positions();
         if self.lines.is_empty() {
             return None;
         }
-        let key = pack(&board.tidy().position());
+        self.at_key(TidyKey::of(board))
+    }
+
+    /// The squares of the board as `behind` takes them. There are none for an empty book.
+    pub fn squares_for(&self, board: &Board) -> Option<[u8; 32]>
+        ensures { IfSome result (ArePacked board.now) }
+    {
+        if self.lines.is_empty() {
+            return None;
+        }
+        Some(pack_squares(&board.as_position().squares))
+    }
+
+    /// The opening behind a legal move on the board, whose squares are packed, if they are.
+    pub fn behind(&self, board: &Board, squares: Option<[u8; 32]>, step: Move) -> Option<&Opening>
+        requires legal { Legal board.now step }
+        requires packed { IfSome squares (ArePacked board.now) }
+        ensures { OpeningOf self.now (after board.now step)
+            (option_map (λ opening. opening.now) result) }
+    {
+        let mut next = *board;
+        next.play_on(step);
+        let Some(squares) = squares else {
+            return self.at(&next);
+        };
+        self.at_key(TidyKey::behind(board, &squares, step, &next))
+    }
+
+    /// The opening of the first line that has the key.
+    fn at_key(&self, key: TidyKey) -> Option<&Opening>
+        ensures { (at : Position) → length at.squares ≡ 64 → IsTidyKey at key
+            → OpeningOf self.now at (option_map (λ opening. opening.now) result) }
+    {
+        // laws: positions are the same exactly where their tidy forms have equal keys
+        tidy_forms_decide_same();
+        equal_keys_mean_equal_positions();
         match self.places.get(&key) {
             None => None,
             Some(place) => Some(&self.lines[*place].opening),

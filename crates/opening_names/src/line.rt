@@ -9,13 +9,13 @@ ghost use Rattle.opening_names.specs.Held.{IsKeyed, named_line};
 ghost use Rattle.opening_names.specs.Reading.{columns_as};
 
 use crate::pieces::split_piece;
+use crate::tidy_key::TidyKey;
 use crate::words::{count_words, play_words};
 use explorer_model::chess::Position;
 use explorer_model::fault::Stop;
 use explorer_model::opening::{BookCause, Opening};
 use explorer_model::text::Name;
 use legal_moves::board::Board;
-use packed_keys::pack;
 use std::alloc::{AllocError, Global};
 use std::snapshot::Snapshot;
 
@@ -27,7 +27,7 @@ const MOVE_LIMIT: usize = 64;
 #[derive(Drop)]
 pub struct NamedLine {
     pub position: Snapshot<Position>,
-    pub key: [u8; 34],
+    pub key: TidyKey,
     pub opening: Opening,
 }
 
@@ -118,10 +118,9 @@ fn named(board: &Board, opening: Opening) -> NamedLine
     ensures line { named_line result ≡ record { position = board.now; opening = opening } }
     ensures keyed { IsKeyed result }
 {
-    let tidy = board.tidy();
     NamedLine {
         position: Snapshot::of(board.as_position()),
-        key: pack(tidy.as_position()),
+        key: TidyKey::of(board),
         opening,
     }
 }

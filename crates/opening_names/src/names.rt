@@ -1,19 +1,21 @@
-//! What an answer names.
+//! What an answer names, by openings of its own.
 ghost use Rattle.std.specs.Prelude.{◌≡◌, Some, None, map, option_map, IfOk};
-ghost use Rattle.std.specs.List.{AllByRecursion, AllZip, last_or};
-ghost use Rattle.explorer_model.specs.Chess.{IsValid, Legal, after};
-ghost use Rattle.explorer_model.specs.Openings.{IsNaming, LastOpening, OpeningOf, positions_on};
+ghost use Rattle.std.specs.List.{AllByRecursion, last_or};
+ghost use Rattle.std.specs.Option.{option_copied};
+ghost use Rattle.explorer_model.specs.Chess.{IsValid, Legal};
+ghost use Rattle.explorer_model.specs.Openings.{IsNaming, positions_on};
 ghost use Rattle.explorer_model.specs.Visits.{AreLegalFrom};
+ghost use Rattle.opening_names.specs.Lent.{naming_lent};
 
 use crate::book::Book;
+use crate::lent::{LentNaming, lend_names, lend_naming, lend_player_naming};
 use crate::line::new_opening;
-use explorer_model::answer::{Found, MoveLine};
+use explorer_model::answer::Found;
 use explorer_model::chess::Move;
 use explorer_model::list::Items;
 use explorer_model::opening::{Naming, Opening};
-use explorer_model::player::{PlayerFound, PlayerLine, PlayerQuery};
+use explorer_model::player::{PlayerFound, PlayerQuery};
 use explorer_model::query::Query;
-use legal_moves::board::Board;
 use std::alloc::{AllocError, Global};
 
 /// What the answer to a query names: the way that the query goes, by the last position on it that has
@@ -31,8 +33,8 @@ pub fn naming(
     ensures { IfOk result
         (IsNaming book.now query.now (map (λ line. line.next) found.now.moves)) }
 {
-    let played = moves_of(alloc, found.moves.as_slice())?;
-    name_moves(alloc, book, query, played.as_slice())
+    let lent = lend_naming(alloc, book, query, found)?;
+    naming_of(alloc, &lent)
 }
 
 /// The same of the answer to a query for a player's games.
@@ -50,8 +52,8 @@ pub fn player_naming(
     ensures { IfOk result
         (IsNaming book.now asked.now.query (map (λ line. line.next) found.now.moves)) }
 {
-    let played = player_moves_of(alloc, found.moves.as_slice())?;
-    name_moves(alloc, book, &asked.query, played.as_slice())
+    let lent = lend_player_naming(alloc, book, asked, found)?;
+    naming_of(alloc, &lent)
 }
 
 /// The same of moves that are given by themselves.
@@ -67,54 +69,33 @@ pub fn name_moves(
     requires moves { AllByRecursion (λ m. Legal query.now.at m) played.now }
     ensures { IfOk result (IsNaming book.now query.now played.now) }
 {
-    let way = walked(book, Board::of_valid(query.root), query.plays.as_slice());
-    let whole = copy_of(alloc, way.opening)?;
-    let moves = openings_behind(alloc, book, &way.board, played)?;
+    let lent = lend_names(alloc, book, query, played)?;
+    naming_of(alloc, &lent)
+}
+
+/// The naming, with copies of what is lent.
+fn naming_of(alloc: Global, lent: &LentNaming<'_>) -> Result<Naming, AllocError>
+    ensures { IfOk result (λ naming. naming ≡ naming_lent lent.now) }
+{
+    let whole = copy_of(alloc, lent.whole)?;
+    let moves = copies_of(alloc, lent.moves.as_slice())?;
     Ok(Naming {
         whole,
         moves: Items::from_vec(moves),
     })
 }
 
-/// Where moves lead, and the opening of the last position on the way that has one.
-#[derive(Clone, Copy)]
-struct Way<'a> {
-    board: Board,
-    opening: Option<&'a Opening>,
-}
-
-fn walked<'a>(book: &'a Book, root: Board, plays: &[Move]) -> Way<'a>
-    requires { AreLegalFrom root plays.now }
-    ensures opening { LastOpening book.now (positions_on root plays.now)
-        (option_map (λ opening. opening.now) result.opening) }
-    ensures board { last_or None (positions_on root plays.now) ≡ Some result.board }
-{
-    let mut board = root;
-    let mut opening = book.at(&board);
-    for step in plays {
-        board.play_on(*step);
-        opening = book.at(&board).or(opening);
-    }
-    Way { board, opening }
-}
-
-/// The openings of the positions behind these moves.
-fn openings_behind(
+fn copies_of(
     alloc: Global,
-    book: &Book,
-    board: &Board,
-    played: &[Move],
+    openings: &[Option<&Opening>],
 ) -> Result<Vec<Option<Opening>>, AllocError>
-    requires { AllByRecursion (λ m. Legal board.now m) played.now }
-    ensures { IfOk result (λ openings. AllZip
-        (λ m opening. OpeningOf book.now (after board.now m) opening) played.now openings.items) }
+    ensures { IfOk result (λ copies. copies.items ≡ map option_copied openings.now) }
 {
-    let mut openings = Vec::with_capacity(alloc, played.len())?;
-    for step in played {
-        let opening = copy_of(alloc, book.at(&board.play(*step)))?;
-        openings.push(opening)?;
+    let mut copies = Vec::with_capacity(alloc, openings.len())?;
+    for opening in openings {
+        copies.push(copy_of(alloc, *opening)?)?;
     }
-    Ok(openings)
+    Ok(copies)
 }
 
 fn copy_of(alloc: Global, opening: Option<&Opening>) -> Result<Option<Opening>, AllocError>
@@ -125,26 +106,4 @@ fn copy_of(alloc: Global, opening: Option<&Opening>) -> Result<Option<Opening>, 
     };
     let copy = new_opening(alloc, opening.eco.as_str(), opening.name.as_str())?;
     Ok(Some(copy))
-}
-
-/// The moves of the lines.
-fn moves_of(alloc: Global, lines: &[MoveLine]) -> Result<Vec<Move>, AllocError>
-    ensures { IfOk result (λ moves. moves.items ≡ map (λ line. line.next) lines.now) }
-{
-    let mut moves = Vec::with_capacity(alloc, lines.len())?;
-    for line in lines {
-        moves.push(line.next)?;
-    }
-    Ok(moves)
-}
-
-/// The moves of the lines of a player.
-fn player_moves_of(alloc: Global, lines: &[PlayerLine]) -> Result<Vec<Move>, AllocError>
-    ensures { IfOk result (λ moves. moves.items ≡ map (λ line. line.next) lines.now) }
-{
-    let mut moves = Vec::with_capacity(alloc, lines.len())?;
-    for line in lines {
-        moves.push(line.next)?;
-    }
-    Ok(moves)
 }

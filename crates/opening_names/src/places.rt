@@ -3,11 +3,12 @@ ghost use Rattle.std.specs.Prelude.{◌≡◌, IfOk};
 ghost use Rattle.opening_names.specs.Held.{TellsPlaces};
 
 use crate::line::NamedLine;
+use crate::tidy_key::TidyKey;
 use std::alloc::{AllocError, Global};
 use std::collections::HashMap;
 
 /// Places by keys.
-pub type Places = HashMap<[u8; 34], usize>;
+pub type Places = HashMap<TidyKey, usize>;
 
 /// The place of the first line of each key.
 pub fn places_of(alloc: Global, lines: &[NamedLine]) -> Result<Places, AllocError>

@@ -1,4 +1,4 @@
--- Answers that are kept.
+-- Bridge: answers that are kept.
 use Rattle.std.specs.Prelude.{◌≡◌, ⊤, ℕ, List, length, Contains, Option, None, Some}
 use Rattle.lru.specs.LruCache.{LruCache}
 use Rattle.explorer_model.specs.declared.archive.Batch.{Batch}

@@ -1,4 +1,4 @@
--- Words of laws: what a reader of the replies may know.
+-- Laws: what a reader of the replies may know.
 use Rattle.std.specs.Prelude.{◌≡◌, ◌⊎◌, ◌<◌, ◌≤◌, ⊤, ℕ, ◌+◌, List, [], ◌∷◌, ◌++◌, length, take, filter_map, Option, Some, None}
 use Rattle.std.specs.List.{Contains}
 use Rattle.explorer_model.specs.declared.archive.Batch.{Batch}

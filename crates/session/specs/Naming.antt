@@ -1,4 +1,4 @@
--- Answers with the openings that a book names.
+-- Statement: answers with the openings that a book names.
 use Rattle.std.specs.Prelude.{◌≡◌, ℕ, List, map, Some, None}
 use Rattle.std.specs.List.{last_or}
 use Rattle.explorer_model.specs.declared.answer.Found.{Found}

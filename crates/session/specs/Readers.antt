@@ -1,4 +1,4 @@
--- What a reader of connections has beside its pass.
+-- Bridge: what a reader of connections has beside its pass.
 use Rattle.std.specs.Prelude.{⊤, List, Option, None, Some}
 use Rattle.std.specs.Option.{is_some}
 use Rattle.explorer_model.specs.declared.archive.Batch.{Batch}

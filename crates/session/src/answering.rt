@@ -10,7 +10,7 @@ ghost use Rattle.session.specs.Replies.{AnswersQuery, readings_of};
 ghost use Rattle.session.specs.declared.kept_answers.Asking.TheVariants.{Games};
 
 use crate::kept_answers::{Answers, Asking};
-use answer_json::answer::{body, named_body};
+use answer_json::answer::{body, lent_body};
 use answer_json::laws::what_is_found_is_plain;
 use explorer_model::archive::Bytes;
 use explorer_model::fault::Stop;
@@ -18,7 +18,7 @@ use explorer_model::query::Query;
 use explorer_model::wire::Reply;
 use lookup::laws::found_moves_are_legal;
 use lookup::look;
-use opening_names::{Book, naming};
+use opening_names::{Book, lend_naming};
 use published_index::{EnterFault, Index, Pass, Snapshot};
 use query_params::laws::queries_play_legal_moves;
 use query_params::query;
@@ -147,7 +147,7 @@ fn body_uncounted<L: Ledger>(
     if book.is_empty() {
         return body(alloc, &found);
     }
-    let names = naming(alloc, book, query, &found)?;
-    let text = named_body(alloc, &found, &names)?;
+    let names = lend_naming(alloc, book, query, &found)?;
+    let text = lent_body(alloc, &found, names.whole, names.moves.as_slice())?;
     Ok(text)
 }

@@ -11,12 +11,12 @@ ghost use Rattle.session.specs.declared.kept_answers.Asking.TheVariants.{Player}
 
 use crate::kept_answers::{Answers, Asking};
 use answer_json::laws::what_a_player_has_is_plain;
-use answer_json::player_body;
+use answer_json::lent_player_body;
 use explorer_model::archive::Bytes;
 use explorer_model::fault::Stop;
 use explorer_model::player::PlayerQuery;
 use explorer_model::wire::Reply;
-use opening_names::{Book, player_naming};
+use opening_names::{Book, lend_player_naming};
 use player_index::{PlayerIndex, player_query};
 use player_lookup::laws::found_moves_are_legal;
 use player_lookup::player_look;
@@ -140,7 +140,7 @@ fn body_uncounted<L: Ledger>(
     found_moves_are_legal();
     let mut steps = Steps::<L>::new(blank);
     let found = player_look(alloc, players, snapshot, query, &mut steps)?;
-    let names = player_naming(alloc, book, query, &found)?;
-    let text = player_body(alloc, &found, &names)?;
+    let names = lend_player_naming(alloc, book, query, &found)?;
+    let text = lent_player_body(alloc, &found, names.whole, names.moves.as_slice())?;
     Ok(text)
 }

@@ -1,4 +1,3 @@
-use Rattle.std.proofs.Common.{◌≡◌}
 use Rattle.explorer_model.specs.Answer.{array_by}
 use Rattle.explorer_model.specs.Replies.{refusal_value, stored_body}
 use Rattle.answer_json.proofs.Writing.{stored-pieces}
