@@ -1,4 +1,4 @@
--- Which texts of a group are accepted.
+-- Statement: which texts of a group are accepted.
 use Rattle.std.specs.Prelude.{◌≤◌, ℕ, List, length, map}
 use Rattle.std.specs.List.{All}
 use Rattle.explorer_model.specs.Cuts.{text_limit}

@@ -1,4 +1,4 @@
--- The squares once a piece leaves one and arrives on another.
+-- Bridge: the squares once a piece leaves one and arrives on another.
 use Rattle.std.specs.Prelude.{ℕ, List, Option, None, slice_set}
 use Rattle.explorer_model.specs.declared.chess.Piece.{Piece}
 

@@ -1,4 +1,4 @@
--- Marks of steps, of which those with equal keys have one, and of the words of ids.
+-- Bridge: marks of steps, of which those with equal keys have one, and of the words of ids.
 use Rattle.std.specs.Prelude.{◌≡◌, ℕ, ◌*◌, ◌/◌, ◌%◌, ◌^◌, Bool, true, false, List, slice_index_or}
 use Rattle.std.specs.List.{All}
 use Rattle.batch_tally.specs.declared.step.Step.{Step}

@@ -1,4 +1,4 @@
--- Texts that are replayed.
+-- Bridge: texts that are replayed.
 use Rattle.std.specs.Prelude.{◌≡◌, ℕ, ◌+◌, ◌++◌, ◌≤◌, Result, Vec, IfOk, List, [], ◌∷◌, length}
 use Rattle.std.specs.List.{All}
 use Rattle.std.specs.declared.alloc.AllocError.{AllocError}

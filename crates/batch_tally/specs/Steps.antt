@@ -1,4 +1,4 @@
--- The steps of a game, made one after another.
+-- Bridge: the steps of a game, made one after another.
 use Rattle.std.specs.Prelude.{ℕ, ◌-◌, List, ◌++◌, take, drop}
 use Rattle.std.specs.List.{AllZip}
 use Rattle.explorer_model.specs.declared.chess.Move.{Move}

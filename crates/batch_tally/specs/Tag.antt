@@ -1,4 +1,4 @@
--- A number that a key determines, by which most steps are told apart before their keys are.
+-- Bridge: a number that a key determines, by which most steps are told apart before their keys are.
 use Rattle.std.specs.Prelude.{ℕ, ◌+◌, ◌*◌, ◌%◌, ◌^◌, List}
 use Rattle.tally_rows.specs.SortEntry.{spelled}
 

@@ -1,4 +1,4 @@
--- What tallying answers for a list of texts.
+-- Statement: what tallying answers for a list of texts.
 use Rattle.std.specs.Prelude.{◌≡◌, List, [], map, Option, Some, None}
 use Rattle.std.specs.List.{AllZip}
 use Rattle.explorer_model.specs.declared.archive.Placed.{Placed}

@@ -16,7 +16,7 @@ use crate::singles::Count;
 use side_by_side::map_taken;
 use std::alloc::{AllocError, Global};
 use std::thread::Threads;
-use tally_rows::{KeyRange, Row, Single, rows_of};
+use tally_rows::{CountedRow, KeyRange, Single, rows_of};
 
 /// The rows of games, whose numbers are their places, in parts, one after another. There are as many
 /// leaves as workers; they work side by side, and each makes the rows of a range of keys after those
@@ -26,7 +26,7 @@ pub fn row_parts<R: Threads + Sync>(
     alloc: Global,
     games: &[Accepted],
     workers: usize,
-) -> Result<Vec<Vec<Row>>, AllocError>
+) -> Result<Vec<Vec<CountedRow>>, AllocError>
     requires some_workers { 1 ≤ workers }
     requires counted { All IsCounted games.now }
     requires few { length games.now ≤ group_limit }
@@ -61,7 +61,7 @@ fn rows_of_ranges<R: Threads + Sync>(
     ranges: Vec<KeyRange>,
     workers: usize,
     singles: usize,
-) -> Result<Vec<Result<Vec<Row>, AllocError>>, AllocError>
+) -> Result<Vec<Result<Vec<CountedRow>, AllocError>>, AllocError>
     requires counted { All IsCounted games.now }
     requires few { length games.now ≤ group_limit }
     ensures count { IfOk result (λ results. length results.items ≡ length ranges.items) }
@@ -72,7 +72,7 @@ fn rows_of_ranges<R: Threads + Sync>(
 {
     let ranges = ranges.as_slice();
     let enter = |_leaf: usize| {};
-    let within = |n: usize| -> Result<Vec<Row>, AllocError>
+    let within = |n: usize| -> Result<Vec<CountedRow>, AllocError>
         requires { All IsCounted games.now × (length games.now ≤ group_limit)
             × (n < length ranges.now) }
         ensures { IfOk result (λ rows. (r : KeyRange)
@@ -89,7 +89,7 @@ fn rows_within(
     games: &[Accepted],
     range: KeyRange,
     room: usize,
-) -> Result<Vec<Row>, AllocError>
+) -> Result<Vec<CountedRow>, AllocError>
     requires counted { All IsCounted games.now }
     requires few { length games.now ≤ group_limit }
     ensures { IfOk result (λ rows. AreRowsIn games.now range rows.items) }

@@ -1,3 +1,4 @@
+//! A position and the move behind it.
 ghost use Rattle.std.specs.Prelude.{◌≡◌};
 ghost use Rattle.batch_tally.specs.Tag.{tag_after, tag_of};
 

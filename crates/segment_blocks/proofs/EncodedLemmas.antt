@@ -1,19 +1,27 @@
 -- Rows of marks, one mark at a time.
-use Rattle.std.proofs.Common.{◌≡◌, ℕ, ◌≤◌, List, [], ◌∷◌, ◌++◌, Option, Some, None, length, take, drop, cond, refl, sym, ap, subst, ◌∙◌, arith}
+use Rattle.std.proofs.Common.{◌≡◌, ℕ, ◌≤◌, false, List, [], ◌∷◌, ◌++◌, Option, Some, None, length, take, drop, cond, refl, sym, ap, subst, ◌∙◌, arith}
 use Rattle.std.specs.List.{sum_by}
 use Rattle.std.proofs.lemmas.List.{length-drop, length-take-le, take_all, take-append-le, drop-append-le}
 use Rattle.std.proofs.lemmas.List.Sums.{sum_by-cons}
 use Rattle.explorer_model.specs.declared.archive.Outcome.{Outcome}
 use Rattle.tally_rows.specs.declared.row.Row.{Row}
+use Rattle.tally_rows.specs.declared.single.Single.{Single}
 use Rattle.tally_rows.specs.Row.{row_of}
 use Rattle.segment_blocks.specs.declared.mark.Mark.{Mark}
-use Rattle.segment_blocks.specs.Encoded.{own_len, key_behind, single_of, rows_by, rows_behind, key_after, IsFilled, HasOwnKey}
+use Rattle.segment_blocks.specs.Encoded.{Encoded, own_len, kept_len, key_behind, single_of, rows_by, rows_behind, rows_of, key_after, IsFilled, HasOwnKey}
 use Rattle.std.specs.Option.{is_none}
+
+pub row_of-key : (s : Single) → (row_of s).key ≡ s.row_key.key
+unfolding row_of
+row_of-key s = refl
 
 pub rows_behind-nil : (marks : List Mark) (before tails : List ℕ) (whole : List Row) → length marks ≡ 0 → rows_behind marks before tails whole ≡ []
 unfolding rows_behind
 rows_behind-nil [] before tails whole e = refl
 rows_behind-nil (mark ∷ marks) before tails whole e = absurd (omega arith)
+
+pub rows_of-none : (encoded : Encoded) → encoded.marks ≡ [] → (first : List ℕ) → rows_of encoded first ≡ []
+rows_of-none encoded none first = rows_behind-nil encoded.marks first encoded.tails encoded.whole (ap length none)
 
 pub rows_behind-cons : (mark : Mark) (marks : List Mark) (before tails : List ℕ) (whole : List Row)
     → rows_behind (mark ∷ marks) before tails whole ≡ rows_by mark.outcome mark before tails whole (rows_behind marks)
@@ -30,7 +38,7 @@ module _ (mark : Mark) (marks rest : List Mark) (before tails : List ℕ) (whole
       ∙ ap (λ o. rows_by o mark before tails whole (rows_behind rest)) e
 
   pub rows_behind-whole : (row : Row) (others : List Row) → mark.outcome ≡ None → whole ≡ row ∷ others
-      → rows_behind marks before tails whole ≡ row ∷ rows_behind rest row.key (drop (own_len mark) tails) others
+      → rows_behind marks before tails whole ≡ row ∷ rows_behind rest row.key tails others
   unfolding rows_by
   rows_behind-whole row others e whole_is =
       ap (λ m. rows_behind m before tails whole) is ∙ rows_behind-cons mark rest before tails whole
@@ -63,12 +71,18 @@ module _ (key : List ℕ) (mark : Mark) (tails : List ℕ) where
 
 -- ---- what is filled
 
-module _ (mark : Mark) (marks : List Mark) (tails : List ℕ) (h_tails : length tails ≡ sum_by own_len (mark ∷ marks)) where
-  own-fits : own_len mark ≤ length tails
-  own-fits = omega (arith, h_tails, sum_by-cons own_len mark marks)
+pub kept-game : (mark : Mark) → is_none mark.outcome ≡ false → kept_len mark ≡ own_len mark
+kept-game mark some = ap (λ b. cond b 0 (own_len mark)) some
 
-  rest-ends : length (drop (own_len mark) tails) ≡ sum_by own_len marks
-  rest-ends = omega (arith, h_tails, sum_by-cons own_len mark marks, length-drop (own_len mark) tails)
+pub kept-whole : (mark : Mark) → mark.outcome ≡ None → kept_len mark ≡ 0
+kept-whole mark e = ap (λ o. cond (is_none o) 0 (own_len mark)) e
+
+module _ (mark : Mark) (marks : List Mark) (tails : List ℕ) (h_tails : length tails ≡ sum_by kept_len (mark ∷ marks)) (outcome : Outcome) (e : mark.outcome ≡ Some outcome) where
+  own-fits : own_len mark ≤ length tails
+  own-fits = omega (arith, h_tails, sum_by-cons kept_len mark marks, kept-game mark (ap is_none e))
+
+  rest-ends : length (drop (own_len mark) tails) ≡ sum_by kept_len marks
+  rest-ends = omega (arith, h_tails, sum_by-cons kept_len mark marks, kept-game mark (ap is_none e), length-drop (own_len mark) tails)
 
 abbrev pub none_count : Mark → ℕ
 none_count mark = cond (is_none mark.outcome) 1 0
@@ -77,13 +91,13 @@ pub IsFilled-game : (mark : Mark) (marks : List Mark) (tails : List ℕ) (whole 
     → IsFilled (mark ∷ marks) tails whole → IsFilled marks (drop (own_len mark) tails) whole
 IsFilled-game mark marks tails whole outcome e h =
     let zero_here : none_count mark ≡ 0 = ap (λ o. cond (is_none o) 1 0) e in
-    record { ends = rest-ends mark marks tails h.ends; rows = omega (arith, zero_here, h.rows, sum_by-cons none_count mark marks) }
+    record { ends = rest-ends mark marks tails h.ends outcome e; rows = omega (arith, zero_here, h.rows, sum_by-cons none_count mark marks) }
 
 pub IsFilled-whole : (mark : Mark) (marks : List Mark) (tails : List ℕ) (row : Row) (whole : List Row) → mark.outcome ≡ None
-    → IsFilled (mark ∷ marks) tails (row ∷ whole) → IsFilled marks (drop (own_len mark) tails) whole
+    → IsFilled (mark ∷ marks) tails (row ∷ whole) → IsFilled marks tails whole
 IsFilled-whole mark marks tails row whole e h =
     let one_here : none_count mark ≡ 1 = ap (λ o. cond (is_none o) 1 0) e in
-    record { ends = rest-ends mark marks tails h.ends; rows = omega (arith, one_here, h.rows, sum_by-cons none_count mark marks) }
+    record { ends = omega (arith, h.ends, sum_by-cons kept_len mark marks, kept-whole mark e); rows = omega (arith, one_here, h.rows, sum_by-cons none_count mark marks) }
 
 IsFilled-missing : {P : Type 0} (mark : Mark) (marks : List Mark) (tails : List ℕ) → mark.outcome ≡ None → IsFilled (mark ∷ marks) tails [] → P
 IsFilled-missing mark marks tails e h =
@@ -118,14 +132,14 @@ rows_behind-append (mark ∷ marks) more before tails own whole others h =
     n : ℕ
     n = own_len mark
 
-    fits : n ≤ length tails
-    fits = own-fits mark marks tails h.ends
+    fits : (outcome : Outcome) → mark.outcome ≡ Some outcome → n ≤ length tails
+    fits outcome e = own-fits mark marks tails h.ends outcome e
 
-    key_is : key_behind before mark (tails ++ own) ≡ key_behind before mark tails
-    key_is = ap (λ l. take mark.shared before ++ l) (take-append-le n tails own fits)
+    key_is : (outcome : Outcome) → mark.outcome ≡ Some outcome → key_behind before mark (tails ++ own) ≡ key_behind before mark tails
+    key_is outcome e = ap (λ l. take mark.shared before ++ l) (take-append-le n tails own (fits outcome e))
 
-    rest_is : drop n (tails ++ own) ≡ drop n tails ++ own
-    rest_is = drop-append-le n tails own fits
+    rest_is : (outcome : Outcome) → mark.outcome ≡ Some outcome → drop n (tails ++ own) ≡ drop n tails ++ own
+    rest_is outcome e = drop-append-le n tails own (fits outcome e)
 
     behind : List Row → List Row
     behind rows = rows ++ rows_behind more (key_after before rows) own others
@@ -137,15 +151,14 @@ rows_behind-append (mark ∷ marks) more before tails own whole others h =
         let row = row_of (single_of key mark outcome) in
         let rows = rows_behind marks key (drop n tails) whole in
         rows_behind-game mark (mark ∷ (marks ++ more)) (marks ++ more) before (tails ++ own) (whole ++ others) refl outcome e
-        ∙ (λ i. row_of (single_of (key_is i) mark outcome) ∷ rows_behind (marks ++ more) (key_is i) (rest_is i) (whole ++ others))
+        ∙ (λ i. row_of (single_of (key_is outcome e i) mark outcome) ∷ rows_behind (marks ++ more) (key_is outcome e i) (rest_is outcome e i) (whole ++ others))
         ∙ ap (λ l. row ∷ l) (next key (drop n tails) whole (IsFilled-game mark marks tails whole outcome e h))
         ∙ ap (λ k. row ∷ (rows ++ rows_behind more (key_after k rows) own others)) (sym (key-game key mark outcome))
         ∙ sym (ap behind (rows_behind-game mark (mark ∷ marks) marks before tails whole refl outcome e))
     by next None e [] h = IsFilled-missing mark marks tails e h
     by next None e (row ∷ whole) h =
         rows_behind-whole mark (mark ∷ (marks ++ more)) (marks ++ more) before (tails ++ own) (row ∷ (whole ++ others)) refl row (whole ++ others) e refl
-        ∙ ap (λ l. row ∷ rows_behind (marks ++ more) row.key l (whole ++ others)) rest_is
-        ∙ ap (λ l. row ∷ l) (next row.key (drop n tails) whole (IsFilled-whole mark marks tails row whole e h))
+        ∙ ap (λ l. row ∷ l) (next row.key tails whole (IsFilled-whole mark marks tails row whole e h))
         ∙ sym (ap behind (rows_behind-whole mark (mark ∷ marks) marks before tails (row ∷ whole) refl row whole e refl))
 
 pub length-rows_behind : (marks : List Mark) (before tails : List ℕ) (whole : List Row) → IsFilled marks tails whole
@@ -163,4 +176,4 @@ length-rows_behind (mark ∷ marks) before tails whole h = by (λ before tails w
     by next None e [] h = IsFilled-missing mark marks tails e h
     by next None e (row ∷ whole) h =
         ap length (rows_behind-whole mark (mark ∷ marks) marks before tails (row ∷ whole) refl row whole e refl)
-        ∙ omega (arith, next row.key (drop (own_len mark) tails) whole (IsFilled-whole mark marks tails row whole e h))
+        ∙ omega (arith, next row.key tails whole (IsFilled-whole mark marks tails row whole e h))

@@ -4,7 +4,8 @@ use Rattle.std.specs.Int.{bit_at}
 use Rattle.std.specs.Int.RustNames.{bit_xor}
 use lib.Count.{count_leading_zeros}
 use Rattle.std.proofs.Math.Nat.{pow-suc, pow-le-pow_right, add-mul, mul_assoc, div-eq_of_lt}
-use Rattle.std.proofs.lemmas.Nat.{xor_lt, xor_shr, leading_length, same_from_place, mul-add-lt, div-mul-add, pow-add}
+use lib.Bits.{xor_self}
+use Rattle.std.proofs.lemmas.Nat.{xor_lt, xor_shr, leading_length, leading_top, le-div, pow_pos, same_from_place, mul-add-lt, div-mul-add, pow-add}
 use Rattle.std.proofs.lemmas.Nat.Bits.{bit_at_xor, bit_at-zero, bit_at-lt, same_from_bits}
 use Rattle.std.proofs.lemmas.List.{take_more_same}
 use Rattle.tally_rows.specs.SortEntry.{spelled}
@@ -25,6 +26,28 @@ same-first a b m small little enough =
     let more : 2 ^ h.0 ≤ 2 ^ m = pow-le-pow_right {n = 2} (omega arith) (omega (arith, h.1, enough)) in
     let below : bit_xor a b < 2 ^ m = omega (arith, h.2, more) in
     same-all (a / 2 ^ m) (b / 2 ^ m) (sym (xor_shr a b m) ∙ div-eq_of_lt below)
+
+-- numbers that differ do so in the first bits that are not alike
+some-bit : (a b : ℕ) → (a ≡ b → ⊥) → 0 < bit_xor a b
+some-bit a b other = nonzero (bit_xor a b) (λ e. other (same-all a b e))
+  where
+    nonzero : (n : ℕ) → (n ≡ 0 → ⊥) → 0 < n
+    nonzero zero h = absurd (h refl)
+    nonzero (suc n) h = omega arith
+
+pub leading-some : (a b : ℕ) → a < 2 ^ 64 → b < 2 ^ 64 → (a ≡ b → ⊥) → count_leading_zeros 64 (bit_xor a b) < 64
+leading-some a b small little other =
+    let h = leading_top 64 (bit_xor a b) (some-bit a b other) (xor_lt 64 a b small little) in
+    omega (arith, h.1)
+
+pub other-next : (a b m : ℕ) → a < 2 ^ 64 → b < 2 ^ 64 → (a ≡ b → ⊥) → count_leading_zeros 64 (bit_xor a b) + m < 64 → a / 2 ^ m ≡ b / 2 ^ m → ⊥
+other-next a b m small little other few same =
+    let x : ℕ = bit_xor a b in
+    let h = leading_top 64 x (some-bit a b other) (xor_lt 64 a b small little) in
+    let more : 2 ^ m ≤ 2 ^ h.0 = pow-le-pow_right {n = 2} (omega arith) (omega (arith, h.1, few)) in
+    let one : 1 ≤ x / 2 ^ m = le-div 1 x (2 ^ m) (pow_pos m) (omega (arith, h.2, more)) in
+    let none : x / 2 ^ m ≡ 0 = xor_shr a b m ∙ ap (λ n. bit_xor n (b / 2 ^ m)) same ∙ xor_self (b / 2 ^ m) in
+    omega (arith, one, none)
 
 -- ---- bytes that spell one number
 
@@ -88,3 +111,14 @@ module _ (xs ys : List ℕ) (small : AreBytes xs) (little : AreBytes ys) where
     pub same-front : (s : ℕ) → s ≤ 8 → spelled xs at 8 / 2 ^ (64 - 8 * s) ≡ spelled ys at 8 / 2 ^ (64 - 8 * s) → take (at + s) xs ≡ take (at + s) ys
     same-front s within e =
         same-bytes s at (omega (arith, long, inside, within)) (omega (arith, wide, inside, within)) (sym (front xs small s at within) ∙ e ∙ front ys little s at within) same
+
+    -- where the first bytes are alike and the word's next part is not, the next byte is not
+    pub other-byte : (s : ℕ) → s < 8 → spelled xs at 8 / 2 ^ (64 - 8 * s) ≡ spelled ys at 8 / 2 ^ (64 - 8 * s)
+        → (spelled xs at 8 / 2 ^ (56 - 8 * s) ≡ spelled ys at 8 / 2 ^ (56 - 8 * s) → ⊥) → get_or xs (at + s) 0 ≡ get_or ys (at + s) 0 → ⊥
+    other-byte s within e other byte =
+        let first : spelled xs at s ≡ spelled ys at s = sym (front xs small s at (omega (arith, within))) ∙ e ∙ front ys little s at (omega (arith, within)) in
+        let more : spelled xs at (s + 1) ≡ spelled ys at (s + 1) =
+        parts xs small s 1 at ∙ (λ i. first i * 256 ^ 1 + (byte i * 256 ^ 0 + 0)) ∙ sym (parts ys little s 1 at) in
+        let bits : 56 - 8 * s ≡ 64 - 8 * (s + 1) = omega (arith, within) in
+        other (ap (λ m. spelled xs at 8 / 2 ^ m) bits ∙ front xs small (s + 1) at (omega (arith, within)) ∙ more
+        ∙ sym (front ys little (s + 1) at (omega (arith, within))) ∙ sym (ap (λ m. spelled ys at 8 / 2 ^ m) bits))

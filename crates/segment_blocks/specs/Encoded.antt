@@ -1,5 +1,5 @@
--- Rows as marks, the ends of keys, and whole rows.
-use Rattle.std.specs.Prelude.{◌≡◌, ℕ, ◌-◌, List, [], ◌∷◌, ◌++◌, length, take, drop, Option, Some, None, is_none}
+-- Bridge: rows as marks, the ends of keys, and whole rows.
+use Rattle.std.specs.Prelude.{◌≡◌, ℕ, ◌-◌, List, [], ◌∷◌, ◌++◌, length, take, drop, Option, Some, None, is_none, if◌then◌else◌}
 use Rattle.std.specs.List.{sum_by, count_by}
 use Rattle.explorer_model.specs.declared.archive.Outcome.{Outcome}
 use Rattle.tally_rows.specs.declared.row.Row.{Row}
@@ -7,15 +7,20 @@ use Rattle.tally_rows.specs.declared.row_key.RowKey.{RowKey}
 use Rattle.tally_rows.specs.declared.single.Single.{Single}
 use Rattle.tally_rows.specs.Row.{row_of}
 use Rattle.segment_blocks.specs.declared.mark.Mark.{Mark}
+use Rattle.segment_blocks.specs.Prefix.{common_len}
 
 pub record Encoded : Type 0 where
   pub marks : List Mark
   pub tails : List ℕ
   pub whole : List Row
 
--- how many bytes of its key a mark has of its own
+-- how many bytes a mark's key has behind those of the key before it
 abbrev pub own_len : Mark → ℕ
 own_len mark = 34 - mark.shared
+
+-- how many of them are kept among the ends: a whole row has its key by itself
+abbrev pub kept_len : Mark → ℕ
+kept_len mark = if is_none mark.outcome then 0 else own_len mark
 
 -- a key that has the first bytes of the key before it, and then bytes of its own
 abbrev pub key_behind : List ℕ → Mark → List ℕ → List ℕ
@@ -48,7 +53,7 @@ rows_by (Some outcome) mark before tails whole rest =
     row_of (single_of key mark outcome) ∷ rest key (drop (own_len mark) tails) whole
 rows_by None mark before tails [] rest = []
 rows_by None mark before tails (row ∷ whole) rest =
-    row ∷ rest row.key (drop (own_len mark) tails) whole
+    row ∷ rest row.key tails whole
 
 -- the rows of marks behind a key: a mark with an outcome is a row of one game, another the next
 -- whole row
@@ -63,7 +68,7 @@ rows_of encoded before = rows_behind encoded.marks before encoded.tails encoded.
 
 -- the ends and the whole rows are those of the marks
 pub record IsFilled (marks : List Mark) (tails : List ℕ) (whole : List Row) : Type 0 where
-  pub ends : length tails ≡ sum_by own_len marks
+  pub ends : length tails ≡ sum_by kept_len marks
   pub rows : length whole ≡ count_by (λ mark. is_none mark.outcome) marks
 
 -- the key before the first mark is the key of its row already
@@ -90,8 +95,16 @@ pub record IsMarkOf (row : Row) (shared : ℕ) (mark : Mark) : Type 0 where
   pub told : mark.outcome ≡ Some outcome
   pub is : row_of (single_of row.key mark outcome) ≡ row
 
--- the new rows are the old ones and a row more, wherever the last of the old ones has this key
-abbrev pub IsAppended : List ℕ → Row → Encoded → Encoded → Type 0
-IsAppended before row old new =
-    (first : List ℕ) → key_after first (rows_of old first) ≡ before
-    → rows_of new first ≡ rows_of old first ++ row ∷ []
+-- the row is of the game of a mark, with this number
+abbrev pub IsRenumbered : List ℕ → Mark → Outcome → ℕ → Row → Type 0
+IsRenumbered key mark outcome number row =
+    row_of (record (single_of key mark outcome) { number = number }) ≡ row
+
+-- The new rows are the old ones and a row more, wherever the last of the old ones has this key. Its
+-- mark tells how many bytes its key has in common with that one.
+pub record IsAppended (before : List ℕ) (row : Row) (old new : Encoded) : Type 0 where
+  pub rows : (first : List ℕ) → key_after first (rows_of old first) ≡ before
+      → rows_of new first ≡ rows_of old first ++ row ∷ []
+  pub mark : Mark
+  pub marks : new.marks ≡ old.marks ++ mark ∷ []
+  pub shared : mark.shared ≡ common_len before row.key

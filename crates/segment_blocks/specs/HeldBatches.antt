@@ -1,4 +1,4 @@
--- The batches of a segment, as it holds them.
+-- Bridge: the batches of a segment, as it holds them.
 use Rattle.std.specs.Prelude.{◌≡◌, ⊤, ℕ, ◌+◌, ◌<◌, List, [], ◌∷◌, map, length, slice_get}
 use Rattle.std.specs.Arc.{arc_value}
 use Rattle.std.specs.List.{flat_map}

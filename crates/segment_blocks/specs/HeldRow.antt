@@ -1,4 +1,4 @@
--- The row that a block holds.
+-- Bridge: the row that a block holds.
 use Rattle.tally_rows.specs.declared.row.Row.{Row}
 use Rattle.tally_rows.specs.Row.{row_of}
 use Rattle.segment_blocks.specs.declared.held_row.HeldRow.{HeldRow}

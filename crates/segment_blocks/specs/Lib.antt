@@ -1,3 +1,4 @@
+pub mod Prefix
 pub mod Encoded
 pub mod Place
 pub mod HeldRow
@@ -7,3 +8,5 @@ pub mod PackedRows
 pub mod Segment
 pub mod HeldBatches
 pub mod Moving
+pub mod Kept
+pub mod Both

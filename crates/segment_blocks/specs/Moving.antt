@@ -1,70 +1,57 @@
--- Rows moved from a walk behind others.
-use Rattle.std.specs.Prelude.{◌≡◌, ⊤, ℕ, Bool, true, false, Option, None, Some, Result, Ok, Err, List, [], ◌∷◌, ◌++◌, map}
-use Rattle.std.specs.List.{AllByRecursion}
-use Rattle.std.specs.Ordering.{is_lt}
-use Rattle.std.specs.declared.alloc.AllocError.{AllocError}
+-- Bridge: the next row of a place, as it moves behind others.
+use Rattle.std.specs.Prelude.{◌≡◌, ⊤, ℕ, ◌+◌, ◌<◌, ◌^◌, IsTrue, false, Option, None, Some, List, [], ◌∷◌}
+use Rattle.std.specs.Cmp.Lexicographic.{slice_cmp}
+use Rattle.std.specs.Ordering.{nat_cmp, is_gt}
+use Rattle.explorer_model.specs.declared.archive.Outcome.{Outcome}
 use Rattle.tally_rows.specs.declared.row.Row.{Row}
 use Rattle.tally_rows.specs.declared.row_key.RowKey.{RowKey}
-use Rattle.tally_rows.specs.RowKey.{row_order}
 use Rattle.tally_rows.specs.Row.{row_key_of, shifted_row}
-use Rattle.segment_blocks.specs.declared.bound.Bound.{Bound}
-use Rattle.segment_blocks.specs.declared.bound.Bound.TheVariants as bounds
+use Rattle.segment_blocks.specs.declared.block_cursor.Place.{Place}
+use Rattle.segment_blocks.specs.declared.lane.Lane.{Lane}
+use Rattle.segment_blocks.specs.declared.mark.Mark.{Mark}
+use Rattle.segment_blocks.specs.declared.until.Until.{Until}
+use Rattle.segment_blocks.specs.declared.until.Until.TheVariants.{End, Key, Below, Done}
 use Rattle.segment_blocks.specs.Encoded.{Encoded, IsAppended}
-use Rattle.segment_blocks.specs.Walk.{is_below}
+use Rattle.segment_blocks.specs.Prefix.{common_len}
 
 -- what the games of the first row have in common
 abbrev pub next_row_key : List Row → Option RowKey
 next_row_key [] = None
 next_row_key (row ∷ rows) = Some (row_key_of row)
 
-abbrev pub key_of_bound : Bound → List ℕ
-key_of_bound (bounds.Row row_key) = row_key.now.key
-key_of_bound (bounds.Key key) = key.now
+-- the next row is of one game, the place has its key, and its number can be greater by so much
+pub record IsReady (by : ℕ) (place : Place) : Type 0 where
+  pub own : IsTrue place.is_own
+  pub mark : Mark
+  pub marks : List Mark
+  pub is : place.marks.now ≡ mark ∷ marks
+  pub outcome : Outcome
+  pub told : mark.outcome ≡ Some outcome
+  pub room : mark.number + by < 2 ^ 32
 
--- the row stands before the bound
-abbrev pub is_before : Bound → Row → Bool
-is_before (bounds.Row row_key) row = is_lt (row_order (row_key_of row) row_key.now)
-is_before (bounds.Key key) row = is_below key.now row
+-- so many bytes a key has in common with the last one, before which it does not stand
+pub record IsMet (last key : List ℕ) (shared : ℕ) : Type 0 where
+  pub is : shared ≡ common_len last key
+  pub not_before : is_gt (slice_cmp nat_cmp last key) ≡ false
 
-abbrev pub AreBefore : Bound → List Row → Type 0
-AreBefore bound rows = AllByRecursion (λ row. is_before bound row ≡ true) rows
+-- the next row can move so behind the last one
+pub record IsLane (last : List ℕ) (lane : Lane) (place : Place) : Type 0 where
+  pub ready : IsReady lane.by place
+  pub met : IsMet last place.before lane.shared
 
--- The first rows of a walk, all before a bound, now stand behind others, with greater numbers; the
--- rest of the walk is left.
-pub record HaveMoved (by : ℕ) (bound : Bound) (walk rest rows new : List Row) : Type 0 where
-  pub moved : List Row
-  pub parts : walk ≡ moved ++ rest
-  pub behind : new ≡ rows ++ map (shifted_row by) moved
-  pub before : AreBefore bound moved
+-- a walk that ends there goes over each row, not before the last one, whose key has so many bytes
+-- in common with the last one
+abbrev pub IsLeast : Until → List ℕ → ℕ → Type 0
+IsLeast End last least = ⊤
+IsLeast (Below key) last least =
+    (common_len last key < least) × (is_gt (slice_cmp nat_cmp last key) ≡ false)
+IsLeast (Key key) last least = ⊥
+IsLeast Done last least = ⊥
 
--- what a call that moves rows says of it: that it has moved some, or none; after a refusal nothing
-abbrev pub Says : Bool → Type 0 → Type 0 → Type 0
-Says true some none = some
-Says false some none = none
-
-abbrev pub Tells : Result Bool AllocError → Type 0 → Type 0 → Type 0
-Tells (Ok said) some none = Says said some none
-Tells (Err e) some none = ⊤
-
--- ---- one row
-
--- what holds where a call has moved a row, and where it has not
-abbrev pub IfMoved : Result Bool AllocError → Type 0 → Type 0 → Type 0
-IfMoved (Ok said) moved unmoved = Says said moved unmoved
-IfMoved (Err e) moved unmoved = unmoved
-
--- the first row of a walk, which is before a bound, now stands behind others
-pub record HasMoved (by : ℕ) (bound : Bound) (walk rest rows new : List Row) : Type 0 where
-  pub row : Row
-  pub first : walk ≡ row ∷ rest
-  pub behind : new ≡ rows ++ shifted_row by row ∷ []
-  pub before : is_before bound row ≡ true
-
--- the same of rows that end at a key
-pub record HasMovedBehind (by : ℕ) (bound : Bound) (walk rest : List Row) (last new_last : List ℕ)
+-- the first row of a walk now stands behind others that end at a key, with a greater number
+pub record HasMovedBehind (by : ℕ) (walk rest : List Row) (last new_last : List ℕ)
     (rows new : Encoded) : Type 0 where
   pub row : Row
   pub first : walk ≡ row ∷ rest
   pub appended : IsAppended last (shifted_row by row) rows new
   pub ends : new_last ≡ row.key
-  pub before : is_before bound row ≡ true

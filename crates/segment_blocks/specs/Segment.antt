@@ -1,4 +1,4 @@
--- A span of a journal with what its tags say and the rows that count its games.
+-- Statement: a span of a journal with what its tags say and the rows that count its games.
 use Rattle.std.specs.Prelude.{◌≡◌, ℕ, ◌+◌, ◌<◌, ◌≤◌, ◌^◌, List, ◌++◌, length}
 use Rattle.std.specs.List.{All}
 use Rattle.explorer_model.specs.declared.archive.Classes.{Classes}

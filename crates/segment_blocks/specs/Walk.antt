@@ -1,4 +1,4 @@
--- Walks over rows: from a key on, and to the last row of a key.
+-- Bridge: walks over rows: from a key on, and to the last row of a key.
 use Rattle.std.specs.Prelude.{ℕ, Bool, true, not, ◌&&◌, if◌then◌else◌, List, [], ◌∷◌, Option, Some, None, bytes_eq}
 use Rattle.std.specs.List.{flat_map}
 use Rattle.std.specs.Ordering.{nat_cmp, is_lt}

@@ -3,16 +3,19 @@ ghost use Rattle.std.specs.Prelude.{◌≡◌, ℕ, List, ◌+◌, ◌<◌, ◌�
 ghost use Rattle.segment_blocks.specs.Block.{block_limit};
 ghost use Rattle.segment_blocks.specs.Encoded.{key_first};
 ghost use Rattle.segment_blocks.specs.HeldRow.{row_in};
-ghost use Rattle.segment_blocks.specs.Moving.{HaveMoved, Tells};
+ghost use Rattle.segment_blocks.specs.Both.{MoveBoth};
+ghost use Rattle.tally_rows.specs.Row.{row_of};
 
 use crate::block_cursor::BlockCursor;
-use crate::bound::Bound;
+use crate::both::move_first;
 use crate::encoded_rows::EncodedRows;
 use crate::held_row::HeldRow;
+use crate::lane::{Terms, lanes_of};
 use crate::steps::Steps;
 use std::alloc::{AllocError, Global};
 use std::marker::Model;
 use std::sync::ledger::Ledger;
+use tally_rows::{Row, Single};
 
 /// The most rows of a block.
 pub const BLOCK_LIMIT: usize = 128;
@@ -38,7 +41,7 @@ impl Model for Block {
 
     ghost view = { λ b. rows_of b.rows b.first };
 
-    ghost invariant = { λ b. IsBlock b.first b.last (rows_of b.rows b.first) };
+    ghost invariant = { λ b. IsBlock b.first b.last b.rows };
 }
 
 impl Block {
@@ -72,6 +75,17 @@ impl Block {
         &self.first
     }
 
+    /// Puts the row of one game behind the others. After a refusal the block is as before.
+    pub fn push_one(&mut self, game: &Single) -> Result<(), AllocError>
+        requires { length self.old < block_limit }
+        ensures ok { OnOk result (self.new ≡ self.old ++ row_of game.now ∷ []) }
+        ensures err { OnErr result (self.new ≡ self.old) }
+    {
+        self.rows.push_one(&self.last, game)?;
+        self.last = game.row_key.key;
+        Ok(())
+    }
+
     /// Puts a row behind the others. After a refusal the block is as before.
     pub fn push(&mut self, held: &HeldRow<'_>) -> Result<(), AllocError>
         requires { length self.old < block_limit }
@@ -83,32 +97,66 @@ impl Block {
         Ok(())
     }
 
-    /// Moves rows of one game from a place behind the others, with numbers that are greater by `by`,
-    /// as long as they stand before the bound. It may stop early. Says whether it has moved any. Each
-    /// row moved is a step.
-    pub fn take_games<L: Ledger>(
+    /// Puts a row that stands whole behind the others. After a refusal the block is as before.
+    pub fn push_whole(&mut self, row: Row) -> Result<(), AllocError>
+        requires { length self.old < block_limit }
+        ensures ok { OnOk result (self.new ≡ self.old ++ row ∷ []) }
+        ensures err { OnErr result (self.new ≡ self.old) }
+    {
+        let key = row.key;
+        self.rows.push_whole(&self.last, row)?;
+        self.last = key;
+        Ok(())
+    }
+
+    /// Moves rows of one game from two places behind the others, the lesser of both next rows
+    /// first, so as the terms of their walks say. It may stop early. Each row moved is a step, also
+    /// where memory is then refused.
+    pub fn take_both<L: Ledger>(
         &mut self,
-        from: &mut BlockCursor<'_>,
-        by: u32,
-        bound: &Bound<'_>,
+        left: &mut BlockCursor<'_>,
+        right: &mut BlockCursor<'_>,
+        terms: (Terms<'_>, Terms<'_>),
         steps: &mut Steps<L>,
-    ) -> Result<bool, AllocError>
-        ensures moved { HaveMoved by bound.now from.old from.new self.old self.new }
+    ) -> Result<(), AllocError>
+        ensures moved { MoveBoth terms.entry.0.until.now terms.entry.1.until.now
+            terms.entry.0.by terms.entry.1.by left.old left.new right.old right.new self.old self.new }
         ensures few { length self.new ≤ block_limit }
-        ensures told { Tells result (length from.new < length from.old)
-            ((from.new ≡ from.old) × (self.new ≡ self.old)) }
         ensures cost { steps.new + length self.old ≡ steps.old + length self.new }
     {
-        let mut some = false;
-        while self.rows.len() < BLOCK_LIMIT
-            && from
-                .place
-                .move_game(&mut self.rows, &mut self.last, by, bound, some)?
-        {
-            some = true;
-            steps.add(1);
+        let count = self.len();
+        let result = self.move_both(left, right, terms);
+        steps.add((self.len() - count) as u64);
+        result
+    }
+
+    /// The same, without steps.
+    fn move_both(
+        &mut self,
+        left: &mut BlockCursor<'_>,
+        right: &mut BlockCursor<'_>,
+        terms: (Terms<'_>, Terms<'_>),
+    ) -> Result<(), AllocError>
+        ensures { MoveBoth terms.entry.0.until.now terms.entry.1.until.now
+            terms.entry.0.by terms.entry.1.by left.old left.new right.old right.new self.old self.new }
+    {
+        let lanes = lanes_of(&self.last, &mut left.place, &mut right.place, terms);
+        let Some(mut lanes) = lanes else {
+            return Ok(());
+        };
+        for _row in self.rows.len()..BLOCK_LIMIT {
+            let on = move_first(
+                &mut left.place,
+                &mut right.place,
+                &mut lanes,
+                &mut self.rows,
+                &mut self.last,
+            )?;
+            if !on {
+                return Ok(());
+            }
         }
-        Ok(some)
+        Ok(())
     }
 
     /// A block with the first row behind this one, in the room that this one had, which then takes

@@ -1,21 +1,19 @@
 //! A place in a block.
-ghost use Rattle.std.specs.Prelude.{◌≡◌, ◌≤◌, ⊤, ℕ, List, [], ◌∷◌, ◌++◌, take, drop, length, IsTrue, MatchOption};
-ghost use Rattle.explorer_model.specs.declared.archive.Outcome.{Outcome};
+ghost use Rattle.std.specs.Prelude.{◌≡◌, ◌≤◌, ℕ, List, [], ◌∷◌, length, IsTrue, MatchOption, OnOk, OnErr};
 ghost use Rattle.segment_blocks.specs.Encoded.{own_len, key_behind, row_key_at, single_of};
 ghost use Rattle.segment_blocks.specs.HeldRow.{row_in};
-ghost use Rattle.segment_blocks.specs.Place.{rows_left, IsPlace};
-ghost use Rattle.tally_rows.specs.Row.{row_of};
-ghost use Rattle.segment_blocks.specs.Moving.{next_row_key, is_before, IfMoved, HasMovedBehind};
+ghost use Rattle.segment_blocks.specs.Prefix.{common_len};
+ghost use Rattle.segment_blocks.specs.Place.{rows_left, IsPlace, IsBehind};
+ghost use Rattle.segment_blocks.specs.Moving.{next_row_key, HasMovedBehind, IsLane, IsReady};
 
-use crate::bound::Bound;
-use crate::encoded_rows::{EncodedRows, shared_len};
+use crate::encoded_rows::EncodedRows;
 use crate::held_row::HeldRow;
-use crate::key_order::order_of_keys;
+use crate::key_order::order_behind;
 use crate::key_room::KeyRoom;
+use crate::lane::Lane;
 use crate::mark::Mark;
 use explorer_model::archive::Outcome;
 use std::alloc::AllocError;
-use std::cmp::Ordering;
 use std::marker::Model;
 use tally_rows::{Row, RowKey, Single};
 
@@ -43,7 +41,7 @@ impl<'a> Model for BlockCursor<'a> {
 
     ghost Value = { List Row };
 
-    ghost use Rattle.segment_blocks.specs.Place.{rows_left, IsPlace};
+    ghost use Rattle.segment_blocks.specs.Place.{rows_left, IsPlace, IsBehind};
 
     ghost view = { λ c. rows_left c.place };
 
@@ -66,15 +64,23 @@ impl<'a> BlockCursor<'a> {
         }
     }
 
+    /// Whether it is known that no row is left.
+    #[inline(always)]
+    pub fn is_empty(&self) -> bool
+        ensures { IsTrue result → self.now ≡ [] }
+    {
+        self.place.marks.is_empty()
+    }
+
     /// The next row, or None at the end.
     pub fn next(&mut self) -> Option<HeldRow<'a>>
         ensures { MatchOption result ((self.old ≡ []) × (self.new ≡ []))
             (λ held. self.old ≡ row_in held ∷ self.new) }
     {
         let (mark, marks) = self.place.marks.split_first()?;
-        let (all, is_own) = (self.place.tails, self.place.is_own);
-        let (_own, tails) = all.split_at(34 - usize::from(mark.shared));
         if let Some(outcome) = mark.outcome {
+            let (all, is_own) = (self.place.tails, self.place.is_own);
+            let (_own, tails) = all.split_at(34 - usize::from(mark.shared));
             complete(&mut self.place.before, is_own, mark, all);
             self.place.is_own = false;
             self.place.marks = marks;
@@ -85,7 +91,6 @@ impl<'a> BlockCursor<'a> {
             self.place.before = KeyRoom::of(&row.key);
             self.place.is_own = false;
             self.place.marks = marks;
-            self.place.tails = tails;
             self.place.whole = whole;
             Some(HeldRow::Whole(row))
         }
@@ -110,68 +115,88 @@ impl<'a> BlockCursor<'a> {
 }
 
 impl<'a> Place<'a> {
-    /// Moves the next row behind others, the last of which has the key `last`, with a number that is
-    /// greater by `by`, if it is the row of one game, its number has room and it stands before the
-    /// bound. Says whether it did. Where it is known that the last key is the one before the place,
-    /// as behind a row that has just moved, the two are not compared.
-    pub fn move_game(
-        &mut self,
-        rows: &mut EncodedRows,
-        last: &mut [u8; 34],
-        by: u32,
-        bound: &Bound<'_>,
-        known: bool,
-    ) -> Result<bool, AllocError>
-        requires filled { IsPlace self.old }
-        requires known { IsTrue known → last.old ≡ self.old.before }
+    /// Makes the key of the next row, if that is the row of one game and its number can be greater
+    /// by `by`. Says whether it is.
+    #[inline(always)]
+    pub fn make_ready(&mut self, by: u32) -> bool
+        requires { IsPlace self.old }
         ensures filled { IsPlace self.new }
-        ensures moved { IfMoved result
-            (HasMovedBehind by bound.now (rows_left self.old) (rows_left self.new) last.old last.new
-            rows.old rows.new)
-            ((rows_left self.new ≡ rows_left self.old) × (last.new ≡ last.old)
-            × (rows.new ≡ rows.old)) }
-        ensures behind { IfMoved result (last.new ≡ self.new.before) ⊤ }
+        ensures marks { self.new.marks ≡ self.old.marks }
+        ensures rows { rows_left self.new ≡ rows_left self.old }
+        ensures ready { IsTrue result → IsReady by self.new }
     {
-        let Some((mark, marks)) = self.marks.split_first() else {
-            return Ok(false);
+        let Some((mark, _marks)) = self.marks.split_first() else {
+            return false;
         };
         let Some(_outcome) = mark.outcome else {
-            return Ok(false);
+            return false;
         };
-        let Some(number) = mark.number.checked_add(by) else {
-            return Ok(false);
+        let Some(_number) = mark.number.checked_add(by) else {
+            return false;
         };
-        let (_own, tails) = self.tails.split_at(34 - usize::from(mark.shared));
-        let follows = is_last(last, self.before.key(), self.is_own, known);
+        // How long a key is, the key before tells.
+        let _before = self.before.key();
         complete(&mut self.before, self.is_own, mark, self.tails);
         self.is_own = true;
-        if !stands_before(bound, self.before.key(), mark) {
-            return Ok(false);
-        }
-        let shared = shared_with(last, self.before.key(), follows, mark.shared);
-        rows.push_game(renumbered(mark, number, shared), &self.before)?;
+        true
+    }
+
+    /// Moves the next row behind others, the last of which has the key `last`, so as its lane says.
+    /// After a refusal nothing has moved.
+    #[inline(always)]
+    pub fn push_own(
+        &mut self,
+        lane: Lane,
+        rows: &mut EncodedRows,
+        last: &mut [u8; 34],
+    ) -> Result<(), AllocError>
+        requires filled { IsPlace self.old }
+        requires ready { IsReady lane.by self.old }
+        requires shared { lane.shared ≡ common_len last.old self.old.before }
+        ensures filled { IsPlace self.new }
+        ensures ok { OnOk result (HasMovedBehind lane.by (rows_left self.old) (rows_left self.new)
+            last.old last.new rows.old rows.new) }
+        ensures key { OnOk result (last.new ≡ self.old.before) }
+        ensures behind { OnOk result (IsBehind last.new self.new) }
+        ensures err { OnErr result ((rows_left self.new ≡ rows_left self.old)
+            × (last.new ≡ last.old) × (rows.new ≡ rows.old)) }
+    {
+        let Some((mark, marks)) = self.marks.split_first() else {
+            return Ok(());
+        };
+        let (_own, tails) = self.tails.split_at(34 - usize::from(mark.shared));
+        // How long a key is, the key before tells.
+        let _before = self.before.key();
+        rows.push_game(mark, mark.number + lane.by, lane.shared, &self.before)?;
         *last = *self.before.key();
         self.is_own = false;
         self.marks = marks;
         self.tails = tails;
-        Ok(true)
+        Ok(())
     }
-}
 
-/// Whether the row of a mark, which has the key, stands before the bound. Most keys tell it alone.
-fn stands_before(bound: &Bound<'_>, key: &[u8; 34], mark: &Mark) -> bool
-    ensures { (outcome : Outcome)
-        → result ≡ is_before bound.now (row_of (single_of key.now mark.now outcome)) }
-{
-    match order_of_keys(key, bound.key()) {
-        Ordering::Less => true,
-        Ordering::Equal => bound.is_behind(&row_key_at(*key, mark)),
-        Ordering::Greater => false,
+    /// Makes ready the next row, which stands behind the last one, whose key is `last`, and puts
+    /// into its lane how many bytes both keys have in common. Says whether it can move.
+    #[inline(always)]
+    pub fn follow(&mut self, lane: &mut Lane, last: &[u8; 34]) -> bool
+        requires filled { IsPlace self.old }
+        requires behind { IsBehind last.now self.old }
+        ensures filled { IsPlace self.new }
+        ensures rows { rows_left self.new ≡ rows_left self.old }
+        ensures by { lane.new.by ≡ lane.old.by }
+        ensures lane { IsTrue result → IsLane last.now lane.new self.new }
+    {
+        if !self.make_ready(lane.by) {
+            return false;
+        }
+        let shared = self.marks[0].shared;
+        lane.shared = shared;
+        !order_behind(last, self.before.key(), shared).is_gt()
     }
 }
 
 /// What the games of a mark have in common, in the position of a key.
-fn row_key_at(key: [u8; 34], mark: &Mark) -> RowKey
+pub fn row_key_at(key: [u8; 34], mark: &Mark) -> RowKey
     ensures { result ≡ row_key_at key mark.now }
 {
     RowKey {
@@ -180,51 +205,6 @@ fn row_key_at(key: [u8; 34], mark: &Mark) -> RowKey
         month: mark.month,
         speed: mark.speed,
         group: mark.group,
-    }
-}
-
-/// The mark of the same game with another number, behind a key that has more or fewer bytes in common
-/// with its own.
-fn renumbered(mark: &Mark, number: u32, shared: u8) -> Mark
-    requires { shared ≤ 34 }
-    ensures outcome { result.outcome ≡ mark.now.outcome }
-    ensures shared { result.shared ≡ shared }
-    ensures single { (key : List ℕ) (outcome : Outcome) → single_of key result outcome
-        ≡ record (single_of key mark.now outcome) { number = number } }
-{
-    let mut moved = *mark;
-    moved.number = number;
-    moved.shared = shared;
-    moved
-}
-
-/// Whether the key before a place is the last one, where it is not yet known. One that is the next
-/// row's own is not tried.
-fn is_last(last: &[u8; 34], before: &[u8; 34], is_own: bool, known: bool) -> bool
-    requires { IsTrue known → last.now ≡ before.now }
-    ensures { IsTrue result → last.now ≡ before.now }
-{
-    if known {
-        return true;
-    }
-    if is_own {
-        return false;
-    }
-    order_of_keys(last, before).is_eq()
-}
-
-/// How many bytes the key has in common with the last one: so many, if it follows it.
-fn shared_with(last: &[u8; 34], key: &[u8; 34], follows: bool, shared: u8) -> u8
-    requires within { shared ≤ 34 }
-    requires same { IsTrue follows → take shared last.now ≡ take shared key.now }
-    ensures within { result ≤ 34 }
-    ensures same { take result last.now ≡ take result key.now }
-    ensures long { length key.now ≡ 34 }
-{
-    if follows {
-        shared
-    } else {
-        shared_len(last, key)
     }
 }
 

@@ -1,7 +1,10 @@
 //! Rows in few bytes.
-ghost use Rattle.std.specs.Prelude.{◌≡◌, ◌≤◌, ◌-◌, ◌*◌, ◌/◌, ◌^◌, [], ℕ, List, false, is_none, IfOk, IfSome, OnOk, OnErr, length, take};
-ghost use Rattle.segment_blocks.specs.Encoded.{IsMarkOf, IsAppended, rows_of};
+ghost use Rattle.std.specs.Prelude.{◌≡◌, ◌≢◌, ◌≤◌, ◌<◌, ◌-◌, ◌*◌, ◌/◌, ◌^◌, [], ℕ, List, false, is_none, Some, IfOk, IfSome, OnOk, OnErr, length, take};
+ghost use Rattle.explorer_model.specs.declared.archive.Outcome.{Outcome};
+ghost use Rattle.segment_blocks.specs.Encoded.{IsMarkOf, IsAppended, IsRenumbered, rows_of, single_of};
+ghost use Rattle.segment_blocks.specs.Prefix.{common_len, TellShared};
 ghost use Rattle.tally_rows.specs.declared.row.Row.{Row};
+ghost use Rattle.tally_rows.specs.Row.{row_of};
 ghost use Rattle.segment_blocks.specs.HeldRow.{row_in};
 
 use crate::block_cursor::{BlockCursor, Place};
@@ -12,7 +15,7 @@ use explorer_model::archive::{Group, Month, Speed};
 use std::alloc::{AllocError, Global};
 use std::marker::Model;
 use std::mem::replace;
-use tally_rows::{Row, word_at};
+use tally_rows::{Row, Single, word_at};
 
 /// How many marks a block has at most.
 const MARKS: usize = 128;
@@ -20,8 +23,8 @@ const MARKS: usize = 128;
 /// How many bytes of keys most blocks have at most.
 const TAILS: usize = 2048;
 
-/// Rows that stand one after another. A row of one game is a mark and those bytes of its key in
-/// which it differs from the key before it, from the first on. Each other row stands whole.
+/// Rows that stand one after another. A row of one game is a mark and the end of its key, from the
+/// first byte on in which it differs from the key before it. Each other row stands whole.
 #[derive(Drop)]
 pub struct EncodedRows {
     marks: Vec<Mark>,
@@ -46,7 +49,7 @@ impl Model for EncodedRows {
 impl EncodedRows {
     /// No row, with room for those of a block.
     pub fn new(alloc: Global) -> Result<EncodedRows, AllocError>
-        ensures { IfOk result (λ rows. (first : List ℕ) → rows_of rows first ≡ []) }
+        ensures { IfOk result (λ rows. rows.marks ≡ []) }
     {
         let marks = Vec::with_capacity(alloc, MARKS)?;
         let tails = Vec::with_capacity(alloc, TAILS)?;
@@ -64,6 +67,23 @@ impl EncodedRows {
         self.marks.len()
     }
 
+    /// Puts the row of one game behind the others, the last of which has the key `before`. After a
+    /// refusal they are as before.
+    pub fn push_one(&mut self, before: &[u8; 34], game: &Single) -> Result<(), AllocError>
+        ensures ok { OnOk result (IsAppended before.now (row_of game.now) self.old self.new) }
+        ensures err { OnErr result (self.new ≡ self.old) }
+    {
+        let key = &game.row_key.key;
+        let shared = shared_len(before, key, 0);
+        let Some(mark) = mark_of_game(game, shared) else {
+            return self.push(before, &HeldRow::Game(*game));
+        };
+        self.marks.reserve(1)?;
+        self.tails.extend_from_slice(&key[usize::from(shared)..])?;
+        self.marks.push_reserved(mark);
+        Ok(())
+    }
+
     /// Puts a row behind the others, the last of which has the key `before`. After a refusal they
     /// are as before.
     pub fn push(&mut self, before: &[u8; 34], held: &HeldRow<'_>) -> Result<(), AllocError>
@@ -72,33 +92,59 @@ impl EncodedRows {
     {
         self.marks.reserve(1)?;
         let key = held.key();
-        let shared = shared_len(before, key);
+        let shared = shared_len(before, key, 0);
         if let Some(mark) = mark_of(held, shared) {
             self.tails.extend_from_slice(&key[usize::from(shared)..])?;
             self.marks.push_reserved(mark);
         } else {
             self.whole.push(held.to_row())?;
-            self.marks.push_reserved(whole_mark());
+            self.marks.push_reserved(whole_mark(shared));
         }
         Ok(())
     }
 
-    /// Puts a row of one game behind the others, by its mark and its key. After a refusal they are as
-    /// before.
-    pub fn push_game(&mut self, mark: Mark, key: &KeyRoom) -> Result<(), AllocError>
-        requires { is_none mark.outcome ≡ false }
-        ensures ok { OnOk result ((before : List ℕ) (row : Row) → row.key ≡ key.now
-            → take mark.shared before ≡ take mark.shared key.now → IsMarkOf row mark.shared mark
+    /// Puts a row that stands whole behind the others, the last of which has the key `before`. After
+    /// a refusal they are as before.
+    pub fn push_whole(&mut self, before: &[u8; 34], row: Row) -> Result<(), AllocError>
+        ensures ok { OnOk result (IsAppended before.now row self.old self.new) }
+        ensures err { OnErr result (self.new ≡ self.old) }
+    {
+        self.marks.reserve(1)?;
+        let shared = shared_len(before, &row.key, 0);
+        self.whole.push(row)?;
+        self.marks.push_reserved(whole_mark(shared));
+        Ok(())
+    }
+
+    /// Puts a row of one game behind the others, by the mark of the same game with another number,
+    /// and by its key, which has so many bytes in common with the last one. After a refusal they
+    /// are as before.
+    #[inline(always)]
+    pub fn push_game(
+        &mut self,
+        mark: &Mark,
+        number: u32,
+        shared: u8,
+        key: &KeyRoom,
+    ) -> Result<(), AllocError>
+        requires game { is_none mark.now.outcome ≡ false }
+        requires shared { shared ≤ 34 }
+        ensures ok { OnOk result ((before : List ℕ) (row : Row) (outcome : Outcome)
+            → row.key ≡ key.now → shared ≡ common_len before key.now
+            → mark.now.outcome ≡ Some outcome → IsRenumbered key.now mark.now outcome number row
             → IsAppended before row self.old self.new) }
         ensures err { OnErr result (self.new ≡ self.old) }
     {
         self.marks.reserve(1)?;
-        let own = 34 - usize::from(mark.shared);
+        let own = 34 - usize::from(shared);
         let len = self.tails.len();
         // Each end of a key is copied as 34 bytes, and then cut.
-        self.tails.extend_from_slice(key.end(mark.shared))?;
+        self.tails.extend_from_slice(key.end(shared))?;
         self.tails.truncate(len + own);
-        self.marks.push_reserved(mark);
+        // Changed where it stands: a mark made of its parts would take far more time.
+        self.marks.push_reserved(*mark);
+        let at = self.marks.len() - 1;
+        renumber(&mut self.marks[at], number, shared);
         Ok(())
     }
 
@@ -106,7 +152,7 @@ impl EncodedRows {
     /// for the rows behind them. After a refusal they are as before.
     pub fn pass_room_on(&mut self, alloc: Global) -> Result<EncodedRows, AllocError>
         ensures same { self.new ≡ self.old }
-        ensures none { IfOk result (λ rows. (first : List ℕ) → rows_of rows first ≡ []) }
+        ensures none { IfOk result (λ rows. rows.marks ≡ []) }
     {
         self.whole.shrink_to_fit();
         let exact_marks = Vec::from_slice(alloc, self.marks.as_slice())?;
@@ -133,6 +179,7 @@ impl EncodedRows {
 
     /// The place before the first row, which stands behind the key `before`.
     pub fn cursor(&self, before: [u8; 34]) -> BlockCursor<'_>
+        requires { TellShared before self.now.marks (rows_of self.now before) }
         ensures { result ≡ rows_of self.now before }
     {
         BlockCursor {
@@ -147,13 +194,15 @@ impl EncodedRows {
     }
 }
 
-/// How many bytes both keys begin with alike. Machine words tell it far faster than bytes do.
-pub fn shared_len(a: &[u8; 34], b: &[u8; 34]) -> u8
+/// How many bytes both keys begin with alike, where it is known of so many. Machine words tell it far
+/// faster than bytes do.
+pub fn shared_len(a: &[u8; 34], b: &[u8; 34], known: u8) -> u8
+    requires { take known a.now ≡ take known b.now }
     ensures within { result ≤ 34 }
-    ensures same { take result a.now ≡ take result b.now }
+    ensures is { result ≡ common_len a.now b.now }
     ensures long { length b.now ≡ 34 }
 {
-    for word in 0..4u8 {
+    for word in known / 8..4 {
         let at = 8 * word;
         let first = word_at(a, usize::from(at));
         let second = word_at(b, usize::from(at));
@@ -164,10 +213,12 @@ pub fn shared_len(a: &[u8; 34], b: &[u8; 34]) -> u8
     shared_end(a, b)
 }
 
-/// How many of their eight bytes two words begin with alike.
+/// How many of their eight bytes two words begin with alike that differ.
 fn shared_bytes(first: u64, second: u64) -> u8
-    ensures within { result ≤ 8 }
+    requires { first ≢ second }
+    ensures within { result < 8 }
     ensures same { first / 2 ^ (64 - 8 * result) ≡ second / 2 ^ (64 - 8 * result) }
+    ensures whole { first / 2 ^ (56 - 8 * result) ≢ second / 2 ^ (56 - 8 * result) }
 {
     (first ^ second).leading_zeros() as u8 / 8
 }
@@ -175,8 +226,7 @@ fn shared_bytes(first: u64, second: u64) -> u8
 /// How many bytes two keys begin with alike that have their first 32 bytes in common.
 fn shared_end(a: &[u8; 34], b: &[u8; 34]) -> u8
     requires { take 32 a.now ≡ take 32 b.now }
-    ensures within { result ≤ 34 }
-    ensures same { take result a.now ≡ take result b.now }
+    ensures { result ≡ common_len a.now b.now }
 {
     if a[32] != b[32] {
         return 32;
@@ -187,12 +237,33 @@ fn shared_end(a: &[u8; 34], b: &[u8; 34]) -> u8
     34
 }
 
+/// Gives a mark another number, behind a key that has more or fewer bytes in common with its own.
+#[inline(always)]
+fn renumber(mark: &mut Mark, number: u32, shared: u8)
+    requires { shared ≤ 34 }
+    ensures outcome { mark.new.outcome ≡ mark.old.outcome }
+    ensures shared { mark.new.shared ≡ shared }
+    ensures single { (key : List ℕ) (outcome : Outcome) → single_of key mark.new outcome
+        ≡ record (single_of key mark.old outcome) { number = number } }
+{
+    mark.number = number;
+    mark.shared = shared;
+}
+
 /// The mark of a row of one game, or None where the row has to stand whole.
 fn mark_of(held: &HeldRow<'_>, shared: u8) -> Option<Mark>
     requires { shared ≤ 34 }
     ensures { IfSome result (λ mark. IsMarkOf (row_in held.now) shared mark) }
 {
     let single = held.game()?;
+    mark_of_game(&single, shared)
+}
+
+/// The mark of the row of one game, or None where the sum of its ratings has no room in a mark.
+fn mark_of_game(single: &Single, shared: u8) -> Option<Mark>
+    requires { shared ≤ 34 }
+    ensures { IfSome result (λ mark. IsMarkOf (row_of single.now) shared mark) }
+{
     let Ok(sum) = u16::try_from(single.sum) else {
         return None;
     };
@@ -210,9 +281,10 @@ fn mark_of(held: &HeldRow<'_>, shared: u8) -> Option<Mark>
 }
 
 /// The mark of a row that stands whole.
-fn whole_mark() -> Mark
+fn whole_mark(shared: u8) -> Mark
+    requires { shared ≤ 34 }
     ensures outcome { result.outcome ≡ None }
-    ensures shared { result.shared ≡ 34 }
+    ensures shared { result.shared ≡ shared }
 {
     Mark {
         number: 0,
@@ -223,6 +295,6 @@ fn whole_mark() -> Mark
         next: None,
         speed: Speed::Bullet,
         outcome: None,
-        shared: 34,
+        shared,
     }
 }

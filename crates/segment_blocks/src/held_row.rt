@@ -5,7 +5,6 @@ ghost use Rattle.tally_rows.specs.declared.single.Single.{Single};
 ghost use Rattle.tally_rows.specs.Row.{row_of, row_key_of};
 
 use crate::single_game::single_in;
-use best_lists::Best4;
 use tally_rows::{Row, RowKey, Single};
 
 /// A row as a block holds it, which is cheap to pass on.
@@ -46,7 +45,7 @@ impl<'a> HeldRow<'a> {
     {
         match self {
             HeldRow::Game(game) => Row::of(game),
-            HeldRow::Whole(row) => copy_of(row),
+            HeldRow::Whole(row) => row.copied(),
         }
     }
 
@@ -60,27 +59,5 @@ impl<'a> HeldRow<'a> {
             HeldRow::Game(game) => Some(*game),
             HeldRow::Whole(row) => single_in(row),
         }
-    }
-}
-
-/// The same row.
-fn copy_of(row: &Row) -> Row
-    ensures { result ≡ row.now }
-{
-    // Each list is its own best four, as its entries say.
-    let _top = row.top.entries();
-    let _recent = row.recent.entries();
-    Row {
-        key: row.key,
-        next: row.next,
-        month: row.month,
-        speed: row.speed,
-        group: row.group,
-        white: row.white,
-        draws: row.draws,
-        black: row.black,
-        ratings: row.ratings,
-        top: row.top.join(&Best4::empty()),
-        recent: row.recent.join(&Best4::empty()),
     }
 }

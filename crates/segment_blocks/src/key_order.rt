@@ -1,7 +1,8 @@
 //! The order of keys.
-ghost use Rattle.std.specs.Prelude.{◌≡◌, drop};
+ghost use Rattle.std.specs.Prelude.{◌≡◌, ◌≤◌, drop};
 ghost use Rattle.std.specs.Cmp.Lexicographic.{slice_cmp};
 ghost use Rattle.std.specs.Ordering.{nat_cmp};
+ghost use Rattle.segment_blocks.specs.Prefix.{common_len};
 ghost use Rattle.tally_rows.specs.RowKey.{row_order};
 
 use std::cmp::Ordering;
@@ -20,7 +21,7 @@ pub fn order_of_row_keys(a: &RowKey, b: &RowKey) -> Ordering
 
 /// How rows of one key stand.
 #[tactic(auto, unfolding(tally_rows::specs::RowKey::row_order))]
-fn order_at_a_key(a: &RowKey, b: &RowKey) -> Ordering
+pub fn order_at_a_key(a: &RowKey, b: &RowKey) -> Ordering
     requires { a.now.key ≡ b.now.key }
     ensures { result ≡ row_order a.now b.now }
 {
@@ -42,6 +43,19 @@ pub fn order_of_keys(a: &[u8; 34], b: &[u8; 34]) -> Ordering
         }
     }
     order_of_ends(a, b)
+}
+
+/// How two keys stand that begin alike in just so many bytes.
+pub fn order_behind(a: &[u8; 34], b: &[u8; 34], shared: u8) -> Ordering
+    requires within { shared ≤ 34 }
+    requires shared { shared ≡ common_len a.now b.now }
+    ensures { result ≡ slice_cmp nat_cmp a.now b.now }
+{
+    if shared == 34 {
+        return Ordering::Equal;
+    }
+    let at = usize::from(shared);
+    a[at].cmp(&b[at])
 }
 
 /// How two keys stand that have their first 32 bytes in common.

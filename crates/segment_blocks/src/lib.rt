@@ -12,12 +12,14 @@
 
 mod block;
 mod block_cursor;
-mod bound;
+mod both;
 mod encoded_rows;
 mod held_batch;
 mod held_row;
 mod key_order;
 mod key_room;
+mod lane;
+pub mod laws;
 mod mark;
 mod packed_rows;
 mod row_walk;
@@ -27,10 +29,10 @@ mod single_game;
 mod steps;
 mod until;
 
-pub use bound::Bound;
 pub use held_row::HeldRow;
 pub use key_order::order_of_row_keys;
 pub use packed_rows::PackedRows;
 pub use row_walk::RowWalk;
+pub use segment::kept::Kept;
 pub use segment::{Segment, Span};
 pub use steps::Steps;

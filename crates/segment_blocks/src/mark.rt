@@ -19,7 +19,7 @@ pub struct Mark {
     pub speed: Speed,
     /// How the row's one game ended, or None where the row stands whole.
     pub outcome: Option<Outcome>,
-    /// How many bytes the key has in common with the key before it.
+    /// How many bytes the key has in common with the key before it, all that it has.
     pub shared: u8,
     pub ghost in_key: { shared ≤ 34 },
 }

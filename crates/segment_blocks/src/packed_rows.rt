@@ -1,17 +1,16 @@
 //! Rows in little room.
-ghost use Rattle.std.specs.Prelude.{◌≡◌, ℕ, List, ◌+◌, ◌≤◌, ◌<◌, ◌^◌, ◌++◌, ◌∷◌, [], filter, map, not, true, false, length, slice_index_or, IfOk, MatchOption, OnOk, OnErr};
+ghost use Rattle.std.specs.Prelude.{◌≡◌, ℕ, List, ◌+◌, ◌≤◌, ◌<◌, ◌^◌, ◌++◌, ◌∷◌, [], filter, not, true, false, length, slice_index_or, IfOk, MatchOption, OnOk, OnErr};
 ghost use Rattle.std.specs.List.{flat_map};
 ghost use Rattle.segment_blocks.specs.Block.{block_limit};
 ghost use Rattle.segment_blocks.specs.HeldRow.{row_in};
-ghost use Rattle.segment_blocks.specs.Moving.{HaveMoved, Tells};
+ghost use Rattle.segment_blocks.specs.Both.{HaveBothMoved, MayBothMove};
 ghost use Rattle.segment_blocks.specs.PackedRows.{AreBlocksOf, AreInOrder, ArePacked, IsFirstKey, is_first_below, rows_of_parts};
 ghost use Rattle.segment_blocks.specs.Walk.{is_below, is_within, has_key, from_key, from_bound, until_bound, rows_in, rows_until, front_rows};
 ghost use Rattle.tally_rows.specs.declared.row.Row.{Row};
-ghost use Rattle.tally_rows.specs.Row.{shifted_row};
+ghost use Rattle.tally_rows.specs.Row.{row_of};
 
 use crate::block::{BLOCK_LIMIT, Block};
 use crate::block_cursor::BlockCursor;
-use crate::bound::Bound;
 use crate::held_row::HeldRow;
 use crate::row_walk::RowWalk;
 use crate::rows_cursor::RowsCursor;
@@ -20,7 +19,7 @@ use crate::until::Until;
 use std::alloc::{AllocError, Global};
 use std::marker::Model;
 use std::sync::ledger::Ledger;
-use tally_rows::Row;
+use tally_rows::{CountedAs, CountedRow, Row, Single};
 
 /// For how many blocks room is prepared at once.
 const BLOCKS_AT_ONCE: usize = 16;
@@ -57,7 +56,7 @@ impl PackedRows {
     }
 
     /// Rows that stand in their order, in parts, one after another.
-    pub(crate) fn of(alloc: Global, parts: &[Vec<Row>]) -> Result<PackedRows, AllocError>
+    pub(crate) fn of(alloc: Global, parts: &[Vec<CountedRow>]) -> Result<PackedRows, AllocError>
         requires in_order { AreInOrder (flat_map (λ part. part.items) parts.now) }
         ensures { IfOk result (λ packed. packed.rows ≡ flat_map (λ part. part.items) parts.now) }
     {
@@ -70,14 +69,40 @@ impl PackedRows {
     }
 
     /// Puts rows behind the others.
-    pub(crate) fn push_all(&mut self, alloc: Global, rows: &[Row]) -> Result<(), AllocError>
+    pub(crate) fn push_all(&mut self, alloc: Global, rows: &[CountedRow]) -> Result<(), AllocError>
         requires in_order { AreInOrder (self.old.rows ++ rows.now) }
         ensures { OnOk result (self.new.rows ≡ self.old.rows ++ rows.now) }
     {
         for row in rows {
-            self.push(alloc, row)?;
+            self.push_counted(alloc, row)?;
         }
         Ok(())
+    }
+
+    /// Puts a row of a tally behind the others.
+    fn push_counted(&mut self, alloc: Global, row: &CountedRow) -> Result<(), AllocError>
+        requires in_order { AreInOrder (self.old.rows ++ row.now ∷ []) }
+        ensures { OnOk result (self.new.rows ≡ self.old.rows ++ row.now ∷ []) }
+    {
+        match row.counted_as() {
+            CountedAs::One(game) => self.push_one(alloc, game),
+            CountedAs::More(row) => self.push(alloc, row),
+        }
+    }
+
+    /// Puts the row of one game behind the others.
+    fn push_one(&mut self, alloc: Global, game: &Single) -> Result<(), AllocError>
+        requires in_order { AreInOrder (self.old.rows ++ row_of game.now ∷ []) }
+        ensures { OnOk result (self.new.rows ≡ self.old.rows ++ row_of game.now ∷ []) }
+    {
+        let count = self.blocks.as_slice().len();
+        if count == 0 {
+            return self.push_held(alloc, &HeldRow::Game(*game));
+        }
+        if self.blocks[count - 1].len() < BLOCK_LIMIT {
+            return self.blocks[count - 1].push_one(game);
+        }
+        self.push_held(alloc, &HeldRow::Game(*game))
     }
 
     /// The rows of parts, one part after another. Their blocks keep their rows.
@@ -126,27 +151,40 @@ impl PackedRows {
         Ok(())
     }
 
-    /// Moves rows of one game from a walk behind the others, as they are packed and with numbers that
-    /// are greater by `by`, as long as they stand before the bound. It may stop early. Says whether
-    /// it has moved any. Each row moved is a step, also where memory is then refused.
-    pub fn take_games<L: Ledger>(
+    /// Puts a row that stands whole behind the others. After a refusal they are as before.
+    pub fn push_whole(&mut self, alloc: Global, row: Row) -> Result<(), AllocError>
+        requires in_order { AreInOrder (self.old.rows ++ row ∷ []) }
+        ensures ok { OnOk result (self.new.rows ≡ self.old.rows ++ row ∷ []) }
+        ensures err { OnErr result (self.new ≡ self.old) }
+    {
+        let count = self.blocks.as_slice().len();
+        if count > 0 && self.blocks[count - 1].len() < BLOCK_LIMIT {
+            return self.blocks[count - 1].push_whole(row);
+        }
+        self.push_held(alloc, &HeldRow::Whole(&row))
+    }
+
+    /// Moves rows of one game from two walks behind the others, the lesser of both next rows first,
+    /// as they are packed and with numbers that are greater by so much. It may stop early. Each row
+    /// moved is a step, also where memory is then refused.
+    pub fn take_both<L: Ledger>(
         &mut self,
-        walk: &mut RowWalk<'_>,
-        by: u32,
-        bound: &Bound<'_>,
+        left: &mut RowWalk<'_>,
+        right: &mut RowWalk<'_>,
+        by: (u32, u32),
         steps: &mut Steps<L>,
-    ) -> Result<bool, AllocError>
-        requires in_order { AreInOrder (self.old.rows ++ map (shifted_row by) walk.old) }
-        ensures moved { HaveMoved by bound.now walk.old walk.new self.old.rows self.new.rows }
-        ensures told { Tells result (length walk.new < length walk.old)
-            ((walk.new ≡ walk.old) × (self.new.rows ≡ self.old.rows)) }
-        ensures cost { steps.new + length walk.new ≡ steps.old + length walk.old }
+    ) -> Result<(), AllocError>
+        requires in_order { MayBothMove by.0 by.1 left.old right.old self.old.rows }
+        ensures moved { HaveBothMoved by.0 by.1 left.old left.new right.old right.new
+            self.old.rows self.new.rows }
+        ensures cost { steps.new + length left.new + length right.new
+            ≡ steps.old + length left.old + length right.old }
     {
         let count = self.blocks.as_slice().len();
         if count == 0 {
-            return Ok(false);
+            return Ok(());
         }
-        walk.move_games(&mut self.blocks[count - 1], by, bound, steps)
+        left.move_both(right, &mut self.blocks[count - 1], by, steps)
     }
 
     /// A walk over the rows of the key, in their order. A step is a first key compared or a row

@@ -1,12 +1,13 @@
 //! Walks over rows.
-ghost use Rattle.std.specs.Prelude.{◌≡◌, ◌+◌, ◌<◌, ◌≤◌, [], ◌∷◌, MatchOption, length};
+ghost use Rattle.std.specs.Prelude.{◌≡◌, ◌+◌, ◌≤◌, [], ◌∷◌, MatchOption, length};
 ghost use Rattle.segment_blocks.specs.Block.{block_limit};
 ghost use Rattle.segment_blocks.specs.HeldRow.{row_in};
-ghost use Rattle.segment_blocks.specs.Moving.{next_row_key, HaveMoved, Tells};
+ghost use Rattle.segment_blocks.specs.Both.{HaveBothMoved};
+ghost use Rattle.segment_blocks.specs.Moving.{next_row_key};
 
 use crate::block::Block;
-use crate::bound::Bound;
 use crate::held_row::HeldRow;
+use crate::lane::Terms;
 use crate::rows_cursor::RowsCursor;
 use crate::steps::Steps;
 use crate::until::Until;
@@ -76,6 +77,7 @@ impl<'a> RowWalk<'a> {
     }
 
     /// What the games of the next row have in common, or None at the end.
+    #[inline(always)]
     pub fn next_row_key(&self) -> Option<RowKey>
         ensures { result ≡ next_row_key self.now }
     {
@@ -87,23 +89,29 @@ impl<'a> RowWalk<'a> {
         }
     }
 
-    /// Moves rows of one game to the end of a block, as `Block::take_games` does.
-    pub(crate) fn move_games<L: Ledger>(
+    /// Moves rows of one game of this and another walk to the end of a block, as `Block::take_both`
+    /// does, with numbers that are greater by so much.
+    pub(crate) fn move_both<L: Ledger>(
         &mut self,
+        other: &mut RowWalk<'_>,
         block: &mut Block,
-        by: u32,
-        bound: &Bound<'_>,
+        by: (u32, u32),
         steps: &mut Steps<L>,
-    ) -> Result<bool, AllocError>
-        ensures moved { HaveMoved by bound.now self.old self.new block.old block.new }
+    ) -> Result<(), AllocError>
+        ensures moved { HaveBothMoved by.0 by.1 self.old self.new other.old other.new
+            block.old block.new }
         ensures few { length block.old ≤ block_limit → length block.new ≤ block_limit }
-        ensures told { Tells result (length self.new < length self.old)
-            ((self.new ≡ self.old) × (block.new ≡ block.old)) }
         ensures cost { steps.new + length block.old ≡ steps.old + length block.new }
     {
-        match self.until.bound_with(bound) {
-            Some(nearer) => self.rest.move_games(block, by, &nearer, steps),
-            None => Ok(false),
-        }
+        let own = Terms {
+            by: by.0,
+            until: &self.until,
+        };
+        let others = Terms {
+            by: by.1,
+            until: &other.until,
+        };
+        self.rest
+            .move_both(&mut other.rest, block, (own, others), steps)
     }
 }

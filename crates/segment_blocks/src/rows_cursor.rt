@@ -1,13 +1,15 @@
 //! Rows over several blocks.
-ghost use Rattle.std.specs.Prelude.{◌≡◌, ◌+◌, ◌<◌, ◌≤◌, [], ◌∷◌, MatchOption, length};
+ghost use Rattle.std.specs.Prelude.{◌≡◌, ◌+◌, ◌≤◌, [], ◌∷◌, MatchOption, length};
 ghost use Rattle.segment_blocks.specs.Block.{block_limit};
 ghost use Rattle.segment_blocks.specs.HeldRow.{row_in};
-ghost use Rattle.segment_blocks.specs.Moving.{next_row_key, HaveMoved, Tells};
+ghost use Rattle.segment_blocks.specs.Both.{HaveBothMoved};
+ghost use Rattle.segment_blocks.specs.Moving.{next_row_key};
+ghost use Rattle.segment_blocks.specs.Walk.{rows_until};
 
 use crate::block::Block;
 use crate::block_cursor::BlockCursor;
-use crate::bound::Bound;
 use crate::held_row::HeldRow;
+use crate::lane::Terms;
 use crate::steps::Steps;
 use std::alloc::AllocError;
 use std::marker::Model;
@@ -55,6 +57,7 @@ impl<'a> RowsCursor<'a> {
     }
 
     /// What the games of the next row have in common, or None at the end.
+    #[inline(always)]
     pub fn next_row_key(&self) -> Option<RowKey>
         ensures { result ≡ next_row_key self.now }
     {
@@ -70,23 +73,42 @@ impl<'a> RowsCursor<'a> {
         block.cursor().next_row_key()
     }
 
-    /// Moves rows of one game to the end of a block, as `Block::take_games` does.
-    pub fn move_games<L: Ledger>(
+    /// Goes on to the next block where no row is left of one.
+    fn refill(&mut self)
+        ensures { self.new ≡ self.old }
+    {
+        if self.front.is_some() || !self.place.is_empty() {
+            return;
+        }
+        if let Some((block, blocks)) = self.blocks.split_first() {
+            self.place = block.cursor();
+            self.blocks = blocks;
+        }
+    }
+
+    /// Moves rows of one game of this and another cursor to the end of a block, as
+    /// `Block::take_both` does.
+    pub fn move_both<L: Ledger>(
         &mut self,
+        other: &mut RowsCursor<'_>,
         block: &mut Block,
-        by: u32,
-        bound: &Bound<'_>,
+        terms: (Terms<'_>, Terms<'_>),
         steps: &mut Steps<L>,
-    ) -> Result<bool, AllocError>
-        ensures moved { HaveMoved by bound.now self.old self.new block.old block.new }
+    ) -> Result<(), AllocError>
+        ensures moved { HaveBothMoved terms.entry.0.by terms.entry.1.by
+            (rows_until terms.entry.0.until.now self.old)
+            (rows_until terms.entry.0.until.now self.new)
+            (rows_until terms.entry.1.until.now other.old)
+            (rows_until terms.entry.1.until.now other.new)
+            block.old block.new }
         ensures few { length block.old ≤ block_limit → length block.new ≤ block_limit }
-        ensures told { Tells result (length self.new < length self.old)
-            ((self.new ≡ self.old) × (block.new ≡ block.old)) }
         ensures cost { steps.new + length block.old ≡ steps.old + length block.new }
     {
-        if self.front.is_some() {
-            return Ok(false);
+        self.refill();
+        other.refill();
+        if self.front.is_some() || other.front.is_some() {
+            return Ok(());
         }
-        block.take_games(&mut self.place, by, bound, steps)
+        block.take_both(&mut self.place, &mut other.place, terms, steps)
     }
 }

@@ -6,6 +6,9 @@ ghost use Rattle.segment_blocks.specs.Block.{block_limit};
 ghost use Rattle.segment_blocks.specs.PackedRows.{IsFirstKey, rows_of_parts};
 ghost use Rattle.segment_blocks.specs.Walk.{has_key, is_below, is_within};
 
+pub mod kept;
+mod moved;
+
 use crate::held_batch::{HeldBatch, game_at, share_all};
 use crate::packed_rows::PackedRows;
 use crate::row_walk::RowWalk;

@@ -1,3 +1,4 @@
+pub mod LesserLemmas
 pub mod MergedLemmas
 pub mod PartsLemmas
 pub mod PushedLemmas

@@ -1,4 +1,4 @@
--- Two segments as one.
+-- Statement: two segments as one.
 use Rattle.std.specs.Prelude.{◌≡◌, ℕ, List, None, ◌++◌, map, length}
 use Rattle.tally_rows.specs.declared.row.Row.{Row}
 use Rattle.tally_rows.specs.Row.{shifted_row}

@@ -1,13 +1,8 @@
--- Rows that one side of a merge gives at once.
-use Rattle.std.specs.Prelude.{◌≡◌, ◌<◌, ◌⊎◌, List, ◌++◌, take, length}
+-- Bridge: a row that one side of a merge gives.
+use Rattle.std.specs.Prelude.{◌≡◌, List, ◌++◌, take, drop}
 use Rattle.tally_rows.specs.declared.row.Row.{Row}
-use Rattle.segment_blocks.specs.declared.bound.Bound.{Bound}
-use Rattle.segment_blocks.specs.Moving.{AreBefore}
 
--- The next row of a side now stands behind others, alone or with rows behind it, all before a bound.
-pub record HavePushed (bound : Bound) (side rest rows new : List Row) : Type 0 where
-  pub pushed : List Row
-  pub parts : side ≡ pushed ++ rest
-  pub behind : new ≡ rows ++ pushed
-  pub some : 0 < length side → 0 < length pushed
-  pub which : (pushed ≡ take 1 side) ⊎ AreBefore bound pushed
+-- the next row of a side, where there is one, now stands behind others
+pub record HasPushed (side rest rows new : List Row) : Type 0 where
+  pub left : rest ≡ drop 1 side
+  pub behind : new ≡ rows ++ take 1 side

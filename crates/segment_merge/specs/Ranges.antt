@@ -1,4 +1,4 @@
--- Rows in ranges of keys.
+-- Bridge: rows in ranges of keys.
 use Rattle.std.specs.Prelude.{◌≡◌, ℕ, zero, suc, false, List, [], ◌∷◌, Option, None, Some, filter, slice_get}
 use Rattle.std.specs.List.{flat_map}
 use Rattle.std.specs.Ordering.{nat_cmp, is_gt}

@@ -1,9 +1,7 @@
--- Rows that have room for greater numbers and sums.
-use Rattle.std.specs.Prelude.{◌≡◌, ℕ, ◌+◌, ◌<◌, ◌^◌, Option, List}
-use Rattle.std.specs.List.{All, AllByRecursion}
+-- Bridge: rows that have room for greater numbers and sums.
+use Rattle.std.specs.Prelude.{ℕ, ◌+◌, ◌<◌, ◌^◌}
+use Rattle.std.specs.List.{All}
 use Rattle.tally_rows.specs.declared.row.Row.{Row}
-use Rattle.tally_rows.specs.declared.row_key.RowKey.{RowKey}
-use Rattle.segment_blocks.specs.Moving.{next_row_key}
 
 -- the sums of two such rows have room
 pub record IsSmall (row : Row) : Type 0 where
@@ -17,8 +15,3 @@ pub record HasRoom (by : ℕ) (row : Row) : Type 0 where
   pub small : IsSmall row
   pub top : All (λ entry. entry.number + by < 2 ^ 32) row.top
   pub recent : All (λ entry. entry.number + by < 2 ^ 32) row.recent
-
--- rows that have room, the games of the first of which have this in common
-pub record IsSide (by : ℕ) (next : Option RowKey) (rest : List Row) : Type 0 where
-  pub first : next ≡ next_row_key rest
-  pub room : AllByRecursion (HasRoom by) rest

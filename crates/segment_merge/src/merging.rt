@@ -25,12 +25,13 @@ pub fn merge_rows<L: Ledger>(
     let mut packed = PackedRows::new(alloc);
     while let Some(order) = order_of(&left, &right) {
         push_next(alloc, order, &mut left, &mut right, &mut packed, steps)?;
+        left.push_both(&mut right, &mut packed, steps)?;
     }
     Ok(packed)
 }
 
-/// Moves the next row of both sides, which stand so: the lesser one, perhaps with more of its side,
-/// or both put together where they have the same five parts.
+/// Moves the next row of both sides, which stand so: the lesser one, or both put together where they
+/// have the same five parts.
 fn push_next<L: Ledger>(
     alloc: Global,
     order: Ordering,
@@ -47,13 +48,13 @@ fn push_next<L: Ledger>(
         < length left.old + length right.old) }
 {
     match order {
-        Ordering::Less => left.push_next(alloc, packed, &right.bound(), steps),
-        Ordering::Greater => right.push_next(alloc, packed, &left.bound(), steps),
+        Ordering::Less => left.push_next(alloc, packed, steps),
+        Ordering::Greater => right.push_next(alloc, packed, steps),
         Ordering::Equal => {
             let (Some(first), Some(second)) = (left.take(steps), right.take(steps)) else {
                 return Ok(());
             };
-            packed.push(alloc, &first.combine(&second))
+            packed.push_whole(alloc, first.combine(&second))
         }
     }
 }
@@ -64,7 +65,7 @@ fn order_of(left: &Side<'_>, right: &Side<'_>) -> Option<Ordering>
     ensures { result ≡ next_order left.now right.now }
 {
     match (left.row_key(), right.row_key()) {
-        (Some(first), Some(second)) => Some(order_of_row_keys(first, second)),
+        (Some(first), Some(second)) => Some(order_of_row_keys(&first, &second)),
         (Some(_), None) => Some(Ordering::Less),
         (None, Some(_)) => Some(Ordering::Greater),
         (None, None) => None,

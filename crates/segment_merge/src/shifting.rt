@@ -24,7 +24,7 @@ pub fn push_shifted(
 {
     match held {
         HeldRow::Game(game) => packed.push_held(alloc, &HeldRow::Game(shifted_game(game, by))),
-        HeldRow::Whole(row) => packed.push(alloc, &shifted(row, by)),
+        HeldRow::Whole(row) => packed.push_whole(alloc, shifted(row, by)),
     }
 }
 

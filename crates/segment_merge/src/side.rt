@@ -1,18 +1,16 @@
 //! One side of a merge.
-ghost use Rattle.std.specs.Prelude.{◌≡◌, [], ◌∷◌, ◌++◌, Some, MatchOption, OnOk, map};
+ghost use Rattle.std.specs.Prelude.{◌≡◌, ◌≤◌, ◌+◌, [], ◌∷◌, ◌++◌, MatchOption, OnOk, length, map};
 ghost use Rattle.std.specs.List.{AllByRecursion};
-ghost use Rattle.std.specs.Ordering.{is_lt};
-ghost use Rattle.segment_blocks.specs.Moving.{next_row_key, is_before};
+ghost use Rattle.segment_blocks.specs.Moving.{next_row_key};
 ghost use Rattle.segment_blocks.specs.PackedRows.{AreInOrder};
-ghost use Rattle.segment_merge.specs.Pushed.{HavePushed};
+ghost use Rattle.segment_merge.specs.Merged.{merged};
+ghost use Rattle.segment_merge.specs.Pushed.{HasPushed};
 ghost use Rattle.segment_merge.specs.Room.{HasRoom, IsSmall};
 ghost use Rattle.tally_rows.specs.declared.row.Row.{Row};
-ghost use Rattle.tally_rows.specs.declared.row_key.RowKey.{RowKey};
-ghost use Rattle.tally_rows.specs.Row.{row_key_of, shifted_row};
-ghost use Rattle.tally_rows.specs.RowKey.{row_order};
+ghost use Rattle.tally_rows.specs.Row.{shifted_row};
 
 use crate::shifting::{push_shifted, shifted};
-use segment_blocks::{Bound, PackedRows, RowWalk, Steps};
+use segment_blocks::{PackedRows, RowWalk, Steps};
 use std::alloc::{AllocError, Global};
 use std::marker::Model;
 use std::sync::ledger::Ledger;
@@ -22,8 +20,6 @@ use tally_rows::{Row, RowKey};
 /// of both sides.
 #[derive(Drop)]
 pub struct Side<'a> {
-    /// What the games of the next row have in common.
-    next: Option<RowKey>,
     rest: RowWalk<'a>,
     by: u32,
 }
@@ -35,11 +31,12 @@ impl<'a> Model for Side<'a> {
 
     ghost Value = { List Row };
 
-    ghost use Rattle.segment_merge.specs.Room.{IsSide};
+    ghost use Rattle.std.specs.List.{AllByRecursion};
+    ghost use Rattle.segment_merge.specs.Room.{HasRoom};
 
     ghost view = { λ s. map (shifted_row s.by) s.rest };
 
-    ghost invariant = { λ s. IsSide s.by s.next s.rest };
+    ghost invariant = { λ s. AllByRecursion (HasRoom s.by) s.rest };
 }
 
 impl<'a> Side<'a> {
@@ -48,50 +45,46 @@ impl<'a> Side<'a> {
         requires { AllByRecursion (HasRoom by) rest }
         ensures { result ≡ map (shifted_row by) rest.entry }
     {
-        let next = rest.next_row_key();
-        Side { next, rest, by }
+        Side { rest, by }
     }
 
-    /// What the games of the next row have in common.
-    pub fn row_key(&self) -> &Option<RowKey>
-        ensures { result.now ≡ next_row_key self.now }
+    /// What the games of the next row have in common, or None at the end.
+    #[inline(always)]
+    pub fn row_key(&self) -> Option<RowKey>
+        ensures { result ≡ next_row_key self.now }
     {
-        &self.next
+        self.rest.next_row_key()
     }
 
-    /// Before which rows those of the other side stand that come first.
-    pub fn bound(&self) -> Bound<'_>
-        ensures { (row_key : RowKey) → next_row_key self.now ≡ Some row_key → (row : Row)
-            → is_before result row ≡ is_lt (row_order (row_key_of row) row_key) }
+    /// Moves rows of this and the right side to the rows of a merge, the lesser of both next rows
+    /// first, as long as they are of one game. It may stop early.
+    pub fn push_both<L: Ledger>(
+        &mut self,
+        right: &mut Side<'_>,
+        packed: &mut PackedRows,
+        steps: &mut Steps<L>,
+    ) -> Result<(), AllocError>
+        requires in_order { AreInOrder (packed.old.rows ++ merged self.old right.old) }
+        ensures whole { packed.new.rows ++ merged self.new right.new
+            ≡ packed.old.rows ++ merged self.old right.old }
+        ensures fewer { length self.new + length right.new ≤ length self.old + length right.old }
     {
-        match &self.next {
-            Some(row_key) => Bound::Row(row_key),
-            None => Bound::Key(&[255; 34]),
-        }
+        packed.take_both(&mut self.rest, &mut right.rest, (self.by, right.by), steps)
     }
 
-    /// Moves the next row, where there is one, to the rows of a merge, perhaps with rows behind it
-    /// that stand before the bound as it does.
+    /// Moves the next row, where there is one, to the rows of a merge.
     pub fn push_next<L: Ledger>(
         &mut self,
         alloc: Global,
         packed: &mut PackedRows,
-        bound: &Bound<'_>,
         steps: &mut Steps<L>,
     ) -> Result<(), AllocError>
         requires in_order { AreInOrder (packed.old.rows ++ self.old) }
-        ensures { OnOk result
-            (HavePushed bound.now self.old self.new packed.old.rows packed.new.rows) }
+        ensures { OnOk result (HasPushed self.old self.new packed.old.rows packed.new.rows) }
     {
-        let moved = packed.take_games(&mut self.rest, self.by, bound, steps);
-        self.next = self.rest.next_row_key();
-        if moved? {
-            return Ok(());
-        }
         let Some(held) = self.rest.advance(steps) else {
             return Ok(());
         };
-        self.next = self.rest.next_row_key();
         push_shifted(alloc, packed, &held, self.by)
     }
 
@@ -101,8 +94,6 @@ impl<'a> Side<'a> {
             (λ row. (self.old ≡ row ∷ self.new) × IsSmall row) }
     {
         let held = self.rest.advance(steps)?;
-        let row = shifted(&held.to_row(), self.by);
-        self.next = self.rest.next_row_key();
-        Some(row)
+        Some(shifted(&held.to_row(), self.by))
     }
 }

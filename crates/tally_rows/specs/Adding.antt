@@ -1,4 +1,4 @@
--- Rows as what they add up to at each five parts, whether or not these stand in one row.
+-- Bridge: rows as what they add up to at each five parts, whether or not these stand in one row.
 use Rattle.std.specs.Prelude.{◌≡◌, ℕ, ◌+◌, ◌<◌, cond, List, []}
 use Rattle.std.specs.List.{sum_by, flat_map}
 use Rattle.explorer_model.specs.Best.{best}

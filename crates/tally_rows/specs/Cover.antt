@@ -1,5 +1,5 @@
--- What the rows of a cover say of a position. A cover is a list of lists of games; all its games
--- stand one after another.
+-- Statement: what the rows of a cover say of a position. A cover is a list of lists of games; all
+-- its games stand one after another.
 use Rattle.std.specs.Prelude.{◌≡◌, ℕ, ◌≤◌, Bool, true, false, ◌&&◌, ◌||◌, ◌==◌, nat_lt, if◌then◌else◌, List, [], ◌∷◌, map, filter, filter_map, take, length, slice_index_or, Option, Some, None, option_and_then}
 use Rattle.std.specs.List.{All, sum_by, flat_map, slice_get}
 use Rattle.std.specs.Ordering.{nat_cmp, is_lt}

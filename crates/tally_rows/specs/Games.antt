@@ -1,4 +1,4 @@
--- The singles of games: one for each position that a game visits, at its first visit.
+-- Statement: the singles of games: one for each position that a game visits, at its first visit.
 use Rattle.std.specs.Prelude.{ℕ, ◌+◌, Bool, List, [], ◌∷◌, ◌++◌, map, bytes_eq, if◌then◌else◌}
 use Rattle.std.specs.List.{list_any}
 use Rattle.explorer_model.specs.declared.archive.Classes.{Classes}

@@ -1,4 +1,5 @@
--- Sums of rows by speed and group: a line of cells for each speed, a cell of it for each group.
+-- Statement: sums of rows by speed and group: a line of cells for each speed, a cell of it for each
+-- group.
 use Rattle.std.specs.Prelude.{◌≡◌, ℕ, ◌+◌, ◌<◌, ◌^◌, Bool, List, [], length, replicate, slice_set, slice_index_or}
 use Rattle.std.specs.List.{All, sum_by, flat_map, items_where_true}
 use Rattle.tally_rows.specs.declared.grid.Cell.{Cell}

@@ -6,6 +6,7 @@ pub mod Single
 pub mod SortEntry
 pub mod Within
 pub mod Adding
+pub mod CountedRow
 pub mod Grid
 pub mod Tally
 pub mod Games

@@ -1,4 +1,5 @@
--- What is counted in a position of the games whose parts there are picked, from the games and from the rows of a cover.
+-- Statement: what is counted in a position of the games whose parts there are picked, from the
+-- games and from the rows of a cover.
 use Rattle.std.specs.Prelude.{◌≡◌, ℕ, ◌+◌, Bool, ◌&&◌, cond, List, [], ◌∷◌, ◌++◌, map, length, is_some, bytes_eq}
 use Rattle.std.specs.List.{sum_by, count_by, flat_map}
 use Rattle.explorer_model.specs.Best.{best}

@@ -1,4 +1,4 @@
--- The order of the five parts of a row: key, move, month, speed, group.
+-- Statement: the order of the five parts of a row: key, move, month, speed, group.
 use Rattle.std.specs.Prelude.{Bool}
 use Rattle.std.specs.declared.cmp.Ordering.{Ordering}
 use Rattle.std.specs.Ordering.{on, nat_cmp, then_cmp, eq_by_cmp}

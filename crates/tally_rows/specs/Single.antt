@@ -1,4 +1,4 @@
--- The order of singles, and what they are of a list of games.
+-- Statement: the order of singles, and what they are of a list of games.
 use Rattle.std.specs.Prelude.{◌≡◌, ℕ, List, map}
 use Rattle.std.specs.List.{filter, enumerate_from}
 use Rattle.std.specs.declared.cmp.Ordering.{Ordering}

@@ -1,4 +1,4 @@
--- The numbers that singles are sorted by.
+-- Bridge: the numbers that singles are sorted by.
 use Rattle.std.specs.Prelude.{◌≡◌, ℕ, zero, suc, ◌+◌, ◌*◌, ◌<◌, ◌^◌, Bool, ◌&&◌, ◌==◌, Option, Some, None, List, [], length, slice_index, slice_index_or, map}
 use Rattle.explorer_model.specs.declared.archive.Outcome.TheVariants as outcomes
 use Rattle.explorer_model.specs.declared.archive.Speed.TheVariants as speeds

@@ -1,4 +1,4 @@
--- Rows that are tallied for a list of games.
+-- Statement: rows that are tallied for a list of games.
 use Rattle.std.specs.Prelude.{◌≡◌, ℕ, ◌+◌, ◌%◌, Bool, true, ◌&&◌, ◌==◌, cond, List, map, slice_index, is_some}
 use Rattle.std.specs.List.{All, Any, Contains, filter, count_by, sum_by, enumerate_from}
 use Rattle.std.specs.List.Sorted.{IsStrictlySortedBy}

@@ -1,4 +1,5 @@
--- What is counted of a batch: the tracks of its games, and the rows that are tallied for them.
+-- Statement: what is counted of a batch: the tracks of its games, and the rows that are tallied for
+-- them.
 use Rattle.std.specs.Prelude.{◌≡◌, ℕ, List, map}
 use Rattle.std.specs.List.{AllZip}
 use Rattle.explorer_model.specs.declared.archive.Batch.{Batch}

@@ -1,4 +1,4 @@
--- A game as the positions that it visits.
+-- Statement: a game as the positions that it visits.
 use Rattle.std.specs.Prelude.{ℕ, Bool, false, List, Option, None, Some, option_map, bytes_eq}
 use Rattle.std.specs.List.{find}
 use Rattle.explorer_model.specs.declared.archive.Classes.{Classes}

@@ -1,4 +1,4 @@
--- Rows of some positions: those whose key passes a test, or is in a range.
+-- Statement: rows of some positions: those whose key passes a test, or is in a range.
 use Rattle.std.specs.Prelude.{◌≡◌, ℕ, ◌≤◌, ◌<◌, Bool, true, ◌&&◌, nat_lt, nat_le, List, [], ◌∷◌, map, length, slice_index, Option, Some, None}
 use Rattle.std.specs.List.{All, Any, Contains, filter, enumerate_from}
 use Rattle.std.specs.List.Sorted.{IsStrictlySortedBy}

@@ -1,6 +1,7 @@
 //! What games count for in each position that they visit: rows, their sums and their best games.
 #![tactic(auto)]
 
+mod counted_row;
 mod grid;
 mod key_range;
 pub mod laws;
@@ -11,6 +12,7 @@ mod single;
 mod sort_entry;
 mod tally;
 
+pub use counted_row::{CountedAs, CountedRow};
 pub use grid::{Cell, Grid};
 pub use key_range::{KeyRange, first_word};
 pub use row::Row;

@@ -53,6 +53,28 @@ impl Row {
         self.row_key().cmp(&other.row_key()).is_eq()
     }
 
+    /// The same row.
+    pub fn copied(&self) -> Row
+        ensures { result ≡ self.now }
+    {
+        // Each list is its own best four, as its entries say.
+        let _top = self.top.entries();
+        let _recent = self.recent.entries();
+        Row {
+            key: self.key,
+            next: self.next,
+            month: self.month,
+            speed: self.speed,
+            group: self.group,
+            white: self.white,
+            draws: self.draws,
+            black: self.black,
+            ratings: self.ratings,
+            top: self.top.join(&Best4::empty()),
+            recent: self.recent.join(&Best4::empty()),
+        }
+    }
+
     /// The row of one game.
     #[inline(always)]
     #[tactic(auto, unfolding(crate::specs::Row::row_of))]

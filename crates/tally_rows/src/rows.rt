@@ -10,11 +10,11 @@ ghost use Rattle.tally_rows.specs.Within.{AreSinglesWithin, TalliedWithin};
 ghost use Rattle.tally_rows.specs.declared.single.Single.{Single};
 
 use crate::sort_entry::SortEntry;
-use crate::{Row, Single};
+use crate::{CountedRow, Single};
 use std::alloc::{AllocError, Global};
 
 /// The rows of games, from the singles of each of them in each position that it visits.
-pub fn rows_of(alloc: Global, singles: Vec<Single>) -> Result<Vec<Row>, AllocError>
+pub fn rows_of(alloc: Global, singles: Vec<Single>) -> Result<Vec<CountedRow>, AllocError>
     requires { vec_len singles < 2 ^ 32 }
     ensures all { IfOk result (λ rows. (tracks : List Track) → AreSingles tracks singles.items
         → Tallied tracks rows.items) }
@@ -47,7 +47,7 @@ fn combine_sorted(
     alloc: Global,
     singles: &[Single],
     entries: &[SortEntry],
-) -> Result<Vec<Row>, AllocError>
+) -> Result<Vec<CountedRow>, AllocError>
     requires told { All (IsEntryIn singles.now any_single) entries.now }
     requires few { length entries.now < 2 ^ 32 }
     ensures { IfOk result (λ rows. rows.items
@@ -57,15 +57,15 @@ fn combine_sorted(
     if entries.is_empty() {
         return Ok(rows);
     }
-    rows.push(Row::of(&singles[entries[0].at as usize]))?;
+    rows.push(CountedRow::of(&singles[entries[0].at as usize]))?;
     for place in 1..entries.len() {
         let entry = &entries[place];
         let single = &singles[entry.at as usize];
         if entry.has_numbers_of(&entries[place - 1]) {
             let end = rows.len() - 1;
-            rows[end].add(single);
+            rows[end].add(alloc, single)?;
         } else {
-            rows.push(Row::of(single))?;
+            rows.push(CountedRow::of(single))?;
         }
     }
     Ok(rows)

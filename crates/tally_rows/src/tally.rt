@@ -3,7 +3,7 @@ ghost use Rattle.std.specs.Prelude.{◌≡◌, ℕ, List};
 ghost use Rattle.std.specs.List.{flat_map};
 ghost use Rattle.tally_rows.specs.Tally.{IsCounted};
 
-use crate::Row;
+use crate::CountedRow;
 use explorer_model::archive::{Batch, Classes};
 use explorer_model::label::Label;
 use explorer_model::list::Items;
@@ -16,7 +16,7 @@ pub struct Tally {
     batch: Batch,
     classes: Items<Classes>,
     /// In parts, one after another.
-    rows: Vec<Vec<Row>>,
+    rows: Vec<Vec<CountedRow>>,
 }
 
 impl Model for Tally {
@@ -40,7 +40,7 @@ impl Model for Tally {
 
 impl Tally {
     /// The tally of a batch whose games have these classes and these rows, which may come in any parts.
-    pub fn new(batch: Batch, classes: Items<Classes>, rows: Vec<Vec<Row>>) -> Tally
+    pub fn new(batch: Batch, classes: Items<Classes>, rows: Vec<Vec<CountedRow>>) -> Tally
         requires { IsCounted (record {
           batch = batch;
           classes = classes;
@@ -80,7 +80,7 @@ impl Tally {
     }
 
     /// The batch, what the tags say of its games, and the rows that count them, in parts.
-    pub fn into_parts(self) -> (Batch, Items<Classes>, Vec<Vec<Row>>)
+    pub fn into_parts(self) -> (Batch, Items<Classes>, Vec<Vec<CountedRow>>)
         ensures batch { result.0 ≡ self.batch }
         ensures classes { result.1 ≡ self.classes }
         ensures rows { flat_map (λ part. part.items) result.2.items ≡ self.rows }
@@ -104,7 +104,7 @@ impl Tally {
     }
 
     /// The rows in their order, by key, move, month, speed and group, in parts, one after another.
-    pub fn row_parts(&self) -> &[Vec<Row>]
+    pub fn row_parts(&self) -> &[Vec<CountedRow>]
         ensures { flat_map (λ part. part.items) result.now ≡ self.now.rows }
     {
         self.rows.as_slice()

@@ -11,7 +11,13 @@ push_next-requires g c = record {
 }
 
 pub loop-order-preserved : goal.loop-order-preserved
-loop-order-preserved g c = c.in_ok-push_next.ensures.whole ∙ c.loop-order.invariant
+loop-order-preserved g c = c.push_both.ensures.whole ∙ c.in_ok-push_next.ensures.whole ∙ c.loop-order.invariant
+
+pub push_both-requires : goal.push_both-requires
+push_both-requires g c = record {
+  in_order = subst AreInOrder (sym (c.in_ok-push_next.ensures.whole ∙ c.loop-order.invariant))
+      (in_order-merged c.args.left c.args.right c.requires.left_in_order c.requires.right_in_order);
+}
 
 pub returns : goal.returns
 returns g c =

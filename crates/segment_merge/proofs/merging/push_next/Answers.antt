@@ -16,28 +16,28 @@ pub returns-in-Less-clause-whole : goal.returns-in-Less-clause-whole
 returns-in-Less-clause-whole g c =
     let moved = c.push_next in
     on_ok_weaker moved.result
-    (after-left c.bound.result c.args.packed.now.rows moved.new.packed.rows c.args.left.now c.args.right.now moved.new.self (c.requires.order ∙ ap Some c.in-Less.is) c.bound.ensures)
+    (after-left c.args.packed.now.rows moved.new.packed.rows c.args.left.now c.args.right.now moved.new.self (c.requires.order ∙ ap Some c.in-Less.is))
     moved.ensures
 
 pub returns-in-Less-clause-fewer : goal.returns-in-Less-clause-fewer
 returns-in-Less-clause-fewer g c =
     let moved = c.push_next in
     on_ok_weaker moved.result
-    (fewer-left c.bound.result c.args.packed.now.rows moved.new.packed.rows c.args.left.now c.args.right.now moved.new.self (c.requires.order ∙ ap Some c.in-Less.is))
+    (fewer-left c.args.packed.now.rows moved.new.packed.rows c.args.left.now c.args.right.now moved.new.self (c.requires.order ∙ ap Some c.in-Less.is))
     moved.ensures
 
 pub returns-in-Greater-clause-whole : goal.returns-in-Greater-clause-whole
 returns-in-Greater-clause-whole g c =
     let moved = c.push_next-in-Greater in
     on_ok_weaker moved.result
-    (after-right c.bound-in-Greater.result c.args.packed.now.rows moved.new.packed.rows c.args.left.now c.args.right.now moved.new.self (c.requires.order ∙ ap Some c.in-Greater.is) c.bound-in-Greater.ensures)
+    (after-right c.args.packed.now.rows moved.new.packed.rows c.args.left.now c.args.right.now moved.new.self (c.requires.order ∙ ap Some c.in-Greater.is))
     moved.ensures
 
 pub returns-in-Greater-clause-fewer : goal.returns-in-Greater-clause-fewer
 returns-in-Greater-clause-fewer g c =
     let moved = c.push_next-in-Greater in
     on_ok_weaker moved.result
-    (fewer-right c.bound-in-Greater.result c.args.packed.now.rows moved.new.packed.rows c.args.left.now c.args.right.now moved.new.self (c.requires.order ∙ ap Some c.in-Greater.is))
+    (fewer-right c.args.packed.now.rows moved.new.packed.rows c.args.left.now c.args.right.now moved.new.self (c.requires.order ∙ ap Some c.in-Greater.is))
     moved.ensures
 
 pub combine-requires-clause-same : goal.combine-requires-clause-same
@@ -47,8 +47,8 @@ combine-requires-clause-same g c =
     (same-row_key both.first both.second c.args.left.now c.args.right.now c.take.new.self c.take-in-Equal.new.self
     (c.requires.order ∙ ap Some c.in-Equal.is) both.ensures.0 both.ensures'.0)
 
-pub push-requires : goal.push-requires
-push-requires g c =
+pub push_whole-requires : goal.push_whole-requires
+push_whole-requires g c =
     let both = c.in-Some-Some in
     let rows = c.args.packed.now.rows in
     record {
@@ -61,7 +61,7 @@ pub returns-in-Some-Some-clause-whole : goal.returns-in-Some-Some-clause-whole
 returns-in-Some-Some-clause-whole g c =
     let both = c.in-Some-Some in
     let rows = c.args.packed.now.rows in
-    on_ok_weaker c.push.result
+    on_ok_weaker c.push_whole.result
     (λ moved. after-equal both.first both.second c.args.left.now c.args.right.now c.take.new.self c.take-in-Equal.new.self
-    (c.requires.order ∙ ap Some c.in-Equal.is) both.ensures.0 both.ensures'.0 rows c.push.new.self.rows (moved ∙ ap (λ r. rows ++ r ∷ []) c.combine.ensures))
-    c.push.ensures.ok
+    (c.requires.order ∙ ap Some c.in-Equal.is) both.ensures.0 both.ensures'.0 rows c.push_whole.new.self.rows (moved ∙ ap (λ r. rows ++ r ∷ []) c.combine.ensures))
+    c.push_whole.ensures.ok

@@ -7,7 +7,7 @@ use Rattle.tally_rows.specs.Row.{row_key_of, row_of, combined, combined_rows, Ha
 use Rattle.tally_rows.specs.SortEntry.{any_single, picked}
 use Rattle.tally_rows.proofs.Passing.{same-parts, room, pass-same, pass-other, pass-first, pass-all, end-is, end-set}
 use Rattle.tally_rows.proofs.rows.combine_sorted.Goals as goal
-use Rattle.tally_rows.proofs.rows.combine_sorted.Goals.{then-has_numbers_of, else-has_numbers_of+in_ok-push-2}
+use Rattle.tally_rows.proofs.rows.combine_sorted.Goals.{then-has_numbers_of+in_ok-add, else-has_numbers_of+in_ok-push-2}
 
 some-left : (n : ℕ) → (n == 0) ≡ false → 0 < n
 some-left n e = grind (arith, nat_tests)
@@ -50,7 +50,7 @@ pub loop-place-preserved : goal.loop-place-preserved
 loop-place-preserved c =
     let filling = c.loop-place.invariant in
     elim c.if-has_numbers_of.branch [
-      | then-has_numbers_of w ↦
+      | then-has_numbers_of+in_ok-add w ↦
           let end : w.len-end.result - 1 ≡ length c.loop-place.rows.items - 1 = omega (arith, w.len-end.ensures, c.loop-place.rows.ok.0) in
           let last = w.index_mut.ensures.value ∙ end-is c.args.singles.now c.args.entries.now c.loop-place.rows.items c.loop-place.place _ filling end w.index_mut.result.now in
           let ratings = ap (λ (r : Row). r.ratings) last in
@@ -60,7 +60,7 @@ loop-place-preserved c =
             made = end-set c.args.singles.now c.args.entries.now c.loop-place.rows.items c.loop-place.place _ filling end w.add.new.self;
             passing = pass-same c.args.singles.now c.args.entries.now c.requires.told c.loop-place.place _ c.index-singles-entry.result
                 c.loop-place-test.true c.index-singles-entry.is filling.front filling.last c.loop-place.auto.place filling.passing
-                w.add.new.self (w.add.ensures.row ∙ ap (λ (r : Row). combined r (row_of c.index-singles-entry.result)) last) (omega (arith, ratings, w.add.ensures.small))
+                w.add.new.self (w.in_ok-add.ensures.row ∙ ap (λ (r : Row). combined r (row_of c.index-singles-entry.result)) last) (omega (arith, ratings, w.in_ok-add.ensures.small))
                 (sym c.has_numbers_of.ensures ∙ w.if-has_numbers_of.true);
           })
       | else-has_numbers_of+in_ok-push-2 w ↦

@@ -9,7 +9,6 @@ pub invariant_of-self-2 : goal.invariant_of-self-2
 invariant_of-self-2 c =
     let b = c.self.inside in
     let room : length (rows_of b.rows b.first) < 128 = omega (arith, c.requires, ap length c.self.view_is) in
-    let new = rows_of c.push.new.self b.first in
+    let new = c.push.new.self in
     subst (λ last. IsBlock b.first last new) (sym c.key.ensures)
-    (IsBlock-push b.first b.last (row_in c.args.held.now) (rows_of b.rows b.first) new c.self.invariant room
-    (c.in_ok-push.ensures.ok b.first c.self.invariant.ends))
+    (IsBlock-push (row_in c.args.held.now) b.rows new b.first b.last c.self.invariant room c.in_ok-push.ensures.ok)

@@ -1,7 +1,10 @@
-use Rattle.std.proofs.Common.{◌≡◌, [], ◌∷◌, ◌-◌, drop, sym, ap, ◌∙◌}
+use Rattle.std.proofs.Common.{◌≡◌, [], ◌∷◌, ◌-◌, drop, sym, ap, subst, ◌∙◌, true≢false}
 use Rattle.tally_rows.specs.Row.{row_of}
 use Rattle.segment_blocks.specs.Encoded.{own_len, key_behind, single_of, rows_behind}
+use Rattle.segment_blocks.specs.Prefix.{TellSharedBehind}
 use Rattle.segment_blocks.proofs.EncodedLemmas.{rows_behind-nil, rows_behind-game, rows_behind-whole}
+use Rattle.segment_blocks.proofs.PlaceLemmas.{filled-game, filled-whole, told-game, told-whole}
+use Rattle.segment_blocks.proofs.PrefixLemmas.{TellShared-behind}
 use Rattle.segment_blocks.proofs.block_cursor.BlockCursor.next.Goals as goal
 
 pub returns-in_err-mark : goal.returns-in_err-mark
@@ -27,8 +30,40 @@ returns-in_ok-row c =
     let p = c.self.inside.place in
     let mark = c.in_ok-mark.mark.now in
     let row = c.in_ok-row.row.now in
-    let rest : drop (own_len mark) p.tails.now ≡ c.split_at.result.1.now =
-    sym (c.split_at.ensures.back ∙ ap (λ n. drop (34 - n) p.tails.now) c.from.ensures) in
     sym c.self.view_is
     ∙ rows_behind-whole mark p.marks.now c.in_ok-mark.marks.now p.before p.tails.now p.whole.now c.in_ok-mark.ensures.cases.0 row c.in_ok-row.whole.now c.in_default.is c.in_ok-row.ensures.cases.0
-    ∙ (λ i. row ∷ rows_behind c.in_ok-mark.marks.now (sym c.of-self-inside.ensures i) (rest i) c.in_ok-row.whole.now)
+    ∙ (λ i. row ∷ rows_behind c.in_ok-mark.marks.now (sym c.of-self-inside.ensures i) p.tails.now c.in_ok-row.whole.now)
+
+pub invariant_of-self : goal.invariant_of-self
+invariant_of-self c =
+    let p = c.self.inside.place in
+    let mark = c.in_ok-mark.mark.now in
+    let marks = c.in_ok-mark.marks.now in
+    let key = c.complete.new.key in
+    let ends = c.split_at.result.1.now in
+    let rest : drop (own_len mark) p.tails.now ≡ ends =
+    sym (c.split_at.ensures.back ∙ ap (λ n. drop (34 - n) p.tails.now) c.from.ensures) in
+    record {
+      filled = filled-game mark p.marks.now marks c.in_ok-mark.ensures.cases.0 p.before p.tails.now p.whole.now c.in-Some.outcome c.in-Some.is key ends
+          (sym c.complete.ensures) rest c.self.invariant.filled;
+      own = λ h. absurd (true≢false (sym h));
+      told = TellShared-behind key marks (rows_behind marks key ends p.whole.now)
+          (told-game mark p.marks.now marks c.in_ok-mark.ensures.cases.0 p.before p.tails.now p.whole.now c.in-Some.outcome c.in-Some.is key ends
+          (sym c.complete.ensures) rest c.self.invariant.told);
+    }
+
+pub invariant_of-self-in_default : goal.invariant_of-self-in_default
+invariant_of-self-in_default c =
+    let p = c.self.inside.place in
+    let mark = c.in_ok-mark.mark.now in
+    let marks = c.in_ok-mark.marks.now in
+    let row = c.in_ok-row.row.now in
+    let others = c.in_ok-row.whole.now in
+    record {
+      filled = filled-whole mark p.marks.now marks c.in_ok-mark.ensures.cases.0 p.before p.tails.now p.whole.now row others c.in_default.is
+          c.in_ok-row.ensures.cases.0 c.self.invariant.filled;
+      own = λ h. absurd (true≢false (sym h));
+      told = subst (λ k. TellSharedBehind marks (rows_behind marks k p.tails.now others)) (sym c.of-self-inside.ensures)
+          (told-whole mark p.marks.now marks c.in_ok-mark.ensures.cases.0 p.before p.tails.now p.whole.now row others c.in_default.is
+          c.in_ok-row.ensures.cases.0 c.self.invariant.told);
+    }

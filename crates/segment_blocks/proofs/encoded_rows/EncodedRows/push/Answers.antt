@@ -2,6 +2,7 @@ use Rattle.std.proofs.Common.{◌≡◌, ◌-◌, ◌++◌, ◌∷◌, [], take,
 use Rattle.std.proofs.lemmas.List.{take_all, length-drop}
 use Rattle.segment_blocks.specs.HeldRow.{row_in}
 use Rattle.segment_blocks.specs.Encoded.{Encoded, IsAppended}
+use Rattle.segment_blocks.specs.Prefix.{common_len}
 use Rattle.segment_blocks.proofs.AppendLemmas.{encoded, Added-game, Added-whole}
 use Rattle.segment_blocks.proofs.encoded_rows.EncodedRows.push.Goals as goal
 
@@ -24,7 +25,7 @@ returns-in_ok-extend_from_slice-clause-ok c =
     c.push_reserved.ensures.items ∙ ap (λ l. l ++ mark ∷ []) c.reserve.ensures.items in
     let old = encoded e.marks.items e.tails.items e.whole.items in
     let new = encoded c.push_reserved.new.self.items c.extend_from_slice.new.self.items e.whole.items in
-    let added = Added-game before row e.marks.items mark e.tails.items e.whole.items c.self.invariant shared long s.within (subst (λ k. take shared before ≡ take shared k) key s.same) c.in-Some.ensures in
+    let added = Added-game before row e.marks.items mark e.tails.items e.whole.items c.self.invariant shared long s.within (s.is ∙ ap (common_len before) key) c.in-Some.ensures in
     let here : IsAppended before row old new = rw (marks, tails) added.rows in
     subst (λ (old : Encoded). IsAppended before row old new) c.self.view_is here
 
@@ -40,6 +41,6 @@ returns-in_ok-push-clause-ok c =
     c.in_ok-push.ensures.items ∙ ap (λ r. e.whole.items ++ r ∷ []) c.to_row.ensures in
     let old = encoded e.marks.items e.tails.items e.whole.items in
     let new = encoded c.push_reserved-in_default.new.self.items e.tails.items c.push.new.self.items in
-    let added = Added-whole before row e.marks.items mark e.tails.items e.whole.items c.self.invariant c.whole_mark.ensures.outcome c.whole_mark.ensures.shared in
+    let added = Added-whole before row e.marks.items mark e.tails.items e.whole.items c.self.invariant c.whole_mark.ensures.outcome (c.whole_mark.ensures.shared ∙ c.shared_len-shared.ensures.is ∙ ap (common_len before) c.key-key.ensures) in
     let here : IsAppended before row old new = rw (marks, whole) added.rows in
     subst (λ (old : Encoded). IsAppended before row old new) c.self.view_is here

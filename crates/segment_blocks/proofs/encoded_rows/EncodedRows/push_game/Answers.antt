@@ -1,43 +1,46 @@
-use Rattle.std.proofs.Common.{◌≡◌, ℕ, ◌+◌, ◌-◌, ◌++◌, ◌∷◌, [], List, take, drop, length, sym, ap, subst, ◌∙◌, arith}
-use Rattle.std.proofs.lemmas.List.{length-drop}
+use Rattle.std.proofs.Common.{◌≡◌, ℕ, ◌+◌, ◌-◌, ◌++◌, ◌∷◌, [], List, take, drop, set, get_or, length, sym, ap, subst, ◌∙◌, arith}
+use Rattle.std.proofs.lemmas.List.{length-append}
 use Rattle.std.proofs.Math.Seq.{take-append-add}
-use Rattle.segment_blocks.specs.Encoded.{Encoded, IsAppended}
-use Rattle.segment_blocks.proofs.AppendLemmas.{encoded, Added-game, IsFilled-pushed}
+use Rattle.tally_rows.specs.Row.{row_of}
+use Rattle.segment_blocks.specs.declared.mark.Mark.{Mark}
+use Rattle.segment_blocks.specs.Encoded.{Encoded, IsAppended, IsMarkOf, single_of}
+use Rattle.segment_blocks.specs.Prefix.{common_len}
+use Rattle.segment_blocks.proofs.AppendLemmas.{encoded, set-last, get-last, Added-game}
 use Rattle.segment_blocks.proofs.encoded_rows.EncodedRows.push_game.Goals as goal
 
 -- of bytes behind others the first ones are kept
 kept : (tails more : List ℕ) (n own len : ℕ) → own ≡ n → len ≡ length tails → take (len + own) (tails ++ more) ≡ tails ++ take n more
 kept tails more n own len e l = (λ i. take (l i + e i) (tails ++ more)) ∙ take-append-add tails more n
 
-pub invariant_of-self-2 : goal.invariant_of-self-2
-invariant_of-self-2 c =
-    let e = c.self.inside in
-    let mark = c.args.mark in
-    let own = drop mark.shared c.args.key.now in
-    let tails : c.truncate.new.self.items ≡ e.tails.items ++ own =
-    c.truncate.ensures.items ∙ ap (take (c.len-len.result + (34 - c.from-own.result))) c.in_ok-extend_from_slice.ensures.items
-    ∙ kept e.tails.items c.end.result.now (34 - mark.shared) (34 - c.from-own.result) c.len-len.result (ap (λ n. 34 - n) c.from-own.ensures) (omega (arith, c.len-len.ensures, e.tails.ok))
-    ∙ ap (λ l. e.tails.items ++ l) c.end.ensures.end in
-    let marks : c.push_reserved.new.self.items ≡ e.marks.items ++ mark ∷ [] =
-    c.push_reserved.ensures.items ∙ ap (λ l. l ++ mark ∷ []) c.reserve.ensures.items in
-    let long : length own ≡ 34 - mark.shared = omega (arith, length-drop mark.shared c.args.key.now, c.end.ensures.long) in
-    rw (marks, tails) (IsFilled-pushed e.marks.items mark e.tails.items own e.whole.items c.self.invariant long c.requires)
-
 pub returns-clause-ok : goal.returns-clause-ok
-returns-clause-ok c before row key_is same is_mark =
+returns-clause-ok c before row outcome key_is same told is =
     let e = c.self.inside in
-    let mark = c.args.mark in
-    let shared = mark.shared in
+    let given = c.args.mark.now in
+    let number = c.args.number in
+    let mark = c.renumber.new.mark in
+    let shared = c.args.shared in
     let key : c.args.key.now ≡ row.key = sym key_is in
     let long : length row.key ≡ 34 = subst (λ k. length k ≡ 34) key c.end.ensures.long in
+    let pushed : c.push_reserved.new.self.items ≡ e.marks.items ++ given ∷ [] =
+    c.push_reserved.ensures.items ∙ ap (λ l. l ++ given ∷ []) c.reserve.ensures.items in
+    let at : c.len-at.result - 1 ≡ length e.marks.items =
+    omega (arith, c.len-at.ensures, c.push_reserved.new.self.ok, ap length pushed, length-append e.marks.items (given ∷ [])) in
+    let was : c.index_mut.result.now ≡ given =
+    c.index_mut.ensures.value ∙ (λ i. get_or (pushed i) (at i) c.index_mut.result.now) ∙ get-last e.marks.items given c.index_mut.result.now in
+    let marks : set c.push_reserved.new.self.items (c.len-at.result - 1) mark ≡ e.marks.items ++ mark ∷ [] =
+    (λ i. set (pushed i) (at i) mark) ∙ set-last e.marks.items given mark in
     let tails : c.truncate.new.self.items ≡ e.tails.items ++ drop shared row.key =
     c.truncate.ensures.items ∙ ap (take (c.len-len.result + (34 - c.from-own.result))) c.in_ok-extend_from_slice.ensures.items
     ∙ kept e.tails.items c.end.result.now (34 - shared) (34 - c.from-own.result) c.len-len.result (ap (λ n. 34 - n) c.from-own.ensures) (omega (arith, c.len-len.ensures, e.tails.ok))
     ∙ ap (λ l. e.tails.items ++ l) (c.end.ensures.end ∙ ap (drop shared) key) in
-    let marks : c.push_reserved.new.self.items ≡ e.marks.items ++ mark ∷ [] =
-    c.push_reserved.ensures.items ∙ ap (λ l. l ++ mark ∷ []) c.reserve.ensures.items in
+    let is_mark : IsMarkOf row shared mark = record {
+      at = c.renumber.ensures.shared;
+      outcome = outcome;
+      told = c.renumber.ensures.outcome ∙ ap (λ (m : Mark). m.outcome) was ∙ told;
+      is = ap row_of (c.renumber.ensures.single row.key outcome ∙ (λ i. record (single_of (key_is i) (was i) outcome) { number = number })) ∙ is;
+    } in
     let old = encoded e.marks.items e.tails.items e.whole.items in
-    let new = encoded c.push_reserved.new.self.items c.truncate.new.self.items e.whole.items in
-    let added = Added-game before row e.marks.items mark e.tails.items e.whole.items c.self.invariant shared long mark.in_key (subst (λ k. take shared before ≡ take shared k) key same) is_mark in
-    let here : IsAppended before row old new = rw (marks, tails) added.rows in
-    subst (λ (old : Encoded). IsAppended before row old new) c.self.view_is here
+    let added = Added-game before row e.marks.items mark e.tails.items e.whole.items c.self.invariant shared long c.requires.shared (same ∙ ap (common_len before) key) is_mark in
+    let here : IsAppended before row old (encoded (set c.push_reserved.new.self.items (c.len-at.result - 1) mark) c.truncate.new.self.items e.whole.items) =
+    subst (λ (new : Encoded). IsAppended before row old new) (λ i. encoded (sym marks i) (sym tails i) e.whole.items) added.rows in
+    subst (λ (old : Encoded). IsAppended before row old (encoded (set c.push_reserved.new.self.items (c.len-at.result - 1) mark) c.truncate.new.self.items e.whole.items)) c.self.view_is here

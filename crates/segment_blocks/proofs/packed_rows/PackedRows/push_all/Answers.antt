@@ -4,8 +4,8 @@ use Rattle.segment_blocks.specs.PackedRows.{AreInOrder}
 use Rattle.segment_blocks.proofs.OrderLemmas.{in_order-front}
 use Rattle.segment_blocks.proofs.packed_rows.PackedRows.push_all.Goals as goal
 
-pub push-requires : goal.push-requires
-push-requires c =
+pub push_counted-requires : goal.push_counted-requires
+push_counted-requires c =
     let rows = c.args.rows.now in
     let i = c.loop-row.row-index in
     let row = c.row-item.result in

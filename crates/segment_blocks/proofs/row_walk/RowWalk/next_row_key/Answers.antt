@@ -1,7 +1,7 @@
 use Rattle.std.proofs.Common.{◌≡◌, [], sym, ap, ◌∙◌}
 use Rattle.segment_blocks.specs.Moving.{next_row_key}
 use Rattle.segment_blocks.specs.Walk.{rows_until}
-use Rattle.segment_blocks.proofs.BoundLemmas.{next-none, until-nil}
+use Rattle.segment_blocks.proofs.UntilLemmas.{next-none, until-nil}
 use Rattle.segment_blocks.proofs.row_walk.RowWalk.next_row_key.Goals as goal
 
 pub returns-in_err-row_key : goal.returns-in_err-row_key

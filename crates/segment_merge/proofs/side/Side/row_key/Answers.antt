@@ -6,4 +6,4 @@ use Rattle.segment_merge.proofs.side.Side.row_key.Goals as goal
 pub returns : goal.returns
 returns c =
     let s = c.self.inside in
-    c.self.invariant.first ∙ sym (next-shifted s.by s.rest) ∙ ap next_row_key c.self.view_is
+    c.next_row_key.ensures ∙ sym (next-shifted s.by s.rest) ∙ ap next_row_key c.self.view_is

@@ -12,8 +12,8 @@ returns g c =
     let held = row_in c.in_ok-held.held in
     let rest = c.advance.new.self in
     let is : s.rest ≡ held ∷ rest = c.in_ok-held.ensures.rows in
-    let room = subst (AllByRecursion (HasRoom s.by)) is c.self.invariant.room in
-    let row : c.shifted-row.result ≡ shifted_row s.by held = c.shifted-row.ensures ∙ ap (shifted_row s.by) c.to_row.ensures in (
+    let room = subst (AllByRecursion (HasRoom s.by)) is c.self.invariant in
+    let row : c.shifted.result ≡ shifted_row s.by held = c.shifted.ensures ∙ ap (shifted_row s.by) c.to_row.ensures in (
       sym c.self.view_is ∙ ap (map (shifted_row s.by)) is ∙ ap (λ r. r ∷ map (shifted_row s.by) rest) (sym row),
       subst IsSmall (sym row) (small-shifted s.by held room.0),
     )
