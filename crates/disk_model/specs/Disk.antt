@@ -1,4 +1,4 @@
--- What a disk has come to, what its calls do to it, and what a crash may leave of it.
+-- Statement: what a disk has come to, what its calls do to it, and what a crash may leave of it.
 use Rattle.std.specs.Prelude.{◌≡◌, ◌⊎◌, ◌≤◌, ◌+◌, ℕ, max, List, ◌++◌, length, take, drop, Option, Some, None, IfSome, IsSome}
 use Rattle.std.specs.Option.{option_map}
 use Rattle.outside.specs.Stream.{Rises, NeverFalls}

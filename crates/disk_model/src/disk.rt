@@ -1,3 +1,4 @@
+//! What a disk is: its calls, and what a crash may leave of it.
 ghost use Rattle.std.specs.Prelude.{◌≡◌, ◌≤◌, ◌+◌, ◌^◌, ℕ, List, length, Some, IfOk, OnOk, OnErr};
 ghost use Rattle.disk_model.specs.Disk.{DiskState, Stays, Fails, Reads, Writes, FailsToWrite, Torn, Same, MayLeave, Elapses, IsDurable};
 

@@ -1,9 +1,9 @@
+//! A disk over a file of the system.
 ghost use Rattle.std.specs.Prelude.{◌≡◌, None, IfOk};
 ghost use Rattle.disk_model.specs.Disk.{DiskState};
 
 use crate::disk::Disk;
-use crate::plan::raise;
-use outside::Failed;
+use outside::{Failed, raise};
 use std::fs::File;
 use std::io;
 use std::marker::Model;

@@ -6,7 +6,6 @@ mod disk;
 mod file;
 pub mod laws;
 mod memory;
-mod plan;
 mod unkept;
 
 pub use call::DiskCall;

@@ -1,3 +1,4 @@
+//! A disk in memory.
 ghost use Rattle.std.specs.Prelude.{◌≡◌, ◌≤◌, ◌+◌, ◌<◌, ◌^◌, ◌↔◌, true, false, if◌then◌else◌, ℕ, nat_eq, List, [], ◌∷◌, max, length, reverse, vec_len, vec_capacity, IsTrue, IsErr, IfOk, OnOk, OnErr};
 ghost use Rattle.std.specs.List.{All};
 ghost use Rattle.outside.specs.Memory.{fails_next, after_call};
@@ -8,8 +9,7 @@ ghost use Rattle.disk_model.specs.declared.call.DiskCall.TheVariants.{Wrote, Syn
 
 use crate::call::DiskCall;
 use crate::disk::Disk;
-use crate::plan::{FailurePlan, raise};
-use outside::Failed;
+use outside::{Failed, FailurePlan, raise};
 use std::alloc::{AllocError, Global};
 use std::marker::Model;
 

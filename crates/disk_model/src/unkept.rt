@@ -1,3 +1,4 @@
+//! A disk without content.
 ghost use Rattle.std.specs.Prelude.{◌≡◌, None, refl};
 ghost use Rattle.disk_model.specs.Disk.{DiskState};
 

@@ -7,11 +7,12 @@ use Rattle.std.proofs.lemmas.Grind.{common_steps}
 use Rattle.std.proofs.lemmas.List.{reverse-append}
 use Rattle.outside.specs.Doors.{Connections}
 use Rattle.outside.specs.Stream.{Rises, Stream}
+use Rattle.outside.specs.Ports.{MemoryPort}
 use Rattle.disk_model.specs.Memory.{MemoryDisk}
 use Rattle.host.specs.declared.memory.Named.{Named}
 use Rattle.host.specs.declared.memory.MemCall.{MemCall}
 use Rattle.host.specs.declared.memory.MemCall.TheVariants as mem
-use Rattle.host.specs.Hosts.{HostCall, Thing, ADisk, AFile, ADoor, DiskOut, DiskBack, FileOut, FileBack, DoorsOut, DoorBack, IsOut, MayNote, out, one_if}
+use Rattle.host.specs.Hosts.{HostCall, Thing, ADisk, AFile, ADoor, APort, DiskOut, DiskBack, FileOut, FileBack, DoorsOut, DoorBack, PortOut, PortBack, IsOut, MayNote, out, one_if}
 use Rattle.host.specs.declared.memory.MemAddress.{MemAddress}
 use Rattle.host.specs.Memory.{IsKept, IsRefusalOf, MemoryHost, NotesOrNot, Stock, call_of, calls_of, host_of, names_in, place_in, things_out, without}
 use Rattle.host.proofs.Places.{names-set, place-set}
@@ -43,6 +44,7 @@ kept_disk_out stock calls out size room size' room' i name kept at fits = record
   room = fits;
   disks = λ other some. known_more stock.disks name other _ i (kept.disks other) at (omega (arith, some));
   files = λ other some. kept.files other (omega (arith, some));
+  ports = λ other some. kept.ports other (omega (arith, some));
 }
 
 pub kept_file_out : (stock : Stock) (calls : List HostCall) (out size room size' room' i : ℕ) (name : List ℕ)
@@ -53,6 +55,18 @@ kept_file_out stock calls out size room size' room' i name kept at fits = record
   room = fits;
   disks = λ other some. kept.disks other (omega (arith, some));
   files = λ other some. known_more stock.files name other _ i (kept.files other) at (omega (arith, some));
+  ports = λ other some. kept.ports other (omega (arith, some));
+}
+
+pub kept_port_out : (stock : Stock) (calls : List HostCall) (out size room size' room' i : ℕ) (name : List ℕ)
+    → IsKept stock calls out size room → place_in name stock.ports ≡ Some i → size' + (out + 1) ≤ room'
+    → IsKept stock (PortOut name ∷ calls) (out + 1) size' room'
+kept_port_out stock calls out size room size' room' i name kept at fits = record {
+  out_is = omega (arith, kept.out_is);
+  room = fits;
+  disks = λ other some. kept.disks other (omega (arith, some));
+  files = λ other some. kept.files other (omega (arith, some));
+  ports = λ other some. known_more stock.ports name other _ i (kept.ports other) at (omega (arith, some));
 }
 
 length-doors : (n : ℕ) (things : List Thing) → length (replicate n ADoor ++ things) ≡ n + length things
@@ -66,6 +80,7 @@ kept_doors_out stock calls out size room size' room' readers connections address
   room = fits;
   disks = λ other some. kept.disks other (omega (arith, some));
   files = λ other some. kept.files other (omega (arith, some));
+  ports = λ other some. kept.ports other (omega (arith, some));
 }
 
 pub kept_room : (stock : Stock) (calls : List HostCall) (out size room size' room' : ℕ)
@@ -75,6 +90,7 @@ kept_room stock calls out size room size' room' kept fits = record {
   room = fits;
   disks = kept.disks;
   files = kept.files;
+  ports = kept.ports;
 }
 
 -- one of the things is out, so some are
@@ -103,6 +119,7 @@ kept_disk_back stock calls number size room size' room' name kept some fits = re
   room = fits;
   disks = λ other more. kept.disks other (omega (arith, more));
   files = λ other more. kept.files other (omega (arith, more));
+  ports = λ other more. kept.ports other (omega (arith, more));
 }
 
 pub kept_file_back : (stock : Stock) (calls : List HostCall) (number size room size' room' : ℕ) (name : List ℕ) (file : Stream)
@@ -113,6 +130,7 @@ kept_file_back stock calls number size room size' room' name file kept some fits
   room = fits;
   disks = λ other more. kept.disks other (omega (arith, more));
   files = λ other more. kept.files other (omega (arith, more));
+  ports = λ other more. kept.ports other (omega (arith, more));
 }
 
 pub kept_door_back : (stock : Stock) (calls : List HostCall) (number size room size' room' : ℕ) (door : Connections)
@@ -123,6 +141,18 @@ kept_door_back stock calls number size room size' room' door kept some fits = re
   room = fits;
   disks = λ other more. kept.disks other (omega (arith, more));
   files = λ other more. kept.files other (omega (arith, more));
+  ports = λ other more. kept.ports other (omega (arith, more));
+}
+
+pub kept_port_back : (stock : Stock) (calls : List HostCall) (number size room size' room' : ℕ) (name : List ℕ)
+    → IsKept stock calls number size room → 0 < out (APort name) calls → size' + (number - 1) ≤ room'
+    → IsKept stock (PortBack name ∷ calls) (number - 1) size' room'
+kept_port_back stock calls number size room size' room' name kept some fits = record {
+  out_is = omega (arith, some_out stock calls number size room (APort name) kept some);
+  room = fits;
+  disks = λ other more. kept.disks other (omega (arith, more));
+  files = λ other more. kept.files other (omega (arith, more));
+  ports = λ other more. kept.ports other (omega (arith, more));
 }
 
 -- ---- another thing stands under a name
@@ -142,6 +172,25 @@ kept_disks stock calls out size room i new d same kept = record {
   room = kept.room;
   disks = λ other some. rw (place-set other stock.disks i new d same) (kept.disks other some);
   files = kept.files;
+  ports = kept.ports;
+}
+
+pub calls_of-ports : (stock : Stock) (calls : List MemCall) (i : ℕ) (new d : Named (Option MemoryPort))
+    → new.name ≡ (get_or stock.ports i d).name
+    → calls_of (record stock { ports = set stock.ports i new }) calls ≡ calls_of stock calls
+calls_of-ports stock calls i new d same =
+    ap (λ (ports : List (List ℕ)). reverse (map (call_of (record (names_in stock) { ports = ports })) calls))
+    (names-set stock.ports i new d same)
+
+pub kept_ports : (stock : Stock) (calls : List HostCall) (out size room i : ℕ) (new d : Named (Option MemoryPort))
+    → new.name ≡ (get_or stock.ports i d).name → IsKept stock calls out size room
+    → IsKept (record stock { ports = set stock.ports i new }) calls out size room
+kept_ports stock calls out size room i new d same kept = record {
+  out_is = kept.out_is;
+  room = kept.room;
+  disks = kept.disks;
+  files = kept.files;
+  ports = λ other some. rw (place-set other stock.ports i new d same) (kept.ports other some);
 }
 
 pub calls_of-addresses : (stock : Stock) (calls : List MemCall) (i : ℕ) (new d : Named (Option MemAddress))
@@ -158,6 +207,7 @@ kept_addresses stock calls out size room new kept = record {
   room = kept.room;
   disks = kept.disks;
   files = kept.files;
+  ports = kept.ports;
 }
 
 -- ---- refusals
@@ -166,24 +216,30 @@ pub noted_refusal : (s : Stock) (is : HostCall) (call : MemCall) → IsRefusalOf
 noted_refusal s is (mem.DiskRefused name) refusal = sym refusal
 noted_refusal s is (mem.FileRefused name) refusal = sym refusal
 noted_refusal s is (mem.DoorsRefused name r c) refusal = sym refusal
+noted_refusal s is (mem.PortRefused name) refusal = sym refusal
 noted_refusal s is (mem.DiskOut i) refusal = absurd refusal
 noted_refusal s is (mem.DiskBack i) refusal = absurd refusal
 noted_refusal s is (mem.FileOut i) refusal = absurd refusal
 noted_refusal s is (mem.FileBack i file) refusal = absurd refusal
 noted_refusal s is (mem.DoorsOut i r c) refusal = absurd refusal
 noted_refusal s is (mem.DoorBack door) refusal = absurd refusal
+noted_refusal s is (mem.PortOut i) refusal = absurd refusal
+noted_refusal s is (mem.PortBack i) refusal = absurd refusal
 
 kept_by : (s : Stock) (calls : List HostCall) (number size room : ℕ) (is : HostCall) (call : MemCall) → IsRefusalOf is call
     → IsKept s calls number size room → IsKept s (call_of (names_in s) call ∷ calls) number size room
-kept_by s calls number size room is (mem.DiskRefused name) refusal kept = record { out_is = kept.out_is; room = kept.room; disks = λ n some. kept.disks n (omega (arith, some)); files = λ n some. kept.files n (omega (arith, some)) }
-kept_by s calls number size room is (mem.FileRefused name) refusal kept = record { out_is = kept.out_is; room = kept.room; disks = λ n some. kept.disks n (omega (arith, some)); files = λ n some. kept.files n (omega (arith, some)) }
-kept_by s calls number size room is (mem.DoorsRefused name r c) refusal kept = record { out_is = kept.out_is; room = kept.room; disks = λ n some. kept.disks n (omega (arith, some)); files = λ n some. kept.files n (omega (arith, some)) }
+kept_by s calls number size room is (mem.DiskRefused name) refusal kept = record { out_is = kept.out_is; room = kept.room; disks = λ n some. kept.disks n (omega (arith, some)); files = λ n some. kept.files n (omega (arith, some)); ports = λ n some. kept.ports n (omega (arith, some)) }
+kept_by s calls number size room is (mem.FileRefused name) refusal kept = record { out_is = kept.out_is; room = kept.room; disks = λ n some. kept.disks n (omega (arith, some)); files = λ n some. kept.files n (omega (arith, some)); ports = λ n some. kept.ports n (omega (arith, some)) }
+kept_by s calls number size room is (mem.DoorsRefused name r c) refusal kept = record { out_is = kept.out_is; room = kept.room; disks = λ n some. kept.disks n (omega (arith, some)); files = λ n some. kept.files n (omega (arith, some)); ports = λ n some. kept.ports n (omega (arith, some)) }
+kept_by s calls number size room is (mem.PortRefused name) refusal kept = record { out_is = kept.out_is; room = kept.room; disks = λ n some. kept.disks n (omega (arith, some)); files = λ n some. kept.files n (omega (arith, some)); ports = λ n some. kept.ports n (omega (arith, some)) }
 kept_by s calls number size room is (mem.DiskOut i) refusal kept = absurd refusal
 kept_by s calls number size room is (mem.DiskBack i) refusal kept = absurd refusal
 kept_by s calls number size room is (mem.FileOut i) refusal kept = absurd refusal
 kept_by s calls number size room is (mem.FileBack i file) refusal kept = absurd refusal
 kept_by s calls number size room is (mem.DoorsOut i r c) refusal kept = absurd refusal
 kept_by s calls number size room is (mem.DoorBack door) refusal kept = absurd refusal
+kept_by s calls number size room is (mem.PortOut i) refusal kept = absurd refusal
+kept_by s calls number size room is (mem.PortBack i) refusal kept = absurd refusal
 
 pub kept_refused : (s : Stock) (calls items : List MemCall) (number size room size' room' : ℕ) (is : HostCall) (call : Option MemCall)
     → IsKept s (calls_of s calls) number size room → IfSome call (IsRefusalOf is) → NotesOrNot call calls items → size' + number ≤ room'
@@ -219,5 +275,5 @@ pub is_refused : (before after : MemoryHost) (is : HostCall) (call : Option MemC
 is_refused before after is call refusal rises notes rest = record {
   rises = rises;
   calls = rw (ap (λ (m : MemoryHost). m.stock) rest) (may_note before.stock before.calls after.calls is call refusal notes);
-  rest = rw (ap (λ (m : MemoryHost). m.stock) rest, ap (λ (m : MemoryHost). m.counts.disks) rest, ap (λ (m : MemoryHost). m.counts.files) rest, ap (λ (m : MemoryHost). m.counts.doors) rest) refl;
+  rest = rw (ap (λ (m : MemoryHost). m.stock) rest, ap (λ (m : MemoryHost). m.counts.disks) rest, ap (λ (m : MemoryHost). m.counts.files) rest, ap (λ (m : MemoryHost). m.counts.doors) rest, ap (λ (m : MemoryHost). m.counts.ports) rest) refl;
 }

@@ -96,7 +96,7 @@ takes_disk s calls items counts counts' i name slot new disk slot_is same it_is 
     (under-set None bytes_of name s.disks i new slot first same') in
     record {
       counts = counted;
-      rest = rw (e, d, it_is, ap (λ (k : FaultCounts). k.own) rest, ap (λ (k : FaultCounts). k.files) rest, ap (λ (k : FaultCounts). k.doors) rest) refl;
+      rest = rw (e, d, it_is, ap (λ (k : FaultCounts). k.own) rest, ap (λ (k : FaultCounts). k.files) rest, ap (λ (k : FaultCounts). k.doors) rest, ap (λ (k : FaultCounts). k.ports) rest) refl;
     }
 
 -- ---- files
@@ -162,7 +162,7 @@ takes_file s calls items counts counts' i name file at items_is counted rest =
     let e = file_noted s calls items i name (mem.FileBack i file) (λ n. FileBack n file.stream) at items_is (file_back_named s i file) in
     record {
       counts = counted;
-      rest = rw (e, ap (λ (k : FaultCounts). k.own) rest, ap (λ (k : FaultCounts). k.disks) rest, ap (λ (k : FaultCounts). k.doors) rest) refl;
+      rest = rw (e, ap (λ (k : FaultCounts). k.own) rest, ap (λ (k : FaultCounts). k.disks) rest, ap (λ (k : FaultCounts). k.doors) rest, ap (λ (k : FaultCounts). k.ports) rest) refl;
     }
 
 -- ---- doors
@@ -182,7 +182,7 @@ pub takes_door : (s : Stock) (calls items : List MemCall) (counts counts' : Faul
     (host_of (record { stock = s; calls = items; counts = counts' }))
 takes_door s calls items counts counts' door items_is counted rest = record {
   counts = counted;
-  rest = rw (calls_of-push s calls items (mem.DoorBack door) items_is, ap (λ (k : FaultCounts). k.own) rest, ap (λ (k : FaultCounts). k.disks) rest, ap (λ (k : FaultCounts). k.files) rest) refl;
+  rest = rw (calls_of-push s calls items (mem.DoorBack door) items_is, ap (λ (k : FaultCounts). k.own) rest, ap (λ (k : FaultCounts). k.disks) rest, ap (λ (k : FaultCounts). k.files) rest, ap (λ (k : FaultCounts). k.ports) rest) refl;
 }
 
 -- a call of the doors of an address, whose slot is another now

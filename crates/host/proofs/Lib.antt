@@ -1,4 +1,5 @@
 mod Keeping
 mod Lending
 mod Places
-mod Things
+mod Ports
+pub mod Things

@@ -5,7 +5,7 @@ use Rattle.std.specs.Str.{bytes_eq}
 use Rattle.std.proofs.lemmas.Slice.Eq.{bytes_eq-Decides}
 use Rattle.std.proofs.lemmas.Bool.{cases_Bool}
 use Rattle.std.proofs.lemmas.Grind.{common_steps}
-use Rattle.host.specs.Hosts.{HostCall, Thing, ADisk, AFile, ADoor, DiskOut, DiskRefused, DiskBack, FileOut, FileRefused, FileBack, DoorsOut, DoorsRefused, DoorBack, handed, noted, out, one_if, returned}
+use Rattle.host.specs.Hosts.{HostCall, Thing, ADisk, AFile, ADoor, APort, DiskOut, DiskRefused, DiskBack, FileOut, FileRefused, FileBack, DoorsOut, DoorsRefused, DoorBack, PortOut, PortRefused, PortBack, handed, noted, out, one_if, returned}
 use Rattle.host.specs.Memory.{is_same, without, things_out}
 
 pub bytes_same : (name other : List ℕ) → bytes_eq name other ≡ true → name ≡ other
@@ -18,12 +18,19 @@ pub same_thing : (thing other : Thing) → is_same thing other ≡ true → thin
 same_thing (ADisk name) (ADisk other) same = ap ADisk (bytes_same name other same)
 same_thing (AFile name) (AFile other) same = ap AFile (bytes_same name other same)
 same_thing ADoor ADoor same = refl
+same_thing (APort name) (APort other) same = ap APort (bytes_same name other same)
 same_thing (ADisk name) (AFile other) same = cc
 same_thing (ADisk name) ADoor same = cc
 same_thing (AFile name) (ADisk other) same = cc
 same_thing (AFile name) ADoor same = cc
 same_thing ADoor (ADisk other) same = cc
 same_thing ADoor (AFile other) same = cc
+same_thing (ADisk name) (APort other) same = cc
+same_thing (AFile name) (APort other) same = cc
+same_thing ADoor (APort other) same = cc
+same_thing (APort name) (ADisk other) same = cc
+same_thing (APort name) (AFile other) same = cc
+same_thing (APort name) ADoor same = cc
 
 -- how often a thing stands among others
 abbrev pub times : Thing → List Thing → ℕ
@@ -101,30 +108,51 @@ times-out thing [] = refl
 times-out (ADisk n) (DiskOut name ∷ calls) = rw (times-out (ADisk n) calls) (omega arith)
 times-out (AFile n) (DiskOut name ∷ calls) = rw (times-out (AFile n) calls) (omega arith)
 times-out ADoor (DiskOut name ∷ calls) = rw (times-out ADoor calls) (omega arith)
+times-out (APort n) (DiskOut name ∷ calls) = rw (times-out (APort n) calls) (omega arith)
 times-out (ADisk n) (DiskBack name ∷ calls) = rw (times-without (ADisk n) (ADisk name) (things_out calls), times-out (ADisk n) calls) (omega arith)
 times-out (AFile n) (DiskBack name ∷ calls) = rw (times-without (AFile n) (ADisk name) (things_out calls), times-out (AFile n) calls) (omega arith)
 times-out ADoor (DiskBack name ∷ calls) = rw (times-without ADoor (ADisk name) (things_out calls), times-out ADoor calls) (omega arith)
+times-out (APort n) (DiskBack name ∷ calls) = rw (times-without (APort n) (ADisk name) (things_out calls), times-out (APort n) calls) (omega arith)
 times-out (ADisk n) (FileOut name ∷ calls) = rw (times-out (ADisk n) calls) (omega arith)
 times-out (AFile n) (FileOut name ∷ calls) = rw (times-out (AFile n) calls) (omega arith)
 times-out ADoor (FileOut name ∷ calls) = rw (times-out ADoor calls) (omega arith)
+times-out (APort n) (FileOut name ∷ calls) = rw (times-out (APort n) calls) (omega arith)
 times-out (ADisk n) (FileBack name file ∷ calls) = rw (times-without (ADisk n) (AFile name) (things_out calls), times-out (ADisk n) calls) (omega arith)
 times-out (AFile n) (FileBack name file ∷ calls) = rw (times-without (AFile n) (AFile name) (things_out calls), times-out (AFile n) calls) (omega arith)
 times-out ADoor (FileBack name file ∷ calls) = rw (times-without ADoor (AFile name) (things_out calls), times-out ADoor calls) (omega arith)
+times-out (APort n) (FileBack name file ∷ calls) = rw (times-without (APort n) (AFile name) (things_out calls), times-out (APort n) calls) (omega arith)
 times-out (ADisk n) (DoorsOut a r c ∷ calls) = rw (times-doors r (ADisk n) (things_out calls), times-out (ADisk n) calls) (omega arith)
 times-out (AFile n) (DoorsOut a r c ∷ calls) = rw (times-doors r (AFile n) (things_out calls), times-out (AFile n) calls) (omega arith)
 times-out ADoor (DoorsOut a r c ∷ calls) = rw (times-doors r ADoor (things_out calls), times-out ADoor calls) (omega arith)
+times-out (APort n) (DoorsOut a r c ∷ calls) = rw (times-doors r (APort n) (things_out calls), times-out (APort n) calls) (omega arith)
 times-out (ADisk n) (DoorBack door ∷ calls) = rw (times-without (ADisk n) ADoor (things_out calls), times-out (ADisk n) calls) (omega arith)
 times-out (AFile n) (DoorBack door ∷ calls) = rw (times-without (AFile n) ADoor (things_out calls), times-out (AFile n) calls) (omega arith)
 times-out ADoor (DoorBack door ∷ calls) = rw (times-without ADoor ADoor (things_out calls), times-out ADoor calls) (omega arith)
+times-out (APort n) (DoorBack door ∷ calls) = rw (times-without (APort n) ADoor (things_out calls), times-out (APort n) calls) (omega arith)
+times-out (ADisk n) (PortOut name ∷ calls) = rw (times-out (ADisk n) calls) (omega arith)
+times-out (AFile n) (PortOut name ∷ calls) = rw (times-out (AFile n) calls) (omega arith)
+times-out ADoor (PortOut name ∷ calls) = rw (times-out ADoor calls) (omega arith)
+times-out (APort n) (PortOut name ∷ calls) = rw (times-out (APort n) calls) (omega arith)
+times-out (ADisk n) (PortBack name ∷ calls) = rw (times-without (ADisk n) (APort name) (things_out calls), times-out (ADisk n) calls) (omega arith)
+times-out (AFile n) (PortBack name ∷ calls) = rw (times-without (AFile n) (APort name) (things_out calls), times-out (AFile n) calls) (omega arith)
+times-out ADoor (PortBack name ∷ calls) = rw (times-without ADoor (APort name) (things_out calls), times-out ADoor calls) (omega arith)
+times-out (APort n) (PortBack name ∷ calls) = rw (times-without (APort n) (APort name) (things_out calls), times-out (APort n) calls) (omega arith)
 times-out (ADisk n) (DiskRefused name ∷ calls) = rw (times-out (ADisk n) calls) (omega arith)
 times-out (AFile n) (DiskRefused name ∷ calls) = rw (times-out (AFile n) calls) (omega arith)
 times-out ADoor (DiskRefused name ∷ calls) = rw (times-out ADoor calls) (omega arith)
+times-out (APort n) (DiskRefused name ∷ calls) = rw (times-out (APort n) calls) (omega arith)
 times-out (ADisk n) (FileRefused name ∷ calls) = rw (times-out (ADisk n) calls) (omega arith)
 times-out (AFile n) (FileRefused name ∷ calls) = rw (times-out (AFile n) calls) (omega arith)
 times-out ADoor (FileRefused name ∷ calls) = rw (times-out ADoor calls) (omega arith)
+times-out (APort n) (FileRefused name ∷ calls) = rw (times-out (APort n) calls) (omega arith)
 times-out (ADisk n) (DoorsRefused a r c ∷ calls) = rw (times-out (ADisk n) calls) (omega arith)
 times-out (AFile n) (DoorsRefused a r c ∷ calls) = rw (times-out (AFile n) calls) (omega arith)
 times-out ADoor (DoorsRefused a r c ∷ calls) = rw (times-out ADoor calls) (omega arith)
+times-out (APort n) (DoorsRefused a r c ∷ calls) = rw (times-out (APort n) calls) (omega arith)
+times-out (ADisk n) (PortRefused name ∷ calls) = rw (times-out (ADisk n) calls) (omega arith)
+times-out (AFile n) (PortRefused name ∷ calls) = rw (times-out (AFile n) calls) (omega arith)
+times-out ADoor (PortRefused name ∷ calls) = rw (times-out ADoor calls) (omega arith)
+times-out (APort n) (PortRefused name ∷ calls) = rw (times-out (APort n) calls) (omega arith)
 
 -- ---- what was handed out
 

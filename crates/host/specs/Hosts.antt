@@ -1,8 +1,9 @@
--- What a host has come to, and what its calls do to it.
+-- Statement: what a host has come to, and what its calls do to it.
 use Rattle.std.specs.Prelude.{◌≡◌, ◌⊎◌, ◌<◌, ◌+◌, ◌-◌, ℕ, Bool, List, [], ◌∷◌, length, Option, None, Some, IfSome, slice_get, if◌then◌else◌}
 use Rattle.std.specs.Option.{option_map}
 use Rattle.std.specs.Str.{bytes_eq}
 use Rattle.outside.specs.Doors.{Connections}
+use Rattle.outside.specs.Ports.{Scratch}
 use Rattle.outside.specs.Stream.{Stream, Rises, source_alone}
 use Rattle.disk_model.specs.Disk.{DiskState}
 use Rattle.explorer_model.specs.declared.fault.Stop.{Stop}
@@ -25,12 +26,17 @@ pub data HostCall : Type 0 where
   DoorsRefused : List ℕ → ℕ → ℕ → HostCall
   -- a door was given back, as it stood then
   DoorBack : Connections → HostCall
+  -- a scratch file of this name was handed out, refused, or given back
+  PortOut : List ℕ → HostCall
+  PortRefused : List ℕ → HostCall
+  PortBack : List ℕ → HostCall
 
 -- what is handed out, by its name
 pub data Thing : Type 0 where
   ADisk : List ℕ → Thing
   AFile : List ℕ → Thing
   ADoor : Thing
+  APort : List ℕ → Thing
 
 abbrev pub one_if : Bool → ℕ
 one_if same = if same then 1 else 0
@@ -40,6 +46,7 @@ abbrev pub handed : Thing → HostCall → ℕ
 handed (ADisk name) (DiskOut other) = one_if (bytes_eq name other)
 handed (AFile name) (FileOut other) = one_if (bytes_eq name other)
 handed ADoor (DoorsOut address readers connections) = readers
+handed (APort name) (PortOut other) = one_if (bytes_eq name other)
 handed _ _ = 0
 
 -- how many of a thing a call gives back
@@ -47,6 +54,7 @@ abbrev pub returned : Thing → HostCall → ℕ
 returned (ADisk name) (DiskBack other) = one_if (bytes_eq name other)
 returned (AFile name) (FileBack other file) = one_if (bytes_eq name other)
 returned ADoor (DoorBack door) = 1
+returned (APort name) (PortBack other) = one_if (bytes_eq name other)
 returned _ _ = 0
 
 -- how many of a thing are out after these calls, of which the newest stands first
@@ -62,10 +70,12 @@ pub record HostState : Type 0 where
   pub disks : List ℕ → Option (List ℕ)  -- the bytes of the disk under a name, which is not out
   pub files : List ℕ → Option (List ℕ)  -- the bytes of the file under a name
   pub links : List ℕ → ℕ → Option (List Stream)  -- those to come at each door of an address
+  pub ports : List ℕ → Option (List ℕ)  -- those of the scratch file under a name, which is not out
   pub own_faults : ℕ  -- how often it refused what it was asked for
   pub disk_faults : ℕ  -- how often a disk came back with faults
   pub file_faults : ℕ
   pub door_faults : ℕ
+  pub port_faults : ℕ
 
 -- the calls with one more
 abbrev pub noted : HostCall → Option (List HostCall) → Option (List HostCall)
@@ -191,4 +201,31 @@ pub record TakesDoor (door : Connections) (before after : HostState) : Type 0 wh
   pub rest : after ≡ record before {
     calls = noted (DoorBack door) before.calls;
     door_faults = after.door_faults;
+  }
+
+-- ---- scratch files
+
+-- a scratch file was handed out, of which nothing stands under the name meanwhile: an empty one,
+-- which tells its bytes where those under the name were told
+pub record HandsPort (name : List ℕ) (port : Scratch) (before after : HostState) : Type 0 where
+  pub told : port.appended ≡ option_map (λ _. []) (before.ports name)
+  pub empty : port.size ≡ 0
+  pub faultless : port.faults ≡ 0
+  pub rest : after ≡ record before {
+    calls = noted (PortOut name) before.calls;
+    ports = put name None before.ports;
+  }
+
+pub record RefusesPort (name : List ℕ) (before after : HostState) : Type 0 where
+  pub rises : Rises before.own_faults after.own_faults
+  pub calls : MayNote (PortRefused name) before.calls after.calls
+  pub rest : after ≡ record before { calls = after.calls; own_faults = after.own_faults }
+
+-- a scratch file came back, and stands under its name with what was appended
+pub record TakesPort (name : List ℕ) (port : Scratch) (before after : HostState) : Type 0 where
+  pub counts : Counts port.faults before.port_faults after.port_faults
+  pub rest : after ≡ record before {
+    calls = noted (PortBack name) before.calls;
+    ports = put name port.appended before.ports;
+    port_faults = after.port_faults;
   }

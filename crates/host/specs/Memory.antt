@@ -1,8 +1,9 @@
--- The host in memory.
+-- Statement: the host in memory.
 use Rattle.std.specs.Prelude.{◌≡◌, ◌⊎◌, ◌≤◌, ◌<◌, ◌+◌, ◌∷◌, ℕ, Bool, true, false, List, [], ◌++◌, length, position, Option, None, Some, IsSome, map, reverse, replicate, string_bytes, slice_get, get_or, if◌then◌else◌}
 use Rattle.std.specs.Option.{option_and_then}
 use Rattle.std.specs.Str.{bytes_eq}
 use Rattle.outside.specs.Memory.{stream_of}
+use Rattle.outside.specs.Ports.{MemoryPort, scratch_of}
 use Rattle.outside.specs.Stream.{Stream}
 use Rattle.disk_model.specs.Memory.{MemoryDisk, state_of}
 use Rattle.host.specs.declared.memory.Named.{Named}
@@ -12,7 +13,7 @@ use Rattle.host.specs.declared.memory.MemLinks.{MemLinks}
 use Rattle.host.specs.declared.memory.MemCall.{MemCall}
 use Rattle.host.specs.declared.memory.MemCall.TheVariants as mem
 use Rattle.host.specs.Hosts as host
-use Rattle.host.specs.Hosts.{HostCall, HostState, Thing, ADisk, AFile, ADoor, DiskOut, DiskRefused, DiskBack, FileOut, FileRefused, FileBack, DoorsOut, DoorsRefused, DoorBack}
+use Rattle.host.specs.Hosts.{HostCall, HostState, Thing, ADisk, AFile, ADoor, APort, DiskOut, DiskRefused, DiskBack, FileOut, FileRefused, FileBack, DoorsOut, DoorsRefused, DoorBack, PortOut, PortRefused, PortBack}
 use Rattle.host.specs.Real.{FaultCounts}
 
 -- ---- what stands under a name
@@ -46,6 +47,10 @@ abbrev pub each_links : Option MemAddress → ℕ → Option (List Stream)
 each_links None k = None
 each_links (Some address) k = links_of (slice_get address.doors.items k)
 
+-- the bytes of a scratch file, where it tells them
+abbrev pub appended_of : Option MemoryPort → Option (List ℕ)
+appended_of port = option_and_then (λ port. (scratch_of port).appended) port
+
 -- ---- the calls
 
 -- what stands under names
@@ -53,11 +58,12 @@ pub record Stock : Type 0 where
   pub disks : List (Named (Option MemoryDisk))
   pub files : List (Named MemFile)
   pub addresses : List (Named (Option MemAddress))
+  pub ports : List (Named (Option MemoryPort))
 
 abbrev pub stock : List (Named (Option MemoryDisk)) → List (Named MemFile)
-    → List (Named (Option MemAddress)) → Stock
-stock disks files addresses =
-    record { disks = disks; files = files; addresses = addresses }
+    → List (Named (Option MemAddress)) → List (Named (Option MemoryPort)) → Stock
+stock disks files addresses ports =
+    record { disks = disks; files = files; addresses = addresses; ports = ports }
 
 pub record MemoryHost : Type 0 where
   pub stock : Stock
@@ -69,12 +75,14 @@ pub record Names : Type 0 where
   pub disks : List (List ℕ)
   pub files : List (List ℕ)
   pub addresses : List (List ℕ)
+  pub ports : List (List ℕ)
 
 abbrev pub names_in : Stock → Names
 names_in stock = record {
   disks = names_of stock.disks;
   files = names_of stock.files;
   addresses = names_of stock.addresses;
+  ports = names_of stock.ports;
 }
 
 abbrev pub call_of : Names → MemCall → HostCall
@@ -89,6 +97,9 @@ call_of names (mem.DoorsOut place readers connections) =
 call_of names (mem.DoorsRefused name readers connections) =
     DoorsRefused (string_bytes name) readers connections
 call_of names (mem.DoorBack door) = DoorBack door.connections
+call_of names (mem.PortOut place) = PortOut (get_or names.ports place [])
+call_of names (mem.PortRefused name) = PortRefused (string_bytes name)
+call_of names (mem.PortBack place) = PortBack (get_or names.ports place [])
 
 -- the calls, the newest first
 abbrev pub calls_of : Stock → List MemCall → List HostCall
@@ -100,10 +111,12 @@ host_of host = record {
   disks = under None bytes_of host.stock.disks;
   files = under None (λ file. Some file.bytes.items) host.stock.files;
   links = under (λ _. None) each_links host.stock.addresses;
+  ports = under None appended_of host.stock.ports;
   own_faults = host.counts.own;
   disk_faults = host.counts.disks;
   file_faults = host.counts.files;
   door_faults = host.counts.doors;
+  port_faults = host.counts.ports;
 }
 
 -- ---- what is kept of a host in memory
@@ -112,6 +125,7 @@ abbrev pub is_same : Thing → Thing → Bool
 is_same (ADisk name) (ADisk other) = bytes_eq name other
 is_same (AFile name) (AFile other) = bytes_eq name other
 is_same ADoor ADoor = true
+is_same (APort name) (APort other) = bytes_eq name other
 is_same _ _ = false
 
 -- things without the first that is the same
@@ -130,6 +144,8 @@ things_out (FileBack name file ∷ calls) = without (AFile name) (things_out cal
 things_out (DoorsOut address readers connections ∷ calls) =
     replicate readers ADoor ++ things_out calls
 things_out (DoorBack door ∷ calls) = without ADoor (things_out calls)
+things_out (PortOut name ∷ calls) = APort name ∷ things_out calls
+things_out (PortBack name ∷ calls) = without (APort name) (things_out calls)
 things_out (_ ∷ calls) = things_out calls
 
 -- what is out has a place
@@ -144,6 +160,7 @@ pub record IsKept (stock : Stock) (calls : List HostCall) (out size capacity : �
   pub room : size + out ≤ capacity
   pub disks : AreKnown ADisk stock.disks calls
   pub files : AreKnown AFile stock.files calls
+  pub ports : AreKnown APort stock.ports calls
 
 -- the call is noted as one that was refused
 abbrev pub IsRefusalOf : HostCall → MemCall → Type 0
@@ -151,6 +168,7 @@ IsRefusalOf is (mem.DiskRefused name) = is ≡ DiskRefused (string_bytes name)
 IsRefusalOf is (mem.FileRefused name) = is ≡ FileRefused (string_bytes name)
 IsRefusalOf is (mem.DoorsRefused name readers connections) =
     is ≡ DoorsRefused (string_bytes name) readers connections
+IsRefusalOf is (mem.PortRefused name) = is ≡ PortRefused (string_bytes name)
 IsRefusalOf is _ = ⊥
 
 -- a call was noted behind the others, or no call was

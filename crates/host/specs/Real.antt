@@ -1,4 +1,4 @@
--- The host over the system, of which its counts alone are told.
+-- Statement: the host over the system, of which its counts alone are told.
 use Rattle.std.specs.Prelude.{ℕ, None}
 use Rattle.host.specs.Hosts.{HostState}
 
@@ -8,6 +8,7 @@ pub record FaultCounts : Type 0 where
   pub disks : ℕ
   pub files : ℕ
   pub doors : ℕ
+  pub ports : ℕ
 
 -- a host of which its counts alone are told
 abbrev pub untold : FaultCounts → HostState
@@ -16,8 +17,10 @@ untold counts = record {
   disks = λ _. None;
   files = λ _. None;
   links = λ _ _. None;
+  ports = λ _. None;
   own_faults = counts.own;
   disk_faults = counts.disks;
   file_faults = counts.files;
   door_faults = counts.doors;
+  port_faults = counts.ports;
 }

@@ -1,9 +1,10 @@
+//! What a host is: what a run asks for by name.
 ghost use Rattle.std.specs.Prelude.{◌≡◌, map, IfOk, IfErr, OnErr};
-ghost use Rattle.host.specs.Hosts.{HostState, ADisk, AFile, ADoor, HandsDisk, HandsDoors, HandsFile, IsOut, NotMade, RefusesDisk, RefusesFile, TakesDisk, TakesDoor, TakesFile};
+ghost use Rattle.host.specs.Hosts.{HostState, ADisk, AFile, ADoor, APort, HandsDisk, HandsDoors, HandsFile, HandsPort, IsOut, NotMade, RefusesDisk, RefusesFile, RefusesPort, TakesDisk, TakesDoor, TakesFile, TakesPort};
 
 use disk_model::Disk;
 use explorer_model::fault::Stop;
-use outside::{Door, Failed, Source};
+use outside::{Door, Failed, Port, Source};
 
 /// What a run asks for by name, and gives back. A thing is handed out with a count of 0. Generic
 /// code can let none go, since it may not be `Drop`: each goes back.
@@ -13,6 +14,8 @@ pub trait Host {
     type File: Source + Send;
 
     type Door: Door + Send;
+
+    type Port: Port + Send;
 
     // What the host has come to.
     ghost host: { Self → HostState };
@@ -55,4 +58,15 @@ pub trait Host {
     fn close_door(&mut self, door: Self::Door)
         requires { IsOut ADoor (host self.old) }
         ensures { TakesDoor (Self.Door.door door) (host self.old) (host self.new) };
+
+    /// Opens a scratch file, which is emptied. It is made where it is missing.
+    fn port(&mut self, name: &str) -> Result<Self::Port, Failed>
+        ensures hands { IfOk result (λ port.
+            HandsPort name.now (Self.Port.port port) (host self.old) (host self.new)) }
+        ensures refuses { OnErr result (RefusesPort name.now (host self.old) (host self.new)) };
+
+    /// Takes a scratch file back, which stays under the name with what was appended.
+    fn close_port(&mut self, name: &str, port: Self::Port)
+        requires { IsOut (APort name.now) (host self.old) }
+        ensures { TakesPort name.now (Self.Port.port port) (host self.old) (host self.new) };
 }

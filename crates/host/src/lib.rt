@@ -1,5 +1,5 @@
-//! The host of a run: what hands out disks, files and doors by their names, and takes them back; its
-//! form over the system, and its form in memory.
+//! The host of a run: what hands out disks, files, doors and scratch files by their names, and takes
+//! them back; its form over the system, and its form in memory.
 #![tactic(auto)]
 
 mod counts;

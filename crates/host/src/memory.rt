@@ -4,15 +4,16 @@ ghost use Rattle.std.specs.Bool.{OnTrue};
 ghost use Rattle.std.specs.Vec.Iter.{into_iter_items};
 ghost use Rattle.disk_model.specs.Memory.{state_of};
 ghost use Rattle.outside.specs.Memory.{stream_of};
+ghost use Rattle.outside.specs.Ports.{scratch_of};
 ghost use Rattle.outside.specs.Stream.{Rises, source_alone};
-ghost use Rattle.host.specs.Hosts.{ADisk, AFile, ADoor, AreFresh, HandsDisk, HandsDoors, HandsFile, HostCall, HostState, DiskRefused, DoorsRefused, FileRefused};
+ghost use Rattle.host.specs.Hosts.{ADisk, AFile, ADoor, APort, AreFresh, HandsDisk, HandsDoors, HandsFile, HandsPort, HostCall, HostState, DiskRefused, DoorsRefused, FileRefused, PortRefused};
 ghost use Rattle.host.specs.Memory.{IsRefusalOf, NotesOrNot, each_links, host_of, links_of, place_in};
 
-use crate::counts::{count_return, refuse};
+use crate::counts::count_return;
 use crate::host::Host;
 use disk_model::{Disk, MemDisk};
 use explorer_model::fault::Stop;
-use outside::{Failed, MemDoor, MemLink, MemSource, Source};
+use outside::{Failed, MemDoor, MemLink, MemPort, MemSource, Port, Source, raise};
 use std::alloc::{AllocError, Global};
 use std::marker::Model;
 use std::vec::IntoIter;
@@ -91,23 +92,35 @@ pub enum MemCall {
     DoorBack {
         door: MemDoor,
     },
+    PortOut {
+        place: usize,
+    },
+    PortRefused {
+        name: String,
+    },
+    PortBack {
+        place: usize,
+    },
 }
 
-/// A host over named disks, files and links in memory. It refuses a name that it doesn't know, a
-/// disk that is out or came back with faults, links that have come, and what it finds no memory
-/// for. When it hands a thing out it takes the room for noting its return.
+/// A host over named disks, files, links and scratch files in memory. It refuses a name that it
+/// doesn't know, a disk or a scratch file that is out or came back with faults, links that have
+/// come, and what it finds no memory for. When it hands a thing out it takes the room for noting its
+/// return.
 #[derive(Drop)]
 pub struct MemHost {
     alloc: Global,
     disks: Vec<Named<Option<MemDisk>>>,
     files: Vec<Named<MemFile>>,
     addresses: Vec<Named<Option<MemAddress>>>,
+    ports: Vec<Named<Option<MemPort>>>,
     calls: Vec<MemCall>,
     out: usize,
     own_faults: u64,
     disk_faults: u64,
     file_faults: u64,
     door_faults: u64,
+    port_faults: u64,
 }
 
 impl Model for MemHost {
@@ -117,17 +130,19 @@ impl Model for MemHost {
     ghost Value = { MemoryHost };
 
     ghost view = { λ h. record {
-      stock = stock h.disks.items h.files.items h.addresses.items;
+      stock = stock h.disks.items h.files.items h.addresses.items h.ports.items;
       calls = h.calls.items;
       counts = record {
         own = h.own_faults;
         disks = h.disk_faults;
         files = h.file_faults;
         doors = h.door_faults;
+        ports = h.port_faults;
       };
     } };
 
-    ghost invariant = { λ h. let it = stock h.disks.items h.files.items h.addresses.items in
+    ghost invariant = { λ h.
+        let it = stock h.disks.items h.files.items h.addresses.items h.ports.items in
         IsKept it (calls_of it h.calls.items) h.out (vec_len h.calls) (vec_capacity h.calls) };
 }
 
@@ -135,9 +150,9 @@ impl MemHost {
     /// A host with nothing under any name.
     pub fn new(alloc: Global) -> Self
         ensures { result ≡ record {
-          stock = record { disks = []; files = []; addresses = [] };
+          stock = record { disks = []; files = []; addresses = []; ports = [] };
           calls = [];
-          counts = record { own = 0; disks = 0; files = 0; doors = 0 };
+          counts = record { own = 0; disks = 0; files = 0; doors = 0; ports = 0 };
         } }
     {
         MemHost {
@@ -145,12 +160,14 @@ impl MemHost {
             disks: Vec::new(alloc),
             files: Vec::new(alloc),
             addresses: Vec::new(alloc),
+            ports: Vec::new(alloc),
             calls: Vec::new(alloc),
             out: 0,
             own_faults: 0,
             disk_faults: 0,
             file_faults: 0,
             door_faults: 0,
+            port_faults: 0,
         }
     }
 
@@ -195,6 +212,20 @@ impl MemHost {
         let name = String::from_str(self.alloc, address)?;
         let doors = MemAddress { doors: links };
         self.addresses.push(Named::new(name, Some(doors)))?;
+        Ok(())
+    }
+
+    /// Puts a scratch file under a name that has none.
+    pub fn add_port(&mut self, name: &str, port: MemPort) -> Result<(), AllocError>
+        requires { self.old.calls ≡ [] }
+        ensures calls { self.new.calls ≡ [] }
+        ensures added { OnOk result ((slot : _) × (string_bytes slot.name ≡ name.now)
+            × (slot.it ≡ Some port) × (self.new.stock ≡ record self.old.stock {
+              ports = self.old.stock.ports ++ slot ∷ [];
+            })) }
+    {
+        let name = String::from_str(self.alloc, name)?;
+        self.ports.push(Named::new(name, Some(port)))?;
         Ok(())
     }
 
@@ -271,6 +302,21 @@ impl MemHost {
         Ok(Some(doors))
     }
 
+    fn lend_port(&mut self, name: &str) -> Option<MemPort>
+        ensures { MatchOption result (self.new ≡ self.old) (λ port.
+            HandsPort name.now (scratch_of port) (host_of self.old) (host_of self.new)) }
+    {
+        let place = place_of(&self.ports, name)?;
+        if !make_room(&mut self.calls, self.out, 2) {
+            return None;
+        }
+        let mut port = take_ready_port(&mut self.ports[place].it)?;
+        port.clear();
+        self.calls.push_reserved(MemCall::PortOut { place });
+        self.out += 1;
+        Some(port)
+    }
+
     /// Counts a call that is refused, and notes it, where there is memory for that.
     fn refuse(&mut self, call: Option<MemCall>) -> Failed
         requires { (is : HostCall) × IfSome call (IsRefusalOf is) }
@@ -282,7 +328,7 @@ impl MemHost {
         } }
     {
         note_if_room(&mut self.calls, self.out, call);
-        refuse(&mut self.own_faults)
+        raise(&mut self.own_faults)
     }
 }
 
@@ -292,6 +338,8 @@ impl Host for MemHost {
     type File = MemSource;
 
     type Door = MemDoor;
+
+    type Port = MemPort;
 
     ghost host = { host_of };
 
@@ -347,6 +395,23 @@ impl Host for MemHost {
     fn close_door(&mut self, door: MemDoor) {
         count_return(&mut self.door_faults, door.faults());
         self.calls.push_reserved(MemCall::DoorBack { door });
+        self.out -= 1;
+    }
+
+    fn port(&mut self, name: &str) -> Result<MemPort, Failed> {
+        match self.lend_port(name) {
+            Some(port) => Ok(port),
+            None => Err(self.refuse(port_refused(self.alloc, name))),
+        }
+    }
+
+    fn close_port(&mut self, name: &str, port: MemPort) {
+        count_return(&mut self.port_faults, port.faults());
+        let Some(place) = place_of(&self.ports, name) else {
+            unreachable!();
+        };
+        self.ports[place].it = Some(port);
+        self.calls.push_reserved(MemCall::PortBack { place });
         self.out -= 1;
     }
 }
@@ -410,6 +475,13 @@ fn doors_refused(alloc: Global, address: &str, readers: usize, connections: u32)
     })
 }
 
+fn port_refused(alloc: Global, name: &str) -> Option<MemCall>
+    ensures { IfSome result (IsRefusalOf (PortRefused name.now)) }
+{
+    let name = String::from_str(alloc, name).ok()?;
+    Some(MemCall::PortRefused { name })
+}
+
 /// Takes a disk that is not out and has no faults.
 fn take_ready(disk: &mut Option<MemDisk>) -> Option<MemDisk>
     ensures { MatchOption result (disk.new ≡ disk.old)
@@ -418,6 +490,19 @@ fn take_ready(disk: &mut Option<MemDisk>) -> Option<MemDisk>
     let taken = disk.take()?;
     if taken.faults() > 0 {
         *disk = Some(taken);
+        return None;
+    }
+    Some(taken)
+}
+
+/// Takes a scratch file that is not out and has no faults.
+fn take_ready_port(port: &mut Option<MemPort>) -> Option<MemPort>
+    ensures { MatchOption result (port.new ≡ port.old)
+        (λ taken. (port.old ≡ Some taken) × (taken.faults ≡ 0) × (port.new ≡ None)) }
+{
+    let taken = port.take()?;
+    if taken.faults() > 0 {
+        *port = Some(taken);
         return None;
     }
     Some(taken)

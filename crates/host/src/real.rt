@@ -1,13 +1,14 @@
+//! The system as a host.
 ghost use Rattle.std.specs.Prelude.{◌≡◌, None, IfOk, IfErr};
 ghost use Rattle.outside.specs.Stream.{source_alone};
 ghost use Rattle.host.specs.Hosts.{AreFresh};
 ghost use Rattle.host.specs.Real.{untold};
 
-use crate::counts::{count_return, refuse};
+use crate::counts::count_return;
 use crate::host::Host;
 use disk_model::{Disk, FileDisk};
 use explorer_model::fault::Stop;
-use outside::{Failed, Source, StdSource, TcpDoor};
+use outside::{Failed, FilePort, Port, Source, StdSource, TcpDoor, raise};
 use std::alloc::Global;
 use std::fs::{File, Files, OpenOptions, canonicalize};
 use std::io;
@@ -15,8 +16,9 @@ use std::marker::Model;
 use std::net::{Net, TcpListener, TcpStream};
 use std::os::fd::AsRawFd;
 
-/// The system as a host: names are paths, addresses those of TCP. A disk is locked while it is out. It tells nothing of what stands
-/// there, and counts each error of the system as a refusal.
+/// The system as a host: names are paths, addresses those of TCP. A disk and a scratch file are
+/// locked while they are out. It tells nothing of what stands there, and counts each error of the
+/// system as a refusal.
 #[derive(Drop)]
 pub struct RealHost<
     'a,
@@ -27,6 +29,7 @@ pub struct RealHost<
     disk_faults: u64,
     file_faults: u64,
     door_faults: u64,
+    port_faults: u64,
 }
 
 impl<
@@ -42,6 +45,7 @@ impl<
       disks = h.disk_faults;
       files = h.file_faults;
       doors = h.door_faults;
+      ports = h.port_faults;
     } };
 }
 
@@ -50,7 +54,7 @@ impl<
     R: AllocGlobal + Files<File = File> + Net<Stream = TcpStream, Listener = TcpListener>,
 > RealHost<'a, R> {
     pub fn new(rt: &'a R) -> Self
-        ensures { result ≡ record { own = 0; disks = 0; files = 0; doors = 0 } }
+        ensures { result ≡ record { own = 0; disks = 0; files = 0; doors = 0; ports = 0 } }
     {
         RealHost {
             rt,
@@ -58,6 +62,7 @@ impl<
             disk_faults: 0,
             file_faults: 0,
             door_faults: 0,
+            port_faults: 0,
         }
     }
 }
@@ -70,12 +75,14 @@ impl<'a, R: AllocGlobal + Files<File = File> + Net<Stream = TcpStream, Listener 
 
     type Door = TcpDoor;
 
+    type Port = FilePort;
+
     ghost host = { untold };
 
     fn disk(&mut self, name: &str) -> Result<FileDisk, Failed> {
         match open_disk(self.rt, name) {
             Ok(disk) => Ok(disk),
-            Err(_) => Err(refuse(&mut self.own_faults)),
+            Err(_) => Err(raise(&mut self.own_faults)),
         }
     }
 
@@ -86,7 +93,7 @@ impl<'a, R: AllocGlobal + Files<File = File> + Net<Stream = TcpStream, Listener 
     fn file(&mut self, name: &str) -> Result<StdSource<File>, Failed> {
         match open_file(self.rt, name) {
             Ok(file) => Ok(file),
-            Err(_) => Err(refuse(&mut self.own_faults)),
+            Err(_) => Err(raise(&mut self.own_faults)),
         }
     }
 
@@ -103,7 +110,7 @@ impl<'a, R: AllocGlobal + Files<File = File> + Net<Stream = TcpStream, Listener 
     ) -> Result<Vec<TcpDoor>, Stop<Failed>> {
         match listen(self.rt, address, readers, connections) {
             Ok(doors) => Ok(doors),
-            Err(Stop::Fault(Failed)) => Err(Stop::Fault(refuse(&mut self.own_faults))),
+            Err(Stop::Fault(Failed)) => Err(Stop::Fault(raise(&mut self.own_faults))),
             Err(Stop::OutOfMemory) => Err(Stop::OutOfMemory),
         }
     }
@@ -111,25 +118,53 @@ impl<'a, R: AllocGlobal + Files<File = File> + Net<Stream = TcpStream, Listener 
     fn close_door(&mut self, door: TcpDoor) {
         count_return(&mut self.door_faults, door.faults());
     }
+
+    fn port(&mut self, name: &str) -> Result<FilePort, Failed> {
+        match open_port(self.rt, name) {
+            Ok(port) => Ok(port),
+            Err(_) => Err(raise(&mut self.own_faults)),
+        }
+    }
+
+    fn close_port(&mut self, _name: &str, port: FilePort) {
+        count_return(&mut self.port_faults, port.faults());
+    }
 }
 
-/// A disk over the file at a path, and over no directory, pipe or device. The file is made where
-/// there is none, and is locked until the disk is let go: one that another program has as a disk is
-/// refused.
+/// A disk over the file at a path.
 fn open_disk<R: AllocGlobal + Files<File = File>>(rt: &R, path: &str) -> io::Result<FileDisk>
     ensures content { IfOk result (λ disk. disk.content ≡ None) }
     ensures faults { IfOk result (λ disk. disk.faults ≡ 0) }
 {
+    let (file, size) = open_alone(rt, path)?;
+    if size == 0 {
+        sync_folder(rt, path)?;
+    }
+    FileDisk::new(file)
+}
+
+/// A scratch file over the file at a path, which is emptied once it is locked: so what is out as a
+/// disk is left as it is, whatever links lead to it.
+fn open_port<R: Files<File = File>>(rt: &R, path: &str) -> io::Result<FilePort>
+    ensures { IfOk result (λ port. port ≡ record { appended = None; size = 0; faults = 0 }) }
+{
+    let (file, _size) = open_alone(rt, path)?;
+    file.set_len(0)?;
+    Ok(FilePort::new(file))
+}
+
+/// The file at a path, and no directory, pipe or device, with its size. It is made where there is
+/// none, and is locked until it is let go: one that is out, here or from another program, is
+/// refused.
+fn open_alone<R: Files<File = File>>(rt: &R, path: &str) -> io::Result<(File, u64)> {
     let file = open_to_write(rt, path)?;
     file.try_lock()?;
     let found = file.metadata()?;
     if !found.is_file() {
         return Err(io::Error::from(io::ErrorKind::Unsupported));
     }
-    if found.len() == 0 {
-        sync_folder(rt, path)?;
-    }
-    FileDisk::new(file)
+    let size = found.len();
+    Ok((file, size))
 }
 
 /// Opens a file for reading and writing, and makes it where there is none.

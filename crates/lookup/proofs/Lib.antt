@@ -13,3 +13,7 @@ pub mod Looking
 pub mod SegmentRowLemmas
 pub mod OneKey
 pub mod FoundMoves
+pub mod ReadLemmas
+pub mod ReadHits
+pub mod SetParts
+pub mod SoundAnswers

@@ -16,11 +16,12 @@ use Rattle.explorer_model.specs.declared.answer.Listed.{Listed}
 use Rattle.explorer_model.specs.declared.archive.Classes.{Classes}
 use Rattle.explorer_model.specs.declared.archive.Game.{Game}
 use Rattle.explorer_model.specs.declared.chess.Move.{Move}
+use Rattle.explorer_model.specs.declared.query.Filter.{Filter}
 use Rattle.row_sums.specs.Hits.{NumberedRow}
 use Rattle.lookup.specs.Hits.{rows_from}
 use Rattle.row_sums.specs.Listing.{classes_in, lists_number, next_where, listed_where, AreBestOf}
 use Rattle.segment_blocks.specs.Segment.{CountedSpan}
-use Rattle.lookup.specs.Listing.{all_classes, IsListingOf}
+use Rattle.lookup.specs.Listing.{all_classes, AreListed}
 use Rattle.row_sums.specs.Sums.{any_row, entries_where}
 use Rattle.lookup.specs.Parts.{tracks_in}
 use Rattle.row_sums.proofs.ListedRows.{IsFirst, best-stand, find-first, in-either, kept, stands-listed}
@@ -36,6 +37,21 @@ use Rattle.lookup.specs.Parts.{Part, IsPart, segment_part}
 use Rattle.tally_rows.specs.Track.{Track, visit, row_keys_at, has}
 use Rattle.tally_rows.proofs.Members.{IsIn, All-from_IsIn, All-IsIn, IsIn-from_Contains, Found-map}
 use Rattle.tally_rows.proofs.Visits.{has-row_keys_at}
+
+-- ---- what is listed of parts
+
+-- the rows are some of those of a position, and the entries are theirs
+pub record AreEntriesOf (list : Row → List Entry) (key : List ℕ) (wanted : Filter) (parts : List Part) (hits : List NumberedRow)
+    (test : Row → Bool) (entries : List Entry) : Type 0 where
+  pub rows : All (Contains (rows_from key (meets wanted any_next) 0 parts)) hits
+  pub stand : All (λ entry. Contains (entries_where hits test list) entry) entries
+
+-- what is listed are the games of the entries, as the tracks of all games tell them
+abbrev pub IsListingOf : (Row → List Entry) → List Part → List NumberedRow → List Entry → List Listed → Type 0
+IsListingOf list parts hits entries listed =
+    (key : List ℕ) (wanted : Filter) (test : Row → Bool) (each : AllByRecursion IsPart parts)
+    → AreEntriesOf list key wanted parts hits test entries
+    → map Some listed ≡ map (listing key (all_of (tracks_in parts each))) entries
 
 -- ---- the game of an entry of a row
 
@@ -283,14 +299,6 @@ pub segment-classes : (segments : List CountedSpan) → classes_in segments ≡ 
 segment-classes [] = refl
 segment-classes (segment ∷ segments) = ap (λ l. segment.classes ++ l) (segment-classes segments)
 
--- so is what is looked up in segments
-pub looked-up : (list : Row → List Entry) → ListsGames list → (segments : List CountedSpan) (hits : List NumberedRow) (entries : List Entry) (listed : List Listed)
-    → listed ≡ filter_map (λ entry. listed_where list (classes_in segments) hits entry.number) entries
-    → IsListingOf list (map segment_part segments) hits entries listed
-looked-up list lists segments hits entries listed is =
-    listings list lists (map segment_part segments) hits entries listed
-    (is ∙ ap (λ games. filter_map (λ entry. listed_where list games hits entry.number) entries) (segment-classes segments))
-
 -- the games of the first few of the best entries of rows, where they are looked up in rows that list them
 pub listed-among : (list : Row → List Entry) (before : Entry → Entry → Bool) (parts : List Part) (hits rows : List NumberedRow) (best_four : List Entry)
     (most : ℕ) (listed : List Listed) → AreBestOf before list hits hits rows best_four → IsListingOf list parts rows (take most best_four) listed
@@ -305,6 +313,16 @@ listed-among list before parts hits rows best_four most listed of is = λ key wa
     (All-take (Contains (entries_where rows any_row list)) most (best before 4 (entries_where rows any_row list)) (best-stand before 4 (entries_where rows any_row list))) in
     is key wanted any_row each (record { rows = among; stand = stand })
     ∙ ap (λ entries. map (listing key (all_of (tracks_in parts each))) (take most entries)) of.of_all
+
+-- so are the games that are listed of rows
+pub listed-of : (list : Row → List Entry) → ListsGames list → (before : Entry → Entry → Bool) (games : List Classes) (parts : List Part) (hits : List NumberedRow)
+    (most : ℕ) (listed : List Listed) → games ≡ all_classes parts → AreListed before list games hits most listed
+    → IsListingOf list parts hits (take most (best before 4 (entries_where hits any_row list))) listed
+listed-of list lists before games parts hits most listed known are =
+    let found : listed ≡ filter_map (λ entry. listed_where list (all_classes parts) are.rows entry.number) (take most are.entries) =
+    are.are_listed ∙ ap (λ (of : List Classes). filter_map (λ entry. listed_where list of are.rows entry.number) (take most are.entries)) known in
+    listed-among list before parts hits are.rows are.entries most listed are.are_best
+    (listings list lists parts are.rows (take most are.entries) listed found)
 
 -- where there is a value, what follows from what holds of it
 pub if-ok : {A E : Type 0} (P Q : A → Type 0) (result : Result A E) → ((value : A) → P value → Q value) → IfOk result P → IfOk result Q

@@ -1,4 +1,4 @@
--- An answer that is made from rows.
+-- Bridge: an answer that is made from rows.
 use Rattle.std.specs.Prelude.{◌≡◌, ◌/◌, ◌≤◌, ℕ, Bool, true, false, List, map, take, length, Option, Some, None, option_and_then}
 use Rattle.std.specs.List.{AllZip}
 use Rattle.explorer_model.specs.Best.{best}

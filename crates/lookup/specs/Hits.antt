@@ -1,4 +1,4 @@
--- The rows of a position that a query counts.
+-- Bridge: the rows of a position that a query counts.
 use Rattle.std.specs.Prelude.{ℕ, ◌+◌, Bool, List, [], ◌∷◌, ◌++◌, map, filter, length}
 use Rattle.std.specs.List.{sum_by}
 use Rattle.lookup.specs.Parts.{Part}

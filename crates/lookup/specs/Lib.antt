@@ -4,3 +4,5 @@ pub mod Lines
 pub mod Listing
 pub mod SegmentRows
 pub mod Parts
+pub mod Reading
+pub mod Sound

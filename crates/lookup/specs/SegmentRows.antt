@@ -1,4 +1,4 @@
--- What it costs to walk over the rows of a position.
+-- Bridge: what it costs to walk over the rows of a position.
 use Rattle.std.specs.Prelude.{ℕ, ◌+◌, List, filter, length}
 use Rattle.segment_blocks.specs.Block.{block_limit}
 use Rattle.segment_blocks.specs.Segment.{CountedSpan}

@@ -27,7 +27,7 @@ use legal_moves::board::Board;
 use legal_moves::laws::tidy_is_determined;
 use packed_keys::pack;
 use row_sums::{
-    Hit, best_of, first_moves, history_of, listed_by_month, listed_by_rating, totals_of,
+    Games, Hit, best_of, first_moves, history_of, listed_by_month, listed_by_rating, totals_of,
 };
 use segment_blocks::{Segment, Steps};
 use std::alloc::{AllocError, Global};
@@ -61,7 +61,7 @@ pub fn look_segments<L: Ledger>(
 }
 
 /// The position that is asked for, and the key of its rows.
-fn board_and_key(query: &Query) -> (Board, [u8; 34])
+pub fn board_and_key(query: &Query) -> (Board, [u8; 34])
     requires { IsValid query.now.at }
     ensures board { result.0 ≡ query.now.at }
     ensures key { IsTidyKey query.now.at result.1 }
@@ -97,14 +97,14 @@ fn found_of(
     parts_recount();
     tracks_tell_legal_moves();
     picked_rows_are_sound();
-    found_in(alloc, board, segments, query, hits)
+    found_in(alloc, board, &segments, query, hits)
 }
 
 /// Puts an answer together.
-fn found_in(
+pub fn found_in<G: Games>(
     alloc: Global,
     board: &Board,
-    segments: &[Arc<Segment>],
+    games: &G,
     query: &Query,
     hits: &[Hit],
 ) -> Result<Found, AllocError>
@@ -112,16 +112,16 @@ fn found_in(
     requires sound { AreSound (map hit_as hits.now) }
     requires legal { AllByRecursion (λ m. Legal board.now m) (moves_in (map hit_as hits.now)) }
     ensures { IfOk result
-        (λ found. IsPutTogether query.now (parts_in segments.now) (map hit_as hits.now) found) }
+        (λ found. IsPutTogether query.now (G.classes games.now) (map hit_as hits.now) found) }
 {
     let sums = first_moves(alloc, hits, query.moves)?;
-    let moves = lines_of(alloc, board, segments, hits, sums.as_slice())?;
+    let moves = lines_of(alloc, board, games, hits, sums.as_slice())?;
     let (top, rows) = best_of::<ByRating>(alloc, hits)?;
     let entries = first(top.entries(), query.top);
-    let top = listed_by_rating(alloc, segments, rows.as_slice(), entries)?;
+    let top = listed_by_rating(alloc, games, rows.as_slice(), entries)?;
     let (recent, rows) = best_of::<ByMonth>(alloc, hits)?;
     let entries = first(recent.entries(), query.recent);
-    let recent = listed_by_month(alloc, segments, rows.as_slice(), entries)?;
+    let recent = listed_by_month(alloc, games, rows.as_slice(), entries)?;
     Ok(Found {
         totals: totals_of(hits),
         moves: Items::from_vec(moves),

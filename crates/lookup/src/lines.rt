@@ -4,23 +4,20 @@ ghost use Rattle.std.specs.List.{AllByRecursion, AllPairs, AllZip, Contains};
 ghost use Rattle.explorer_model.specs.declared.chess.Move.{Move};
 ghost use Rattle.explorer_model.specs.Chess.{Legal};
 ghost use Rattle.lookup.specs.Lines.{IsLineMade};
-ghost use Rattle.lookup.specs.Parts.{parts_in};
 ghost use Rattle.row_sums.specs.Hits.{hit_as, AreSound};
 ghost use Rattle.row_sums.specs.MoveSums.{IsAveraged, sum_as};
 
 use explorer_model::answer::MoveLine;
 use explorer_model::chess::Move as Step;
 use legal_moves::board::Board;
-use row_sums::{Hit, MoveSum, average_of, only_game, san_of};
-use segment_blocks::Segment;
+use row_sums::{Games, Hit, MoveSum, average_of, only_game, san_of};
 use std::alloc::{AllocError, Global};
-use std::sync::Arc;
 
 /// The lines of moves that are legal on the board, in their order.
-pub fn lines_of(
+pub fn lines_of<G: Games>(
     alloc: Global,
     board: &Board,
-    segments: &[Arc<Segment>],
+    games: &G,
     hits: &[Hit],
     sums: &[MoveSum],
 ) -> Result<Vec<MoveLine>, AllocError>
@@ -30,23 +27,23 @@ pub fn lines_of(
     requires sums { AllByRecursion (λ sum. sum ≡ sum_as (map hit_as hits.now) sum.next) sums.now }
     ensures { IfOk result
         (λ lines. AllZip
-        (λ sum line. IsLineMade board.now (parts_in segments.now)
-        (map hit_as hits.now) sum.next line) sums.now lines.items) }
+        (λ sum line. IsLineMade board.now (G.classes games.now) (map hit_as hits.now) sum.next line)
+        sums.now lines.items) }
 {
     let legal = board.legal();
     let mut lines = Vec::with_capacity(alloc, sums.len())?;
     for sum in sums {
-        lines.push(line_of(alloc, board, legal.as_slice(), segments, hits, sum)?)?;
+        lines.push(line_of(alloc, board, legal.as_slice(), games, hits, sum)?)?;
     }
     Ok(lines)
 }
 
 /// The line of a move; `legal` are the legal moves of the board.
-fn line_of(
+fn line_of<G: Games>(
     alloc: Global,
     board: &Board,
     legal: &[Step],
-    segments: &[Arc<Segment>],
+    games: &G,
     hits: &[Hit],
     sum: &MoveSum,
 ) -> Result<MoveLine, AllocError>
@@ -57,7 +54,7 @@ fn line_of(
     requires averaged { IsAveraged (map hit_as hits.now) sum.now.next }
     requires sum { sum.now ≡ sum_as (map hit_as hits.now) sum.now.next }
     ensures { IfOk result
-        (λ line. IsLineMade board.now (parts_in segments.now) (map hit_as hits.now)
+        (λ line. IsLineMade board.now (G.classes games.now) (map hit_as hits.now)
         sum.now.next line) }
 {
     Ok(MoveLine {
@@ -65,6 +62,6 @@ fn line_of(
         san: san_of(alloc, board, legal, sum.next)?,
         average: average_of(sum),
         totals: sum.totals,
-        game: only_game(segments, sum)?,
+        game: only_game(games, sum)?,
     })
 }

@@ -75,7 +75,7 @@ fn add_rows<'a, L: Ledger>(
 }
 
 /// Adds the row, if the filter takes it.
-fn add_row<'a>(
+pub fn add_row<'a>(
     hits: &mut Vec<Hit<'a>>,
     row: HeldRow<'a>,
     first: u32,

@@ -1,4 +1,5 @@
 mod ByteLemmas
 mod DeterminedLemmas
 pub mod DoorLemmas
+mod PortLemmas
 pub mod StreamLemmas

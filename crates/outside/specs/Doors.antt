@@ -1,4 +1,4 @@
--- What a door for connections has come to, and what its calls do to it.
+-- Statement: what a door for connections has come to, and what its calls do to it.
 use Rattle.std.specs.Prelude.{◌≡◌, ◌<◌, ◌+◌, ℕ, List, [], ◌∷◌, ◌++◌, length, Option}
 use Rattle.std.specs.Option.{option_map}
 use Rattle.outside.specs.Stream.{Stream, NeverFalls, Rises}

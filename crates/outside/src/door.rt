@@ -1,3 +1,4 @@
+//! What a door is: where connections come in.
 ghost use Rattle.std.specs.Prelude.{◌<◌, OnErr, IfOk, MatchOption};
 ghost use Rattle.outside.specs.Doors.{Connections, GivesNone, Accepts, FailsToAccept, TakesBack};
 

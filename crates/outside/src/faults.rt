@@ -1,3 +1,4 @@
+//! Counts of failed calls.
 ghost use Rattle.std.specs.Prelude.{◌≡◌};
 ghost use Rattle.outside.specs.Stream.{Rises};
 
@@ -35,7 +36,14 @@ impl Faults {
     pub(crate) fn raise(&mut self) -> Failed
         ensures { Rises self.old self.new }
     {
-        self.count = self.count.saturating_add(1);
-        Failed
+        raise(&mut self.count)
     }
+}
+
+/// Counts a call that failed. The count stays at `u64::MAX` once it stands there.
+pub fn raise(faults: &mut u64) -> Failed
+    ensures { Rises faults.old faults.new }
+{
+    *faults = faults.saturating_add(1);
+    Failed
 }

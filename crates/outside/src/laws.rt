@@ -1,7 +1,9 @@
-//! Laws of streams and doors. Each is the contract of a function that has nothing to do.
-ghost use Rattle.std.specs.Prelude.{◌≡◌, ℕ, List, Some, take};
+//! Laws of streams, doors and scratch files. Each is the contract of a function that has nothing to
+//! do.
+ghost use Rattle.std.specs.Prelude.{◌≡◌, ℕ, List, Some, take, length};
 ghost use Rattle.outside.specs.Stream.{Stream, Gives, Takes};
 ghost use Rattle.outside.specs.Doors.{Connections, Accepts, TakesBack};
+ghost use Rattle.outside.specs.Ports.{Scratch, AppendsPiece, GivesBack};
 
 /// Where the bytes are told, a read of so many bytes gives the same ones and leaves the same
 /// stream, and so does a write of a chunk.
@@ -21,4 +23,15 @@ pub fn doors_are_determined()
         → (link ≡ other) × (new ≡ after) }
     ensures takes_back { (link : Stream) (old new after : Connections)
         → TakesBack link old new → TakesBack link old after → new ≡ after }
+{}
+
+/// An append that was done leaves one scratch file, and where the bytes are told a read of so many
+/// bytes gives the same ones.
+pub fn ports_are_determined()
+    ensures appends { (piece : List ℕ) (old new after : Scratch)
+        → AppendsPiece piece old new → AppendsPiece piece old after → new ≡ after }
+    ensures gives { (at : ℕ) (told buffer other : List ℕ) (old new after : Scratch)
+        → old.appended ≡ Some told → length buffer ≡ length other
+        → GivesBack at buffer old new → GivesBack at other old after
+        → (buffer ≡ other) × (new ≡ after) }
 {}

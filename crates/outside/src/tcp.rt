@@ -1,3 +1,4 @@
+//! Connections over TCP, and doors for them.
 ghost use Rattle.std.specs.Prelude.{◌≡◌, None};
 ghost use Rattle.outside.specs.Stream.{source_alone, sink_alone, link_of};
 

@@ -19,7 +19,8 @@ use Rattle.best_lists.proofs.Ranked.{puts, ranked, length-ranked, ranked-append,
 use Rattle.std.specs.Ordering.{is_lt}
 use Rattle.player_index.specs.declared.entry.Entry.{Entry}
 use Rattle.player_index.specs.Entries.{before, entries_from, entries_in, entry, place_of, place_order, seat_by, name_in}
-use Rattle.player_index.specs.Index.{AreClassesOf, classes_in}
+use Rattle.player_index.specs.Index.{AreClassesOf}
+use Rattle.row_sums.specs.Listing.{classes_in}
 use Rattle.player_index.proofs.Orders.{entry-order}
 use Rattle.player_index.proofs.Ranking.{ranked-agree}
 

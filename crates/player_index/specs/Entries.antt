@@ -1,4 +1,5 @@
--- The games of players in their order: by name without regard to case, by colour, by number.
+-- Statement: the games of players in their order: by name without regard to case, by colour, by
+-- number.
 use Rattle.std.specs.Prelude.{ℕ, zero, suc, ◌+◌, Bool, List, [], ◌∷◌, map, length, if◌then◌else◌, Option, None, Some}
 use Rattle.std.specs.Char.{to_ascii_lowercase}
 use Rattle.std.specs.declared.cmp.Ordering.{Ordering}

@@ -1,6 +1,6 @@
 -- Statement: what an index has of the games of a journal.
 use Rattle.std.specs.Prelude.{◌≡◌, ℕ, ◌≤◌, List, [], map, length, slice_range, Option, None, Some}
-use Rattle.std.specs.List.{All, flat_map}
+use Rattle.std.specs.List.{All}
 use Rattle.explorer_model.specs.declared.archive.Batch.{Batch}
 use Rattle.explorer_model.specs.declared.archive.Classes.{Classes}
 use Rattle.explorer_model.specs.declared.archive.Game.{Game}
@@ -30,10 +30,6 @@ pub record IsIndexed (index : Indexed) : Type 0 where
   pub in_order : index.entries ≡ entries_in classes
 
 -- ---- bridge: how the code holds an index
-
--- what segments say of their games
-abbrev pub classes_in : List CountedSpan → List Classes
-classes_in list = flat_map (λ segment. segment.classes) list
 
 -- the list that was covered last; at first none was
 abbrev pub list_of : Option (List CountedSpan) → List CountedSpan

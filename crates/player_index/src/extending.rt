@@ -4,7 +4,7 @@ ghost use Rattle.std.specs.Arc.{arc_value};
 ghost use Rattle.std.specs.Ordering.{is_lt};
 ghost use Rattle.best_lists.proofs.Ranked.{InOrder, puts, ranked};
 ghost use Rattle.player_index.specs.Entries.{before, entries_from};
-ghost use Rattle.player_index.specs.Index.{classes_in};
+ghost use Rattle.row_sums.specs.Listing.{classes_in};
 
 use crate::entry::Entry;
 use crate::order::{compare_entries, place_of};

@@ -10,13 +10,13 @@ ghost use Rattle.player_index.specs.Index.{AreClassesOf, IsIndexed};
 
 use crate::entry::Entry;
 use crate::extending::{merged, sorted_entries};
-use crate::games::count_games;
 use crate::order::Place;
 use crate::search::ends_of;
 use explorer_model::chess::Color;
 use explorer_model::text::Name;
 use game_replay::laws::game_is_determined;
 use published_index::Snapshot;
+use row_sums::count_games;
 use segment_blocks::Steps;
 use std::alloc::{AllocError, Global};
 use std::marker::{Brand, Model};

@@ -3,7 +3,8 @@ ghost use Rattle.std.specs.Prelude.{◌≡◌, ℕ, ◌+◌, ◌*◌, ◌≤◌,
 ghost use Rattle.std.specs.Arc.{arc_value};
 ghost use Rattle.best_lists.proofs.Ranked.{InOrder};
 ghost use Rattle.player_index.specs.Entries.{before, entries_in, is_below, seat_by};
-ghost use Rattle.player_index.specs.Index.{IsRange, classes_in};
+ghost use Rattle.player_index.specs.Index.{IsRange};
+ghost use Rattle.row_sums.specs.Listing.{classes_in};
 ghost use Rattle.player_index.specs.declared.entry.Entry.{Entry as AnEntry};
 
 use crate::entry::Entry;

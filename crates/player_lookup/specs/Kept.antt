@@ -1,4 +1,4 @@
--- A player's games as rows of one game each.
+-- Bridge: a player's games as rows of one game each.
 use Rattle.std.specs.Prelude.{ℕ, ◌+◌, Bool, true, ◌&&◌, false, List, [], ◌∷◌, ◌++◌, slice_index_or, Option, Some, None}
 use Rattle.std.specs.List.{flat_map, slice_get}
 use Rattle.best_lists.specs.declared.entry.Entry.{Entry}

@@ -1,4 +1,4 @@
--- An answer that is put together of rows.
+-- Bridge: an answer that is put together of rows.
 use Rattle.std.specs.Prelude.{◌≡◌, ◌/◌, ℕ, ◌*◌, ◌<◌, ◌≤◌, List, map, filter_map, take}
 use Rattle.std.specs.List.{AllZip}
 use Rattle.best_lists.specs.Ranking.{before_by_month}

@@ -1,4 +1,5 @@
--- The games of segments as they stand to a position, and what is known where one of them is read.
+-- Bridge: the games of segments as they stand to a position, and what is known where one of them is
+-- read.
 use Rattle.std.specs.Prelude.{◌≡◌, ℕ, ◌<◌, List, length, map}
 use Rattle.std.specs.List.{AllZip, slice_get}
 use Rattle.explorer_model.specs.Chess.{IsValid}

@@ -55,6 +55,6 @@ fn line_of(
         san: san_of(alloc, board, legal, sum.next)?,
         average: average_of(sum),
         totals: sum.totals,
-        game: only_game(segments, sum)?,
+        game: only_game(&segments, sum)?,
     })
 }

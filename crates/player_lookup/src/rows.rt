@@ -83,7 +83,7 @@ fn recent_games(
     let (recent, rows) = best_of::<ByMonth>(alloc, hits)?;
     listed_by_month(
         alloc,
-        segments,
+        &segments,
         rows.as_slice(),
         first(recent.entries(), most),
     )

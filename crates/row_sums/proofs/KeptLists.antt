@@ -1,5 +1,5 @@
 -- A list of four that stays as it is, since nothing that comes is before its last entry.
-use Rattle.std.proofs.Common.{◌≡◌, ℕ, ◌<◌, Bool, true, false, not, List, [], ◌∷◌, ◌++◌, map, length, get_or, refl, sym, ap, ◌∙◌, subst, arith}
+use Rattle.std.proofs.Common.{◌≡◌, ℕ, ◌<◌, Bool, false, List, [], ◌∷◌, ◌++◌, map, length, get_or, ap, ◌∙◌, subst, arith}
 use Rattle.explorer_model.specs.Best.{best, IsBestFirst, IsStrictTotalOrder}
 use Rattle.best_lists.specs.Entry.{moved_by}
 use Rattle.best_lists.specs.Ranking.{KeepsWhenMoved}
@@ -20,10 +20,6 @@ module _ {X : Type 0} {before : X → X → Bool} (order : IsStrictTotalOrder be
       ∙ ap (λ l. a ∷ l) (of_b.best_of_both 2
       ∙ ap (λ l. b ∷ l) (of_c.best_of_both 1
       ∙ ap (λ l. c ∷ l) (of_d.best_of_both 0 ∙ ap (λ l. d ∷ l) (best-zero before (y ∷ ys)))))
-
-pub is-false : (b : Bool) → not b ≡ true → b ≡ false
-is-false true holds = sym holds
-is-false false holds = refl
 
 -- the same, where what comes is moved first
 module _ {before : Entry → Entry → Bool} (order : IsStrictTotalOrder before) (keeps : KeepsWhenMoved before) (by : ℕ) where

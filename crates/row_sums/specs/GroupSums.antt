@@ -1,4 +1,4 @@
--- The lines of months and of moves, with the games of one row more.
+-- Bridge: the lines of months and of moves, with the games of one row more.
 use Rattle.std.specs.Prelude.{ℕ, ◌+◌, ◌*◌, ◌<◌, ◌^◌, List, [], ◌∷◌, map}
 use Rattle.best_lists.specs.Entry.{moved_by}
 use Rattle.best_lists.specs.declared.entry.Entry.{Entry}

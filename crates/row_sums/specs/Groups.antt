@@ -1,4 +1,4 @@
--- Groups of rows that are told apart by numbers, in the order in which they first come.
+-- Bridge: groups of rows that are told apart by numbers, in the order in which they first come.
 use Rattle.std.specs.Prelude.{◌≡◌, ℕ, zero, suc, ◌==◌, cond, nat_eq, List, [], ◌∷◌, ◌++◌, Some}
 use Rattle.std.specs.HashMap.{HashMap, get}
 use Rattle.std.specs.List.{list_any, position, position_or_len}

@@ -1,4 +1,5 @@
--- Rows of a position, with the numbers that their games have among the games of all batches.
+-- Bridge: rows of a position, with the numbers that their games have among the games of all
+-- batches.
 use Rattle.std.specs.Prelude.{ℕ, ◌+◌, ◌*◌, ◌<◌, ◌≤◌, ◌^◌, List}
 use Rattle.std.specs.List.{All, sum_by}
 use Rattle.row_sums.specs.declared.hits.Hit.{Hit}

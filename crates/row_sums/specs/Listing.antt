@@ -1,4 +1,4 @@
--- The games of entries, as they are looked up by their numbers.
+-- Bridge: the games of entries, as they are looked up by their numbers.
 use Rattle.std.specs.Prelude.{◌≡◌, ℕ, ◌+◌, ◌==◌, Bool, List, Option, None, option_map, option_and_then}
 use Rattle.std.specs.List.{All, Contains, find, flat_map, list_any, slice_get}
 use Rattle.best_lists.specs.declared.entry.Entry.{Entry}

@@ -1,4 +1,4 @@
--- Moves with what their rows add up to, and how such lines are listed.
+-- Bridge: moves with what their rows add up to, and how such lines are listed.
 use Rattle.std.specs.Prelude.{◌*◌, ◌<◌, ◌≤◌, Bool, nat_lt, ◌==◌, ◌||◌, ◌&&◌, List}
 use Rattle.std.specs.Ordering.{nat_cmp, is_lt}
 use Rattle.std.specs.Cmp.Lexicographic.{slice_cmp}

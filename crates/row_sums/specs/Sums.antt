@@ -1,4 +1,4 @@
--- What rows of a position add up to.
+-- Bridge: what rows of a position add up to.
 use Rattle.std.specs.Prelude.{ℕ, Bool, cond, nat_lt, ◌==◌, ◌||◌, ◌&&◌, List, [], map, filter_map, length}
 use Rattle.std.specs.List.{sum_by, flat_map}
 use Rattle.std.specs.Ordering.{nat_cmp, is_lt}

@@ -5,6 +5,7 @@
 mod best_games;
 mod classes;
 mod filter;
+mod games;
 mod groups;
 mod history;
 mod hits;
@@ -17,6 +18,7 @@ mod totals;
 pub use best_games::{ListsGames, best_of};
 pub use classes::{classes_of, count_games};
 pub use filter::{passes, takes};
+pub use games::Games;
 pub use history::history_of;
 pub use hits::Hit;
 pub use lines::{average_of, only_game};

@@ -1,16 +1,14 @@
 //! What the line of a move shows.
-ghost use Rattle.std.specs.Prelude.{◌≡◌, ◌/◌, ◌*◌, ◌<◌, ◌≤◌, map, IfOk};
-ghost use Rattle.std.specs.Arc.{arc_value};
+ghost use Rattle.std.specs.Prelude.{◌≡◌, ◌/◌, ◌*◌, ◌<◌, ◌≤◌, IfOk};
 ghost use Rattle.explorer_model.specs.Counting.{total};
 ghost use Rattle.row_sums.specs.Hits.{look_limit};
-ghost use Rattle.row_sums.specs.Listing.{classes_in, shown_game};
+ghost use Rattle.row_sums.specs.Listing.{shown_game};
 
+use crate::games::Games;
 use crate::listing::listed;
 use crate::moves::{MoveSum, Shown};
 use explorer_model::answer::Listed;
-use segment_blocks::Segment;
 use std::alloc::AllocError;
-use std::sync::Arc;
 
 /// The mean rating of those who played the move, rounded down.
 pub fn average_of(sum: &MoveSum) -> u32
@@ -23,12 +21,12 @@ pub fn average_of(sum: &MoveSum) -> u32
 }
 
 /// The game of a move that just one game plays.
-pub fn only_game(segments: &[Arc<Segment>], sum: &MoveSum) -> Result<Option<Listed>, AllocError>
+pub fn only_game<G: Games>(games: &G, sum: &MoveSum) -> Result<Option<Listed>, AllocError>
     ensures { IfOk result (λ game. game
-        ≡ shown_game (classes_in (map arc_value segments.now)) sum.now.next sum.now.shown) }
+        ≡ shown_game (G.classes games.now) sum.now.next sum.now.shown) }
 {
     match sum.shown {
-        Shown::One(entry) => listed(segments, sum.next, entry.number),
+        Shown::One(entry) => listed(games, sum.next, entry.number),
         Shown::Nothing | Shown::Several => Ok(None),
     }
 }

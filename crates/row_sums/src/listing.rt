@@ -1,19 +1,17 @@
 //! The games that are shown, by their numbers.
 ghost use Rattle.std.specs.Prelude.{◌≡◌, ◌+◌, ◌==◌, map, filter_map, IfOk};
-ghost use Rattle.std.specs.Arc.{arc_value};
 ghost use Rattle.std.specs.List.{list_any};
 ghost use Rattle.row_sums.specs.Hits.{hit_as};
-ghost use Rattle.row_sums.specs.Listing.{classes_in, list_of, lists_number, next_where, listed_as, listed_where};
+ghost use Rattle.row_sums.specs.Listing.{list_of, lists_number, next_where, listed_as, listed_where};
 
-use crate::classes::classes_of;
+use crate::games::Games;
 use crate::hits::Hit;
 use best_lists::Entry;
 use explorer_model::answer::Listed;
 use explorer_model::archive::Classes;
 use explorer_model::chess::Move;
-use segment_blocks::{HeldRow, Segment};
+use segment_blocks::HeldRow;
 use std::alloc::{AllocError, Global};
-use std::sync::Arc;
 use tally_rows::Row;
 
 /// One of the two lists of a row.
@@ -36,51 +34,51 @@ impl Listing {
 }
 
 /// The games of entries of the `top` lists of the rows, in order.
-pub fn listed_by_rating(
+pub fn listed_by_rating<G: Games>(
     alloc: Global,
-    segments: &[Arc<Segment>],
+    games: &G,
     hits: &[Hit],
     entries: &[Entry],
 ) -> Result<Vec<Listed>, AllocError>
     ensures { IfOk result (λ listed. listed.items
         ≡ filter_map (λ entry. listed_where (λ row. row.top)
-        (classes_in (map arc_value segments.now)) (map hit_as hits.now) entry.number)
+        (G.classes games.now) (map hit_as hits.now) entry.number)
         entries.now) }
 {
-    listed_in(alloc, segments, hits, Listing::Top, entries)
+    listed_in(alloc, games, hits, Listing::Top, entries)
 }
 
 /// The games of entries of the `recent` lists of the rows, in order.
-pub fn listed_by_month(
+pub fn listed_by_month<G: Games>(
     alloc: Global,
-    segments: &[Arc<Segment>],
+    games: &G,
     hits: &[Hit],
     entries: &[Entry],
 ) -> Result<Vec<Listed>, AllocError>
     ensures { IfOk result (λ listed. listed.items
         ≡ filter_map (λ entry. listed_where (λ row. row.recent)
-        (classes_in (map arc_value segments.now)) (map hit_as hits.now) entry.number)
+        (G.classes games.now) (map hit_as hits.now) entry.number)
         entries.now) }
 {
-    listed_in(alloc, segments, hits, Listing::Recent, entries)
+    listed_in(alloc, games, hits, Listing::Recent, entries)
 }
 
 /// The games that are found by the numbers of the entries, in order.
-fn listed_in(
+fn listed_in<G: Games>(
     alloc: Global,
-    segments: &[Arc<Segment>],
+    games: &G,
     hits: &[Hit],
     list: Listing,
     entries: &[Entry],
 ) -> Result<Vec<Listed>, AllocError>
     ensures { IfOk result (λ listed. listed.items
         ≡ filter_map (λ entry. listed_where (list_of list)
-        (classes_in (map arc_value segments.now)) (map hit_as hits.now) entry.number)
+        (G.classes games.now) (map hit_as hits.now) entry.number)
         entries.now) }
 {
     let mut listed = Vec::with_capacity(alloc, entries.len())?;
     for entry in entries {
-        if let Some(game) = game_of(segments, hits, list, entry.number)? {
+        if let Some(game) = game_of(games, hits, list, entry.number)? {
             listed.push(game)?;
         }
     }
@@ -88,32 +86,28 @@ fn listed_in(
 }
 
 /// The game of a number.
-fn game_of(
-    segments: &[Arc<Segment>],
+fn game_of<G: Games>(
+    games: &G,
     hits: &[Hit],
     list: Listing,
     number: u32,
 ) -> Result<Option<Listed>, AllocError>
     ensures { IfOk result (λ game. game
-        ≡ listed_where (list_of list) (classes_in (map arc_value segments.now))
+        ≡ listed_where (list_of list) (G.classes games.now)
         (map hit_as hits.now) number) }
 {
     let Some(next) = next_in(hits, list, number) else {
         return Ok(None);
     };
-    listed(segments, next, number)
+    listed(games, next, number)
 }
 
 /// The game of a number with its next move.
-pub fn listed(
-    segments: &[Arc<Segment>],
-    next: Move,
-    number: u32,
-) -> Result<Option<Listed>, AllocError>
+pub fn listed<G: Games>(games: &G, next: Move, number: u32) -> Result<Option<Listed>, AllocError>
     ensures { IfOk result (λ listed. listed
-        ≡ listed_as (classes_in (map arc_value segments.now)) next number) }
+        ≡ listed_as (G.classes games.now) next number) }
 {
-    let Some(classes) = classes_of(segments, number as usize) else {
+    let Some(classes) = games.classes_of(number as usize) else {
         return Ok(None);
     };
     Ok(Some(Listed {

@@ -2,6 +2,7 @@
 ghost use Rattle.std.specs.Prelude.{◌≡◌, ◌+◌, ◌<◌, ◌≤◌, IsTrue};
 ghost use Rattle.segment_blocks.specs.PackedRows.{AreInOrder};
 
+use super::rows::to_rows;
 use explorer_model::archive::{Group, Month, Outcome, Speed};
 use explorer_model::chess::Move;
 use explorer_model::square::Square;
@@ -61,7 +62,7 @@ fn rows_of_512(alloc: Global) -> Result<Vec<Row>, AllocError> {
     if 2000 < singles.len() {
         return Ok(Vec::new(alloc));
     }
-    rows_of(alloc, singles)
+    to_rows(alloc, rows_of(alloc, singles)?.as_slice())
 }
 
 /// The rows, packed, where they stand in order.

@@ -8,7 +8,7 @@ use explorer_model::chess::{Move, Role};
 use explorer_model::square::Square;
 use std::alloc::{AllocError, Global};
 use std::test::Fail;
-use tally_rows::{Cell, Grid, Row, RowKey, Single, rows_of};
+use tally_rows::{Cell, CountedAs, CountedRow, Grid, Row, RowKey, Single, rows_of};
 
 /// The key of some position, told by its first byte.
 fn key(first: u8) -> [u8; 34] {
@@ -51,9 +51,18 @@ fn single(row_key: RowKey, number: u32, outcome: Outcome, rating: u16, sum: u32)
     }
 }
 
+/// Rows by themselves, as a tally keeps them.
+pub(super) fn to_rows(alloc: Global, counted: &[CountedRow]) -> Result<Vec<Row>, AllocError> {
+    let mut rows = Vec::with_capacity(alloc, counted.len())?;
+    for row in counted {
+        rows.push(row.to_row())?;
+    }
+    Ok(rows)
+}
+
 /// The rows of three games in one position: e4 follows in the first and in the last, and the second
 /// ends there.
-fn rows_of_three(alloc: Global) -> Result<Vec<Row>, AllocError> {
+fn rows_of_three(alloc: Global) -> Result<Vec<CountedRow>, AllocError> {
     let played = row_key(1, Some(king_pawn()));
     let singles = vec![in alloc;
         single(played, 0, Outcome::White, 1700, 3300),
@@ -79,7 +88,8 @@ fn entry(rank: u32, number: u32) -> Entry {
 
 #[test]
 fn rows_count_the_games_of_their_row_key(rt: HostRuntime) -> Result<(), Fail> {
-    let rows = rows_of_three(rt.alloc())?;
+    let counted = rows_of_three(rt.alloc())?;
+    let rows = to_rows(rt.alloc(), counted.as_slice())?;
     assert_eq!(rt; rows.len(), 2);
     assert_eq!(rt; counts(&rows[0]), (0, 1, 0, 0));
     assert!(rt; lists(&rows[0], &[], &[]));
@@ -90,6 +100,15 @@ fn rows_count_the_games_of_their_row_key(rt: HostRuntime) -> Result<(), Fail> {
         [entry(24241, 2), entry(24241, 0)],
     );
     assert!(rt; lists(&rows[1], &top, &recent));
+    Ok(())
+}
+
+#[test]
+fn only_a_row_of_one_game_is_kept_as_its_single(rt: HostRuntime) -> Result<(), Fail> {
+    let rows = rows_of_three(rt.alloc())?;
+    assert_eq!(rt; rows.len(), 2);
+    assert!(rt; matches!(rows[0].counted_as(), CountedAs::One(_)));
+    assert!(rt; matches!(rows[1].counted_as(), CountedAs::More(_)));
     Ok(())
 }
 

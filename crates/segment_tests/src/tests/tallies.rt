@@ -10,7 +10,7 @@ use std::alloc::{AllocError, Global};
 use std::sync::atomic::{AtomicU64, Ordering};
 use std::test::Fail;
 use std::thread::{self, Threads};
-use tally_rows::Row;
+use tally_rows::CountedRow;
 
 /// A worked game with this id, and this movetext, which ends with `1-0`.
 fn text(alloc: Global, place: u64, id: &str, movetext: &str) -> Result<Placed, AllocError> {
@@ -74,7 +74,7 @@ fn row_count(tallying: &Option<Tallying>) -> usize {
     }
 }
 
-fn count_rows(parts: &[Vec<Row>]) -> usize {
+fn count_rows(parts: &[Vec<CountedRow>]) -> usize {
     let mut count = 0usize;
     for part in parts {
         count = count.saturating_add(part.len());
@@ -196,8 +196,15 @@ fn have_same_ids(some: &[Classes], others: &[Classes]) -> bool {
             .all(|(classes, other)| classes.id == other.id)
 }
 
+/// Whether both have the same rows. They have equally many.
+fn are_rows(some: &[CountedRow], others: &[CountedRow]) -> bool {
+    some.iter()
+        .zip(others)
+        .all(|(row, other)| row.to_row() == other.to_row())
+}
+
 /// Have parts the same rows as the one part of a tally by one worker?
-fn have_same_rows(parts: &[Vec<Row>], one: &[Vec<Row>]) -> bool {
+fn have_same_rows(parts: &[Vec<CountedRow>], one: &[Vec<CountedRow>]) -> bool {
     let mut rest = match one.first() {
         Some(rows) => rows.as_slice(),
         None => return parts.is_empty(),
@@ -206,7 +213,7 @@ fn have_same_rows(parts: &[Vec<Row>], one: &[Vec<Row>]) -> bool {
         let Some((front, behind)) = rest.split_at_checked(part.len()) else {
             return false;
         };
-        if front != part.as_slice() {
+        if !are_rows(front, part.as_slice()) {
             return false;
         }
         rest = behind;

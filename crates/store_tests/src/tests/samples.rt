@@ -2,7 +2,7 @@
 ghost use Rattle.std.specs.Prelude.{◌≤◌};
 
 use super::merges::assert_equal_merges;
-use super::segments::is_walked;
+use super::segments::{is_walked, rows_in};
 use super::{BATCH, segment_of, tally_of};
 use explorer_model::archive::Placed;
 use rand_pcg::Lcg64Xsh32;
@@ -37,12 +37,9 @@ fn samples_give_at_each_key_what_a_plain_filter_gives(rt: HostRuntime) -> Result
     let again = samples(&rt, rt.alloc(), 0, &mut Lcg64Xsh32::new(7, 1))?;
     let segment = segment_of(rt.alloc(), 0, again)?;
     assert_eq!(rt; segment.games(), BATCH);
-    // One worker makes one part.
-    let [part] = tally.row_parts() else {
-        return Err(Fail::from("more than one part"));
-    };
+    let all = rows_in(rt.alloc(), &tally)?;
     let mut before = [0; 34];
-    for rows in part.as_slice().chunk_by(|row, next| row.key == next.key) {
+    for rows in all.as_slice().chunk_by(|row, next| row.key == next.key) {
         let key = rows.first().ok_or("no run is empty")?.key;
         // The keys rise, so a filter by this one takes these rows.
         assert!(rt; before < key, "{key:?}");

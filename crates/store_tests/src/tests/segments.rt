@@ -5,12 +5,13 @@ use super::{one_game, segment_of, tally_of_batch};
 use explorer_model::chess::Move;
 use explorer_model::square::Square;
 use segment_blocks::{RowWalk, Segment, Steps};
+use std::alloc::{AllocError, Global};
 use std::marker::Brand;
 use std::sync::Arc;
 use std::sync::ledger::{Blank, Ledger};
 use std::test::Fail;
 use std::thread::join;
-use tally_rows::Row;
+use tally_rows::{Row, Tally};
 
 /// Whether a walk at the key gives the rows that have it, and then none.
 fn is_filtered<L: Ledger>(segment: &Segment, rows: &[Row], key: &[u8; 34], blank: Blank) -> bool
@@ -65,6 +66,17 @@ fn is_absent(segment: &Segment, key: &[u8; 34]) -> bool {
     segment.block_count() < 8 && is_absent_by::<Brand>(segment, key, Blank::new(1))
 }
 
+/// The rows of a tally, each by itself.
+pub(super) fn rows_in(alloc: Global, tally: &Tally) -> Result<Vec<Row>, AllocError> {
+    let mut rows = Vec::new(alloc);
+    for part in tally.row_parts() {
+        for row in part {
+            rows.push(row.to_row())?;
+        }
+    }
+    Ok(rows)
+}
+
 /// How many rows have the move e4.
 fn count_with_e4(rows: &[Row]) -> usize {
     let e4 = Some(Move {
@@ -79,11 +91,8 @@ fn count_with_e4(rows: &[Row]) -> usize {
 fn segment_gives_what_a_plain_filter_of_the_tally_gives(rt: HostRuntime) -> Result<(), Fail> {
     let tally = tally_of_batch(&rt, rt.alloc(), 150)?;
     let segment = segment_of(rt.alloc(), 0, tally_of_batch(&rt, rt.alloc(), 150)?)?;
-    // One worker makes one part.
-    let [part] = tally.row_parts() else {
-        return Err(Fail::from("more than one part"));
-    };
-    let rows = part.as_slice();
+    let rows = rows_in(rt.alloc(), &tally)?;
+    let rows = rows.as_slice();
     // The start and e4 in 150 months, e5 and c5 in 75 each: three full blocks and one of 66 rows.
     assert_eq!(rt; (count_with_e4(rows), rows.len()), (150, 450));
     assert_eq!(rt; (segment.games(), segment.block_count()), (512, 4));

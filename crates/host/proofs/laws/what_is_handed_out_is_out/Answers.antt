@@ -1,5 +1,5 @@
 use Rattle.std.proofs.Common.{refl, ap, arith}
-use Rattle.host.specs.Hosts.{HostState, ADisk, ADoor, AFile, DiskOut, DoorsOut, FileOut}
+use Rattle.host.specs.Hosts.{HostState, ADisk, ADoor, AFile, APort, DiskOut, DoorsOut, FileOut, PortOut}
 use Rattle.host.proofs.Things.{out_is, same_bytes}
 use Rattle.host.proofs.laws.what_is_handed_out_is_out.Goals as goal
 
@@ -14,3 +14,7 @@ returns-clause-file c = λ name file before after hands.
 pub returns-clause-doors : goal.returns-clause-doors
 returns-clause-doors c = λ address readers connections doors before after some hands.
     out_is ADoor (DoorsOut address readers connections) before.calls after.calls (ap (λ (h : HostState). h.calls) hands.rest) some refl
+
+pub returns-clause-port : goal.returns-clause-port
+returns-clause-port c = λ name port before after hands.
+    out_is (APort name) (PortOut name) before.calls after.calls (ap (λ (h : HostState). h.calls) hands.rest) (rw (same_bytes name) (omega arith)) refl

@@ -3,7 +3,7 @@ use Rattle.std.specs.Arc.{arc_value}
 use Rattle.explorer_model.specs.declared.archive.Classes.{Classes}
 use Rattle.player_index.specs.declared.entry.Entry.{Entry}
 use Rattle.player_index.specs.Entries.{is_below, seat_by}
-use Rattle.player_index.specs.Index.{classes_in}
+use Rattle.row_sums.specs.Listing.{classes_in}
 use Rattle.player_index.proofs.RangeLemmas.{is-range, range-in_order}
 use Rattle.player_index.proofs.search.ends_of.Goals as goal
 

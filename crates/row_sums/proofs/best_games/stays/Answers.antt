@@ -1,8 +1,9 @@
 use Rattle.std.proofs.Common.{◌≡◌, ◌<◌, ◌==◌, length, get_or, false, sym, ap, ◌∙◌, arith}
 use Rattle.std.proofs.lemmas.Bool.Decides.{nat_tests}
+use Rattle.std.proofs.lemmas.Bool.{not-true}
 use Rattle.best_lists.specs.Entry.{moved_by}
 use Rattle.best_lists.specs.declared.entry.Entry.{Entry}
-use Rattle.row_sums.proofs.KeptLists.{is-false, list-stays}
+use Rattle.row_sums.proofs.KeptLists.{list-stays}
 use Rattle.row_sums.proofs.best_games.stays.Goals as goal
 
 pub returns : goal.returns
@@ -21,4 +22,4 @@ returns g c = λ holds.
     list-stays g.met.O.Ranking.is_order g.met.O.Ranking.keeps_when_moved by own others z long c.entries-own.ensures.best_first c.entries-others.ensures.own_best some
     (ap (λ l. before (moved_by by (get_or l 0 z)) (get_or own 3 z)) (sym is_others)
     ∙ ap (λ l. before (moved_by by (get_or c.entries-others.result.now 0 z)) (get_or l 3 z)) (sym is_own)
-    ∙ sym c.is_before.ensures ∙ is-false c.is_before.result holds)
+    ∙ sym c.is_before.ensures ∙ not-true c.is_before.result holds)

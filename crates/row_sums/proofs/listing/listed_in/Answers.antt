@@ -1,15 +1,14 @@
 use Rattle.std.proofs.Common.{[], ◌∷◌, ◌++◌, map, Some, None, sym, ap, ◌∙◌, append-nil}
-use Rattle.std.specs.Arc.{arc_value}
 use Rattle.row_sums.specs.Hits.{hit_as}
-use Rattle.row_sums.specs.Listing.{classes_in, list_of, listed_where}
+use Rattle.row_sums.specs.Listing.{list_of, listed_where}
 use Rattle.row_sums.proofs.Places.{found-next}
 use Rattle.row_sums.proofs.listing.listed_in.Goals as goal
 use Rattle.row_sums.proofs.listing.listed_in.Goals.{in-Some+in_ok-push, in_default}
 
 pub loop-entry-preserved : goal.loop-entry-preserved
-loop-entry-preserved c =
+loop-entry-preserved g c =
     let next =
-    found-next (λ entry. listed_where (list_of c.args.list) (classes_in (map arc_value c.args.segments.now)) (map hit_as c.args.hits.now) entry.number) c.args.entries.now
+    found-next (λ entry. listed_where (list_of c.args.list) (g.G.Games.classes c.args.games.now) (map hit_as c.args.hits.now) entry.number) c.args.entries.now
     c.loop-entry.entry-index (record { rank = 0; number = 0 }) c.loop-entry-test.true in
     let found = c.in_ok-game.ensures in
     elim c.match-branch-3.branch [

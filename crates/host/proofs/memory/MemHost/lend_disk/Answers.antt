@@ -8,7 +8,7 @@ use Rattle.host.proofs.memory.MemHost.lend_disk.Goals as goal
 pub invariant_of-self-in_err-disk : goal.invariant_of-self-in_err-disk
 invariant_of-self-in_err-disk c =
     let h = c.self.inside in
-    let s = stock h.disks.items h.files.items h.addresses.items in
+    let s = stock h.disks.items h.files.items h.addresses.items h.ports.items in
     let e = calls_of-disks s h.calls.items c.in_ok-place.place (record { name = c.index_mut.result.now.name; it = c.take_ready.new.disk }) c.index_mut.result.now (ap (λ (x : _). x.name) c.index_mut.ensures.value) in
     let fits : vec_len c.make_room.new.calls + h.out ≤ vec_capacity c.make_room.new.calls = search rules in
     rw (c.make_room.ensures.items, e) (kept_disks s (calls_of s h.calls.items) h.out _ _ c.in_ok-place.place _ c.index_mut.result.now (ap (λ (x : _). x.name) c.index_mut.ensures.value)
@@ -17,7 +17,7 @@ invariant_of-self-in_err-disk c =
 pub invariant_of-self-2 : goal.invariant_of-self-2
 invariant_of-self-2 c =
     let h = c.self.inside in
-    let s = stock h.disks.items h.files.items h.addresses.items in
+    let s = stock h.disks.items h.files.items h.addresses.items h.ports.items in
     let at : place_in c.args.name.now h.disks.items ≡ Some c.in_ok-place.place = search rules in
     let items : c.push_reserved.new.self.items ≡ h.calls.items ++ DiskOut c.in_ok-place.place ∷ [] = search rules in
     let fits : vec_len c.push_reserved.new.self + (h.out + 1) ≤ vec_capacity c.push_reserved.new.self = search rules in
@@ -28,11 +28,11 @@ invariant_of-self-2 c =
 pub returns : goal.returns
 returns c =
     let h = c.self.inside in
-    let s = stock h.disks.items h.files.items h.addresses.items in
+    let s = stock h.disks.items h.files.items h.addresses.items h.ports.items in
     let at : place_in c.args.name.now h.disks.items ≡ Some c.in_ok-place.place = search rules in
     let items : c.push_reserved.new.self.items ≡ h.calls.items ++ DiskOut c.in_ok-place.place ∷ [] = search rules in
     let taken = c.in_ok-disk.ensures in
     rw (← c.self.view_is) (hands_disk s h.calls.items c.push_reserved.new.self.items
-    (record { own = h.own_faults; disks = h.disk_faults; files = h.file_faults; doors = h.door_faults })
+    (record { own = h.own_faults; disks = h.disk_faults; files = h.file_faults; doors = h.door_faults; ports = h.port_faults })
     c.in_ok-place.place c.args.name.now c.index_mut.result.now (record { name = c.index_mut.result.now.name; it = c.take_ready.new.disk })
     c.in_ok-disk.disk c.index_mut.ensures.value refl taken.0 taken.1 taken.2 at items)

@@ -15,7 +15,7 @@ overflow_sub-self c = omega (arith, some_out_before ADoor _ _ c.self.view_is c.r
 pub invariant_of-self : goal.invariant_of-self
 invariant_of-self c =
     let h = c.self.inside in
-    let s = stock h.disks.items h.files.items h.addresses.items in
+    let s = stock h.disks.items h.files.items h.addresses.items h.ports.items in
     let some = out_before ADoor _ _ c.self.view_is c.requires in
     let more = some_out_before ADoor _ _ c.self.view_is c.requires _ _ _ c.self.invariant in
     let items : c.push_reserved.new.self.items ≡ h.calls.items ++ DoorBack c.args.door ∷ [] = search rules in

@@ -15,7 +15,7 @@ overflow_sub-self c = omega (arith, some_out_before (AFile c.args.name.now) _ _ 
 pub invariant_of-self : goal.invariant_of-self
 invariant_of-self c =
     let h = c.self.inside in
-    let s = stock h.disks.items h.files.items h.addresses.items in
+    let s = stock h.disks.items h.files.items h.addresses.items h.ports.items in
     let some = out_before (AFile c.args.name.now) _ _ c.self.view_is c.requires in
     let more = some_out_before (AFile c.args.name.now) _ _ c.self.view_is c.requires _ _ _ c.self.invariant in
     let items : c.push_reserved.new.self.items ≡ h.calls.items ++ FileBack c.in-Some.place c.args.file ∷ [] = search rules in
@@ -27,11 +27,11 @@ invariant_of-self c =
 pub returns : goal.returns
 returns c =
     let h = c.self.inside in
-    let s = stock h.disks.items h.files.items h.addresses.items in
+    let s = stock h.disks.items h.files.items h.addresses.items h.ports.items in
     let at : place_in c.args.name.now h.files.items ≡ Some c.in-Some.place = search rules in
     let items : c.push_reserved.new.self.items ≡ h.calls.items ++ FileBack c.in-Some.place c.args.file ∷ [] = search rules in
     let counts : Counts c.args.file.stream.read_faults h.file_faults c.count_return.new.count = record { rises = search rules; same = search rules } in
     rw (← c.self.view_is) (takes_file s h.calls.items c.push_reserved.new.self.items
-    (record { own = h.own_faults; disks = h.disk_faults; files = h.file_faults; doors = h.door_faults })
-    (record { own = h.own_faults; disks = h.disk_faults; files = c.count_return.new.count; doors = h.door_faults })
+    (record { own = h.own_faults; disks = h.disk_faults; files = h.file_faults; doors = h.door_faults; ports = h.port_faults })
+    (record { own = h.own_faults; disks = h.disk_faults; files = c.count_return.new.count; doors = h.door_faults; ports = h.port_faults })
     c.in-Some.place c.args.name.now c.args.file at items counts refl)

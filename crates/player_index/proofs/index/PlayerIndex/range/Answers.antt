@@ -5,7 +5,7 @@ use Rattle.published_index.specs.Cover.{journal_of}
 use Rattle.segment_blocks.specs.Segment.{CountedSpan}
 use Rattle.explorer_model.specs.Players.{plays_as}
 use Rattle.player_index.specs.Entries.{entries_in, numbers_where}
-use Rattle.player_index.specs.Index.{classes_in}
+use Rattle.row_sums.specs.Listing.{classes_in}
 use Rattle.player_index.proofs.Covering.{read-classes}
 use Rattle.player_index.proofs.index.PlayerIndex.range.Goals as goal
 

@@ -1,0 +1,11 @@
+pub mod RowBlocks
+pub mod SoundRows
+pub mod Marks
+pub mod Walks
+pub mod Ends
+pub mod Index
+pub mod Parts
+pub mod Distinct
+pub mod Judging
+pub mod Sheets
+pub mod Sets
