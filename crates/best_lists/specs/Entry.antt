@@ -1,4 +1,4 @@
--- An entry whose number is moved.
+-- Bridge: an entry whose number is moved.
 use Rattle.std.specs.Prelude.{ℕ, ◌+◌}
 use Rattle.best_lists.specs.declared.entry.Entry.{Entry}
 

@@ -1,4 +1,4 @@
--- The two orders of entries, and what they owe to `Ranking`.
+-- Statement: the two orders of entries, and what they owe to `Ranking`.
 use Rattle.std.specs.Prelude.{◌≡◌, ℕ, Bool, ◌||◌, ◌&&◌, ◌==◌, nat_lt}
 use Rattle.std.proofs.Common.{arith}
 use Rattle.std.proofs.lemmas.Bool.Decides.{nat_tests}

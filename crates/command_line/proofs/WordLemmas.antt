@@ -1,6 +1,6 @@
 -- What is read of the arguments of a command, and what its words ask for.
 use Rattle.std.proofs.Common.{◌≡◌, ◌∙◌, ℕ, ◌≤◌, Bool, true, false, cond, List, [], ◌∷◌, Option, None, Some, Result, Ok, Err, refl, sym, ap, subst, unwrap_or, option_map, Bor, inl, inr, arith, map}
-use Rattle.std.specs.Prelude.{◌≢◌, IfOk}
+use Rattle.std.specs.Prelude.{◌≢◌}
 use Rattle.std.specs.Str.Parse.{ParsesUnsigned, digits_value, without_leading_plus}
 use Rattle.clap.specs.Faults.{fault_of}
 use Rattle.clap.specs.Kinds.{HasKind, Kinds}
@@ -88,10 +88,6 @@ given_list None some texts is are = cc
 given_list (Some s) some texts is are =
     let same : s ≡ some = cc in
     ap (λ (b : Bor (List (Bor Text))). map (λ (v : Bor Text). v.now) b.now) (sym same) ∙ ap (λ (t : Option (List Text)). unwrap_or t []) are
-
-pub IfOk-then : {A E : Type 0} (r : Result A E) (P Q : A → Type 0) → ((x : A) → P x → Q x) → IfOk r P → IfOk r Q
-IfOk-then (Ok x) P Q step p = step x p
-IfOk-then (Err e) P Q step p = tt
 
 -- ---- words that are taken
 

@@ -1,13 +1,14 @@
 -- Things that go out and come back, one bracket within another.
-use Rattle.std.proofs.Common.{◌≡◌, ◌⊎◌, ℕ, suc, ◌+◌, ◌<◌, ◌≤◌, List, [], ◌∷◌, ◌++◌, Option, None, Some, IfSome, length, map, refl, sym, ap, subst, ◌∙◌, append_assoc, inl, inr, arith}
+use Rattle.std.proofs.Common.{◌≡◌, ◌⊎◌, ℕ, ◌+◌, ◌<◌, ◌≤◌, List, [], ◌∷◌, ◌++◌, Option, None, Some, IfSome, length, map, refl, sym, ap, subst, ◌∙◌, append_assoc, inl, inr, arith}
 use Rattle.std.specs.Prelude.{sum_by, reverse}
 use Rattle.std.specs.List.{AllByRecursion, AllZip}
 use Rattle.std.specs.Option.{option_map}
 use Rattle.std.proofs.lemmas.List.{length-append, length-map, map-append, reverse-append}
 use Rattle.std.proofs.lemmas.List.Sums.{sum_by-append, sum_by-cons}
+use Rattle.std.proofs.lemmas.Slice.Zip.{AllZip-long}
 use Rattle.outside.specs.Doors.{Connections}
 use Rattle.outside.specs.Stream.{Rises, Stream, source_alone}
-use Rattle.host.specs.Hosts.{ADisk, ADoor, AFile, DoorBack, DoorsOut, DoorsRefused, FileBack, FileOut, AreFresh, FileRefused, GivesBack, HandsDoors, HostCall, HostState, MayNote, NotMade, RefusesDoors, Thing, added, handed, noted, out, returned}
+use Rattle.host.specs.Hosts.{ADisk, ADoor, AFile, APort, DoorBack, DoorsOut, DoorsRefused, FileBack, FileOut, AreFresh, FileRefused, GivesBack, HandsDoors, HostCall, HostState, MayNote, NotMade, RefusesDoors, Thing, added, handed, noted, out, returned}
 use Rattle.explorer_model.specs.declared.archive.Batch.{Batch}
 use Rattle.explorer_model.specs.declared.fault.Stop.{Stop}
 use Rattle.explorer_model.specs.declared.fault.Stop.TheVariants as stops
@@ -22,7 +23,6 @@ use Rattle.explorer.specs.Served.{DoorRun, FileRun, IsImported, IsServedFrom, Se
 use Rattle.explorer.specs.Serving.{AreOut, HasGivenUp, HasWorked, WorksOver, due}
 use Rattle.explorer.specs.Workers.{AreNamed, CanReturn, FilesOut, FilesRefused, GivenBack, IsFileOf, calls_of, name_at}
 use Rattle.explorer.proofs.ServedLemmas.{due-is, given-rest, name-at-front, returned-files}
-use Rattle.explorer.proofs.WorkerLists.{zip-length}
 
 -- ---- calls
 
@@ -103,11 +103,13 @@ file-hands : (thing : Thing) (name : List ℕ) → returned thing (FileOut name)
 file-hands (ADisk n) name = refl
 file-hands (AFile n) name = refl
 file-hands ADoor name = refl
+file-hands (APort n) name = refl
 
 file-returns : (thing : Thing) (name : List ℕ) (file : Stream) → handed thing (FileBack name file) ≡ 0
 file-returns (ADisk n) name file = refl
 file-returns (AFile n) name file = refl
 file-returns ADoor name file = refl
+file-returns (APort n) name file = refl
 
 files-hand : (thing : Thing) (names : List (List ℕ)) → AllByRecursion (λ call. returned thing call ≡ 0) (map FileOut names)
 files-hand thing [] = tt
@@ -159,12 +161,14 @@ file-refused : (thing : Thing) (name : List ℕ) → (handed thing (FileRefused 
 file-refused (ADisk n) name = (refl, refl)
 file-refused (AFile n) name = (refl, refl)
 file-refused ADoor name = (refl, refl)
+file-refused (APort n) name = (refl, refl)
 
 doors-refused : (thing : Thing) (address : List ℕ) (readers connections : ℕ)
     → (handed thing (DoorsRefused address readers connections) ≡ 0) × (returned thing (DoorsRefused address readers connections) ≡ 0)
 doors-refused (ADisk n) a r c = (refl, refl)
 doors-refused (AFile n) a r c = (refl, refl)
 doors-refused ADoor a r c = (refl, refl)
+doors-refused (APort n) a r c = (refl, refl)
 
 idle-file : (name : List ℕ) → IsIdle (FileRefused name ∷ [])
 idle-file name = record {
@@ -428,12 +432,14 @@ doors-hand : (thing : Thing) (address : List ℕ) (readers connections : ℕ)
 doors-hand (ADisk n) a r c = (refl, refl)
 doors-hand (AFile n) a r c = (refl, refl)
 doors-hand ADoor a r c = (refl, refl)
+doors-hand (APort n) a r c = (refl, refl)
 
 door-back : (thing : Thing) (runs : List DoorRun) → AllByRecursion (λ call. handed thing call ≡ 0) (map (λ (run : DoorRun). DoorBack run.connections) runs)
 door-back thing [] = tt
 door-back (ADisk n) (r ∷ rs) = (refl, door-back (ADisk n) rs)
 door-back (AFile n) (r ∷ rs) = (refl, door-back (AFile n) rs)
 door-back ADoor (r ∷ rs) = (refl, door-back ADoor rs)
+door-back (APort n) (r ∷ rs) = (refl, door-back (APort n) rs)
 
 still-files : {F G J : Type 0} (source : F → Stream) (before after : HostState) (names : List (List ℕ)) (workers : List (Worker F G J))
     → after.files ≡ before.files → AllZip (IsFileOf source before) names workers → AllZip (IsFileOf source after) names workers
@@ -481,8 +487,8 @@ module _ {F G J : Type 0} (source : F → Stream) (service : Service) (workers :
       let backs = files_back service.files (map (λ (run : FileRun). run.file) over.files) ++ map (λ (run : DoorRun). DoorBack run.connections) over.doors in
       let even : length (map (λ (run : FileRun). run.file) over.files) ≡ length service.files =
       length-map over.files (λ (run : FileRun). run.file)
-      ∙ (zip-length IsImported (map (file_at now) service.files) over.files over.imported ∙ length-map service.files (file_at now)) in
-      let count : length over.doors ≡ service.readers = zip-length (IsServedFrom service.book opening) doors over.doors over.served ∙ hands.fresh.number in (
+      ∙ (AllZip-long IsImported (map (file_at now) service.files) over.files over.imported ∙ length-map service.files (file_at now)) in
+      let count : length over.doors ≡ service.readers = AllZip-long (IsServedFrom service.book opening) doors over.doors over.served ∙ hands.fresh.number in (
         record {
           handed = doors;
           are_fresh = subst (λ (ls : List ℕ → ℕ → Option (List Stream)). AreFresh service.readers service.connections (ls service.address) doors)

@@ -1,5 +1,5 @@
 -- Answers at doors are over fronts of the journal of the disk given back, and so are one over as many batches.
-use Rattle.std.proofs.Common.{◌≡◌, inl, inr, ℕ, ◌≤◌, List, [], ◌∷◌, length, take, refl, sym, subst, arith}
+use Rattle.std.proofs.Common.{◌≡◌, inl, inr, ℕ, List, [], ◌∷◌, take, refl, sym, subst, arith}
 use Rattle.std.proofs.lemmas.List.Elements.{All-contains, All-from_recursion}
 use Rattle.outside.specs.Doors.{Connections}
 use Rattle.outside.specs.Stream.{Stream}
@@ -10,7 +10,6 @@ use Rattle.explorer_model.specs.Openings.{NamedPosition}
 use Rattle.explorer_model.specs.Players.{IsPlayerFoundIn}
 use Rattle.explorer_model.specs.Replies.{IsNamedFoundIn}
 use Rattle.explorer_model.specs.Timeline.{IsPrefix}
-use Rattle.explorer_model.proofs.Timelines.{prefix-self, prefix-trans}
 use Rattle.published_index.specs.States.{watching}
 use Rattle.session.specs.Doors.{AreServed}
 use Rattle.session.specs.Exchanges.{Backend, Exchange, backend, moment_of}
@@ -20,17 +19,7 @@ use Rattle.session.proofs.FrontLemmas.{prefix-length, take-prefix}
 use Rattle.session.proofs.LawLemmas.{all-over-fronts}
 use Rattle.explorer.specs.Laws.{IsAnswered, IsExchangedIn}
 use Rattle.explorer.specs.Served.{DoorRun, new_importer}
-
--- no connection that is served makes the pass see less
-pub grew : (offer : Offer) (before : Backend) (came went : List Stream) (after : Backend) → AreServed offer before came went after
-    → IsPrefix before.pass.seen after.pass.seen
-grew offer before [] [] after is =
-    subst (λ (b : Backend). IsPrefix before.pass.seen b.pass.seen) (sym is) (prefix-self before.pass.seen)
-grew offer before [] (back ∷ went) after served = absurd served
-grew offer before (link ∷ came) [] after served = absurd served
-grew offer before (link ∷ came) (back ∷ went) after served =
-    let middle : Backend = served.1 in
-    prefix-trans before.pass.seen middle.pass.seen after.pass.seen served.2.grew (grew offer middle came went after served.3)
+use Rattle.explorer.proofs.ServedLemmas.{served-grows}
 
 -- what is over a front of a front is over one of the whole
 over_longer : (book : List NamedPosition) (front whole : List Batch) (route : Route) (reply : Reply) → IsPrefix front whole
@@ -56,7 +45,7 @@ over_last offer exchange before (link ∷ came) (back ∷ went) after served (in
     let middle : Backend = served.1 in
     let P : Exchange → Type 0 = λ x. IsOverFront offer.book middle.pass.seen (route_of offer x.asked) x.reply in
     let all = all-over-fronts offer middle.pass.seen (moment_of before) (moment_of middle) served.2.exchanges served.2.served in
-    over_longer offer.book middle.pass.seen after.pass.seen (route_of offer exchange.asked) exchange.reply (grew offer middle came went after served.3)
+    over_longer offer.book middle.pass.seen after.pass.seen (route_of offer exchange.asked) exchange.reply (served-grows offer middle came went after served.3)
     (All-contains P served.2.exchanges exchange (All-from_recursion P served.2.exchanges all) here)
 over_last offer exchange before (link ∷ came) (back ∷ went) after served (inr later) =
     over_last offer exchange served.1 came went after served.3 later

@@ -1,5 +1,5 @@
 -- Each place behind the opening was drawn for a file or at a door.
-use Rattle.std.proofs.Common.{◌≡◌, ◌⊎◌, inl, inr, ℕ, zero, suc, ◌+◌, ◌-◌, ◌<◌, ◌≤◌, ◌==◌, Bool, true, false, if◌then◌else◌, List, [], ◌∷◌, ◌++◌, length, refl, sym, ap, subst, ◌∙◌, arith}
+use Rattle.std.proofs.Common.{◌≡◌, ◌⊎◌, inl, inr, ℕ, zero, suc, ◌-◌, ◌<◌, ◌≤◌, ◌==◌, Bool, true, false, List, [], ◌∷◌, length, refl, subst, arith}
 use Rattle.std.specs.List.{AllZip, Contains, flat_map}
 use Rattle.std.proofs.lemmas.Bool.{eq-eqb, eqb-true}
 use Rattle.std.proofs.lemmas.List.Elements.{Contains-append_cases}
@@ -8,8 +8,6 @@ use Rattle.outside.specs.Stream.{Stream}
 use Rattle.host.specs.Hosts.{HostState}
 use Rattle.explorer_model.specs.declared.archive.Batch.{Batch}
 use Rattle.explorer_model.specs.Openings.{NamedPosition}
-use Rattle.explorer_model.specs.Timeline.{IsPrefix}
-use Rattle.explorer_model.proofs.Timelines.{prefix-self, prefix-trans}
 use Rattle.published_index.specs.Places.{Drawing, once_below, times}
 use Rattle.published_index.specs.States.{watching}
 use Rattle.session.specs.Doors.{AreServed}
@@ -20,8 +18,8 @@ use Rattle.session.proofs.DrawnLemmas.{drawn-among}
 use Rattle.session.proofs.ExchangeLemmas.{exchanges-grow}
 use Rattle.explorer.specs.Laws.{IsDrawnAtDoor, IsDrawnForFile, IsExchangedIn}
 use Rattle.explorer.specs.Serve.{GoesOn}
-use Rattle.explorer.specs.Served.{DoorRun, FileRun, IsSeenIn, IsWorked, Service, drawn_in, new_importer}
-use Rattle.explorer.proofs.DoorLawLemmas.{grew}
+use Rattle.explorer.specs.Served.{DoorRun, IsSeenIn, IsWorked, Service, drawn_in, new_importer}
+use Rattle.explorer.proofs.ServedLemmas.{served-grows}
 
 -- ---- lists
 
@@ -107,7 +105,7 @@ drawn_at offer before (l ∷ ls) (w ∷ ws) after place served c = later (drawn_
   where
     all : AreExchanges offer after.pass.seen (moment_of before) served.2.exchanges (moment_of served.1)
     all = exchanges-grow offer served.1.pass.seen after.pass.seen (moment_of before) served.2.exchanges (moment_of served.1)
-        (grew offer served.1 ls ws after served.3) served.2.served
+        (served-grows offer served.1 ls ws after served.3) served.2.served
 
     first : Contains before.importer.drawing.drawn place ⊎ IsDrawnAmong offer place after.pass.seen served.2.exchanges
         → Contains before.importer.drawing.drawn place

@@ -1,23 +1,15 @@
 -- Calls of a host, one after another: what is out, and what comes back.
-use Rattle.std.proofs.Common.{◌≡◌, ◌+◌, ◌<◌, ℕ, zero, suc, Bool, true, List, [], ◌∷◌, Option, None, Some, IfSome, refl, ap, map, length, slice_index_or, arith}
+use Rattle.std.proofs.Common.{◌≡◌, ◌+◌, ◌<◌, ℕ, zero, suc, Bool, List, [], ◌∷◌, Option, None, Some, IfSome, refl, ap, map, length, slice_index_or, arith}
 use Rattle.std.specs.Prelude.{sum_by}
-use Rattle.std.specs.Str.{bytes_eq}
-use Rattle.std.proofs.lemmas.Grind.{common_steps}
-use Rattle.std.proofs.lemmas.Slice.Eq.{bytes_eq-Decides}
 use Rattle.outside.specs.Doors.{Connections}
 use Rattle.outside.specs.Stream.{Stream}
 use Rattle.host.specs.Hosts.{ADoor, AFile, DoorBack, FileBack, HostState, IsOut, one_if, returned}
+use Rattle.host.proofs.Things.{same_bytes}
 use Rattle.explorer.specs.Workers.{CanReturn, name_at}
 
 pub if_some : {A : Type 0} (o : Option A) (P Q : A → Type 0) → ((x : A) → P x → Q x) → IfSome o P → IfSome o Q
 if_some None P Q f h = tt
 if_some (Some x) P Q f h = f x h
-
-pub same_bytes : (name : List ℕ) → bytes_eq name name ≡ true
-same_bytes name = grind (arith, common_steps, bytes_eq-Decides name name)
-
-pub bytes_same : (name other : List ℕ) → bytes_eq name other ≡ true → name ≡ other
-bytes_same name other same = grind (arith, common_steps, bytes_eq-Decides name other)
 
 -- the name at a place of texts
 pub name_is : {A : Type 0} (text : A → List ℕ) (xs : List A) (i : ℕ) (d : A) → i < length (map text xs)

@@ -5,8 +5,8 @@ use Rattle.std.specs.Str.{bytes_eq}
 use Rattle.disk_model.specs.Disk.{DiskState}
 use Rattle.outside.specs.Stream.{Rises, Stream, source_alone}
 use Rattle.host.specs.Hosts.{DiskBack, DiskOut, FileBack, FileOut, HostCall, HostState, noted, put}
+use Rattle.host.proofs.Things.{bytes_same, same_bytes}
 use Rattle.explorer.specs.ImportStore.{LacksFile, UsesBoth}
-use Rattle.explorer.proofs.HostCalls.{bytes_same, same_bytes}
 use Rattle.explorer.proofs.OneEndingLemmas.{no_rise}
 use Rattle.explorer.proofs.StoreLemmas.{above}
 use Rattle.explorer.proofs.ToldStoreLemmas.{left_by}

@@ -1,10 +1,10 @@
 -- An import of a told file into a told store comes to one thing, where no call fails and memory is
 -- there.
-use Rattle.std.proofs.Common.{◌≡◌, ◌⊎◌, inl, inr, ℕ, ◌+◌, ◌<◌, ◌-◌, ◌^◌, Bool, true, false, List, [], ◌∷◌, ◌++◌, length, Option, None, Some, refl, sym, ap, ap₂, subst, ◌∙◌, length-append, arith}
+use Rattle.std.proofs.Common.{◌≡◌, ◌⊎◌, inl, inr, ℕ, ◌+◌, ◌-◌, Bool, true, false, List, [], ◌∷◌, ◌++◌, length, Option, None, Some, refl, sym, ap, ap₂, subst, ◌∙◌, length-append, arith}
 use Rattle.std.specs.Prelude.{◌≢◌, IfSome, IsSome}
 use Rattle.std.specs.Io.KnownBytes.{append_known}
 use Rattle.std.proofs.lemmas.List.{append-nil}
-use Rattle.outside.specs.Stream.{Rises, Stream, Writes, source_alone}
+use Rattle.outside.specs.Stream.{Rises, Stream, source_alone}
 use Rattle.explorer_model.specs.declared.archive.Batch.{Batch}
 use Rattle.explorer_model.specs.declared.archive.Game.{Game}
 use Rattle.explorer_model.specs.declared.fault.Refusal.{Refusal}
@@ -16,6 +16,7 @@ use Rattle.explorer_model.specs.Imports.{Accounted, groups}
 use Rattle.explorer_model.specs.Journal.{IsSound, game_count}
 use Rattle.explorer_model.specs.Visits.{AreGamesOf, texts_of}
 use Rattle.record_log.specs.declared.fault.OpenFault.TheVariants as opening
+use Rattle.record_log.proofs.DeterminedLemmas.{at_told}
 use Rattle.manifest.specs.Manifest.{HasJournal}
 use Rattle.host.specs.Hosts.{HostState}
 use Rattle.ingest_desk.specs.Openings.{IsWrong}
@@ -41,10 +42,10 @@ use Rattle.explorer.specs.World.{World}
 use Rattle.explorer.proofs.ImportHostLemmas.{OnlyDisk, calls_behind, content_is, left_only, no_call_fails, no_file_refused, no_read_fails, only_disk, put_same, rest_alike, source_is, used_both, with_disk}
 use Rattle.explorer.proofs.LawLemmas.{IsFullBehind, one_full_behind}
 use Rattle.explorer.proofs.NoRoomLemmas.{OneAccount}
-use Rattle.explorer.proofs.OneEndingLemmas.{appended, done_or_full, end_is, full_in_all, no_rise, told_rest, wrote_stream}
+use Rattle.explorer.proofs.OneEndingLemmas.{done_or_full, end_is, full_in_all, no_rise, told_rest, wrote_stream}
 use Rattle.explorer.proofs.QuestionLemmas.{OneOpening}
 use Rattle.explorer.proofs.StoreLemmas.{rose}
-use Rattle.explorer.proofs.ToldStoreLemmas.{left_by, refused_in, told_is, used}
+use Rattle.explorer.proofs.ToldStoreLemmas.{left_by, refused_in, used}
 
 -- ---- what an import comes to
 
@@ -148,7 +149,7 @@ module _ (store image file stream label : List ℕ) (all : List (List Cut)) (gro
       subst (λ (j : List Batch). IfSome to.imports.disk_after.content (HasJournal j)) stored holds in
       record {
         is_open = to.imports.sound;
-        read = told_is (HasJournal to.imports.start.journal) to.imports.disk.content image (to.imports.uses.hands_disk.content ∙ told.disk) to.imports.read;
+        read = at_told (HasJournal to.imports.start.journal) to.imports.disk.content image (to.imports.uses.hands_disk.content ∙ told.disk) to.imports.read;
         sound = subst IsSound stored to.imports.is_sound;
         holds = subst (λ (o : Option (List ℕ)). IfSome o (HasJournal journal)) (sym content) held;
         errors = wrote_stream (report to.imports.refused) before.errors after.errors told_errors.errors told_errors.reports reports to.errors;
@@ -211,7 +212,7 @@ module _ (store image file stream label : List ℕ) (all : List (List Cut)) (gro
         fault,
         refl,
         record {
-          wrong = told_is (IsWrong fault) uses.handed.content image handed uses.does.wrong;
+          wrong = at_told (IsWrong fault) uses.handed.content image handed uses.does.wrong;
           after_is = by.1 ∙ ap (λ (h : HostState). record before { host = h }) host;
         },
       ))

@@ -1,14 +1,16 @@
 -- The old store of a migration keeps its bytes.
-use Rattle.std.proofs.Common.{◌≡◌, ◌⊎◌, inl, inr, ℕ, Bool, true, false, List, [], ◌∷◌, length, Option, None, Some, Ok, refl, sym, ap, subst, ◌∙◌, arith}
-use Rattle.std.specs.Prelude.{◌≢◌, IfSome, if◌then◌else◌, string_bytes}
+use Rattle.std.proofs.Common.{◌≡◌, ◌⊎◌, inl, inr, ℕ, Bool, true, false, List, [], ◌∷◌, length, None, Some, refl, sym, ap, subst, ◌∙◌, arith}
+use Rattle.std.specs.Prelude.{◌≢◌, if◌then◌else◌, string_bytes}
 use Rattle.std.specs.Str.{bytes_eq}
+use Rattle.record_log.proofs.DeterminedLemmas.{at_told}
 use Rattle.disk_model.specs.Disk.{DiskState}
 use Rattle.explorer_model.specs.declared.archive.Batch.{Batch}
 use Rattle.explorer_model.specs.declared.store.LogFault.{LogFault}
 use Rattle.explorer_model.specs.declared.store.LogFault.TheVariants as log
 use Rattle.explorer_model.specs.StoreFile.{first_journal_of}
 use Rattle.manifest.specs.First.{HasFirstJournal}
-use Rattle.host.specs.Hosts.{HostState, RefusesDisk, put}
+use Rattle.host.specs.Hosts.{HostState, RefusesDisk}
+use Rattle.host.proofs.Things.{bytes_same, same_bytes}
 use Rattle.explorer.specs.declared.fault.Fault.TheVariants as faults
 use Rattle.explorer.specs.Create.{IsNotEmpty}
 use Rattle.explorer.specs.Lines.{Ending, Done, Stopped}
@@ -16,8 +18,7 @@ use Rattle.explorer.specs.Migrate.{FailsToMake, IsNoFirst, LacksRest, MakesOf, M
 use Rattle.explorer.specs.Opened.{FailsUnread, IsUnchanged}
 use Rattle.explorer.specs.Stores.{UsesDisk}
 use Rattle.explorer.specs.World.{World}
-use Rattle.explorer.proofs.HostCalls.{bytes_same, same_bytes}
-use Rattle.explorer.proofs.ToldStoreLemmas.{size_is, told_is}
+use Rattle.explorer.proofs.ToldStoreLemmas.{size_is}
 
 -- a file without a byte has no journal
 none_without_bytes : (journal : List Batch) → HasFirstJournal journal [] → ⊥
@@ -65,7 +66,7 @@ module _ (old : List ℕ) (file : List ℕ) where
     behind Then before after reads told =
         let uses = reads.reads in (
           kept (ReadsFirst reads.journal) before reads.between uses uses.does.kept told,
-          some_bytes reads.journal file (told_is (HasFirstJournal reads.journal) uses.handed.content file (uses.hands.content ∙ told) uses.does.read),
+          some_bytes reads.journal file (at_told (HasFirstJournal reads.journal) uses.handed.content file (uses.hands.content ∙ told) uses.does.read),
         )
 
     pub old_is_kept : (before after : World) (ending : Ending) → before.host.disks old ≡ Some file → MigratesBy old new before after ending

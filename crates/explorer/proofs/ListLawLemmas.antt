@@ -2,6 +2,7 @@
 use Rattle.std.proofs.Common.{◌≡◌, ◌⊎◌, inl, inr, ℕ, List, Option, Some, refl, sym, ap, ◌∙◌}
 use Rattle.std.specs.Prelude.{◌≢◌}
 use Rattle.std.specs.Io.KnownBytes.{append_known}
+use Rattle.record_log.proofs.DeterminedLemmas.{at_told}
 use Rattle.outside.specs.Stream.{Takes}
 use Rattle.explorer_model.specs.declared.archive.Batch.{Batch}
 use Rattle.explorer_model.specs.declared.store.LogFault.{LogFault}
@@ -18,7 +19,7 @@ use Rattle.explorer.specs.World.{World}
 use Rattle.explorer.specs.declared.fault.Fault.TheVariants as faults
 use Rattle.explorer.proofs.OneEndingLemmas.{appended, no_rise}
 use Rattle.explorer.proofs.QuestionLemmas.{OneOpening, refusal}
-use Rattle.explorer.proofs.ToldStoreLemmas.{left_by, refused_in, told_is, used}
+use Rattle.explorer.proofs.ToldStoreLemmas.{left_by, refused_in, used}
 
 -- ---- what a listing comes to
 
@@ -59,7 +60,7 @@ module _ (store file : List ℕ) (before after : World)
         refl,
         record {
           journal = a.journal;
-          read = told_is (HasJournal a.journal) a.read.handed.content file handed a.read.does.read;
+          read = at_told (HasJournal a.journal) a.read.handed.content file handed a.read.does.read;
           sound = a.read.does.sound;
           after_is = a.rest ∙ (λ i. record before { output = output i; host = host i });
         },
@@ -76,7 +77,7 @@ module _ (store file : List ℕ) (before after : World)
       inr (
         fault,
         refl,
-        told_is (IsWrong fault) uses.handed.content file handed uses.does.wrong,
+        at_told (IsWrong fault) uses.handed.content file handed uses.does.wrong,
         by.1 ∙ ap (λ (h : HostState). record before { host = h }) host,
       )
 

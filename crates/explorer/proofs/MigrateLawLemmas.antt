@@ -1,18 +1,20 @@
 -- A migration over told stores comes to one thing, where no call fails and memory is there.
-use Rattle.std.proofs.Common.{◌≡◌, ◌⊎◌, inl, inr, ℕ, ◌<◌, ◌-◌, ◌^◌, Bool, true, false, List, length, Option, None, Some, refl, sym, ap, subst, ◌∙◌, arith}
+use Rattle.std.proofs.Common.{◌≡◌, ◌⊎◌, inl, inr, ℕ, ◌-◌, Bool, true, false, List, length, Option, None, Some, refl, sym, ap, subst, ◌∙◌, arith}
 use Rattle.std.specs.Prelude.{◌≢◌, IfSome, if◌then◌else◌, string_bytes}
 use Rattle.std.specs.Io.KnownBytes.{append_known}
 use Rattle.std.specs.Str.{bytes_eq}
-use Rattle.outside.specs.Stream.{Rises, Stream, Takes}
+use Rattle.outside.specs.Stream.{Takes}
 use Rattle.disk_model.specs.Disk.{DiskState}
 use Rattle.explorer_model.specs.declared.archive.Batch.{Batch}
 use Rattle.explorer_model.specs.declared.store.LogFault.{LogFault}
 use Rattle.explorer_model.specs.declared.store.LogFault.TheVariants as log
 use Rattle.record_log.specs.declared.fault.OpenFault.TheVariants as opening
+use Rattle.record_log.proofs.DeterminedLemmas.{at_told}
 use Rattle.manifest.specs.First.{HasFirstJournal, IsWithinFirst, IsWrongFirst}
 use Rattle.manifest.specs.Manifest.{HasJournal}
 use Rattle.manifest.proofs.FirstDetermined.{one-fault, one-journal, read-or-wrong}
 use Rattle.host.specs.Hosts.{HostState, RefusesDisk}
+use Rattle.host.proofs.Things.{bytes_same}
 use Rattle.explorer.specs.declared.fault.Fault.TheVariants as faults
 use Rattle.explorer.specs.Create.{IsNotEmpty}
 use Rattle.explorer.specs.Faults.{fault_of_opening}
@@ -21,11 +23,10 @@ use Rattle.explorer.specs.Lines.{Ending, Done, Stopped, status_of}
 use Rattle.explorer.specs.Migrate.{IsNoFirst, MakesOf, Migrates, MigratesBy, ReadsFirst, ReadsThen, RefusesFirst, migrated_line}
 use Rattle.explorer.specs.Stores.{OnlyHost, UsesDisk}
 use Rattle.explorer.specs.World.{World}
-use Rattle.explorer.proofs.HostCalls.{bytes_same}
 use Rattle.explorer.proofs.ImportHostLemmas.{left_only, only_disk, put_same, rest_alike}
 use Rattle.explorer.proofs.MigrateLemmas.{same_faults}
 use Rattle.explorer.proofs.OneEndingLemmas.{appended, no_rise}
-use Rattle.explorer.proofs.ToldStoreLemmas.{left_by, refused_in, size_is, stands, told_is, used}
+use Rattle.explorer.proofs.ToldStoreLemmas.{left_by, refused_in, size_is, stands, used}
 
 -- ---- what stands under a name
 
@@ -88,7 +89,7 @@ module _ (old file new image : List ℕ) (before after : World) (told : IsToldSt
 
     read : IsRead file journal
     read = record {
-      has = told_is (HasFirstJournal journal) reads.handed.content file handed reads.does.read;
+      has = at_told (HasFirstJournal journal) reads.handed.content file handed reads.does.read;
       within = reads.does.within;
     }
 
@@ -175,7 +176,7 @@ module _ (old file new image : List ℕ) (before after : World) (told : IsToldSt
       inr (inr (
         fault,
         refl,
-        told_is (IsWrongFirst fault) uses.handed.content file content uses.does.wrong,
+        at_told (IsWrongFirst fault) uses.handed.content file content uses.does.wrong,
         by.1 ∙ ap (λ (h : HostState). record before { host = h }) host,
       ))
 

@@ -2,6 +2,7 @@
 use Rattle.std.proofs.Common.{◌≡◌, ℕ, ◌+◌, ◌-◌, ◌<◌, ◌≤◌, ◌⊎◌, inl, inr, ◌&&◌, ◌==◌, Bool, true, false, if◌then◌else◌, List, [], ◌∷◌, ◌++◌, length, take, drop, nat_eq, refl, sym, ap, ap₂, subst, ◌∙◌, append_assoc, length-take, arith}
 use Rattle.std.specs.List.{starts_with}
 use Rattle.std.proofs.lemmas.List.{append-nil}
+use Rattle.std.proofs.Math.Bool.{and-false}
 use Rattle.explorer_model.specs.Cuts.{Cut, Parted, Preamble, cut_at, cuts, cuts_from, cuts_of, event, is_white_space, mark, onto, parted, preamble}
 use Rattle.import_run.specs.SoFar.{ended_cuts}
 use Rattle.import_run.proofs.SoFarLemmas.{take_front}
@@ -35,15 +36,11 @@ not_begun needle bytes less = by_test (starts_with nat_eq bytes needle) refl
     by_test true is = absurd (omega (arith, less, pointwise_long nat_eq needle (take (length needle) bytes) is, length-take (length needle) bytes))
     by_test false is = refl
 
-and_false : (fresh : Bool) → (fresh && false) ≡ false
-and_false true = refl
-and_false false = refl
-
 no_text : (fresh : Bool) (bytes : List ℕ) → length bytes < 7 → (parted fresh bytes).texts ≡ []
 unfolding parted onto
 no_text fresh [] less = refl
 no_text fresh (b ∷ bytes) less =
-    let flag : (fresh && starts_with nat_eq (b ∷ bytes) event) ≡ false = ap (λ (begun : Bool). fresh && begun) (not_begun event (b ∷ bytes) less) ∙ and_false fresh in
+    let flag : (fresh && starts_with nat_eq (b ∷ bytes) event) ≡ false = ap (λ (begun : Bool). fresh && begun) (not_begun event (b ∷ bytes) less) ∙ and-false fresh in
     ap (λ (starts : Bool). (onto starts b (parted (b == 10) bytes)).texts) flag ∙ no_text (b == 10) bytes (omega (arith, less))
 
 -- the texts but the last stay, and so does what stands before them

@@ -1,5 +1,5 @@
 -- A question over a told store comes to one thing, where no call fails and memory is there.
-use Rattle.std.proofs.Common.{◌≡◌, ◌⊎◌, inl, inr, ℕ, List, Option, None, Some, Result, Ok, Err, refl, sym, ap, subst, ◌∙◌}
+use Rattle.std.proofs.Common.{◌≡◌, ◌⊎◌, inl, inr, ℕ, List, Option, Some, Result, Ok, Err, refl, sym, ap, subst, ◌∙◌}
 use Rattle.std.specs.Prelude.{◌≢◌}
 use Rattle.std.specs.Io.KnownBytes.{append_known}
 use Rattle.outside.specs.Stream.{Takes}
@@ -14,6 +14,7 @@ use Rattle.explorer_model.specs.Finds.{IsFound}
 use Rattle.explorer_model.specs.Journal.{IsSound}
 use Rattle.explorer_model.specs.Openings.{NamedPosition}
 use Rattle.record_log.specs.declared.fault.OpenFault.TheVariants as opening
+use Rattle.record_log.proofs.DeterminedLemmas.{at_told}
 use Rattle.manifest.specs.Manifest.{HasJournal}
 use Rattle.ingest_desk.specs.Openings.{IsWrong}
 use Rattle.host.specs.Hosts.{HostState}
@@ -29,7 +30,7 @@ use Rattle.explorer.specs.declared.fault.Fault.TheVariants as faults
 use Rattle.explorer.proofs.LawLemmas.{OneAnswer, OneNaming}
 use Rattle.explorer.proofs.OneEndingLemmas.{OneQuery, appended, no_rise}
 use Rattle.explorer.proofs.OpeningsLawLemmas.{OneBook, SameHost, not_either, one_book, one_fault, same_host}
-use Rattle.explorer.proofs.ToldStoreLemmas.{left_by, refused_in, told_is, used}
+use Rattle.explorer.proofs.ToldStoreLemmas.{left_by, refused_in, used}
 
 -- what the lower crates say: a file is opened with one answer
 pub record OneOpening : Type 0 where
@@ -88,7 +89,7 @@ module _ (store file : List ℕ) (query : Query) (book : List NamedPosition) (be
         refl,
         record {
           journal = a.journal;
-          read = told_is (HasJournal a.journal) a.read.handed.content file handed a.read.does.read;
+          read = at_told (HasJournal a.journal) a.read.handed.content file handed a.read.does.read;
           sound = a.read.does.sound;
           found = a.found;
           is_found = a.is_found;
@@ -109,7 +110,7 @@ module _ (store file : List ℕ) (query : Query) (book : List NamedPosition) (be
       inr (
         fault,
         refl,
-        told_is (IsWrong fault) uses.handed.content file handed uses.does.wrong,
+        at_told (IsWrong fault) uses.handed.content file handed uses.does.wrong,
         by.1 ∙ ap (λ (h : HostState). record before { host = h }) host,
       )
 

@@ -3,13 +3,15 @@ use Rattle.std.proofs.Common.{◌≡◌, ◌⊎◌, inl, inr, ℕ, ◌<◌, List
 use Rattle.std.specs.Prelude.{◌≢◌, string_bytes}
 use Rattle.std.specs.List.{AllZip}
 use Rattle.std.proofs.lemmas.List.{length-map}
+use Rattle.std.proofs.lemmas.Slice.Zip.{AllZip-long}
 use Rattle.outside.specs.Stream.{Rises, Stream}
-use Rattle.host.specs.Hosts.{DiskBack, DiskOut, DiskRefused, DoorBack, DoorsOut, DoorsRefused, FileBack, FileOut, FileRefused, HostCall, HostState}
+use Rattle.host.specs.Hosts.{DiskBack, DiskOut, DiskRefused, DoorBack, DoorsOut, DoorsRefused, FileBack, FileOut, FileRefused, HostCall, HostState, PortBack, PortOut, PortRefused}
 use Rattle.explorer_model.specs.declared.archive.Batch.{Batch}
 use Rattle.explorer_model.specs.Journal.{IsSound}
 use Rattle.explorer_model.specs.declared.store.LogFault.{LogFault}
 use Rattle.explorer_model.specs.declared.store.LogFault.TheVariants as log
 use Rattle.record_log.specs.declared.fault.OpenFault.TheVariants as opening
+use Rattle.record_log.proofs.DeterminedLemmas.{at_told}
 use Rattle.manifest.specs.Manifest.{HasJournal}
 use Rattle.ingest_desk.specs.Openings.{IsWrong}
 use Rattle.ingest_desk.proofs.PickingLemmas.{list_same}
@@ -23,8 +25,6 @@ use Rattle.explorer.specs.Served.{DoorRun, FileRun, IsImported, IsServedFrom, Is
 use Rattle.explorer.specs.World.{World}
 use Rattle.explorer.proofs.OneEndingLemmas.{no_rise, wrote_stream}
 use Rattle.explorer.proofs.QuestionLemmas.{OneOpening}
-use Rattle.explorer.proofs.ToldStoreLemmas.{told_is}
-use Rattle.explorer.proofs.WorkerLists.{zip-length}
 
 -- ---- what a run comes to
 
@@ -90,7 +90,7 @@ module _ (service : Service) (image : List ℕ) (before after : World)
       → HasServed service image before after
   works fault to = record {
     journal = to.worked.opening;
-    read = told_is (HasJournal to.worked.opening) (before.host.disks service.store) image told.disk to.worked.told;
+    read = at_told (HasJournal to.worked.opening) (before.host.disks service.store) image told.disk to.worked.told;
     sound = to.worked.sound;
     serves = record {
       worked = to.worked;
@@ -136,6 +136,9 @@ same_call (FileBack name file) = refl
 same_call (DoorsOut address readers connections) = refl
 same_call (DoorsRefused address readers connections) = refl
 same_call (DoorBack door) = tt
+same_call (PortOut name) = refl
+same_call (PortRefused name) = refl
+same_call (PortBack name) = refl
 
 same_calls : (calls : List HostCall) → AllZip IsSameCall calls calls
 same_calls [] = tt
@@ -167,13 +170,13 @@ same_doors (door ∷ doors) (other ∷ others) long = (tt, same_doors doors othe
 files_long : (service : Service) (before after : HostState) (worked : IsWorked service before after)
     → length (map (λ (run : FileRun). run.file) worked.files) ≡ length service.files
 files_long service before after worked =
-    let long = zip-length IsImported (map (file_at before) service.files) worked.files worked.imported in
+    let long = AllZip-long IsImported (map (file_at before) service.files) worked.files worked.imported in
     length-map worked.files (λ (run : FileRun). run.file) ∙ long ∙ length-map service.files (file_at before)
 
 doors_long : (service : Service) (before after : HostState) (worked : IsWorked service before after)
     → length worked.doors ≡ service.readers
 doors_long service before after worked =
-    zip-length (IsServedFrom service.book worked.opening) worked.handed worked.doors worked.served ∙ worked.are_fresh.number
+    AllZip-long (IsServedFrom service.book worked.opening) worked.handed worked.doors worked.served ∙ worked.are_fresh.number
 
 -- ---- two runs
 
@@ -185,7 +188,7 @@ module _ (service : Service) (workers : ℕ) (image : List ℕ) (before after ot
   wrong : (fault : LogFault) (now : World) (of : Service) → of.store ≡ service.store → HasNoStore of fault before now
       → IsWrong fault image
   wrong fault now of same none =
-      told_is (IsWrong fault) (before.host.disks of.store) image (ap (λ (n : List ℕ). before.host.disks n) same ∙ told.disk) none.wrong
+      at_told (IsWrong fault) (before.host.disks of.store) image (ap (λ (n : List ℕ). before.host.disks n) same ∙ told.disk) none.wrong
 
   pub both_refused : status_of ending ≡ 7 → status_of ending' ≡ 7 → Serves service before after ending
       → Serves (with_workers workers service) before other ending' → (ending ≡ ending') × RefusedAlike service.store after other

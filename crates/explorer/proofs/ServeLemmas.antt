@@ -11,7 +11,8 @@ use Rattle.disk_model.specs.Disk.{DiskState, MayLeave}
 use Rattle.outside.specs.Doors.{Connections}
 use Rattle.outside.specs.Stream.{Rises, Stream, Writes, Wrote, source_alone}
 use Rattle.outside.proofs.StreamLemmas.{takes-faults, writes-fails, writes-takes}
-use Rattle.host.specs.Hosts.{ADisk, ADoor, AFile, AreFresh, DiskBack, DiskOut, DiskRefused, DoorBack, DoorsOut, GivesBack, HandsDisk, HostCall, HostState, IsOut, RefusesDisk, TakesDisk, Thing, added, handed, noted, one_if, out, returned}
+use Rattle.host.specs.Hosts.{ADisk, ADoor, AFile, APort, AreFresh, DiskBack, DiskOut, DiskRefused, DoorBack, DoorsOut, GivesBack, HandsDisk, HostCall, HostState, IsOut, RefusesDisk, TakesDisk, Thing, added, handed, noted, one_if, out, returned}
+use Rattle.host.proofs.Things.{bytes_same, same_bytes}
 use Rattle.explorer_model.specs.declared.archive.Batch.{Batch}
 use Rattle.explorer_model.specs.declared.fault.Refusal.{Refusal}
 use Rattle.explorer_model.specs.declared.fault.Why.{Why}
@@ -58,7 +59,6 @@ use Rattle.explorer.specs.Serving.{AreCounted, FilesServed, HasGivenUp, HasWorke
 use Rattle.explorer.specs.Workers.{name_at}
 use Rattle.explorer.specs.World.{World, world}
 use Rattle.explorer.proofs.BracketLemmas.{added-both}
-use Rattle.explorer.proofs.HostCalls.{bytes_same, same_bytes}
 use Rattle.explorer.proofs.StoreLemmas.{told_has}
 
 -- ---- a disk that is out, and comes back
@@ -80,6 +80,7 @@ net : (thing : Thing) (name : List ℕ) (n : ℕ)
 net (ADisk other) name n = net-by (one_if (bytes_eq other name)) n
 net (AFile other) name n = net-none n
 net ADoor name n = net-none n
+net (APort other) name n = net-none n
 
 same-count : (thing : Thing) (f : ℕ → ℕ) (calls : Option (List HostCall)) → ((n : ℕ) → f n ≡ n)
     → option_map f (option_map (out thing) calls) ≡ option_map (out thing) calls
@@ -107,6 +108,7 @@ idle-disk : (thing : Thing) (name : List ℕ) (n : ℕ) → n + handed thing (Di
 idle-disk (ADisk other) name n = omega arith
 idle-disk (AFile other) name n = omega arith
 idle-disk ADoor name n = omega arith
+idle-disk (APort other) name n = omega arith
 
 refused-by : (name : List ℕ) (before after : HostState)
     → (after.calls ≡ noted (DiskRefused name) before.calls) ⊎ (after.calls ≡ before.calls) → GivesBack before after
@@ -305,9 +307,6 @@ module _ (service : Service) (before lent used after : HostState) (given returns
 
 prefix-nil : {A : Type 0} (xs : List A) → IsPrefix [] xs
 prefix-nil xs = record { rest = xs; is = refl }
-
-prefix-append : {A : Type 0} (xs more : List A) → IsPrefix xs (xs ++ more)
-prefix-append xs more = record { rest = more; is = refl }
 
 texts-prefix : (front journal : List Batch) → IsPrefix front journal → IsPrefix (texts_of front) (texts_of journal)
 texts-prefix front journal p = record {

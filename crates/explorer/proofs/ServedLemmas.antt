@@ -6,13 +6,14 @@ use Rattle.std.specs.Prelude.{sum_by, Result, Ok, Err, IfOk, Vec}
 use Rattle.std.specs.Global.{Global}
 use Rattle.std.proofs.lemmas.List.{length-append, length-map}
 use Rattle.std.proofs.lemmas.List.Sums.{sum_by-append, sum_by-cons}
+use Rattle.std.proofs.lemmas.Slice.Zip.{AllZip-long}
 use Rattle.outside.specs.Doors.{Connections}
 use Rattle.outside.specs.Stream.{NeverFalls, Reads, Rises, Stream}
 use Rattle.outside.proofs.StreamLemmas.{never_falls-same, never_falls-trans, rises-later, rises-stays}
-use Rattle.host.specs.Hosts.{ADisk, ADoor, AFile, Counts, DoorBack, DoorsOut, FileBack, FileOut, HostCall, HostState, Thing, added, handed, noted, returned}
+use Rattle.host.specs.Hosts.{ADisk, ADoor, AFile, APort, Counts, DoorBack, DoorsOut, FileBack, FileOut, HostCall, HostState, Thing, added, handed, noted, returned}
 use Rattle.explorer_model.specs.declared.archive.Batch.{Batch}
 use Rattle.explorer_model.specs.declared.fault.Refusal.{Refusal}
-use Rattle.explorer_model.specs.Cuts.{Cut, cuts}
+use Rattle.explorer_model.specs.Cuts.{cuts}
 use Rattle.explorer_model.specs.Imports.{groups}
 use Rattle.explorer_model.specs.Labels.{no_label}
 use Rattle.explorer_model.specs.Openings.{NamedPosition}
@@ -39,7 +40,6 @@ use Rattle.session.specs.Steps.{KnowsEnd}
 use Rattle.session.proofs.DrawnLemmas.{parts-stay}
 use Rattle.session.proofs.StoredLemmas.{are-drawn, has-stored-body, receipts-stand, repeats-known}
 use Rattle.explorer.proofs.HostCalls.{if_some}
-use Rattle.explorer.proofs.WorkerLists.{zip-length}
 use Rattle.explorer.specs.declared.fault.Fault.{Fault}
 use Rattle.explorer.specs.declared.fault.Fault.TheVariants as faults
 use Rattle.explorer.specs.declared.workers.FileWork.{FileWork}
@@ -276,7 +276,7 @@ module _ {F G J : Type 0} (book : List NamedPosition) (source : F → Stream) (d
 -- ---- the doors
 
 -- what a pass has seen once connections were served begins with what it had seen before
-served-grows : (offer : Offer) (before : Backend) (came went : List Stream) (after : Backend) → AreServed offer before came went after
+pub served-grows : (offer : Offer) (before : Backend) (came went : List Stream) (after : Backend) → AreServed offer before came went after
     → IsPrefix before.pass.seen after.pass.seen
 served-grows offer before [] [] after are = subst (λ (b : Backend). IsPrefix before.pass.seen b.pass.seen) (sym are) (prefix-self before.pass.seen)
 served-grows offer before (x ∷ xs) (y ∷ ys) after are =
@@ -645,7 +645,7 @@ module _ {F G J : Type 0} (book : List NamedPosition) (source : F → Stream) (d
       let t = splits R h.readers (Merger ∷ []) s.back s.backs in
       let one = merger-alone book source door t.back t.backs in
       let is : all' ≡ s.front ++ (t.front ++ Merger ∷ []) = s.is ∙ ap (λ (ws : List (Worker F G J)). s.front ++ ws) (t.is ∙ ap (λ (ws : List (Worker F G J)). t.front ++ ws) one) in
-      let count : length s.front ≡ length names = zip-length R files s.front s.fronts ∙ zip-length (IsFileOf source host) names files are in
+      let count : length s.front ≡ length names = AllZip-long R files s.front s.fronts ∙ AllZip-long (IsFileOf source host) names files are in
       record {
         files = s.front;
         readers = t.front;
@@ -667,6 +667,7 @@ pub same-file : (thing : Thing) (name : List ℕ) (file : Stream) → returned t
 same-file (ADisk n) name file = refl
 same-file (AFile n) name file = refl
 same-file ADoor name file = refl
+same-file (APort n) name file = refl
 
 pub returned-files : (thing : Thing) (names : List (List ℕ)) (files : List Stream) → length files ≡ length names
     → sum_by (returned thing) (files_back names files) ≡ sum_by (λ name. handed thing (FileOut name)) names
@@ -684,6 +685,7 @@ pub returned-doors : (thing : Thing) (runs : List DoorRun) (n : ℕ) → length 
 returned-doors (ADisk name) [] n is = refl
 returned-doors (AFile name) [] n is = refl
 returned-doors ADoor [] n is = is
+returned-doors (APort name) [] n is = refl
 returned-doors (ADisk name) (r ∷ rs) n is =
     omega (arith, sum_by-cons (returned (ADisk name)) (DoorBack r.connections) (map (λ run. DoorBack run.connections) rs), returned-doors (ADisk name) rs (length rs) refl)
 returned-doors (AFile name) (r ∷ rs) n is =
@@ -691,6 +693,8 @@ returned-doors (AFile name) (r ∷ rs) n is =
 returned-doors ADoor (r ∷ rs) n is =
     sum_by-cons (returned ADoor) (DoorBack r.connections) (map (λ run. DoorBack run.connections) rs)
     ∙ (ap (λ (k : ℕ). 1 + k) (returned-doors ADoor rs (length rs) refl) ∙ omega (arith, is))
+returned-doors (APort name) (r ∷ rs) n is =
+    omega (arith, sum_by-cons (returned (APort name)) (DoorBack r.connections) (map (λ run. DoorBack run.connections) rs), returned-doors (APort name) rs (length rs) refl)
 
 -- as much is out as the calls give back
 pub due-is : (thing : Thing) (names : List (List ℕ)) (files : List Stream) (runs : List DoorRun) (readers : ℕ)
@@ -759,8 +763,8 @@ module _ {F G J : Type 0} (book : List NamedPosition) (source : F → Stream) (d
   pub can-return : (now : HostState) → AreOut names (length handed_doors) now → CanReturn (calls_of source door names 0 workers) now
   can-return now out = rw returned-calls (λ thing.
       let even : length (map (λ (run : FileRun). run.file) r.file_runs.runs) ≡ length names =
-      length-map r.file_runs.runs (λ (run : FileRun). run.file) ∙ (zip-length IsImported (map (file_at host) names) r.file_runs.runs r.file_runs.imported ∙ length-map names (file_at host)) in
-      let count : length r.door_runs.runs ≡ length handed_doors = zip-length (IsServedFrom book opening) handed_doors r.door_runs.runs r.door_runs.served in
+      length-map r.file_runs.runs (λ (run : FileRun). run.file) ∙ (AllZip-long IsImported (map (file_at host) names) r.file_runs.runs r.file_runs.imported ∙ length-map names (file_at host)) in
+      let count : length r.door_runs.runs ≡ length handed_doors = AllZip-long (IsServedFrom book opening) handed_doors r.door_runs.runs r.door_runs.served in
       rw (due-is thing names (map (λ (run : FileRun). run.file) r.file_runs.runs) r.door_runs.runs (length handed_doors) even count) (out thing))
 
   pub works-over : (journal : List Batch) (after : HostState) (first : Option Fault) (lines : Option (List ℕ))

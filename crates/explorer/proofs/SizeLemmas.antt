@@ -1,11 +1,11 @@
 -- How many games segments have, as neighbours become one and batches come behind them.
-use Rattle.std.proofs.Common.{◌≡◌, inl, inr, ◌+◌, ◌*◌, ◌<◌, ◌≤◌, ℕ, zero, suc, List, [], ◌∷◌, ◌++◌, length, map, take, drop, Option, None, Some, refl, sym, ap, subst, ◌∙◌, arith, length-append, append-nil}
+use Rattle.std.proofs.Common.{◌≡◌, inl, inr, ◌+◌, ◌*◌, ◌≤◌, ℕ, zero, suc, List, [], ◌∷◌, ◌++◌, length, take, drop, Option, None, Some, refl, sym, ap, subst, ◌∙◌, arith, length-append, append-nil}
 use Rattle.std.specs.Prelude.{slice_get}
 use Rattle.std.proofs.lemmas.List.{length-map, map-append}
+use Rattle.std.proofs.lemmas.Option.{same_Some}
 use Rattle.explorer_model.specs.declared.archive.Batch.{Batch}
 use Rattle.explorer_model.specs.Visits.{texts_of}
 use Rattle.segment_blocks.specs.Segment.{CountedSpan}
-use Rattle.published_index.specs.Cover.{list_limit}
 use Rattle.ingest_desk.specs.Listing.{JoinsPicked, MakesRoom, PutsBehind}
 use Rattle.ingest_desk.specs.Picking.{AreAt, HasNoneDue, NoneDueFrom}
 use Rattle.ingest_desk.proofs.PickingLemmas.{at_cons, at_tail, games_of}
@@ -18,17 +18,14 @@ use Rattle.explorer.specs.Trial.{batch_sizes, segment_sizes}
 none_some : (segment : CountedSpan) → Path (Option CountedSpan) None (Some segment) → ⊥
 none_some segment e = cc
 
-some_same : (a b : CountedSpan) → Some a ≡ Some b → a ≡ b
-some_same a b e = cc
-
 -- the list, cut before neighbours and behind them
 split_at : (list : List CountedSpan) (at : ℕ) (left right : CountedSpan) → AreAt list at left right
     → list ≡ take at list ++ left ∷ right ∷ drop (suc (suc at)) list
 split_at [] at left right stand = absurd (none_some left stand.left_is)
 split_at (first ∷ []) zero left right stand = absurd (none_some right stand.right_is)
 split_at (first ∷ second ∷ list) zero left right stand =
-    let l = some_same first left stand.left_is in
-    let r = some_same second right stand.right_is in
+    let l = same_Some first left stand.left_is in
+    let r = same_Some second right stand.right_is in
     λ i. l i ∷ r i ∷ list
 split_at (first ∷ list) (suc at) left right stand =
     ap (λ (l : List CountedSpan). first ∷ l) (split_at list at left right (at_tail first list at left right stand))
@@ -37,7 +34,7 @@ split_at (first ∷ list) (suc at) left right stand =
 drop_at : (list : List CountedSpan) (at : ℕ) (segment : CountedSpan) → slice_get list at ≡ Some segment
     → drop at list ≡ segment ∷ drop (suc at) list
 drop_at [] at segment is = absurd (none_some segment is)
-drop_at (first ∷ list) zero segment is = ap (λ (s : CountedSpan). s ∷ list) (some_same first segment is)
+drop_at (first ∷ list) zero segment is = ap (λ (s : CountedSpan). s ∷ list) (same_Some first segment is)
 drop_at (first ∷ list) (suc at) segment is = drop_at list at segment is
 
 tail_none : (first : CountedSpan) (list : List CountedSpan) (from : ℕ) → NoneDueFrom (suc from) (first ∷ list) → NoneDueFrom from list

@@ -1,11 +1,11 @@
 -- What becomes of a host that tells a disk, where a command uses it and no call fails.
-use Rattle.std.proofs.Common.{◌≡◌, ℕ, Bool, List, length, Option, None, Some, ap, subst, ◌∙◌}
+use Rattle.std.proofs.Common.{◌≡◌, ℕ, Bool, List, length, Option, None, Some, ap, ◌∙◌}
 use Rattle.std.specs.Prelude.{IfSome, if◌then◌else◌}
 use Rattle.disk_model.specs.Disk.{DiskState}
 use Rattle.host.specs.Hosts.{DiskBack, DiskOut, HostState, noted, put}
+use Rattle.host.proofs.Things.{same_bytes}
 use Rattle.explorer.specs.Stores.{UsesDisk}
 use Rattle.explorer.specs.World.{World}
-use Rattle.explorer.proofs.HostCalls.{same_bytes}
 
 -- ---- the host
 
@@ -56,9 +56,3 @@ pub size_is : (content : Option (List ℕ)) (file : List ℕ) (size : ℕ) → c
 size_is None file size is sized = absurd (none_some file is)
 size_is (Some bytes) file size is sized =
     let same : file ≡ bytes = cc in ap length same ∙ sized
-
-pub told_is : (P : List ℕ → Type 0) (content : Option (List ℕ)) (file : List ℕ) → content ≡ Some file
-    → IfSome content P → P file
-told_is P None file is holds = absurd (none_some file is)
-told_is P (Some bytes) file is holds =
-    let same : bytes ≡ file = cc in subst P same holds

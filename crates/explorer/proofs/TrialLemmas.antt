@@ -1,6 +1,5 @@
 -- How a run of `trial` ends.
-use Rattle.std.proofs.Common.{◌≡◌, ℕ, ◌<◌, ◌-◌, ◌^◌, ◌≤◌, List, [], ◌∷◌, ◌++◌, Option, None, Some, Result, Ok, Err, length, map, refl, sym, ap, subst, ◌∙◌, arith}
-use Rattle.std.specs.Prelude.{IfOk}
+use Rattle.std.proofs.Common.{◌≡◌, ℕ, ◌<◌, ◌-◌, ◌^◌, ◌≤◌, List, [], ◌∷◌, ◌++◌, Option, None, Some, Ok, length, map, refl, sym, ap, subst, ◌∙◌, arith}
 use Rattle.std.specs.Io.KnownBytes.{Consumes, IsAtEnd}
 use Rattle.std.proofs.lemmas.List.{append-nil}
 use Rattle.disk_model.specs.Disk.{DiskState}
@@ -49,10 +48,6 @@ use Rattle.explorer.proofs.NewGameLemmas.{bytes_placed, placed_at}
 use Rattle.explorer.proofs.NewStoreLemmas.{known_is_new}
 use Rattle.explorer.proofs.SegmentLemmas.{joined_more, joined_none}
 use Rattle.explorer.proofs.SizeLemmas.{sizes_apart, sizes_behind, sizes_join}
-
-pub ok_then : {A E : Type 0} (r : Result A E) (P Q : A → Type 0) → ((x : A) → P x → Q x) → IfOk r P → IfOk r Q
-ok_then (Ok x) P Q step p = step x p
-ok_then (Err e) P Q step p = tt
 
 -- ---- the end of an import
 

@@ -7,7 +7,7 @@ use Rattle.std.specs.Option.{option_map}
 use Rattle.std.proofs.lemmas.List.Sums.{sum_by-append}
 use Rattle.outside.specs.Doors.{Connections}
 use Rattle.outside.specs.Stream.{Stream}
-use Rattle.host.specs.Hosts.{ADisk, ADoor, AFile, DoorBack, FileBack, HostCall, HostState, Thing, handed, out, returned}
+use Rattle.host.specs.Hosts.{ADisk, ADoor, AFile, APort, DoorBack, FileBack, HostCall, HostState, Thing, handed, out, returned}
 use Rattle.explorer_model.specs.declared.archive.Batch.{Batch}
 use Rattle.explorer_model.specs.Timeline.{IsPrefix}
 use Rattle.explorer_model.proofs.Timelines.{prefix-trans}
@@ -31,12 +31,6 @@ zip_each R [] (y ∷ ys) same each = absurd (omega arith)
 zip_each R (x ∷ xs) [] same each = absurd (omega arith)
 zip_each R (x ∷ xs) (y ∷ ys) same each =
     (each 0 x (omega arith), zip_each R xs ys (omega arith) (λ i d below. each (suc i) d (omega arith)))
-
-pub zip-length : {A B : Type 0} (R : A → B → Type 0) (xs : List A) (ys : List B) → AllZip R xs ys → length ys ≡ length xs
-zip-length R [] [] all = refl
-zip-length R [] (y ∷ ys) all = absurd all
-zip-length R (x ∷ xs) [] all = absurd all
-zip-length R (x ∷ xs) (y ∷ ys) all = let rest = zip-length R xs ys all.1 in omega arith
 
 pub take-whole : {A : Type 0} (n : ℕ) (xs ys : List A) → n ≡ length xs → take n (xs ++ ys) ≡ xs
 take-whole n xs ys is = grind (arith, common_steps)
@@ -168,11 +162,13 @@ hands-no-file : (thing : Thing) (name : List ℕ) (file : Stream) → handed thi
 hands-no-file (ADisk n) name file = refl
 hands-no-file (AFile n) name file = refl
 hands-no-file ADoor name file = refl
+hands-no-file (APort n) name file = refl
 
 hands-no-door : (thing : Thing) (door : Connections) → handed thing (DoorBack door) ≡ 0
 hands-no-door (ADisk n) door = refl
 hands-no-door (AFile n) door = refl
 hands-no-door ADoor door = refl
+hands-no-door (APort n) door = refl
 
 pub can-last : (calls last : List HostCall) (host : HostState) → CanReturn (calls ++ last) host → CanReturn last host
 can-last calls last host can = λ thing. if_some host.calls _ _

@@ -1,3 +1,4 @@
+//! A source over bytes in memory.
 ghost use Rattle.std.specs.Prelude.{◌≡◌, ◌<◌, Some, length, IfOk, OnErr};
 ghost use Rattle.outside.specs.Stream.{source_alone, Gives, FailsToGive};
 

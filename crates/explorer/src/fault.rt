@@ -1,3 +1,4 @@
+//! Why a run ends without what its command asks for.
 ghost use Rattle.std.specs.Prelude.{◌≡◌, ◌++◌, ◌∷◌, [], ◌≤◌, length, codes};
 ghost use Rattle.std.specs.Fmt.{decimal};
 ghost use Rattle.outside.specs.Stream.{Writes};

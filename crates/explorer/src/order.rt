@@ -1,3 +1,4 @@
+//! What the command `import` is asked for.
 ghost use Rattle.std.specs.Prelude.{◌≤◌};
 
 use opening_names::Book;

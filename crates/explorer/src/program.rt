@@ -1,3 +1,4 @@
+//! The run of the program, from its words to its status.
 ghost use Rattle.std.specs.Prelude.{◌≡◌, ◌∷◌, [], MatchResult, map, string_bytes};
 ghost use Rattle.std.specs.Process.{exit_status};
 ghost use Rattle.outside.specs.Stream.{Writes};

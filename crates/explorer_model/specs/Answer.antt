@@ -1,4 +1,5 @@
--- The body of an answer: a JSON value with its members in the order of their bytes, written without spaces.
+-- Statement: the body of an answer: a JSON value with its members in the order of their bytes,
+-- written without spaces.
 use Rattle.std.specs.Prelude.{ℕ, ◌+◌, ◌/◌, ◌%◌, List, [], ◌∷◌, map, codes, Option, Some, None}
 use Rattle.serde_json.specs.Data.{Data, null, number, unsigned, string, array, Items, no_items, item, object, Members, member, no_members}
 use Rattle.serde_json.specs.Written.{compact_text}

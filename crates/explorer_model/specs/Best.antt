@@ -1,4 +1,4 @@
--- The best of a list, by an order that says which of two values is better.
+-- Statement: the best of a list, by an order that says which of two values is better.
 use Rattle.std.specs.Prelude.{◌≡◌, ℕ, zero, suc, Bool, true, false, List, [], ◌∷◌, ◌++◌, if◌then◌else◌}
 use Rattle.std.specs.List.{AllPairs}
 

@@ -1,6 +1,6 @@
--- The geometry of the board, and what stands on its squares (FIDE Laws of Chess in force from 1
--- January 2023, Articles 2 and 3). A square is a number below 64, `8 * rank + file`: a1 is 0, h1 is
--- 7, h8 is 63. Files and ranks count from 0: file e is 4, rank 1 is 0.
+-- Statement: the geometry of the board, and what stands on its squares (FIDE Laws of Chess in force
+-- from 1 January 2023, Articles 2 and 3). A square is a number below 64, `8 * rank + file`: a1 is
+-- 0, h1 is 7, h8 is 63. Files and ranks count from 0: file e is 4, rank 1 is 0.
 use Rattle.std.specs.Prelude.{◌≡◌, ◌≢◌, ℕ, ◌+◌, ◌-◌, ◌/◌, ◌%◌, ◌<◌, ◌≤◌, ◌⊎◌, List, slice_index_or, Option, Some, None}
 use Rattle.std.proofs.Common.{lit<}
 use Rattle.std.proofs.lemmas.Nat.{div_below}

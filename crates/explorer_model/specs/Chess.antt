@@ -1,6 +1,6 @@
--- Positions, moves and what is legal (FIDE Laws of Chess in force from 1 January 2023, Articles 2,
--- 3 and 9.2.3). Squares are numbers as in Board, so `m.to.index` is the square that the move m ends
--- on.
+-- Statement: positions, moves and what is legal (FIDE Laws of Chess in force from 1 January 2023,
+-- Articles 2, 3 and 9.2.3). Squares are numbers as in Board, so `m.to.index` is the square that the
+-- move m ends on.
 use Rattle.std.specs.Prelude.{◌≡◌, ◌≢◌, ℕ, ◌+◌, ◌-◌, ◌*◌, ◌<◌, ◌≤◌, ◌⊎◌, ◌↔◌, Bool, true, false, not, ◌&&◌, ◌==◌, if◌then◌else◌, IsTrue, List, [], ◌∷◌, ◌++◌, length, map, replicate, count_by, Option, Some, None}
 use Rattle.std.specs.List.{range_with_len}
 use Rattle.explorer_model.specs.declared.chess.Color.{Color}

@@ -1,4 +1,5 @@
--- What the tags of a text say of its game (PGN 8.1), or the first fault in the order in which they are asked for.
+-- Statement: what the tags of a text say of its game (PGN 8.1), or the first fault in the order in
+-- which they are asked for.
 use Rattle.std.specs.Prelude.{ℕ, ◌+◌, ◌*◌, ◌/◌, Bool, true, ◌&&◌, ◌||◌, List, [], ◌∷◌, length, take, drop, slice_index, slice_range, Option, Some, None, Result, Ok, Err, is_some, is_none, option_map, option_and_then, ok_or, nat_le, nat_lt, ◌==◌, if◌then◌else◌, codes, bytes_eq, ⊤}
 use Rattle.std.specs.List.{list_any, list_all, before_first, after_first, after_last}
 use Rattle.std.specs.Char.{is_ascii_alphanumeric}

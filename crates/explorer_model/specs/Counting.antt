@@ -1,5 +1,6 @@
--- What games say of a position: how often they came there, how they ended, and what was played. A game counts
--- once, at its first visit. Which games are wanted, and whose rating a move is averaged over, are arguments.
+-- Statement: what games say of a position: how often they came there, how they ended, and what was
+-- played. A game counts once, at its first visit. Which games are wanted, and whose rating a move
+-- is averaged over, are arguments.
 use Rattle.std.specs.Prelude.{ℕ, ◌+◌, ◌*◌, ◌/◌, Bool, true, false, not, ◌&&◌, ◌||◌, ◌==◌, nat_le, nat_lt, cond, List, [], ◌∷◌, map, filter, filter_map, count_by, sum_by, slice_index_or, replicate, Option, Some, None}
 use Rattle.std.specs.List.{enumerate_from, position_or_len}
 use Rattle.std.specs.Ordering.{nat_cmp, is_lt}

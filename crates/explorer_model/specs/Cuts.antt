@@ -1,4 +1,5 @@
--- How a stream of PGN games is cut into texts: at each line that begins with an Event tag (PGN 8.1.1).
+-- Statement: how a stream of PGN games is cut into texts: at each line that begins with an Event
+-- tag (PGN 8.1.1).
 use Rattle.std.specs.Prelude.{ℕ, ◌+◌, Bool, true, false, ◌&&◌, ◌||◌, List, [], ◌∷◌, ◌++◌, length, drop, nat_le, nat_eq, ◌==◌, if◌then◌else◌, codes}
 use Rattle.std.specs.List.{starts_with}
 use Rattle.explorer_model.specs.declared.archive.Placed.{Placed}

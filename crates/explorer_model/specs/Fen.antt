@@ -1,5 +1,5 @@
--- Forsyth-Edwards notation (PGN 16.1), as the explorer reads and writes it: six fields, or the
--- first four alone.
+-- Statement: Forsyth-Edwards notation (PGN 16.1), as the explorer reads and writes it: six fields,
+-- or the first four alone.
 use Rattle.std.specs.Prelude.{◌≡◌, ℕ, zero, suc, ◌+◌, ◌-◌, ◌*◌, ◌<◌, ◌≤◌, ◌==◌, ◌&&◌, ◌||◌, ◌↔◌, Bool, true, false, IsTrue, nat_le, nat_lt, List, [], ◌∷◌, ◌++◌, length, replicate, filter, count_by, take, drop, slice_index_or, codes, Option, Some, None, option_map, option_and_then, Result, Ok, Err, if◌then◌else◌}
 use Rattle.std.specs.List.{slice_split, list_all}
 use Rattle.explorer_model.specs.declared.chess.Color.{Color}

@@ -1,4 +1,5 @@
--- What is found for a query in a journal: the recount of its games, replayed from their texts.
+-- Statement: what is found for a query in a journal: the recount of its games, replayed from their
+-- texts.
 use Rattle.std.specs.Prelude.{◌≡◌, Bool, true, false, List, map, length, Option, Some, None}
 use Rattle.std.specs.List.{AllZip}
 use Rattle.explorer_model.specs.Best.{best}

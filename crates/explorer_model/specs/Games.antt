@@ -1,5 +1,5 @@
--- The game of a text: its classes, the position that it begins in, and its moves played from there; or the first of
--- its faults.
+-- Statement: the game of a text: its classes, the position that it begins in, and its moves played
+-- from there; or the first of its faults.
 use Rattle.std.specs.Prelude.{◌≡◌, ℕ, ◌+◌, Bool, true, false, List, [], ◌∷◌, length, nat_le, Option, Some, None, Result, Ok, Err, ok_or, ◌⊎◌}
 use Rattle.std.specs.Result.{result_map_both}
 use Rattle.explorer_model.specs.declared.archive.Classes.{Classes}

@@ -1,4 +1,5 @@
--- What becomes of the texts of a stream: in groups of 512 they are stored together or refused, each with its cause.
+-- Statement: what becomes of the texts of a stream: in groups of 512 they are stored together or
+-- refused, each with its cause.
 use Rattle.std.specs.Prelude.{◌≡◌, ℕ, ◌+◌, ◌-◌, ◌/◌, Bool, true, false, ◌==◌, min, List, [], ◌∷◌, ◌++◌, map, filter, filter_map, find, length, count_by, bytes_eq, if◌then◌else◌, Option, Some, None, Result, Ok, Err}
 use Rattle.std.specs.List.{AllZip, flat_map, range_with_len}
 use Rattle.explorer_model.specs.declared.archive.Batch.{Batch}

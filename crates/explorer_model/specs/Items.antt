@@ -1,4 +1,4 @@
--- The items of a game's text, from its first byte to its last (PGN 5 to 8, 10).
+-- Statement: the items of a game's text, from its first byte to its last (PGN 5 to 8, 10).
 use Rattle.std.specs.Prelude.{ℕ, zero, suc, ◌+◌, ◌-◌, Bool, true, false, ◌&&◌, ◌||◌, not, List, [], ◌∷◌, length, take, drop, Option, Some, None, option_map, option_and_then, position, ◌==◌, if◌then◌else◌, codes, bytes_eq}
 use Rattle.std.specs.Int.{is_in_range}
 use Rattle.std.specs.List.{list_all, prefix_len, position_or_len}

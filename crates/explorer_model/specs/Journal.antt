@@ -1,4 +1,4 @@
--- A journal is a list of batches, which are stored one after another.
+-- Statement: a journal is a list of batches, which are stored one after another.
 use Rattle.std.specs.Prelude.{◌≡◌, ◌≢◌, true, ◌<◌, ◌≤◌, ◌^◌, ℕ, List, length, map, sum_by}
 use Rattle.std.specs.List.{All, AllPairs, AllZip}
 use Rattle.explorer_model.specs.declared.archive.Batch.{Batch}

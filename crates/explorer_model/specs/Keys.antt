@@ -1,4 +1,4 @@
--- The key of a position: 34 bytes that name it exactly, whatever else a position is.
+-- Statement: the key of a position: 34 bytes that name it exactly, whatever else a position is.
 use Rattle.std.specs.Prelude.{◌≡◌, ℕ, ◌+◌, ◌*◌, Bool, true, false, List, [], ◌∷◌, ◌++◌, length, Option, Some, None}
 use Rattle.explorer_model.specs.declared.chess.Color.{Color}
 use Rattle.explorer_model.specs.declared.chess.Color.TheVariants.{White, Black}

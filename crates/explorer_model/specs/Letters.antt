@@ -1,4 +1,4 @@
--- The letters and digits that SAN, FEN and UCI share (PGN 8.2.3.1, 8.2.3.2).
+-- Statement: the letters and digits that SAN, FEN and UCI share (PGN 8.2.3.1, 8.2.3.2).
 use Prim.Native.String.{String}
 use Rattle.std.specs.Prelude.{ℕ, Bool, map, bytes_eq, ◌+◌, ◌-◌, ◌*◌, ◌/◌, ◌%◌, ◌==◌, ◌&&◌, nat_le, Option, Some, None, option_map, option_and_then, List, [], ◌∷◌, find, slice_index_or, codes, if◌then◌else◌}
 use Rattle.std.specs.Char.{to_ascii_lowercase}

@@ -1,4 +1,4 @@
--- Names of openings: the file that tells them, and what an answer names by it.
+-- Statement: names of openings: the file that tells them, and what an answer names by it.
 use Rattle.std.specs.Prelude.{◌≡◌, ◌⊎◌, ℕ, ◌+◌, ◌==◌, ◌&&◌, ◌||◌, Bool, true, false, not, nat_le, MatchBool, List, [], ◌∷◌, length, drop, map, filter, bytes_eq, codes, if◌then◌else◌, Option, Some, None, option_map, Result, Ok, Err, ok_or}
 use Rattle.std.specs.Char.{is_ascii_digit}
 use Rattle.std.specs.List.{AllZip, prefix_len, slice_split}

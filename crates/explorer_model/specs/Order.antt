@@ -1,4 +1,4 @@
--- The order of what sorts rows.
+-- Statement: the order of what sorts rows.
 use Rattle.std.specs.Prelude.{ℕ}
 use Rattle.explorer_model.specs.declared.archive.Speed.{Speed}
 use Rattle.explorer_model.specs.declared.archive.Speed.TheVariants.{UltraBullet, Bullet, Blitz, Rapid, Classical, Correspondence}

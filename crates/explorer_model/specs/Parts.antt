@@ -1,4 +1,5 @@
--- What the items of a game's text mean: its tags, its move tokens and its termination, or the first fault (PGN 8).
+-- Statement: what the items of a game's text mean: its tags, its move tokens and its termination,
+-- or the first fault (PGN 8).
 use Rattle.std.specs.Prelude.{ℕ, ◌+◌, ◌-◌, Bool, true, false, List, [], ◌∷◌, Option, Some, None, Result, Ok, Err, ok_or, ◌==◌, if◌then◌else◌}
 use Rattle.explorer_model.specs.declared.archive.Ending.{Ending}
 use Rattle.explorer_model.specs.declared.archive.Parts.{Parts}

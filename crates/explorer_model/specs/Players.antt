@@ -1,5 +1,5 @@
--- A player's games: what is asked of them, and what is found: the recount of the games of a journal
--- in which the player has the colour.
+-- Statement: a player's games: what is asked of them, and what is found: the recount of the games
+-- of a journal in which the player has the colour.
 use Rattle.std.specs.Prelude.{◌≡◌, ℕ, ◌&&◌, Bool, true, false, List, [], ◌∷◌, map, length, slice_index_or, bytes_eq, codes, if◌then◌else◌, Option, Some, None, option_and_then, ok_or, Result, Ok, Err}
 use Rattle.std.specs.List.{AllZip}
 use Rattle.std.specs.Result.{result_map_both}

@@ -1,4 +1,5 @@
--- What a query string asks: its parameters, read in one order, or the first that is malformed.
+-- Statement: what a query string asks: its parameters, read in one order, or the first that is
+-- malformed.
 use Rattle.std.specs.Prelude.{◌≡◌, ℕ, ◌==◌, ◌&&◌, ◌⊎◌, Bool, true, false, List, [], ◌∷◌, map, filter, length, take, drop, slice_index, min, nat_le, bytes_eq, codes, if◌then◌else◌, Option, Some, None, option_map, option_and_then, ok_or, Result, Ok, Err}
 use Rattle.std.specs.List.{list_any, list_all, slice_split}
 use Rattle.std.specs.Result.{result_map_both}

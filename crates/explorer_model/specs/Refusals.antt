@@ -1,4 +1,5 @@
--- How the report lines say why a piece of a stream is not counted, or a line of openings is refused.
+-- Statement: how the report lines say why a piece of a stream is not counted, or a line of openings
+-- is refused.
 use Rattle.std.specs.Prelude.{ℕ, List, ◌++◌, codes}
 use Rattle.std.specs.Fmt.{decimal}
 use Rattle.explorer_model.specs.declared.fault.TagName.{TagName}

@@ -1,4 +1,4 @@
--- What is written to a connection, and the reply to a query (RFC 9112, 4 to 6).
+-- Statement: what is written to a connection, and the reply to a query (RFC 9112, 4 to 6).
 use Rattle.std.specs.Prelude.{◌≡◌, ℕ, Bool, List, [], ◌∷◌, ◌++◌, length, map, codes, decimal, if◌then◌else◌, Ok, Err}
 use Rattle.serde_json.specs.Data.{Data, string, object, Members, member, no_members}
 use Rattle.serde_json.specs.Written.{compact_text}

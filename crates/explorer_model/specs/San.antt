@@ -1,4 +1,4 @@
--- Standard algebraic notation (PGN 8.2.3), as the explorer reads and writes it.
+-- Statement: standard algebraic notation (PGN 8.2.3), as the explorer reads and writes it.
 use Rattle.std.specs.Prelude.{◌≡◌, ◌≢◌, ℕ, ◌==◌, ◌&&◌, ◌||◌, ◌⊎◌, Bool, true, false, Option, Some, None, Result, Ok, Err, is_some, option_map, option_and_then, List, [], ◌∷◌, ◌++◌, reverse, codes, if◌then◌else◌}
 use Rattle.explorer_model.specs.declared.chess.Role.{Role}
 use Rattle.explorer_model.specs.declared.chess.Role.TheVariants.{Pawn}

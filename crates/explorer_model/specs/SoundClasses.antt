@@ -1,4 +1,4 @@
--- What the tags of a game can say.
+-- Statement: what the tags of a game can say.
 use Rattle.std.specs.Prelude.{◌<◌, ◌≤◌}
 use Rattle.std.specs.Str.{IsAscii}
 use Rattle.explorer_model.specs.declared.archive.Classes.{Classes}

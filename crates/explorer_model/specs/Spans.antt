@@ -1,4 +1,5 @@
--- Spans of a journal: its batches in runs that stand one after another, and what covers the whole.
+-- Statement: spans of a journal: its batches in runs that stand one after another, and what covers
+-- the whole.
 use Rattle.std.specs.Prelude.{◌≡◌, ⊤, ℕ, ◌+◌, List, [], ◌∷◌, length}
 use Rattle.std.specs.List.{flat_map}
 use Rattle.explorer_model.specs.declared.archive.Batch.{Batch}

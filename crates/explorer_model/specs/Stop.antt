@@ -1,4 +1,5 @@
--- What a call that reads something answers: what is read, or the first fault. Want of memory is free.
+-- Statement: what a call that reads something answers: what is read, or the first fault. Want of
+-- memory is free.
 use Rattle.std.specs.Prelude.{◌≡◌, Result, Ok, Err, ⊤}
 use Rattle.explorer_model.specs.declared.fault.Stop.{Stop}
 use Rattle.explorer_model.specs.declared.fault.Stop.TheVariants as stops

@@ -1,5 +1,5 @@
--- The store file: payloads behind gates, and the journal of the batches in them. Numbers are
--- little-endian.
+-- Statement: the store file: payloads behind gates, and the journal of the batches in them. Numbers
+-- are little-endian.
 use Rattle.std.specs.Prelude.{◌≡◌, ◌≢◌, true, ◌<◌, ◌≤◌, ℕ, zero, suc, ◌+◌, ◌^◌, Bool, not, ◌&&◌, ◌==◌, nat_le, nat_lt, List, [], ◌∷◌, ◌++◌, length, take, drop, map, All, codes, bytes_eq, if◌then◌else◌, Option, Some, None, Result, Ok, Err}
 use Rattle.std.specs.Int.{Width, w16, w32, byte_len, to_le_bytes, from_le_bytes, IsInRange}
 use Rattle.std.specs.List.{flat_map}

@@ -1,5 +1,5 @@
--- The tidy form of a position: an en passant square stays only where a pawn can legally be taken
--- there (FIDE 9.2.3).
+-- Statement: the tidy form of a position: an en passant square stays only where a pawn can legally
+-- be taken there (FIDE 9.2.3).
 use Rattle.std.specs.Prelude.{◌≡◌, ℕ, ◌↔◌, List}
 use Rattle.explorer_model.specs.declared.chess.Position.{Position}
 use Rattle.explorer_model.specs.Chess.{IsSquare, CanCaptureEnPassant}

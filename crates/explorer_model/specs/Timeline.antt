@@ -1,4 +1,5 @@
--- What passes see of a journal that grows, while neighbouring spans of its cover become one.
+-- Statement: what passes see of a journal that grows, while neighbouring spans of its cover become
+-- one.
 use Rattle.std.specs.Prelude.{◌≡◌, ⊤, ℕ, ◌+◌, ◌<◌, ◌≤◌, zero, suc, List, [], ◌∷◌, ◌++◌, length, take, nat_lt, if◌then◌else◌, slice_index_or, slice_set, All}
 use Rattle.explorer_model.specs.declared.archive.Batch.{Batch}
 use Rattle.explorer_model.specs.Spans.{Span, Covers}

@@ -1,4 +1,4 @@
--- Moves as UCI names them: a square, a square and, for a promotion, a small letter.
+-- Statement: moves as UCI names them: a square, a square and, for a promotion, a small letter.
 use Rattle.std.specs.Prelude.{◌≡◌, ℕ, List, [], ◌∷◌, ◌++◌, Option, Some, None, option_map, option_and_then, Result, Ok, Err, IsTrue, ◌⊎◌}
 use Rattle.explorer_model.specs.declared.chess.Role.{Role}
 use Rattle.explorer_model.specs.declared.chess.Role.TheVariants.{King, Rook}

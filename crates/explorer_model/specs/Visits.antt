@@ -1,5 +1,5 @@
--- Where the games of a journal stand: the positions of their plies, and the first of these that is
--- the same as a given one.
+-- Statement: where the games of a journal stand: the positions of their plies, and the first of
+-- these that is the same as a given one.
 use Rattle.std.specs.Prelude.{◌≡◌, ⊤, ℕ, ◌⊎◌, List, [], ◌∷◌, take, Option, Some, None, Ok}
 use Rattle.std.specs.List.{AllZip, flat_map}
 use Rattle.explorer_model.specs.declared.archive.Batch.{Batch}

@@ -1,4 +1,5 @@
--- What is asked in the bytes of a connection: requests, one after another, and refusals (RFC 9112).
+-- Statement: what is asked in the bytes of a connection: requests, one after another, and refusals
+-- (RFC 9112).
 use Rattle.std.specs.Prelude.{◌≡◌, ◌≤◌, ◌⊎◌, ⊤, ℕ, ◌+◌, ◌-◌, Bool, ◌&&◌, ◌||◌, ◌==◌, nat_le, MatchBool, List, [], ◌∷◌, length, take, drop, map, filter, count_by, bytes_eq, codes, if◌then◌else◌, Option, Some, None, option_map, Result, Ok, Err}
 use Rattle.std.specs.List.{list_any, prefix_len, slice_split, before_first, after_first}
 use Rattle.std.specs.Option.{option_or}

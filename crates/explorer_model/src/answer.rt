@@ -1,3 +1,4 @@
+//! What is found for a query.
 use crate::archive::{Bytes, Classes, Month};
 use crate::chess::Move;
 use crate::list::Items;

@@ -1,3 +1,4 @@
+//! Why a call that reads something has no answer.
 ghost use Rattle.std.specs.Prelude.{◌≡◌};
 ghost use Rattle.explorer_model.specs.declared.fault.Stop.TheVariants.{OutOfMemory};
 

@@ -1,3 +1,4 @@
+//! What notations of moves name.
 use crate::chess::{Role, Side};
 use thiserror::Error;
 

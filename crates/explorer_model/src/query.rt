@@ -1,3 +1,4 @@
+//! What a query asks for.
 use crate::archive::{Month, Moves};
 use crate::chess::Position;
 use thiserror::Error;

@@ -1,3 +1,4 @@
+//! The squares of a board.
 ghost use Rattle.std.specs.Prelude.{◌≡◌, ℕ, ◌<◌};
 ghost use Rattle.explorer_model.specs.Board.{file_of, rank_of, halfway};
 

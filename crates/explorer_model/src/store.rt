@@ -1,3 +1,4 @@
+//! Faults of a store's file.
 use thiserror::Error;
 
 /// Why the bytes of a file are no log of the format that is asked for.

@@ -1,3 +1,4 @@
+//! Texts that contracts see as bytes.
 ghost use Rattle.std.specs.Prelude.{◌≡◌, ℕ, List, string_bytes};
 
 use std::marker::Model;

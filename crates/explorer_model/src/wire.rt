@@ -1,3 +1,4 @@
+//! Requests and replies (HTTP).
 use crate::archive::Bytes;
 use crate::player::PlayerParameter;
 use crate::query::Parameter;

@@ -1,4 +1,4 @@
--- The ranks of a text.
+-- Bridge: the ranks of a text.
 use Rattle.std.specs.Prelude.{ℕ, ◌==◌, Bool, List, [], Option, Some, None}
 use Rattle.std.specs.List.{slice_split}
 use Rattle.explorer_model.specs.Letters.{byte}

@@ -1,4 +1,4 @@
--- Where a text is cut at a byte.
+-- Bridge: where a text is cut at a byte.
 use Rattle.std.specs.Prelude.{◌≡◌, ℕ, ◌==◌, false, List, [], ◌∷◌}
 use Rattle.std.specs.List.{All}
 use Rattle.explorer_model.specs.Letters.{byte}

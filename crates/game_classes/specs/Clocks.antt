@@ -1,4 +1,4 @@
--- How the code holds a time control.
+-- Bridge: how the code holds a time control.
 use Rattle.std.specs.Prelude.{◌<◌, ◌^◌}
 use Rattle.explorer_model.specs.Classes.{Clock}
 use Rattle.game_classes.specs.declared.time.TimeControl.{TimeControl}

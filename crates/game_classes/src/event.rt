@@ -1,3 +1,4 @@
+//! Whether a game is rated, from its tag Event.
 ghost use Rattle.std.specs.Prelude.{◌≡◌};
 ghost use Rattle.explorer_model.specs.Classes.{mode_of};
 

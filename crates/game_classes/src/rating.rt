@@ -1,3 +1,4 @@
+//! Ratings of players, and a game's rating group.
 ghost use Rattle.std.specs.Prelude.{◌≡◌, ◌≤◌};
 ghost use Rattle.explorer_model.specs.Classes.{rating_of, group_of};
 

@@ -1,3 +1,4 @@
+//! What all tags of a text say of its game.
 ghost use Rattle.std.specs.Prelude.{◌≡◌, IfOk, ok_or, option_map};
 ghost use Rattle.explorer_model.specs.declared.fault.TagFault.TheVariants.{Bad};
 ghost use Rattle.explorer_model.specs.declared.fault.TagName.TheVariants.{Site, TimeControl};

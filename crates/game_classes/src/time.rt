@@ -1,3 +1,4 @@
+//! The speed and the month of a game, from its tags.
 ghost use Rattle.std.specs.Prelude.{◌≡◌, ◌||◌, option_map, IfSome, codes, bytes_eq};
 ghost use Rattle.std.specs.Str.{all_ascii_digits};
 ghost use Rattle.explorer_model.specs.Classes.{clock_of, speed_of, control_of, month_of};

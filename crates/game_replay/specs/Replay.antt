@@ -1,4 +1,4 @@
--- What replaying answers: a game, or the first fault. Want of memory is free.
+-- Statement: what replaying answers: a game, or the first fault. Want of memory is free.
 use Rattle.std.specs.Prelude.{◌≡◌, ℕ, ◌+◌, ◌++◌, List, map, drop, Result, Ok, Err}
 use Rattle.std.specs.Result.{result_map_both}
 use Rattle.explorer_model.specs.declared.archive.Game.{Game}

@@ -1,3 +1,4 @@
+//! The game of a text, played.
 ghost use Rattle.std.specs.Prelude.{◌≤◌, length};
 ghost use Rattle.game_replay.specs.Replay.{GivesGame};
 

@@ -1,4 +1,4 @@
--- What a connection asks next.
+-- Statement: what a connection asks next.
 use Rattle.std.specs.Prelude.{◌≡◌, ℕ, ◌-◌, ⊤, List, [], ◌++◌, if◌then◌else◌, Option}
 use Rattle.std.specs.Io.KnownBytes.{IsAtEnd}
 use Rattle.outside.specs.Stream.{Stream, Rises, Reads}

@@ -1,4 +1,4 @@
--- Fields by their names.
+-- Statement: fields by their names.
 use Rattle.std.specs.Prelude.{ℕ, List, map, filter, codes, if◌then◌else◌, Result, Err}
 use Rattle.explorer_model.specs.Letters.{is_same_word}
 use Rattle.explorer_model.specs.Wire.{is_there, length_by, within_limit}

@@ -1,4 +1,4 @@
--- What a head's text says of its request.
+-- Statement: what a head's text says of its request.
 use Rattle.std.specs.Prelude.{◌≡◌, ℕ, Bool, ◌||◌, ◌==◌, ⊤, List, codes, Ok, Err}
 use Rattle.std.specs.List.{list_any, before_first, after_first}
 use Rattle.std.specs.Str.{byte}

@@ -1,4 +1,4 @@
--- A reply in pieces.
+-- Bridge: a reply in pieces.
 use Rattle.std.specs.Prelude.{ℕ, Bool, List, [], ◌++◌, codes, decimal}
 use Rattle.explorer_model.specs.Replies.{status_text, own_line, close_line, line, reply_body}
 use Rattle.explorer_model.specs.declared.wire.Reply.{Reply}

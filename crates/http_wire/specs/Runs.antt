@@ -1,4 +1,4 @@
--- Calls of `next`, one after another.
+-- Laws: calls of `next`, one after another.
 use Rattle.std.specs.Prelude.{◌≡◌, ◌<◌, List, [], ◌∷◌}
 use Rattle.outside.specs.Stream.{Stream}
 use Rattle.explorer_model.specs.declared.wire.Asked.{Asked}

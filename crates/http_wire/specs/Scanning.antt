@@ -1,4 +1,4 @@
--- How far a head has been scanned for its end.
+-- Bridge: how far a head has been scanned for its end.
 use Rattle.std.specs.Prelude.{◌≡◌, ℕ, ◌+◌, ◌<◌, ◌≤◌, ◌==◌, Bool, true, false, List, [], ◌∷◌, ◌++◌, length, take, drop, if◌then◌else◌, Option, Some, None, option_map}
 use Rattle.explorer_model.specs.Wire.{head_limit, head_len, lines_in, Opening, Head, TooLong, Begun, opening_by}
 use Rattle.http_wire.specs.declared.head.Stage.{Stage}

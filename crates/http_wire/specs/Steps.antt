@@ -1,4 +1,4 @@
--- What the steps of reading one request come to.
+-- Bridge: what the steps of reading one request come to.
 use Rattle.std.specs.Prelude.{◌≡◌, ◌⊎◌, ◌<◌, ◌≤◌, ⊤, ℕ, ◌+◌, List, ◌++◌, length, take, drop, min}
 use Rattle.std.specs.Io.KnownBytes.{IsAtEnd}
 use Rattle.std.specs.List.{prefix_len}

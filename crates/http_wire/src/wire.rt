@@ -1,3 +1,4 @@
+//! One connection's requests and replies, in turn.
 ghost use Rattle.std.specs.Prelude.{◌≡◌, ◌<◌, ◌≤◌, length, OnOk, OnErr};
 ghost use Rattle.outside.specs.Stream.{Takes, FailsToTake};
 ghost use Rattle.explorer_model.specs.Wire.{body_limit};

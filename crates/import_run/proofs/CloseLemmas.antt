@@ -14,8 +14,8 @@ use Rattle.explorer_model.specs.Timeline.{IsPrefix}
 use Rattle.explorer_model.specs.Visits.{AreGamesOf}
 use Rattle.ingest_desk.specs.Reporting.{AreReceipts}
 use Rattle.ingest_desk.specs.declared.receipt.Receipt.{Receipt}
-use Rattle.import_run.specs.declared.groups.OpenImport.{OpenImport}
-use Rattle.import_run.specs.declared.groups.Stopped.{Stopped}
+use Rattle.import_run.specs.declared.open_import.OpenImport.{OpenImport}
+use Rattle.import_run.specs.declared.open_import.Stopped.{Stopped}
 use Rattle.import_run.specs.declared.text_group.TextGroup.{TextGroup}
 use Rattle.import_run.specs.Beside.{AreNamed, AreRepeats, ProgressBeside, StopsBeside, last_batches}
 use Rattle.import_run.specs.Committing.{Known, Store, store_of}

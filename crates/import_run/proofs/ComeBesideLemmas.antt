@@ -17,8 +17,8 @@ use Rattle.ingest_desk.specs.declared.receipt.Receipt.{Receipt}
 use Rattle.ingest_desk.specs.declared.report.End.{End}
 use Rattle.ingest_desk.specs.declared.report.End.TheVariants as ends
 use Rattle.ingest_desk.specs.declared.report.Report.{Report}
-use Rattle.import_run.specs.declared.groups.OpenImport.{OpenImport}
-use Rattle.import_run.specs.declared.groups.Stopped.{Stopped}
+use Rattle.import_run.specs.declared.open_import.OpenImport.{OpenImport}
+use Rattle.import_run.specs.declared.open_import.Stopped.{Stopped}
 use Rattle.ingest_desk.specs.Importers.{EndsInMemory, ending_of}
 use Rattle.import_run.specs.Counting.{IsMarkedSo}
 use Rattle.import_run.specs.Beside.{AreRepeats, EndsBeside, ProgressBeside, StopsBeside}

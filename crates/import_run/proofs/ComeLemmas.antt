@@ -12,8 +12,8 @@ use Rattle.ingest_desk.specs.declared.receipt.Receipt.{Receipt}
 use Rattle.ingest_desk.specs.declared.report.End.{End}
 use Rattle.ingest_desk.specs.declared.report.End.TheVariants as ends
 use Rattle.ingest_desk.specs.declared.report.Report.{Report}
-use Rattle.import_run.specs.declared.groups.OpenImport.{OpenImport}
-use Rattle.import_run.specs.declared.groups.Stopped.{Stopped}
+use Rattle.import_run.specs.declared.open_import.OpenImport.{OpenImport}
+use Rattle.import_run.specs.declared.open_import.Stopped.{Stopped}
 use Rattle.import_run.specs.Committing.{Known, Store, store_of}
 use Rattle.import_run.specs.Ending.{AreSettled, HasMaybeOneMore, ReadFaultsAre, StandsAt, StoresBy}
 use Rattle.import_run.specs.Progress.{AreReceiptsOf, Progress}

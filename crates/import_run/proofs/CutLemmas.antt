@@ -12,8 +12,8 @@ use Rattle.pgn_cut.specs.declared.cut.Cut as given
 use Rattle.pgn_cut.specs.declared.cutter.Cutter.{Cutter}
 use Rattle.pgn_cut.specs.declared.cutter.Stage.{Stage}
 use Rattle.pgn_cut.specs.declared.cutter.Stage.TheVariants.{Mark, Before, Within}
-use Rattle.import_run.specs.declared.groups.OpenImport.{OpenImport}
-use Rattle.import_run.specs.declared.groups.Stopped.{Stopped}
+use Rattle.import_run.specs.declared.open_import.OpenImport.{OpenImport}
+use Rattle.import_run.specs.declared.open_import.Stopped.{Stopped}
 use Rattle.import_run.specs.Committing.{Store}
 use Rattle.import_run.specs.Grouping.{Ascend}
 use Rattle.import_run.specs.Taking.{CutSoFar, LacksSoFar, LacksWithin, StopsSoFar, StopsWithin}

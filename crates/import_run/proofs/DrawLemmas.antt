@@ -15,7 +15,7 @@ use Rattle.ingest_desk.specs.declared.report.Report.{Report}
 use Rattle.ingest_desk.specs.declared.fault.CommitFault.{CommitFault}
 use Rattle.ingest_desk.specs.declared.fault.CommitFault.TheVariants as faults
 use Rattle.ingest_desk.specs.declared.receipt.Receipt.{Receipt}
-use Rattle.import_run.specs.declared.groups.Stopped.{Stopped}
+use Rattle.import_run.specs.declared.open_import.Stopped.{Stopped}
 use Rattle.import_run.specs.Rounds.{IsDecided}
 use Rattle.import_run.specs.Draws.{DrawsFew, DrawsPlace, most_untold_by}
 

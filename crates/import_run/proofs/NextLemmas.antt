@@ -21,7 +21,7 @@ use Rattle.import_run.specs.Progress.{AreReceiptsOf, HasNoCandidate, Progress, a
 use Rattle.import_run.specs.Rounds.{IsAnswer, IsBatchOf, MayHaveMore, Settles, stored_by}
 use Rattle.import_run.proofs.HandLemmas.{lacks_still}
 use Rattle.import_run.specs.Importing.{WhereLacking}
-use Rattle.import_run.specs.declared.groups.Stopped.{Stopped}
+use Rattle.import_run.specs.declared.open_import.Stopped.{Stopped}
 use Rattle.explorer_model.specs.declared.fault.Stop.{Stop}
 use Rattle.explorer_model.specs.declared.fault.Stop.TheVariants as stops
 use Rattle.import_run.specs.Settling.{AreRead, id_of, kept}

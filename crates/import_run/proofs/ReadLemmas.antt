@@ -9,7 +9,7 @@ use Rattle.explorer_model.specs.Journal.{input_limit}
 use Rattle.ingest_desk.specs.declared.report.End.{End}
 use Rattle.ingest_desk.specs.declared.report.End.TheVariants as ends
 use Rattle.ingest_desk.specs.declared.report.Report.{Report}
-use Rattle.import_run.specs.declared.groups.OpenImport.{OpenImport}
+use Rattle.import_run.specs.declared.open_import.OpenImport.{OpenImport}
 use Rattle.import_run.specs.Beside.{AreRepeats}
 use Rattle.import_run.specs.Committing.{Known, Store}
 use Rattle.import_run.specs.Ending.{ReadFaultsAre}

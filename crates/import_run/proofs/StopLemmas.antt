@@ -24,7 +24,7 @@ use Rattle.ingest_desk.specs.declared.fault.CommitFault.TheVariants as faults
 use Rattle.ingest_desk.specs.declared.mark.MarkKind.TheVariants as kinds
 use Rattle.ingest_desk.specs.declared.receipt.Receipt.{Receipt}
 use Rattle.ingest_desk.specs.declared.report.End.{End}
-use Rattle.import_run.specs.declared.groups.Stopped.{Stopped}
+use Rattle.import_run.specs.declared.open_import.Stopped.{Stopped}
 use Rattle.import_run.specs.Committing.{Known, Store}
 use Rattle.import_run.specs.Ending.{EndsAt, HasRoomFor, ReadFaultsAre, StandsAt, StoresBy}
 use Rattle.import_run.specs.Importing.{IsEndOf, StopsAt}

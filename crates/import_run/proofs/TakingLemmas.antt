@@ -15,8 +15,8 @@ use Rattle.explorer_model.specs.Cuts.{Cut, text_limit}
 use Rattle.explorer_model.specs.Imports.{Accounted, AccountedBeside, verdicts_in_turn}
 use Rattle.ingest_desk.specs.Reporting.{AreReceipts}
 use Rattle.ingest_desk.specs.declared.receipt.Receipt.{Receipt}
-use Rattle.import_run.specs.declared.groups.OpenImport.{OpenImport}
-use Rattle.import_run.specs.declared.groups.Stopped.{Stopped}
+use Rattle.import_run.specs.declared.open_import.OpenImport.{OpenImport}
+use Rattle.import_run.specs.declared.open_import.Stopped.{Stopped}
 use Rattle.import_run.specs.Beside.{AreRepeats, ProgressBeside}
 use Rattle.import_run.specs.Committing.{Known, Store, store_of}
 use Rattle.import_run.specs.Grouping.{Ascend, IsGroupOf}

@@ -1,4 +1,5 @@
--- What is known of an import whoever else stores beside it: by what the answers to its commits tell.
+-- Statement: what is known of an import whoever else stores beside it: by what the answers to its
+-- commits tell.
 use Rattle.std.specs.Prelude.{◌≡◌, ◌≢◌, ⊤, ℕ, true, List, [], ◌∷◌, Option, None, Some, Result, Ok, Err}
 use Rattle.std.specs.List.{All, AllZip, Contains, flat_map}
 use Rattle.explorer_model.specs.declared.archive.Batch.{Batch}
@@ -19,8 +20,8 @@ use Rattle.ingest_desk.specs.declared.mark.MarkKind.TheVariants as kinds
 use Rattle.ingest_desk.specs.declared.receipt.Receipt.{Receipt}
 use Rattle.ingest_desk.specs.declared.report.End.{End}
 use Rattle.ingest_desk.specs.declared.report.End.TheVariants as ends
-use Rattle.import_run.specs.declared.groups.OpenImport.{OpenImport}
-use Rattle.import_run.specs.declared.groups.Stopped.{Stopped}
+use Rattle.import_run.specs.declared.open_import.OpenImport.{OpenImport}
+use Rattle.import_run.specs.declared.open_import.Stopped.{Stopped}
 use Rattle.import_run.specs.declared.settle.Done.{Done}
 use Rattle.import_run.specs.Labelling.{CountsUnder}
 use Rattle.import_run.specs.Rounds.{Rounds}

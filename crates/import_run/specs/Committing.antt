@@ -1,4 +1,4 @@
--- What a commit does to a store, as it is told by one who stores there.
+-- Statement: what a commit does to a store, as it is told by one who stores there.
 use Rattle.std.specs.Prelude.{◌≡◌, ◌≢◌, ℕ, List, [], Option, None, Some, Result, Ok, Err}
 use Rattle.explorer_model.specs.declared.archive.Batch.{Batch}
 use Rattle.explorer_model.specs.declared.archive.Game.{Game}

@@ -1,4 +1,4 @@
--- What an importer counts of its ends.
+-- Bridge: what an importer counts of its ends.
 use Rattle.std.specs.Prelude.{◌≡◌, ⊤}
 use Rattle.ingest_desk.specs.Importers.{ImportCounts}
 use Rattle.ingest_desk.specs.declared.mark.MarkKind.TheVariants as kinds

@@ -1,4 +1,4 @@
--- Words of laws: imports that come to the same.
+-- Laws: imports that come to the same.
 use Rattle.std.specs.Prelude.{◌≡◌, ⊤, ℕ, List, [], Some, length}
 use Rattle.disk_model.specs.Disk.{DiskState}
 use Rattle.outside.specs.Stream.{source_alone}

@@ -1,4 +1,4 @@
--- What the drawer of an import has drawn on its way, by what its steps answer.
+-- Bridge: what the drawer of an import has drawn on its way, by what its steps answer.
 use Rattle.std.specs.Prelude.{◌≡◌, ◌≤◌, ◌-◌, ℕ, true, List, length, Option, None, Some, Result, Ok, Err}
 use Rattle.explorer_model.specs.declared.fault.Stop.{Stop}
 use Rattle.explorer_model.specs.declared.fault.Stop.TheVariants as stops

@@ -1,4 +1,4 @@
--- Words of laws: imports without faults.
+-- Laws: imports without faults.
 use Rattle.std.specs.Prelude.{◌≡◌, ⊤, ◌<◌, ◌+◌, ◌-◌, ◌^◌, ℕ, List, [], ◌++◌, Some, None, length, map, sum_by}
 use Rattle.std.specs.List.{AllZip}
 use Rattle.disk_model.specs.Disk.{DiskState}

@@ -1,4 +1,4 @@
--- What is tallied of candidates for a batch under a label.
+-- Bridge: what is tallied of candidates for a batch under a label.
 use Rattle.std.specs.Prelude.{◌≡◌, ℕ, List, [], Option, None, Some}
 use Rattle.explorer_model.specs.Labels.{no_label}
 use Rattle.explorer_model.specs.Imports.{Candidate, batch_of}

@@ -1,4 +1,4 @@
--- How far an import has come, where the store at its beginning is known.
+-- Bridge: how far an import has come, where the store at its beginning is known.
 use Rattle.std.specs.Prelude.{◌≡◌, ⊤, ℕ, List, [], ◌∷◌, ◌++◌, map, IsSome, Option, Some}
 use Rattle.std.specs.List.{AllByRecursion}
 use Rattle.explorer_model.specs.declared.archive.Batch.{Batch}

@@ -1,4 +1,4 @@
--- Segments that count the same, and lists of such segments.
+-- Statement: segments that count the same, and lists of such segments.
 use Rattle.std.specs.Prelude.{◌≡◌, List}
 use Rattle.std.specs.List.{AllZip}
 use Rattle.segment_blocks.specs.Segment.{CountedSpan}

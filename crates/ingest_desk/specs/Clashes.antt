@@ -1,4 +1,4 @@
--- Which texts of a batch have the id of a stored game.
+-- Statement: which texts of a batch have the id of a stored game.
 use Rattle.std.specs.Prelude.{ℕ, ◌+◌, Bool, List, [], ◌∷◌, map, bytes_eq, Option, None, Some}
 use Rattle.std.specs.List.{position_from}
 use Rattle.explorer_model.specs.declared.archive.Classes.{Classes}

@@ -1,4 +1,4 @@
--- The table of ids, as it is held.
+-- Bridge: the table of ids, as it is held.
 use Rattle.std.specs.Prelude.{ℕ}
 use Rattle.std.specs.HashMap.{get, spare}
 use Rattle.explorer_model.specs.Imports.{Numbering}

@@ -1,4 +1,4 @@
--- Neighbours of a list that are to become one, and where the batches of a span stand.
+-- Bridge: neighbours of a list that are to become one, and where the batches of a span stand.
 use Rattle.std.specs.Prelude.{◌≡◌, ℕ, ◌+◌, ◌<◌, List, length, slice_get}
 use Rattle.explorer_model.specs.declared.archive.Batch.{Batch}
 use Rattle.explorer_model.specs.Spans.{Span}

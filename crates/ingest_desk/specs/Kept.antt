@@ -1,4 +1,4 @@
--- What is true of an ingest at every moment that its lock is free.
+-- Bridge: what is true of an ingest at every moment that its lock is free.
 use Rattle.std.specs.Prelude.{◌<◌, ℕ, List, [], ◌∷◌, ◌++◌, Option, None, Some}
 use Rattle.disk_model.specs.Disk.{DiskState}
 use Rattle.explorer_model.specs.declared.archive.Batch.{Batch}

@@ -1,4 +1,5 @@
--- What becomes of a store: batches are stored, calls of its disk fail, and it is opened again.
+-- Statement: what becomes of a store: batches are stored, calls of its disk fail, and it is opened
+-- again.
 use Rattle.std.specs.Prelude.{◌≡◌, ⊤, ℕ, ◌+◌, ◌≤◌, Bool, if◌then◌else◌, List, [], ◌∷◌, ◌++◌, Option, None, Some, slice_get}
 use Rattle.explorer_model.specs.declared.archive.Batch.{Batch}
 

@@ -1,4 +1,4 @@
--- What contracts see of a mark.
+-- Bridge: what contracts see of a mark.
 use Rattle.std.specs.Prelude.{◌≡◌, ℕ, Option}
 use Rattle.explorer_model.specs.declared.archive.Batch.{Batch}
 use Rattle.ingest_desk.specs.declared.mark.MarkKind.{MarkKind}

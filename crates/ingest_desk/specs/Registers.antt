@@ -1,4 +1,4 @@
--- What is kept of a journal, so that a batch can be judged without its texts.
+-- Bridge: what is kept of a journal, so that a batch can be judged without its texts.
 use Rattle.std.specs.Prelude.{◌≡◌, ℕ, ◌+◌, ◌≤◌, List, [], ◌∷◌, length, sum_by}
 use Rattle.explorer_model.specs.declared.archive.Batch.{Batch}
 use Rattle.explorer_model.specs.Imports.{numbers_of}

@@ -1,3 +1,4 @@
+//! Why a batch or a merged segment is refused.
 use crate::clashing::Clashing;
 use crate::job::Standing;
 use crate::mark::Mark;

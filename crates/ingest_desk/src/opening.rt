@@ -1,3 +1,4 @@
+//! Opening a store.
 ghost use Rattle.std.specs.Prelude.{◌≡◌, ◌≤◌, None, IfOk, IfErr, IfSome};
 ghost use Rattle.disk_model.specs.Disk.{IsQuiet};
 ghost use Rattle.explorer_model.specs.Journal.{IsSound};

@@ -1,3 +1,4 @@
+//! What a commit gives for a stored batch.
 ghost use Rattle.std.specs.Prelude.{◌≡◌};
 
 use published_index::{Index, Note};

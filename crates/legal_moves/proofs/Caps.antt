@@ -4,7 +4,6 @@ use Rattle.std.specs.List.{sum_by, count_by, Contains, AllPairs}
 use Rattle.std.proofs.lemmas.Bool.Decides.{nat_tests}
 use Rattle.std.proofs.lemmas.List.Sums.{sum_by-cons, sum_by_more, sum_by-take-le}
 use Rattle.explorer_model.specs.declared.chess.Color.{Color}
-use Rattle.explorer_model.specs.declared.chess.Color.TheVariants.{White, Black}
 use Rattle.explorer_model.specs.declared.chess.Role.{Role}
 use Rattle.explorer_model.specs.declared.chess.Role.TheVariants.{Pawn, Knight, Bishop, Rook, Queen, King}
 use Rattle.explorer_model.specs.declared.chess.Piece.{Piece}
@@ -15,7 +14,7 @@ use Rattle.explorer_model.specs.Chess.{is_color, is_king, is_of_color, is_king_o
 use Rattle.legal_moves.specs.Listing.{promotion_place, place_of}
 use Rattle.legal_moves.proofs.Places.{promotion_place-lt, place_of-lt}
 use Rattle.legal_moves.proofs.Facts.{Mover, mover}
-use Rattle.legal_moves.proofs.OneKing.{has_pieces}
+use Rattle.legal_moves.proofs.OneKing.{has_pieces, color_self}
 use Rattle.step_tables.specs.Test.{all_below}
 use Rattle.step_tables.proofs.Test.{all_below-at}
 use Rattle.legal_moves.proofs.Sums.{sum_below, sum_below-add, sum_below-cong, sum_below-le, sum_below-more}
@@ -177,13 +176,9 @@ all_ways p valid =
 cond_true : (b : Bool) → b ≡ true → let one : ℕ = 1 in cond b one 0 ≡ one
 cond_true b e = ap (λ x. let one : ℕ = 1 in cond x one 0) e
 
-is_color_self : (color : Color) → is_color color color ≡ true
-is_color_self White = refl
-is_color_self Black = refl
-
 way_some : (color : Color) (role : Role) (from k : ℕ) → way_of color (piece_of color role) from k ≡ way role from k
 unfolding way_of own_way
-way_some color role from k = ap (λ own. cond own (way role from k) 0) (is_color_self color)
+way_some color role from k = ap (λ own. cond own (way role from k) 0) (color_self color)
 
 at_place : (p : Position) (n s k : ℕ) → n / 512 ≡ s → n % 512 ≡ k → way_at p n ≡ way_of p.turn (piece_at p.squares s) s k
 unfolding way_at

@@ -1,6 +1,6 @@
 -- What is known of the piece that moves, and of the squares that a move meets.
 use Rattle.std.proofs.Common.{◌≡◌, ◌≢◌, ℕ, ◌+◌, ◌-◌, ◌*◌, ◌<◌, ◌⊎◌, true, ◌==◌, if◌then◌else◌, List, Option, Some, None, refl, sym, ap, ◌∙◌, subst, inl, inr, arith, lit<}
-use Rattle.std.proofs.lemmas.Bool.Decides.{nat_tests}
+use Rattle.std.proofs.lemmas.Bool.{eqb-true}
 use Rattle.explorer_model.specs.declared.chess.Color.{Color}
 use Rattle.explorer_model.specs.declared.chess.Color.TheVariants.{White, Black}
 use Rattle.explorer_model.specs.declared.chess.Role.{Role}
@@ -151,9 +151,6 @@ pawn_role Bishop e = cc
 pawn_role Rook e = cc
 pawn_role Queen e = cc
 
-eq_true : (x y : ℕ) → (x == y) ≡ true → x ≡ y
-eq_true x y e = grind (arith, nat_tests)
-
 -- a king's own step is no castling
 castling_goes : (p : Position) (m : Move) → IsValid p → piece_at p.squares m.from.index ≡ piece_of p.turn King → files_apart m.from.index m.to.index ≡ 2
     → Attacks p.squares m.from.index m.to.index ⊎ Castles p m → Castling p m
@@ -170,7 +167,7 @@ castling p m v mover e =
     mover.stands ∙ ap (piece_of p.turn) (king_role mover.role (ap is_king_at (sym mover.stands) ∙ and-left _ _ e)) in
     let P : Role → Type 0 = λ role. RoleMoves p role m in
     let goes : RoleMoves p King m = subst P (king_role mover.role (ap is_king_at (sym mover.stands) ∙ and-left _ _ e)) mover.goes in
-    castling_goes p m v king (eq_true _ _ (and-right (is_king_at (piece_at p.squares m.from.index)) _ e)) goes.0
+    castling_goes p m v king (eqb-true _ _ (and-right (is_king_at (piece_at p.squares m.from.index)) _ e)) goes.0
 
 -- How pawns go.
 

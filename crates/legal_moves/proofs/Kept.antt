@@ -4,6 +4,7 @@ use Rattle.std.specs.List.{sum_by, count_by}
 use Rattle.std.proofs.lemmas.List.FromFn.{get_or-map-range_with_len, length-map-range_with_len}
 use Rattle.std.proofs.lemmas.Bool.Decides.{nat_tests}
 use Rattle.std.proofs.lemmas.Bool.{eqb-true, eqb-false, true≢false}
+use Rattle.std.proofs.Math.Bool.{and-false}
 use Rattle.explorer_model.specs.declared.chess.Color.{Color}
 use Rattle.explorer_model.specs.declared.chess.Color.TheVariants.{White, Black}
 use Rattle.explorer_model.specs.declared.chess.Role.{Role}
@@ -49,10 +50,6 @@ no_king_promoted Bishop h = refl
 no_king_promoted Rook h = refl
 no_king_promoted Queen h = refl
 no_king_promoted King h = absurd h
-
-and-false : (x : Bool) → (x && false) ≡ false
-and-false true = refl
-and-false false = refl
 
 pawn_arriving_king : (c turn : Color) (promotion : Option Role) → IsPromotion promotion
     → is_king_of c (arriving (piece_of turn Pawn) promotion) ≡ is_king_of c (piece_of turn Pawn)
@@ -284,7 +281,7 @@ keeps_rights p m v pseudo_legal color side h =
 
 -- The square that a pawn crossed.
 
-placed_to : (p : Position) (m : Move) → placed p m m.to.index ≡ arriving (piece_at p.squares m.from.index) m.promotion
+pub placed_to : (p : Position) (m : Move) → placed p m m.to.index ≡ arriving (piece_at p.squares m.from.index) m.promotion
 unfolding placed
 placed_to p m =
     let P : Option Piece → Type 0 = λ o. o ≡ arriving (piece_at p.squares m.from.index) m.promotion in

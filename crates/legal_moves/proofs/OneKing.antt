@@ -1,8 +1,7 @@
 -- A side has one king, so it is in check exactly where the square of its king is attacked.
-use Rattle.std.proofs.Common.{◌≡◌, ◌≢◌, ◌↔◌, ℕ, suc, ◌+◌, ◌<◌, ◌≤◌, Bool, true, false, cond, ◌&&◌, ◌==◌, List, [], ◌∷◌, length, set, Option, Some, None, refl, sym, ap, ◌∙◌, subst, inl, inr, arith}
+use Rattle.std.proofs.Common.{◌≡◌, ◌≢◌, ◌↔◌, ℕ, suc, ◌+◌, ◌<◌, ◌≤◌, Bool, true, false, cond, ◌&&◌, List, [], ◌∷◌, length, set, Option, Some, None, refl, sym, ap, ◌∙◌, subst, inl, inr, arith}
 use Rattle.std.specs.List.{sum_by, count_by}
 use Rattle.std.proofs.lemmas.Bool.{cases_eq}
-use Rattle.std.proofs.lemmas.Bool.Decides.{nat_tests}
 use Rattle.std.proofs.lemmas.List.{length-set}
 use Rattle.std.proofs.lemmas.List.Sums.{sum_by-cons, sum_by-set, get_or-le-sum_by}
 use Rattle.explorer_model.specs.declared.chess.Color.{Color}
@@ -13,11 +12,11 @@ use Rattle.explorer_model.specs.declared.chess.Piece.{Piece}
 use Rattle.explorer_model.specs.declared.chess.Position.{Position}
 use Rattle.explorer_model.specs.declared.chess.Move.{Move}
 use Rattle.explorer_model.specs.Board.{opponent, piece_of, piece_at, IsPiece, IsAttacked, InCheck}
-use Rattle.explorer_model.specs.Chess.{is_color, is_king_of, HasPieces, IsValid, RoleMoves, PseudoLegal, arriving, placed, squares_after}
+use Rattle.explorer_model.specs.Chess.{is_color, is_king_of, HasPieces, IsValid, RoleMoves, PseudoLegal, arriving, squares_after}
 use Rattle.legal_moves.proofs.Writes.{and-left, and-right}
 use Rattle.legal_moves.proofs.Facts.{Mover, mover, piece_is, is_own}
 use Rattle.legal_moves.proofs.Victim.{victim}
-use Rattle.legal_moves.proofs.Kept.{length-after, piece_at-after, keeps_pieces, IsUnmet, unmet, stands_after}
+use Rattle.legal_moves.proofs.Kept.{length-after, piece_at-after, keeps_pieces, IsUnmet, unmet, stands_after, placed_to}
 use Rattle.legal_moves.proofs.BitboardFacts.{piece_at-else}
 use Rattle.explorer_model.proofs.Pieces.{king_role}
 
@@ -120,13 +119,6 @@ king_goes turn p role m is goes =
     let unpromoted : m.promotion ≡ None = (subst P is goes).1 in
     let Arrived : Option Role → Type 0 = λ o. IsPiece turn King (arriving (piece_of turn role) o) in
     subst Arrived (sym unpromoted) (refl, is)
-
-placed_to : (p : Position) (m : Move) → placed p m m.to.index ≡ arriving (piece_at p.squares m.from.index) m.promotion
-unfolding placed
-placed_to p m = rw (same m.to.index) refl
-  where
-    same : (n : ℕ) → (n == n) ≡ true
-    same n = grind (arith, nat_tests)
 
 pub king_moved : (p : Position) (m : Move) → PseudoLegal p m → IsPiece p.turn King (piece_at p.squares m.from.index)
     → IsPiece p.turn King (piece_at (squares_after p m) m.to.index)

@@ -1,6 +1,6 @@
 -- Which moves the pieces of one role have to one square.
 use Rattle.std.proofs.Common.{◌≡◌, ◌≢◌, ◌↔◌, ℕ, ◌<◌, ◌≤◌, ◌⊎◌, Bool, IsTrue, true, false, ◌==◌, ◌&&◌, ◌||◌, is_some, if◌then◌else◌, Option, Some, None, bit_and, bit_or, refl, sym, ap, ◌∙◌, subst, inl, inr, arith}
-use Rattle.std.proofs.lemmas.Bool.{cases_eq}
+use Rattle.std.proofs.lemmas.Bool.{cases_eq, eqb-true}
 use Rattle.std.proofs.lemmas.Bool.Decides.{nat_tests}
 use Rattle.step_tables.specs.Bitboard.{Holds}
 use Rattle.step_tables.proofs.BitboardLemmas.{Holds-zero, Holds-or, Holds-and}
@@ -196,9 +196,6 @@ piece_both p role own of s are_own are_of on = (
 
 -- Castling.
 
-eq_is : (x y : ℕ) → (x == y) ≡ true → x ≡ y
-eq_is x y e = grind (arith, nat_tests)
-
 attacks_near : (p : Position) (m : Move) → piece_at p.squares m.from.index ≡ piece_of p.turn King → Attacks p.squares m.from.index m.to.index
     → files_apart m.from.index m.to.index ≢ 2
 attacks_near p m stands attacks two =
@@ -227,7 +224,7 @@ castles_as p m side valid legal castles same =
     )
   where
     two : is_castling p m ≡ true → files_apart m.from.index m.to.index ≡ 2
-    two e = eq_is _ _ (and-right (is_king_at (piece_at p.squares m.from.index)) _ e)
+    two e = eqb-true _ _ (and-right (is_king_at (piece_at p.squares m.from.index)) _ e)
 
 -- the move that castles toward this side
 pub record IsCastle (p : Position) (side : Side) (m : Move) : Type 0 where

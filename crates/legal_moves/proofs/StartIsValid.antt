@@ -10,6 +10,7 @@ use Rattle.explorer_model.specs.Chess.{start, start_squares, is_color, is_king, 
 use Rattle.step_tables.specs.Test.{all_below}
 use Rattle.step_tables.proofs.Test.{all_below-at}
 use Rattle.legal_moves.proofs.MoveSpans.{spans, attacks-spans}
+use Rattle.legal_moves.proofs.OneKing.{color_self}
 
 excluded : (x y : Bool) → not x || y ≡ true → x ≡ true → y ≡ true
 excluded true y h e = h
@@ -48,17 +49,13 @@ kings_apart : all_below (λ k. all_below (king_apart k) 64) 64 ≡ true
 unfolding all_below king_apart piece_spans spans
 kings_apart = refl
 
-color_eq : (color : Color) → is_color color color ≡ true
-color_eq White = refl
-color_eq Black = refl
-
 king_is : (color : Color) (occupant : Option Piece) → IsPiece color King occupant → is_king_of color occupant ≡ true
 king_is color None h = absurd h
-king_is color (Some piece) h = ap (λ c. is_color c color && is_king piece.role) h.0 ∙ ap (λ r. is_color color color && is_king r) h.1 ∙ ap (λ b. b && true) (color_eq color)
+king_is color (Some piece) h = ap (λ c. is_color c color && is_king piece.role) h.0 ∙ ap (λ r. is_color color color && is_king r) h.1 ∙ ap (λ b. b && true) (color_self color)
 
 piece_is : (color : Color) (occupant : Option Piece) → IsOfColor color occupant → is_of_color color occupant ≡ true
 piece_is color None h = absurd h
-piece_is color (Some piece) h = ap (λ c. is_color c color) h ∙ color_eq color
+piece_is color (Some piece) h = ap (λ c. is_color c color) h ∙ color_self color
 
 occupant-spans : (squares : List (Option Piece)) (occupant : Option Piece) (a b : ℕ) → PieceAttacks squares occupant a b → piece_spans occupant a b ≡ true
 unfolding piece_spans

@@ -1,4 +1,4 @@
--- What the check masks of a position tell.
+-- Bridge: what the check masks of a position tell.
 use Rattle.std.specs.Prelude.{◌≡◌, ◌≢◌, ℕ, ◌<◌, ◌↔◌, false}
 use Rattle.step_tables.specs.Bitboard.{Holds}
 use Rattle.explorer_model.specs.declared.chess.Position.{Position}

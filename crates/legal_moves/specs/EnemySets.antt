@@ -1,5 +1,5 @@
--- What bitboards tell of a board: a bitboard is a set of squares, of which bit s stands for square
--- s.
+-- Bridge: what bitboards tell of a board: a bitboard is a set of squares, of which bit s stands for
+-- square s.
 use Rattle.std.specs.Prelude.{◌≡◌, ◌≢◌, ℕ, ◌<◌, ◌↔◌, ◌⊎◌, List, Option, Some, None}
 use Rattle.step_tables.specs.Bitboard.{Holds}
 use Rattle.explorer_model.specs.declared.chess.Color.{Color}

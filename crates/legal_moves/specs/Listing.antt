@@ -1,4 +1,4 @@
--- The order in which legal moves are listed, and what a list of the first of them has.
+-- Statement: the order in which legal moves are listed, and what a list of the first of them has.
 use Rattle.std.specs.Prelude.{◌≡◌, ℕ, ◌+◌, ◌*◌, ◌<◌, ◌⊎◌, List, Option, Some, None}
 use Rattle.std.specs.List.{Contains, AllPairs}
 use Rattle.explorer_model.specs.declared.chess.Role.{Role}

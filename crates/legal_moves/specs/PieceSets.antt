@@ -1,4 +1,5 @@
--- Where the pieces of a board stand, as sets of squares: bit s of a set stands for square s.
+-- Bridge: where the pieces of a board stand, as sets of squares: bit s of a set stands for square
+-- s.
 use Rattle.std.specs.Prelude.{◌≡◌, ℕ, ◌+◌, ◌*◌, Bool, true, false, ◌||◌, ◌==◌, cond, List, [], ◌∷◌, length, slice_set, Option, Some, None}
 use Rattle.explorer_model.specs.declared.chess.Color.TheVariants.{White, Black}
 use Rattle.explorer_model.specs.declared.chess.Role.{Role}

@@ -1,4 +1,5 @@
--- What checks and pins ask of a move: that it meets each check, and stays on the line of each pin.
+-- Bridge: what checks and pins ask of a move: that it meets each check, and stays on the line of
+-- each pin.
 use Rattle.std.specs.Prelude.{◌≡◌, ◌≢◌, ℕ, ◌<◌, ◌⊎◌, List, Option}
 use Rattle.explorer_model.specs.declared.chess.Color.{Color}
 use Rattle.explorer_model.specs.declared.chess.Role.TheVariants.{King}

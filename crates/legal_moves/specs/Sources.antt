@@ -1,4 +1,4 @@
--- From where the pieces of one role go to one square.
+-- Bridge: from where the pieces of one role go to one square.
 use Rattle.std.specs.Prelude.{◌≡◌, ℕ, ◌<◌, ◌⊎◌, ◌&&◌, ◌||◌, Bool, false, is_some, Option, None}
 use Rattle.step_tables.specs.Bitboard.{Holds}
 use Rattle.explorer_model.specs.declared.chess.Role.{Role}

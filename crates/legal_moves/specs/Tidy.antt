@@ -1,4 +1,4 @@
--- The tidy form of a position.
+-- Statement: the tidy form of a position.
 use Rattle.std.specs.Prelude.{Option}
 use Rattle.explorer_model.specs.declared.chess.Position.{Position}
 use Rattle.explorer_model.specs.declared.square.Square.{Square}

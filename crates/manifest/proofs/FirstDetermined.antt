@@ -1,7 +1,8 @@
 -- What is read of a file of the first format is one thing.
-use Rattle.std.proofs.Common.{◌≡◌, ◌⊎◌, inl, inr, ℕ, ◌+◌, ◌≤◌, List, [], ◌∷◌, ◌++◌, length, sum_by, Option, Some, IfSome, Ok, Err, refl, sym, ap, ◌∙◌, subst, arith, append_assoc, length-append}
+use Rattle.std.proofs.Common.{◌≡◌, inl, inr, ℕ, ◌+◌, List, [], ◌∷◌, ◌++◌, length, sum_by, Option, Some, IfSome, Ok, Err, refl, sym, ap, ◌∙◌, subst, arith, append_assoc, length-append}
 use Rattle.std.proofs.lemmas.Grind.{flat_map-append}
 use Rattle.std.proofs.lemmas.List.Sums.{sum_by-append}
+use Rattle.record_log.proofs.DeterminedLemmas.{at_told}
 use Rattle.explorer_model.specs.declared.archive.Batch.{Batch}
 use Rattle.explorer_model.specs.declared.store.LogFault.{LogFault}
 use Rattle.explorer_model.specs.declared.store.LogFault.TheVariants.{NotALog, OtherFormat, Damaged}
@@ -95,9 +96,6 @@ not-wrong file journal fault has within (inl one) = not_both (first_journal_of f
 not-wrong file journal fault has within (inr one) =
     let same = one-journal file one.0 journal one.1 has in
     passes-not-within journal fault within (subst (λ (l : List Batch). PassesAt l fault) same one.2)
-
-at_told : (P : List ℕ → Type 0) (content : Option (List ℕ)) (file : List ℕ) → content ≡ Some file → IfSome content P → P file
-at_told P content file told given = subst (λ (o : Option (List ℕ)). IfSome o P) told given
 
 module _ (content : Option (List ℕ)) (file : List ℕ) (told : content ≡ Some file) where
   pub one-fault : (fault other : LogFault) → IfSome content (IsWrongFirst fault) → IfSome content (IsWrongFirst other) → fault ≡ other

@@ -1,5 +1,5 @@
 -- Stores of the first format.
-use Rattle.std.proofs.Common.{◌≡◌, inl, inr, ℕ, zero, suc, true, ◌+◌, ◌<◌, ◌≤◌, List, [], ◌∷◌, ◌++◌, length, take, drop, get_or, flat_map, All, Option, Some, None, IfSome, Result, Ok, Err, refl, sym, ap, ◌∙◌, subst, arith, append-nil, append_assoc, length-append}
+use Rattle.std.proofs.Common.{◌≡◌, inl, inr, ℕ, zero, suc, ◌+◌, ◌<◌, ◌≤◌, List, [], ◌∷◌, ◌++◌, length, take, drop, get_or, flat_map, All, Option, Some, None, IfSome, Ok, Err, refl, sym, ap, ◌∙◌, subst, arith, append-nil, append_assoc, length-append}
 use Rattle.std.specs.Result.{result_map_both}
 use Rattle.std.proofs.lemmas.List.Elements.{All-from_recursion, All-push}
 use Rattle.disk_model.specs.Disk.{DiskState}
@@ -11,7 +11,7 @@ use Rattle.explorer_model.specs.declared.store.LogFault.TheVariants.{Damaged}
 use Rattle.explorer_model.specs.Items.{◌>>=◌}
 use Rattle.explorer_model.specs.Labels.{is_label, no_label}
 use Rattle.explorer_model.specs.Stop.{Fails}
-use Rattle.explorer_model.specs.StoreFile.{Reading, record_bytes, texts_field, payload_of, label_at, batch_in, all_texts_in, first_batch_in, and_batch, batches_in, records_at, journal_by, first_journal_of, first_format, first_payload_limit, gate_limit, front_of, CanStand, IsStorable}
+use Rattle.explorer_model.specs.StoreFile.{Reading, record_bytes, label_at, batch_in, all_texts_in, first_batch_in, and_batch, batches_in, records_at, journal_by, first_journal_of, first_format, first_payload_limit, gate_limit, CanStand}
 use Rattle.explorer_model.proofs.LabelLemmas.{none-is-label}
 use Rattle.record_log.specs.declared.fault.OpenFault.{OpenFault}
 use Rattle.record_log.specs.declared.fault.OpenFault.TheVariants as opening
@@ -19,6 +19,7 @@ use Rattle.record_log.specs.Log as log
 use Rattle.manifest.specs.First.{first_batch_format, HasFirstJournal, IsBare, IsNotOpenedFirst, IsWrongFirst, PassesFirst}
 use Rattle.manifest.specs.Manifest.{open_fault}
 use Rattle.manifest.proofs.ReadingLemmas.{batch-is, label-found, was-stored}
+use Rattle.manifest.proofs.OpeningLemmas.{told-weaker}
 
 -- ---- one batch
 
@@ -131,10 +132,6 @@ first-all payloads gate batches others so_far none =
     ∙ ap done (append-nil batches)
 
 -- ---- what is read of a log
-
-told-weaker : (told : Option (List ℕ)) (P Q : List ℕ → Type 0) → ((file : List ℕ) → P file → Q file) → IfSome told P → IfSome told Q
-told-weaker None P Q to given = tt
-told-weaker (Some file) P Q to given = to file given
 
 first-journal-of : (payloads : List (List ℕ)) (file : List ℕ) (reading : Reading (List Batch))
     → log.HasPayloads first_batch_format payloads file → batches_in first_batch_in (records_at 12 payloads) ≡ reading

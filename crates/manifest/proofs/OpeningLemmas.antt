@@ -13,7 +13,7 @@ use Rattle.record_log.specs.Log as log
 use Rattle.manifest.specs.Manifest.{batch_format, HasJournal, IsOpened, IsNotOpened, open_fault}
 use Rattle.manifest.proofs.JournalLemmas.{holds-journal, journal-of-payloads}
 
-told-weaker : (told : Option (List ℕ)) (P Q : List ℕ → Type 0) → ((file : List ℕ) → P file → Q file) → IfSome told P → IfSome told Q
+pub told-weaker : (told : Option (List ℕ)) (P Q : List ℕ → Type 0) → ((file : List ℕ) → P file → Q file) → IfSome told P → IfSome told Q
 told-weaker None P Q to given = tt
 told-weaker (Some file) P Q to given = to file given
 

@@ -1,4 +1,5 @@
--- A manifest: the journal of batches on a disk, in a log whose payloads are those of the batches.
+-- Statement: a manifest: the journal of batches on a disk, in a log whose payloads are those of the
+-- batches.
 use Rattle.std.specs.Prelude.{◌≡◌, ◌⊎◌, ◌+◌, ℕ, List, [], ◌∷◌, ◌++◌, length, map, All, None, IfSome, Ok, Err}
 use Rattle.std.specs.List.{flat_map}
 use Rattle.disk_model.specs.Disk.{DiskState, StaysTold}

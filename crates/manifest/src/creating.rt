@@ -1,3 +1,4 @@
+//! Making a journal without a batch.
 ghost use Rattle.std.specs.Prelude.{◌≡◌, ◌≢◌, [], IfOk, IfErr};
 ghost use Rattle.disk_model.specs.Disk.{IsQuiet, LeavesOnly};
 ghost use Rattle.record_log.specs.Log.{IsCreated, IsNotCreated, IsTornOf};

@@ -1,3 +1,4 @@
+//! The bounds of a batch, and the journal's formats.
 use record_log::Format;
 
 /// The most texts of a batch.

@@ -1,3 +1,4 @@
+//! The journal of batches on a disk.
 ghost use Rattle.std.specs.Prelude.{◌≡◌};
 
 use disk_model::Disk;

@@ -1,3 +1,4 @@
+//! Opening a journal.
 ghost use Rattle.std.specs.Prelude.{◌≡◌, map, All, IfOk, IfErr};
 ghost use Rattle.disk_model.specs.Disk.{IsQuiet};
 ghost use Rattle.explorer_model.specs.Stop.{GivesBy};

@@ -1,3 +1,4 @@
+//! A batch added to the journal.
 ghost use Rattle.std.specs.Prelude.{◌≡◌, ◌≤◌, ◌+◌, ◌∷◌, [], ◌++◌, ◌↔◌, List, ℕ, length, All, Some, Err, MatchResult, OnOk};
 ghost use Rattle.disk_model.specs.Disk.{LeavesOnly};
 ghost use Rattle.explorer_model.specs.declared.archive.Batch.{Batch as StoredBatch};

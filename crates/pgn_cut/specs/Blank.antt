@@ -1,4 +1,4 @@
--- A stream of which no cut comes.
+-- Laws: a stream of which no cut comes.
 use Rattle.std.specs.Prelude.{List, ℕ, IsTrue, drop, nat_eq, if◌then◌else◌}
 use Rattle.std.specs.List.{starts_with, list_all}
 use Rattle.explorer_model.specs.Cuts.{is_white_space, mark}

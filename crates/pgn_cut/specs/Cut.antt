@@ -1,4 +1,4 @@
--- A cut as the definition of cuts has it.
+-- Bridge: a cut as the definition of cuts has it.
 use Rattle.std.specs.Prelude.{List, [], ◌∷◌, Option, Some, None}
 use Rattle.explorer_model.specs.Cuts as model
 use Rattle.pgn_cut.specs.declared.cut.Cut.{Cut}

@@ -1,4 +1,4 @@
--- What a cutter has still to give, and what it holds.
+-- Bridge: what a cutter has still to give, and what it holds.
 use Rattle.std.specs.Prelude.{◌≡◌, ℕ, ◌+◌, ◌<◌, ◌≤◌, List, ◌++◌, Option, IsSome, IsNone, length, take}
 use Rattle.explorer_model.specs.Cuts as model
 use Rattle.pgn_cut.specs.Cut.{cuts_in}

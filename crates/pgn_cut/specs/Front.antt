@@ -1,4 +1,4 @@
--- The cuts of a stream whose first text has not begun.
+-- Bridge: the cuts of a stream whose first text has not begun.
 use Rattle.std.specs.Prelude.{◌≡◌, ℕ, ◌+◌, ◌-◌, ◌<◌, ◌≤◌, List, [], ◌∷◌, ◌++◌, Option, Some, None, length, take}
 use Rattle.explorer_model.specs.Cuts.{Cut, Preamble, preamble, cuts_of}
 use Rattle.pgn_cut.specs.Line.{parted_after}

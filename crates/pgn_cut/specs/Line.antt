@@ -1,4 +1,4 @@
--- Where a stream stands in its line, and how its parts go on from there.
+-- Bridge: where a stream stands in its line, and how its parts go on from there.
 use Rattle.std.specs.Prelude.{◌≡◌, ℕ, ◌-◌, ◌≤◌, List, ◌++◌, length, take, nat_lt}
 use Rattle.explorer_model.specs.Cuts.{Parted, parted, event}
 

@@ -1,4 +1,4 @@
--- The cuts of a stream of which at most a part of a byte order mark came.
+-- Bridge: the cuts of a stream of which at most a part of a byte order mark came.
 use Rattle.std.specs.Prelude.{◌≡◌, ℕ, zero, suc, ◌+◌, ◌<◌, ◌≤◌, List, ◌++◌, Option, Some, None, length, take, drop}
 use Rattle.explorer_model.specs.Cuts.{Cut, mark, cuts}
 use Rattle.pgn_cut.specs.Front.{cuts_of_front}

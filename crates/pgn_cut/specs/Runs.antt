@@ -1,4 +1,4 @@
--- A whole run of a cutter.
+-- Laws: a whole run of a cutter.
 use Rattle.std.specs.Prelude.{◌≡◌, ℕ, List, [], ◌∷◌, Option}
 use Rattle.explorer_model.specs.Cuts.{cuts}
 use Rattle.pgn_cut.specs.Cut.{cuts_in}

@@ -1,4 +1,4 @@
--- The first byte that is no white space.
+-- Bridge: the first byte that is no white space.
 use Rattle.std.specs.Prelude.{ℕ, ◌+◌, List, [], ◌∷◌, Option, Some, None, if◌then◌else◌}
 use Rattle.explorer_model.specs.Cuts.{is_white_space}
 

@@ -1,4 +1,4 @@
--- Where the texts of a stream start, in the words of the rule.
+-- Laws: where the texts of a stream start, in the words of the rule.
 use Rattle.std.specs.Prelude.{◌≡◌, ℕ, ◌+◌, ◌<◌, IsTrue, List, [], ◌∷◌, length, drop, nat_eq, slice_index}
 use Rattle.std.specs.List.{starts_with}
 use Rattle.explorer_model.specs.Cuts.{event}

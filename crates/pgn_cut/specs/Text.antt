@@ -1,4 +1,4 @@
--- The text in hand, and the cuts that come of it and what follows.
+-- Bridge: the text in hand, and the cuts that come of it and what follows.
 use Rattle.std.specs.Prelude.{◌≡◌, ℕ, ◌+◌, ◌-◌, ◌<◌, ◌≤◌, List, ◌∷◌, ◌++◌, length, take, drop, nat_le, if◌then◌else◌}
 use Rattle.explorer_model.specs.Cuts.{Cut, Text, TooLong, event, text_limit, cuts_of}
 use Rattle.pgn_cut.specs.Line.{open_bytes, parted_after}

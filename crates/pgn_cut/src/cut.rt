@@ -1,3 +1,4 @@
+//! What a stream is cut into.
 use explorer_model::archive::Placed;
 
 /// What a stream of games is cut into. A place is an offset in the stream.

@@ -1,3 +1,4 @@
+//! A stream of games, cut into their texts piece by piece.
 ghost use Rattle.std.specs.Prelude.{◌≡◌, ◌↔◌, ℕ, List, ◌+◌, ◌-◌, ◌<◌, ◌≤◌, ◌^◌, [], ◌++◌, length, take, IfOk, OnErr, IsSome, IsNone};
 ghost use Rattle.explorer_model.specs.Cuts.{cuts, text_limit};
 ghost use Rattle.pgn_cut.specs.Blank.{IsBlank};

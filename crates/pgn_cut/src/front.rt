@@ -1,3 +1,4 @@
+//! What comes before the first text.
 ghost use Rattle.std.specs.Prelude.{◌≡◌, ℕ, ◌+◌, ◌-◌, ◌<◌, ◌≤◌, ◌^◌, ◌++◌, List, length, take};
 ghost use Rattle.explorer_model.specs.Cuts.{is_white_space as is_blank};
 ghost use Rattle.pgn_cut.specs.Line.{GoesOn, open_bytes};

@@ -1,3 +1,4 @@
+//! The byte order mark at the start of a stream.
 ghost use Rattle.std.specs.Prelude.{◌≡◌, ◌<◌, []};
 
 use crate::front::Front;

@@ -1,3 +1,4 @@
+//! Where a text begins.
 ghost use Rattle.std.specs.Prelude.{◌≡◌, ℕ, ◌+◌, ◌-◌, ◌<◌, ◌≤◌, [], ◌∷◌, length, take};
 ghost use Rattle.pgn_cut.specs.Line.{GoesOn};
 

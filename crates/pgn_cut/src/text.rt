@@ -1,3 +1,4 @@
+//! The text in hand of a stream.
 ghost use Rattle.std.specs.Prelude.{◌≡◌, ℕ, List, ◌+◌, ◌-◌, ◌<◌, ◌≤◌, ◌^◌, ◌∷◌, [], ◌++◌, length, take, IfOk, OnErr, IsSome, IsNone, is_ok, if◌then◌else◌};
 ghost use Rattle.pgn_cut.specs.Cut.{meaning, cuts_in};
 ghost use Rattle.pgn_cut.specs.Text.{at_start, cut_with, cuts_of_text, kept_limit};

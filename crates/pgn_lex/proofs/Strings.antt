@@ -1,19 +1,15 @@
 -- A tag's string, one byte at a time.
 use Rattle.std.proofs.Common.{◌≡◌, ℕ, ◌+◌, ◌<◌, ◌≤◌, Bool, true, false, not, ◌&&◌, ◌||◌, ◌==◌, List, [], ◌∷◌, ◌++◌, length, get_or, drop, Option, Some, None, option_map, refl, sym, ap, ◌∙◌, add-zero, append_assoc, arith}
 use Rattle.std.specs.List.{list_any}
-use Rattle.std.proofs.lemmas.Bool.{cond-true, cond-false, eqb-true, true≢false}
+use Rattle.std.proofs.lemmas.Bool.{cond-true, cond-false, eqb-true, true≢false, false_from_ne_true}
 use Rattle.std.proofs.lemmas.List.{at_drop_more, at_drop_all, append-nil}
 use Rattle.explorer_model.specs.Items.{closes_string, ends_line, is_escapable, escapes, keep_unless, string_len, unescaped}
 use Rattle.pgn_lex.specs.Pair.{is_plain}
 
 -- A plain byte only stands there.
 
-by_test : (b : Bool) → (b ≡ true → ⊥) → b ≡ false
-by_test true h = absurd (h refl)
-by_test false h = refl
-
 apart : (b n : ℕ) → is_plain b ≡ true → is_plain n ≡ false → (b == n) ≡ false
-apart b n plain other = by_test (b == n) (λ e. true≢false (sym plain ∙ ap is_plain (eqb-true b n e) ∙ other))
+apart b n plain other = false_from_ne_true (b == n) (λ e. true≢false (sym plain ∙ ap is_plain (eqb-true b n e) ∙ other))
 
 pub plain_stays : (escaped : Bool) (b : ℕ) → is_plain b ≡ true → closes_string escaped b ≡ false
 plain_stays escaped b plain = ap (λ x. x && not escaped) (apart b 34 plain refl)

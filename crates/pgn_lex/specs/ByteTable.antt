@@ -1,4 +1,4 @@
--- The test that a table of bytes passes. It is computed when the program is checked.
+-- Bridge: the test that a table of bytes passes. It is computed when the program is checked.
 use Rattle.std.specs.Prelude.{ℕ, zero, suc, Bool, true, ◌&&◌, ◌==◌, List, slice_index, cond}
 use Rattle.pgn_lex.specs.Bytes.{is_of}
 use Rattle.pgn_lex.specs.declared.bytes.Class.{Class}

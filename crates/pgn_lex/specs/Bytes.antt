@@ -1,4 +1,4 @@
--- Bytes as the code names them, and as the definition does.
+-- Bridge: bytes as the code names them, and as the definition does.
 use Rattle.std.specs.Prelude.{ℕ, Bool}
 use Rattle.std.specs.Char.{is_ascii_digit}
 use Rattle.explorer_model.specs.Items.{is_white, is_of_name, begins_symbol, continues_symbol}

@@ -1,5 +1,5 @@
--- A game's text as it is written out plainly (PGN 8): a line for each tag, the words of the movetext
--- with a space behind each, and the termination.
+-- Laws: a game's text as it is written out plainly (PGN 8): a line for each tag, the words of the
+-- movetext with a space behind each, and the termination.
 use Rattle.std.specs.Prelude.{◌≡◌, ℕ, ◌+◌, ◌<◌, ◌||◌, not, ◌==◌, if◌then◌else◌, Bool, false, ◌&&◌, IsTrue, Option, Some, None, List, [], ◌∷◌, ◌++◌, length, flat_map, codes}
 use Rattle.std.specs.List.{list_all}
 use Rattle.std.specs.Str.{byte}

@@ -1,4 +1,4 @@
--- An item as the code finds it, and as the definition does.
+-- Bridge: an item as the code finds it, and as the definition does.
 use Rattle.std.specs.Prelude.{length, ◌≡◌, ℕ, ◌+◌, Bool, true, List, [], ◌∷◌, take, drop, slice_index, ◌==◌}
 use Rattle.std.specs.Char.{is_ascii_digit}
 use Rattle.explorer_model.specs.Items.{Shape, Item, Wrong, one_byte, shape_of, symbol_of}

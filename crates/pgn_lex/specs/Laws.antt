@@ -1,4 +1,4 @@
--- How items and tokens stand in a text.
+-- Laws: how items and tokens stand in a text.
 use Rattle.std.specs.Prelude.{◌≡◌, ℕ, ◌+◌, ◌-◌, ◌<◌, ◌≤◌, Bool, true, false, not, ◌&&◌, ◌==◌, if◌then◌else◌, IsTrue, List, [], ◌∷◌, length, take, drop, ⊤}
 use Rattle.explorer_model.specs.declared.archive.Token.{Token}
 use Rattle.explorer_model.specs.Items.{Closes, Item, Kind, Opens, Word, continues_symbol}

@@ -1,4 +1,4 @@
--- A tag pair as it stands in a text, and the tag that it is.
+-- Bridge: a tag pair as it stands in a text, and the tag that it is.
 use Rattle.std.specs.Prelude.{ℕ, Bool, false, not, ◌||◌, ◌==◌}
 use Rattle.explorer_model.specs.declared.archive.Tag.{Tag}
 use Rattle.explorer_model.specs.Items.{unescaped}

@@ -1,4 +1,4 @@
--- A text that is read up to a place.
+-- Bridge: a text that is read up to a place.
 use Rattle.std.specs.Prelude.{◌≡◌, ℕ, ◌+◌, ◌≤◌, List, [], ◌∷◌, ◌++◌, length, map, drop, Result, Ok, if◌then◌else◌}
 use Rattle.explorer_model.specs.declared.archive.Parts.{Parts}
 use Rattle.explorer_model.specs.declared.archive.Tag.{Tag}

@@ -1,4 +1,4 @@
--- Move tokens as spans of their text.
+-- Bridge: move tokens as spans of their text.
 use Rattle.std.specs.Prelude.{ℕ, ◌-◌, ◌≤◌, List, take, drop}
 use Rattle.explorer_model.specs.declared.archive.Token.{Token}
 use Rattle.pgn_lex.specs.declared.span.Span.{Span}

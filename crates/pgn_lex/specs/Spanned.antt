@@ -1,4 +1,4 @@
--- The parts of a text whose move tokens are spans of it.
+-- Bridge: the parts of a text whose move tokens are spans of it.
 use Rattle.std.specs.Prelude.{ℕ, List, map}
 use Rattle.explorer_model.specs.declared.archive.Parts.{Parts}
 use Rattle.pgn_lex.specs.declared.spanned.SpannedParts.{SpannedParts}

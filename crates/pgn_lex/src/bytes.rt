@@ -1,3 +1,4 @@
+//! Sets of bytes.
 ghost use Rattle.std.specs.Prelude.{◌≡◌, ◌==◌, ◌<◌, ◌≤◌, length, position, IfSome};
 ghost use Rattle.std.specs.List.{prefix_len};
 ghost use Rattle.explorer_model.specs.Items.{is_white, is_of_name, begins_symbol, continues_symbol, lead_of, lead_of_comment, lead_of_bracket, lead_of_sign};

@@ -1,3 +1,4 @@
+//! Tag pairs (PGN 8.1).
 ghost use Rattle.std.specs.Prelude.{◌≡◌, ◌==◌, ◌<◌, ◌≤◌, Some, false, length, option_map, IfSome, IfOk};
 ghost use Rattle.std.specs.List.{list_any};
 ghost use Rattle.explorer_model.specs.Items.{after_white, after_byte, name_at, closes_string, ends_line, escapes, string_len, unescaped, pair_of};

@@ -1,3 +1,4 @@
+//! Reading a text item by item.
 ghost use Rattle.std.specs.Prelude.{◌≡◌, ◌+◌, ◌<◌, ◌≤◌, ◌^◌, ℕ, List, [], length, map, option_map, IfSome, IfOk, OnOk};
 ghost use Rattle.std.specs.List.{All};
 ghost use Rattle.explorer_model.specs.Parts.{Section as ASection, after, after_in_heading, after_in_moves, after_in_variation, at_end, parts};

@@ -1,3 +1,4 @@
+//! Places of move tokens.
 ghost use Rattle.std.specs.Prelude.{◌≡◌, length};
 ghost use Rattle.pgn_lex.specs.Span.{bytes_of, IsWithin};
 

@@ -1,3 +1,4 @@
+//! A text's tags and move tokens.
 use crate::span::Span;
 use explorer_model::archive::{Ending, Tags};
 

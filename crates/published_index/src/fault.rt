@@ -1,3 +1,4 @@
+//! Why a pass gets no snapshot.
 use thiserror::Error;
 
 /// Why a pass got no snapshot.

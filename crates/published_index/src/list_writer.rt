@@ -131,10 +131,10 @@ impl ListWriter {
         ensures answer { Flushes self.old.publishing self.new.publishing
             self.old.publishing.held result }
     {
-        replace_with(self, rt, |list, rt| list.flushed(rt))
+        replace_with(self, rt, |list, rt| list.flush_whole(rt))
     }
 
-    fn flushed<R: Wait>(self, rt: &R) -> (ListWriter, Result<bool, AllocError>)
+    fn flush_whole<R: Wait>(self, rt: &R) -> (ListWriter, Result<bool, AllocError>)
         ensures book { result.0.book ≡ self.book }
         ensures answer { Flushes self.publishing result.0.publishing
             self.publishing.held result.1 }
@@ -145,10 +145,10 @@ impl ListWriter {
             held,
         } = self;
         match held {
-            Some(held) => made(rt, writer, history, held),
+            Some(held) => publish_held(rt, writer, history, held),
             None => {
                 if writer.has_pending_operations() {
-                    return published(rt, writer, history);
+                    return publish_waiting(rt, writer, history);
                 }
                 let list = ListWriter {
                     writer,
@@ -221,7 +221,7 @@ fn copy_of(alloc: Global, list: &List, history: &History) -> Result<Published, A
 }
 
 /// Publishes a change that waits outside the writer.
-fn made<R: Wait>(
+fn publish_held<R: Wait>(
     rt: &R,
     mut writer: Sides,
     mut history: History,
@@ -247,7 +247,7 @@ fn made<R: Wait>(
         }
     };
     match writer.append(operation) {
-        Ok(()) => published(rt, writer, history),
+        Ok(()) => publish_waiting(rt, writer, history),
         Err(operation) => {
             let list = ListWriter {
                 writer,
@@ -260,7 +260,7 @@ fn made<R: Wait>(
 }
 
 /// Publishes the operation that waits at the writer.
-fn published<R: Wait>(
+fn publish_waiting<R: Wait>(
     rt: &R,
     writer: Sides,
     history: History,
@@ -279,7 +279,7 @@ fn published<R: Wait>(
     match answer {
         Ok(()) => {
             if writer.published().list.segments().len() < before {
-                return (shown_by_both(rt, writer, history), Ok(true));
+                return (publish_again(rt, writer, history), Ok(true));
             }
             let list = ListWriter {
                 writer,
@@ -301,7 +301,7 @@ fn published<R: Wait>(
 
 /// Publishes what is published once more, so that both copies have it, and neither keeps what a join
 /// has replaced. Where that is refused, one copy keeps it until the next change.
-fn shown_by_both<R: Wait>(rt: &R, writer: Sides, history: History) -> ListWriter
+fn publish_again<R: Wait>(rt: &R, writer: Sides, history: History) -> ListWriter
     requires written { IsWritten writer.desk.shown.value.list writer.desk.shown.value.front
         (view_of writer.desk.place) history None (drop writer.behind writer.log.items) }
     requires none_waits { drop writer.behind writer.log.items ≡ [] }
@@ -330,7 +330,7 @@ fn operation_of(history: &mut History, published: &Published, held: Held) -> Res
 {
     match held {
         Held::Add(segment) => {
-            if !has_batch(history, published, &segment) {
+            if !enter_batch(history, published, &segment) {
                 return Err(Held::Add(segment));
             }
             Ok(Operation::Add(segment, history.front()))
@@ -340,7 +340,7 @@ fn operation_of(history: &mut History, published: &Published, held: Held) -> Res
 }
 
 /// Adds the batch of a segment to the history, if it is not there yet, and says whether it is there.
-fn has_batch(history: &mut History, published: &Published, segment: &Segment) -> bool
+fn enter_batch(history: &mut History, published: &Published, segment: &Segment) -> bool
     requires { IsHeld published.now.list history.old (AddOf segment.now) }
     ensures book { history.new.book ≡ history.old.book }
     ensures log { MatchBool result

@@ -1,4 +1,4 @@
--- The pairs of a query string as the code holds them, and values as they are given.
+-- Bridge: the pairs of a query string as the code holds them, and values as they are given.
 use Rattle.std.specs.Prelude.{ℕ, List, [], ◌∷◌, map, filter, bytes_eq, Option, None, Some, option_map, ok_or, Result}
 use Rattle.explorer_model.specs.declared.query.BadParameter.{BadParameter}
 use Rattle.explorer_model.specs.declared.player.BadPlayerParameter.{BadPlayerParameter}

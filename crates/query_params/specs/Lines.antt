@@ -1,4 +1,4 @@
--- Positions, lines and queries as the code answers them.
+-- Statement: positions, lines and queries as the code answers them.
 use Rattle.std.specs.Prelude.{◌≡◌, ◌⊎◌, ℕ, true, List, ◌++◌, Result, Ok, Err}
 use Rattle.std.specs.Result.{result_map_both}
 use Rattle.explorer_model.specs.declared.chess.Move.{Move}

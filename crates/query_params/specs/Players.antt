@@ -1,4 +1,4 @@
--- Queries for a player's games as the code answers them.
+-- Statement: queries for a player's games as the code answers them.
 use Rattle.std.specs.Prelude.{◌≡◌, ℕ, List, Result}
 use Rattle.explorer_model.specs.declared.chess.Position.{Position}
 use Rattle.explorer_model.specs.declared.fault.Stop.{Stop}

@@ -23,7 +23,7 @@ one_list format payloads others image has also =
     ∙ payloads-at 12 others
 
 -- what is said of a content that is told
-at_told : (P : List ℕ → Type 0) (content : Option (List ℕ)) (file : List ℕ) → content ≡ Some file → IfSome content P → P file
+pub at_told : (P : List ℕ → Type 0) (content : Option (List ℕ)) (file : List ℕ) → content ≡ Some file → IfSome content P → P file
 at_told P content file told given = subst (λ (o : Option (List ℕ)). IfSome o P) told given
 
 fault_same : (reading : Reading (List Record)) (fault other : LogFault) → reading ≡ Err fault → reading ≡ Err other → fault ≡ other

@@ -3,5 +3,5 @@ mod Creation
 pub mod Gates
 mod Records
 mod Told
-mod DeterminedLemmas
+pub mod DeterminedLemmas
 mod SyncedWrites

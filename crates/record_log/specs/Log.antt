@@ -1,4 +1,4 @@
--- A log on a disk: what its images hold, and what its calls do to it.
+-- Statement: a log on a disk: what its images hold, and what its calls do to it.
 use Rattle.std.specs.Prelude.{◌≡◌, ◌≢◌, ◌⊎◌, ◌+◌, ℕ, List, [], ◌∷◌, ◌++◌, length, Option, Some, None, IfSome, Ok, Err}
 use Rattle.std.specs.Int.{w32, to_le_bytes}
 use Rattle.outside.specs.Stream.{Rises}

@@ -1,4 +1,4 @@
--- What reads of a log's file come to.
+-- Bridge: what reads of a log's file come to.
 use Rattle.std.specs.Prelude.{◌≡◌, ◌≢◌, ◌≤◌, ◌<◌, ◌+◌, ℕ, List, ◌∷◌, ◌++◌, length, take, drop, Option, Some, None, IfSome, Err, false}
 use Rattle.std.specs.Int.{w32, to_le_bytes, from_le_bytes, IsInRange}
 use Rattle.outside.specs.Stream.{Rises}

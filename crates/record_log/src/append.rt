@@ -1,3 +1,4 @@
+//! A payload added to a log.
 ghost use Rattle.std.specs.Prelude.{◌≡◌, ◌≤◌, ◌+◌, ◌∷◌, [], ◌++◌, ◌↔◌, List, ℕ, length, Some, Err, MatchResult, OnOk};
 ghost use Rattle.std.specs.Int.{IsInRange};
 ghost use Rattle.disk_model.specs.Disk.{LeavesOnly};

@@ -1,3 +1,4 @@
+//! Making a log without a payload.
 ghost use Rattle.std.specs.Prelude.{◌≡◌, ◌≢◌, ◌≤◌, ◌∷◌, [], ◌++◌, MatchOption, IfOk, IfErr, OnErr};
 ghost use Rattle.outside.specs.Stream.{Rises};
 ghost use Rattle.disk_model.specs.Disk.{IsQuiet, LeavesOnly, StaysTold};

@@ -1,3 +1,4 @@
+//! Why a log is not made, not opened or not added to.
 use explorer_model::store::LogFault;
 use thiserror::Error;
 

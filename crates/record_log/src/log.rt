@@ -1,3 +1,4 @@
+//! A log of payloads on a disk.
 ghost use Rattle.std.specs.Prelude.{◌≡◌};
 
 use crate::format::Format;

@@ -1,3 +1,4 @@
+//! Opening a log.
 ghost use Rattle.std.specs.Prelude.{◌≡◌, ◌<◌, [], Err, IfSome, IfOk, IfErr, OnOk};
 ghost use Rattle.disk_model.specs.Disk.{IsQuiet};
 ghost use Rattle.record_log.specs.Log.{EachImage, reading_of, HasPayloads, IsOpened, IsNotOpened};

@@ -1,3 +1,4 @@
+//! Why a log's file is not read to its end.
 ghost use Rattle.std.specs.Prelude.{◌≡◌};
 ghost use Rattle.record_log.specs.declared.stop.ReadStop.TheVariants as stops;
 

@@ -1,10 +1,9 @@
 -- A stream of samples is cut into them: a text begins at an Event tag alone.
 use Rattle.std.proofs.Common.{◌≡◌, ℕ, ◌+◌, ◌/◌, ◌%◌, ◌^◌, ◌<◌, ◌≤◌, ◌==◌, Bool, true, false, cond, ◌&&◌, not, List, [], ◌∷◌, ◌++◌, length, codes, decimal, nat_eq, refl, sym, ap, ◌∙◌, subst, arith}
 use Rattle.std.specs.List.{list_all, starts_with}
-use Rattle.std.proofs.lemmas.Bool.{and_from, and_parts}
+use Rattle.std.proofs.lemmas.Bool.{and_from, and_parts, not-true}
 use Rattle.std.proofs.lemmas.Bool.Decides.{nat_tests}
 use Rattle.std.proofs.lemmas.List.{append_assoc, append-nil}
-use Rattle.std.proofs.lemmas.List.Folds.{list_all-append}
 use Rattle.explorer_model.specs.declared.chess.Move.{Move}
 use Rattle.explorer_model.specs.declared.chess.Position.{Position}
 use Rattle.explorer_model.specs.Chess.{start, after}
@@ -18,7 +17,7 @@ use Rattle.sample_games.proofs.HeaderLines.{behind_event, black, black_elo, cont
 use Rattle.sample_games.proofs.Pairs.{is_plain}
 use Rattle.sample_games.proofs.Symbols.{IsSymbol}
 use Rattle.sample_games.proofs.Tags.{IsResult, IsSound, decimal-plain, player-plain, site-plain, sound}
-use Rattle.sample_games.proofs.Words.{decimal-begins, san-begins}
+use Rattle.sample_games.proofs.Words.{decimal-begins, san-begins, all-append}
 
 -- ---- lines
 
@@ -29,13 +28,6 @@ is_inside b = not (b == 10)
 -- it begins no tag either
 abbrev is_quiet : ℕ → Bool
 is_quiet b = not (b == 10) && not (nat_eq 91 b)
-
-is-not : (a : Bool) → not a ≡ true → a ≡ false
-is-not true h = absurd (grind (arith, h))
-is-not false h = refl
-
-all-append : (p : ℕ → Bool) (xs ys : List ℕ) → list_all p xs ≡ true → list_all p ys ≡ true → list_all p (xs ++ ys) ≡ true
-all-append p xs ys front back = list_all-append p xs ys ∙ and_from (list_all p xs) (list_all p ys) front back
 
 all-weaker : (p q : ℕ → Bool) → ((b : ℕ) → p b ≡ true → q b ≡ true) → (xs : List ℕ) → list_all p xs ≡ true → list_all q xs ≡ true
 all-weaker p q step [] h = refl
@@ -54,7 +46,7 @@ ends-line : (bytes rest : List ℕ) → list_all is_inside bytes ≡ true → pa
 unfolding parted onto
 ends-line [] rest h = refl
 ends-line (b ∷ bytes) rest h =
-    let inside : (b == 10) ≡ false = is-not (b == 10) (and_parts (is_inside b) (list_all is_inside bytes) h).0 in
+    let inside : (b == 10) ≡ false = not-true (b == 10) (and_parts (is_inside b) (list_all is_inside bytes) h).0 in
     ap (λ (fresh : Bool). onto false b (parted fresh (bytes ++ 10 ∷ rest))) inside
     ∙ ap (onto false b) (ends-line bytes rest (and_parts (is_inside b) (list_all is_inside bytes) h).1)
 
@@ -62,7 +54,7 @@ ends-line (b ∷ bytes) rest h =
 is-line : (b : ℕ) (bytes : List ℕ) → list_all is_inside (b ∷ bytes) ≡ true → ((rest : List ℕ) → starts_with nat_eq (b ∷ bytes ++ rest) event ≡ false) → AreLines (b ∷ bytes ++ 10 ∷ [])
 unfolding parted onto
 is-line b bytes h starts rest =
-    let inside : (b == 10) ≡ false = is-not (b == 10) (and_parts (is_inside b) (list_all is_inside bytes) h).0 in
+    let inside : (b == 10) ≡ false = not-true (b == 10) (and_parts (is_inside b) (list_all is_inside bytes) h).0 in
     let more : (bytes ++ 10 ∷ []) ++ rest ≡ bytes ++ 10 ∷ rest = append_assoc bytes (10 ∷ []) rest in
     ap (λ (l : List ℕ). parted true (b ∷ l)) more
     ∙ (ap (λ (begins : Bool). onto begins b (parted (b == 10) (bytes ++ 10 ∷ rest))) (starts (10 ∷ rest))
@@ -141,7 +133,7 @@ moves-quiet p ply (m ∷ moves) text writes few =
 quiet-line : (bytes : List ℕ) → list_all is_quiet bytes ≡ true → AreLines (bytes ++ 10 ∷ [])
 quiet-line [] h = blank-line
 quiet-line (b ∷ bytes) h =
-    let none : nat_eq 91 b ≡ false = is-not (nat_eq 91 b) (and_parts (is_inside b) (not (nat_eq 91 b)) (and_parts (is_quiet b) (list_all is_quiet bytes) h).0).1 in
+    let none : nat_eq 91 b ≡ false = not-true (nat_eq 91 b) (and_parts (is_inside b) (not (nat_eq 91 b)) (and_parts (is_quiet b) (list_all is_quiet bytes) h).0).1 in
     is-line b bytes (all-weaker is_quiet is_inside quiet-inside (b ∷ bytes) h) (λ rest. rw none refl)
 
 -- ---- samples

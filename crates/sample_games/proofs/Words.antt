@@ -25,7 +25,7 @@ use Rattle.explorer_model.specs.Letters.{file_letter, rank_digit, square_text}
 use Rattle.explorer_model.specs.San.{captures, StartOf, start_text, capture_text, promotion_text, castling_text, mark_text, named_text, MoveText, SanText}
 use Rattle.sample_games.proofs.Symbols.{IsSymbol}
 
-all-append : (p : ℕ → Bool) (xs ys : List ℕ) → list_all p xs ≡ true → list_all p ys ≡ true → list_all p (xs ++ ys) ≡ true
+pub all-append : (p : ℕ → Bool) (xs ys : List ℕ) → list_all p xs ≡ true → list_all p ys ≡ true → list_all p (xs ++ ys) ≡ true
 all-append p xs ys front back = list_all-append p xs ys ∙ ap (λ (b : Bool). b && list_all p ys) front ∙ back
 
 -- ---- letters

@@ -1,4 +1,4 @@
--- What the code draws of a sample game: its movetext, and its header.
+-- Bridge: what the code draws of a sample game: its movetext, and its header.
 use Rattle.std.specs.Prelude.{ℕ, ◌-◌, ◌*◌, ◌≤◌, List, ◌++◌, length}
 use Rattle.explorer_model.specs.declared.chess.Move.{Move}
 use Rattle.explorer_model.specs.declared.chess.Position.{Position}

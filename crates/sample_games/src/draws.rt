@@ -1,3 +1,4 @@
+//! Draws from a generator.
 ghost use Rattle.std.specs.Prelude.{◌≡◌, ◌<◌};
 ghost use Rattle.sample_games.specs.Samples.{drawn, later};
 

@@ -1,3 +1,4 @@
+//! Games drawn from a generator.
 ghost use Rattle.std.specs.Prelude.{◌≤◌, ◌<◌, IfOk, length};
 ghost use Rattle.sample_games.specs.Samples.{IsSample};
 

@@ -1,6 +1,7 @@
 -- Standard algebraic notation (PGN 8.2.3), worked out on texts whose meaning is known.
 use Rattle.std.specs.Prelude.{◌≡◌, ℕ, ◌&&◌, ◌||◌, Bool, true, false, List, [], ◌∷◌, ◌++◌, replicate, Option, Some, None, is_some, Err, codes}
 use Rattle.std.proofs.Common.{refl, sym, subst, inl, inr, lit<}
+use Rattle.std.proofs.Math.Bool.{and-false}
 use Rattle.explorer_model.specs.declared.chess.Color.TheVariants.{White, Black}
 use Rattle.explorer_model.specs.declared.chess.Move.{Move}
 use Rattle.explorer_model.specs.declared.chess.Piece.{Piece}
@@ -101,15 +102,11 @@ promotion-is-written = inr (refl, (Pawn, File, refl, refl, refl))
 off-the-grammar : (p : Position) → SanReads p (codes "e9") (Err NotSan)
 off-the-grammar p = refl
 
-and_false : (b : Bool) → (b && false) ≡ false
-and_false true = refl
-and_false false = refl
-
 takes_nothing : (m : Move) → m.to.index ≡ 35 → captures start m ≡ false
 takes_nothing m at =
     let pawn : Bool = is_pawn_at (piece_at start_squares m.from.index) in
     let P : ℕ → Type 0 = λ n. (is_some (piece_at start_squares n) || (pawn && false)) ≡ false in
-    subst P (sym at) (and_false pawn)
+    subst P (sym at) (and-false pawn)
 
 -- at the start there is nothing on d5 to be taken
 nothing-to-take : SanReads start (codes "exd5") (Err NoSuchMove)

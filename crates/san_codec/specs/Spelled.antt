@@ -1,4 +1,4 @@
--- The grammar of SAN (PGN 8.2.3), from the left: how a form is spelled.
+-- Bridge: the grammar of SAN (PGN 8.2.3), from the left: how a form is spelled.
 use Rattle.std.specs.Prelude.{◌≡◌, ◌⊎◌, ℕ, ◌+◌, ◌<◌, ◌==◌, if◌then◌else◌, IfSome, IsTrue, Option, Some, None, List, [], ◌∷◌, ◌++◌, map}
 use Rattle.std.specs.List.{list_all}
 use Rattle.explorer_model.specs.declared.chess.Role.{Role}

@@ -1,3 +1,4 @@
+//! Reading a move's written form.
 ghost use Rattle.std.specs.Prelude.{◌≡◌, ◌≢◌, ◌↔◌, ℕ, IsTrue, AllPairs, Contains};
 ghost use Rattle.explorer_model.specs.declared.chess.Move.{Move as AMove};
 ghost use Rattle.explorer_model.specs.Chess.{IsValid, Legal};

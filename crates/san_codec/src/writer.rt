@@ -1,3 +1,4 @@
+//! Writing a move in its one form.
 ghost use Rattle.std.specs.Prelude.{◌≡◌, ◌≢◌, ◌↔◌, ◌+◌, ◌<◌, ◌≤◌, ◌++◌, [], ◌∷◌, ℕ, List, IsTrue, AllPairs, Contains, None, length, true, false};
 ghost use Rattle.explorer_model.specs.declared.chess.Move.{Move as AMove};
 ghost use Rattle.explorer_model.specs.declared.chess.Role.TheVariants.{Pawn};

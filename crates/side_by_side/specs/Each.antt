@@ -1,4 +1,4 @@
--- Jobs that leaves take one after another, each with its number.
+-- Statement: jobs that leaves take one after another, each with its number.
 use Rattle.std.specs.Prelude.{◌≡◌, ℕ, ◌<◌, List, IfOk, length, slice_index_or}
 use Rattle.std.specs.List.{All}
 use Rattle.std.specs.Fork.{GivesJob}

@@ -1,4 +1,4 @@
--- Indices that leaves take one after another, each with what a call gives for it.
+-- Statement: indices that leaves take one after another, each with what a call gives for it.
 use Rattle.std.specs.Prelude.{ℕ, List, [], ◌∷◌, Option, Some, None, Result, Ok, Err, Vec, slice_set, slice_index_or, IfOk, IfSome}
 use Rattle.std.specs.List.{All}
 use Rattle.std.specs.declared.alloc.AllocError.{AllocError}

@@ -1,4 +1,4 @@
--- A bitboard as the set of its squares.
+-- Bridge: a bitboard as the set of its squares.
 use Rattle.std.specs.Prelude.{◌≡◌, ℕ, ◌==◌, List}
 use Rattle.std.specs.List.{filter, range_with_len}
 use Rattle.std.specs.Int.{bit_at}

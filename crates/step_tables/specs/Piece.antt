@@ -1,4 +1,4 @@
--- How the pieces step (FIDE Laws 3.2 to 3.8), as lists of steps and by file and rank.
+-- Statement: how the pieces step (FIDE Laws 3.2 to 3.8), as lists of steps and by file and rank.
 use Rattle.std.specs.Prelude.{◌≡◌, ◌≢◌, ℕ, ◌+◌, ◌≤◌, List, [], ◌∷◌, ◌++◌, pos, negsuc, ◌⊎◌}
 use Rattle.step_tables.specs.Squares.{rank_of, files_apart, ranks_apart}
 use Rattle.step_tables.specs.declared.step.Step.{Step}

@@ -1,6 +1,6 @@
--- The squares 0 to 63 by file and rank, and the lines that two of them share. The crate stands on
--- no other, so these are said again in the definitions of chess; where both meet they are the same
--- by unfolding.
+-- Statement: the squares 0 to 63 by file and rank, and the lines that two of them share. The crate
+-- stands on no other, so these are said again in the definitions of chess; where both meet they are
+-- the same by unfolding.
 use Rattle.std.specs.Prelude.{◌≡◌, ◌≢◌, ℕ, ◌+◌, ◌-◌, ◌/◌, ◌%◌, ◌<◌, ◌⊎◌}
 use Rattle.step_tables.specs.Bitboard.{Holds}
 

@@ -1,4 +1,4 @@
--- Steps and lines by file and rank.
+-- Statement: steps and lines by file and rank.
 use Rattle.std.specs.Prelude.{◌≡◌, ℕ, ◌+◌, ◌<◌, ◌≤◌, List, length, slice_index_or, pos, ◌+ℤ◌, ◌*ℤ◌}
 use Rattle.std.specs.List.{Any}
 use Rattle.step_tables.specs.Squares.{file_of, rank_of}

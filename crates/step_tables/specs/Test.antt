@@ -1,4 +1,4 @@
--- The tests that the tables pass. They are computed when the program is checked.
+-- Bridge: the tests that the tables pass. They are computed when the program is checked.
 use Rattle.std.specs.Prelude.{ℕ, zero, suc, ◌+◌, Bool, true, false, ◌&&◌, ◌||◌, ◌==◌, cond, List, [], slice_index, slice_index_or, pos, ◌+ℤ◌}
 use Rattle.std.specs.List.{list_any}
 use Rattle.std.specs.Int.{bit_at}

@@ -1,3 +1,4 @@
+//! Tables of the squares between two.
 ghost use Rattle.std.specs.Prelude.{◌≡◌, ◌↔◌, ℕ, ◌<◌, ◌≤◌};
 ghost use Rattle.step_tables.specs.Bitboard.{Holds};
 ghost use Rattle.step_tables.specs.Squares.{IsBetween, IsUnblocked};

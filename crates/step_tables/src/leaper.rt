@@ -1,3 +1,4 @@
+//! Tables of pieces that leap.
 ghost use Rattle.std.specs.Prelude.{◌≡◌, ◌↔◌, ℕ, ◌<◌, IsTrue};
 ghost use Rattle.step_tables.specs.Bitboard.{Holds};
 ghost use Rattle.step_tables.specs.Step.{IsReached};

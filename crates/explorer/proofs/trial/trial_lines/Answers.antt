@@ -1,8 +1,9 @@
 use Rattle.std.proofs.Common.{◌∙◌, ℕ, List, ap, subst, sym}
+use Rattle.std.proofs.lemmas.Result.{IfOk-weaker}
 use Rattle.explorer_model.specs.Visits.{IsTextOf}
 use Rattle.explorer.specs.Trial.{summary}
 use Rattle.explorer.specs.Trying.{IsReadable}
-use Rattle.explorer.proofs.TrialLemmas.{drawn_readable, drawn_stream, ok_then, tells_trial}
+use Rattle.explorer.proofs.TrialLemmas.{drawn_readable, drawn_stream, tells_trial}
 use Rattle.explorer.proofs.trial.trial_lines.Goals as goal
 
 pub last_fen-requires : goal.last_fen-requires
@@ -24,7 +25,7 @@ returns g c =
     let tried = c.in_ok-tried.tried in
     let readable = drawn_readable c.args.games c.args.seed samples.stream.items samples.last c.in_ok-samples.ensures.0 are c.requires.some_games c.samples_have_games.ensures in
     let of_texts = c.in_ok-tried.ensures are.texts (drawn_stream c.args.games c.args.seed samples.stream.items samples.last c.in_ok-samples.ensures.0 are c.requires.few_games) in
-    ok_then c.summary_lines.result _ _
+    IfOk-weaker c.summary_lines.result _ _
     (λ lines is.
     tells_trial c.args.games c.args.seed samples.stream.items samples.last c.in_ok-samples.ensures.0 are c.requires.some_games readable tried of_texts c.in_ok-fen.fen.items lines.items
     (λ game told. c.in_ok-fen.ensures.reads game (subst (λ (text : List ℕ). IsTextOf text game) (sym c.as_slice.ensures) told))

@@ -1,10 +1,7 @@
-use Rattle.std.proofs.Common.{Result, Ok, Err, IfOk, IfErr}
+use Rattle.std.proofs.Common.{Result, Ok, Err, IfErr}
+use Rattle.std.proofs.lemmas.Result.{IfOk-weaker}
 use Rattle.http_wire.proofs.Growing.{skips-finds, skips-misses}
 use Rattle.http_wire.proofs.head.find_head.Goals as goal
-
-if_ok : {A E : Type 0} (r : Result A E) (P Q : A → Type 0) → ((a : A) → P a → Q a) → IfOk r P → IfOk r Q
-if_ok (Ok a) P Q on holds = on a holds
-if_ok (Err e) P Q on holds = tt
 
 if_err : {A E : Type 0} (r : Result A E) (P Q : E → Type 0) → ((e : E) → P e → Q e) → IfErr r P → IfErr r Q
 if_err (Ok a) P Q on holds = tt
@@ -12,7 +9,7 @@ if_err (Err e) P Q on holds = on e holds
 
 pub returns-clause-found : goal.returns-clause-found
 returns-clause-found g c =
-    if_ok c.find_end.result _ _
+    IfOk-weaker c.find_end.result _ _
     (λ count finds. skips-finds c.in_ok-skipped.skipped count _ _ _ _ _ _ c.in_ok-skipped.ensures.skipped finds)
     c.find_end.ensures.found
 

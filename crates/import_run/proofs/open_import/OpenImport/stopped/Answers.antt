@@ -4,7 +4,7 @@ use Rattle.explorer_model.specs.Cuts.{cuts}
 use Rattle.import_run.proofs.ComeBesideLemmas.{stopped_at_end_beside, stopped_within_beside}
 use Rattle.import_run.proofs.ComeLemmas.{stopped_at_end, stopped_within}
 use Rattle.import_run.proofs.DrawLemmas.{draws-same}
-use Rattle.import_run.proofs.groups.OpenImport.stopped.Goals as goal
+use Rattle.import_run.proofs.open_import.OpenImport.stopped.Goals as goal
 use Rattle.std.proofs.Common.{refl}
 
 pub returns-in-Ok-clause-within : goal.returns-in-Ok-clause-within

@@ -15,7 +15,7 @@ use Rattle.import_run.proofs.NextLemmas.{lacking, lacks_none, lacks_one, no_batc
 use Rattle.ingest_desk.specs.Drawn.{DrawsFor}
 use Rattle.import_run.specs.Draws.{DrawsAsAnswered, most_untold_by}
 use Rattle.import_run.proofs.DrawLemmas.{draws-few, draws-lacking, draws-receipt, draws-same, few-one, stopped-draws}
-use Rattle.import_run.proofs.groups.OpenImport.close.Goals as goal
+use Rattle.import_run.proofs.open_import.OpenImport.close.Goals as goal
 
 pub returns-in_err-reserve-clause-lacks : goal.returns-in_err-reserve-clause-lacks
 returns-in_err-reserve-clause-lacks g c =

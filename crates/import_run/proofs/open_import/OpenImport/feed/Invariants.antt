@@ -4,7 +4,7 @@ use Rattle.ingest_desk.specs.Drawn.{DrawsFor}
 use Rattle.pgn_cut.specs.Cutter.{came, cuts_of_rest}
 use Rattle.import_run.specs.Committing.{Store}
 use Rattle.import_run.specs.Taking.{CutSoFar, IsReady}
-use Rattle.import_run.proofs.groups.OpenImport.feed.Given as goal
+use Rattle.import_run.proofs.open_import.OpenImport.feed.Given as goal
 
 abbrev pub invariant-feeding : goal.invariant-feeding
 invariant-feeding g l = record {

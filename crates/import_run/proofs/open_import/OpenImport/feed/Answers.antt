@@ -9,7 +9,7 @@ use Rattle.import_run.proofs.NextLemmas.{lacking}
 use Rattle.import_run.proofs.ShortLemmas.{short_first}
 use Rattle.import_run.proofs.TakingLemmas.{lacks_now, where_lacking, where_stopped}
 use Rattle.import_run.proofs.DrawLemmas.{draws-within}
-use Rattle.import_run.proofs.groups.OpenImport.feed.Goals as goal
+use Rattle.import_run.proofs.open_import.OpenImport.feed.Goals as goal
 
 pub feeding-init : goal.feeding-init
 feeding-init g c = record {

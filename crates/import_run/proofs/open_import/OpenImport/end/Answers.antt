@@ -12,7 +12,7 @@ use Rattle.import_run.proofs.CutLemmas.{whole_cuts}
 use Rattle.import_run.proofs.PlaceLemmas.{ascend_of_stream}
 use Rattle.import_run.proofs.ShortLemmas.{short_first}
 use Rattle.import_run.proofs.DrawLemmas.{draws-same, draws-told}
-use Rattle.import_run.proofs.groups.OpenImport.end.Goals as goal
+use Rattle.import_run.proofs.open_import.OpenImport.end.Goals as goal
 
 pub finish-requires-clause-short : goal.finish-requires-clause-short
 finish-requires-clause-short g c = λ κs within. short_first c.end.result c.args.cutter [] [] (append-nil (cuts_in c.end.result) ∙ c.end.ensures)

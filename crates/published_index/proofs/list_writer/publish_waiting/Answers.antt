@@ -1,5 +1,5 @@
 use Rattle.published_index.proofs.WriterLemmas.{change-turns}
-use Rattle.published_index.proofs.list_writer.published.Goals as goal
+use Rattle.published_index.proofs.list_writer.publish_waiting.Goals as goal
 
 pub publish_as-writer-requires : goal.publish_as-writer-requires
 publish_as-writer-requires g c next is =

@@ -7,7 +7,7 @@ use Rattle.import_run.specs.Taking.{TakenSoFar}
 use Rattle.import_run.proofs.NextLemmas.{lacking}
 use Rattle.import_run.proofs.TakingLemmas.{lacking_on, lacks_closed, lacks_open, on_ok_both, stopped_on, stops_closed, taken_closed}
 use Rattle.import_run.proofs.DrawLemmas.{draws-within}
-use Rattle.import_run.proofs.groups.OpenImport.push.Goals as goal
+use Rattle.import_run.proofs.open_import.OpenImport.push.Goals as goal
 
 pub returns-in_err-push-clause-lacks : goal.returns-in_err-push-clause-lacks
 returns-in_err-push-clause-lacks g c =

@@ -3,7 +3,7 @@ use Rattle.pgn_cut.specs.Cutter.{cuts_of_rest}
 use Rattle.import_run.proofs.ComeBesideLemmas.{cut_off_beside}
 use Rattle.import_run.proofs.ComeLemmas.{whole_settled}
 use Rattle.import_run.proofs.CutLemmas.{one_cut}
-use Rattle.import_run.proofs.groups.OpenImport.cut_off.Goals as goal
+use Rattle.import_run.proofs.open_import.OpenImport.cut_off.Goals as goal
 
 pub returns-clause-settled : goal.returns-clause-settled
 returns-clause-settled g c = λ start stream told so_far.

@@ -1,7 +1,7 @@
 use Rattle.std.proofs.Common.{◌++◌}
 use Rattle.pgn_cut.specs.Cut.{cuts_in}
 use Rattle.import_run.proofs.TakingLemmas.{lacking_on, lacks_at_last, lacks_here, on_ok, stopped_on, stops_at_last, stops_here, taken_all, where_lacking, where_stopped}
-use Rattle.import_run.proofs.groups.OpenImport.finish.Goals as goal
+use Rattle.import_run.proofs.open_import.OpenImport.finish.Goals as goal
 
 pub returns-in-Ok-clause-done : goal.returns-in-Ok-clause-done
 returns-in-Ok-clause-done g c = on_ok c.close.result _ _ (λ closes start taken ascend so_far.
