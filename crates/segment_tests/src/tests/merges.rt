@@ -188,7 +188,7 @@ fn pawn_moves(alloc: Global, bits: u32) -> Result<String, AllocError> {
 #[test]
 fn rows_in_ranges_are_those_packed_at_once(rt: HostRuntime) -> Result<(), Fail> {
     let mut texts = Vec::new(rt.alloc());
-    for n in 0..560u32 {
+    for n in 0..510u32 {
         texts.push(pawn_moves(rt.alloc(), n.wrapping_mul(40_503))?)?;
     }
     let mut movetexts: Vec<&str> = Vec::new(rt.alloc());
@@ -197,7 +197,7 @@ fn rows_in_ranges_are_those_packed_at_once(rt: HostRuntime) -> Result<(), Fail> 
     }
     let whole = games(&rt, rt.alloc(), 0, (1700, 1600), movetexts.as_slice())?;
     let wanted = all_rows::<Brand>(rt.alloc(), &whole, Blank::new(1))?;
-    let Some((before, behind)) = movetexts.as_slice().split_at_checked(290) else {
+    let Some((before, behind)) = movetexts.as_slice().split_at_checked(265) else {
         panic!(rt; "there are not so many games");
     };
     let left = games(&rt, rt.alloc(), 0, (1700, 1600), before)?;
