@@ -3,7 +3,8 @@ use Rattle.std.specs.Bool.{⊤}
 use Rattle.std.proofs.Common.{◌≡◌, ℕ, Bool, true, false, not, ◌&&◌, ◌||◌, ◌==◌, Option, Some, None, refl, sym, ap, subst, ◌∙◌, true≢false}
 use Rattle.std.proofs.lemmas.Bool.{and_from}
 use Rattle.std.proofs.lemmas.Bool.Decides.{Decides-eqb}
-use Rattle.legal_moves.proofs.OneKing.{color_self}
+use Rattle.explorer_model.specs.declared.chess.Color.{Color}
+use Rattle.explorer_model.specs.declared.chess.Color.TheVariants.{White, Black}
 use Rattle.explorer_model.specs.declared.chess.Role.{Role}
 use Rattle.explorer_model.specs.declared.chess.Side.{Side}
 use Rattle.explorer_model.specs.declared.chess.Side.TheVariants.{Short, Long}
@@ -117,10 +118,14 @@ is_same_piece None None = true
 is_same_piece (Some a) (Some b) = is_color a.color b.color && is_role a.role b.role
 is_same_piece a b = false
 
+same_color : (color : Color) → is_color color color ≡ true
+same_color White = refl
+same_color Black = refl
+
 same_piece : (a : Option Piece) → is_same_piece a a ≡ true
 unfolding is_same_piece
 same_piece None = refl
-same_piece (Some piece) = and_from _ _ (color_self piece.color) ((decides-role piece.role piece.role).1 refl)
+same_piece (Some piece) = and_from _ _ (same_color piece.color) ((decides-role piece.role piece.role).1 refl)
 
 unfoldable pub is_like : Position → Move → Move → Bool
 is_like p m o =
