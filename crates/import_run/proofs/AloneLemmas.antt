@@ -1,24 +1,22 @@
 -- What is told of a store on a disk, where nobody else stores anything.
-use Rattle.std.proofs.Common.{◌≡◌, ℕ, Bool, true, false, if◌then◌else◌, List, [], ◌∷◌, ◌++◌, Option, None, Some, Result, Ok, Err, refl, sym, ap, subst, ◌∙◌}
-use Rattle.std.specs.Prelude.{IfOk}
+use Rattle.std.proofs.Common.{◌≡◌, ℕ, ◌+◌, true, false, List, [], ◌∷◌, ◌++◌, length, Option, None, Some, Result, Ok, Err, refl, sym, ap, subst, ◌∙◌}
 use Rattle.std.specs.List.{AllZip}
 use Rattle.disk_model.specs.Disk.{DiskState}
 use Rattle.explorer_model.specs.declared.archive.Batch.{Batch}
 use Rattle.explorer_model.specs.declared.archive.Game.{Game}
 use Rattle.explorer_model.specs.declared.fault.GameFault.{GameFault}
 use Rattle.explorer_model.specs.declared.fault.Refusal.{Refusal}
-use Rattle.explorer_model.specs.Imports.{numbers_of}
-use Rattle.explorer_model.specs.Journal.{IsSound, byte_count, game_count}
+use Rattle.explorer_model.specs.Journal.{IsSound, game_count}
 use Rattle.explorer_model.specs.Visits.{AreGamesOf, IsTextOf, texts_of}
 use Rattle.outside.specs.Stream.{Stream}
 use Rattle.record_log.specs.Log.{IsFault, Log}
 use Rattle.tally_rows.specs.Tally.{Counted}
-use Rattle.ingest_desk.specs.Causes.{HasIds, HasNoRoom, cause, cause_by, has_no_room}
-use Rattle.ingest_desk.specs.Clashes.{clashes_of}
-use Rattle.ingest_desk.specs.Commits.{Fails, IsMarked, IsReceiptOf, Leaves, Refuses, Stores, Tells}
+use Rattle.published_index.specs.Places.{Drawing}
+use Rattle.ingest_desk.specs.Causes.{Cause, HasIds, HasNoRoom, IsClosed, cause}
+use Rattle.ingest_desk.specs.Commits as desk
+use Rattle.ingest_desk.specs.Commits.{MayLack}
 use Rattle.ingest_desk.specs.Kept.{Keeps}
 use Rattle.ingest_desk.specs.Stored.{Stored, journal}
-use Rattle.ingest_desk.specs.declared.clashing.Clashing.{Clashing}
 use Rattle.ingest_desk.specs.declared.fault.CommitFault.{CommitFault}
 use Rattle.ingest_desk.specs.declared.fault.CommitFault.TheVariants as faults
 use Rattle.ingest_desk.specs.declared.receipt.Receipt.{Receipt}
@@ -27,7 +25,7 @@ use Rattle.ingest_desk.specs.declared.report.End.TheVariants as ends
 use Rattle.ingest_desk.specs.declared.report.Report.{Report}
 use Rattle.ingest_desk.proofs.KeptLemmas.{none_failed}
 use Rattle.import_run.specs.Alone.{DiskFaultsAre, ImportsAlone, stored_in}
-use Rattle.import_run.specs.Committing.{Commits, FaultAfter, IsClash, Known, Receives, Store, store_of}
+use Rattle.import_run.specs.Committing.{AddsBatch, Commits, CommitsTo, Known, Refuses, Store, cause_in, store_of}
 use Rattle.import_run.specs.Ending.{StandsAt, StoresBy}
 use Rattle.import_run.specs.Since.{Goes, IsSince}
 use Rattle.import_run.specs.Taking.{Imports}
@@ -55,99 +53,89 @@ same_games one (text ∷ texts) (g ∷ gs) (h ∷ hs) a b =
     same_ok : (g h : Game) → (let r : Result Game GameFault = Ok g in r) ≡ Ok h → g ≡ h
     same_ok g h e = cc
 
--- ---- clashes
-
-record ClashesBy (games : List Game) (tally : Counted) (pairs : List Clashing) : Type 0 where
-  are : pairs ≡ clashes_of (numbers_of games) tally.classes
-  some : pairs ≡ [] → ⊥
-
-clash_cause : (fault : Option (ℕ × ℕ)) (games : List Game) (journal : List Batch) (tally : Counted) (pairs : List Clashing) → cause fault games journal tally ≡ Some (HasIds pairs) → ClashesBy games tally pairs
-clash_cause (Some counts) games journal tally pairs is = cc
-clash_cause None games journal tally pairs is = by_pairs (clashes_of (numbers_of games) tally.classes) refl is
-  where
-    by_over : (over : Bool) → (if over then Some (HasNoRoom (game_count journal) (byte_count journal)) else None) ≡ Some (HasIds pairs) → ⊥
-    by_over true e = cc
-    by_over false e = cc
-
-    not_nil : (p : Clashing) (ps : List Clashing) → p ∷ ps ≡ [] → ⊥
-    not_nil p ps e = cc
-
-    by_pairs : (found : List Clashing) → clashes_of (numbers_of games) tally.classes ≡ found → cause_by found journal tally.batch ≡ Some (HasIds pairs) → ClashesBy games tally pairs
-    by_pairs (p ∷ ps) are e = let same : p ∷ ps ≡ pairs = cc in record { are = sym same ∙ sym are; some = λ none. not_nil p ps (same ∙ none) }
-    by_pairs [] are e = absurd (by_over (has_no_room journal tally.batch) e)
-
 -- ---- one commit
 
-module _ {D J : Type 0} (disk : D → DiskState) (old new : Stored D) (tally : Counted) (sound : IsSound (journal old)) where
-  fault_after : (result : Result (Receipt J) (CommitFault J)) → Leaves disk result tally.batch old.manifest new.manifest → FaultAfter result old.manifest.fault new.manifest.fault
-  fault_after (Ok receipt) adds = ap (λ (l : Log D). l.fault) adds.rest
-  fault_after (Err (faults.OutOfMemory true)) adds = ap (λ (l : Log D). l.fault) adds.rest
-  fault_after (Err (faults.OutOfMemory false)) same = ap (λ (l : Log D). l.fault) same
-  fault_after (Err (faults.DiskFault before after mark)) breaks = (breaks.sound, ap (λ (l : Log D). l.fault) breaks.rest)
-  fault_after (Err (faults.Closed before after mark)) same = ap (λ (l : Log D). l.fault) same
-  fault_after (Err (faults.Clash handed pairs note)) same = ap (λ (l : Log D). l.fault) same
-  fault_after (Err (faults.Full games bytes note)) same = ap (λ (l : Log D). l.fault) same
+module _ {D : Type 0} (disk : D → DiskState) (left_since : D → ℕ → List ℕ → Type 0) (tally : Counted) (old new : Stored D) (had has : Drawing) where
+  module _ (known : Known) (is_known : Some (stored_in old) ≡ Some (store_of known)) where
+    same : stored_in old ≡ store_of known
+    same = some_same (stored_in old) (store_of known) is_known
 
-  receives : (result : Result (Receipt J) (CommitFault J)) → IfOk result (λ receipt. IsReceiptOf receipt (journal old) tally.batch) → Tells result (journal new) new.index.held
-      → Receives result (journal old) tally.batch (journal new)
-  receives (Ok receipt) is tells = (is, tells.0)
-  receives (Err (faults.Full games bytes note)) is tells = tells.0
-  receives (Err (faults.OutOfMemory stored)) is tells = tt
-  receives (Err (faults.DiskFault before after mark)) is tells = tt
-  receives (Err (faults.Closed before after mark)) is tells = tt
-  receives (Err (faults.Clash handed pairs note)) is tells = tt
+    at : journal old ≡ known.journal
+    at = ap (λ (s : Store). s.journal) same
 
-  module _ (result : Result (Receipt J) (CommitFault J))
-      (refused : (games : List Game) → AreGamesOf (journal old) games → Refuses result (cause old.manifest.fault games (journal old) tally) tally old.index.held)
-      (stores : Stores result tally.batch (journal old) (journal new)) (tells : Tells result (journal new) new.index.held) where
-    pub commits : Leaves disk result tally.batch old.manifest new.manifest → IfOk result (λ receipt. IsReceiptOf receipt (journal old) tally.batch) → IsMarked result tally.batch
-        → Fails result tally.batch old.failed new.failed → (known : Known) → Some (stored_in old) ≡ Some (store_of known) → Commits result known tally (Some (stored_in new))
-    commits leaves receipt marked fails known is =
-        let same = some_same (stored_in old) (store_of known) is in
-        let at : journal old ≡ known.journal = ap (λ (s : Store). s.journal) same in
-        let fault : old.manifest.fault ≡ known.fault = ap (λ (s : Store). s.fault) same in
+    fault : old.manifest.fault ≡ known.fault
+    fault = ap (λ (s : Store). s.fault) same
+
+    failed : old.failed ≡ known.failed
+    failed = ap (λ (s : Store). s.failed) same
+
+    -- what holds of the cause by the games that are known
+    refused : (P : Option Cause → Type 0) → ((games : List Game) → AreGamesOf (journal old) games → P (cause old.manifest.fault games (journal old) tally)) → P (cause_in known tally)
+    refused P by =
         let G : List Batch → Type 0 = λ j. AreGamesOf j known.games in
-        let R : List Batch → Type 0 = λ j. Refuses result (cause old.manifest.fault known.games j tally) tally old.index.held in
-        let F : Option (ℕ × ℕ) → Type 0 = λ f. Refuses result (cause f known.games known.journal tally) tally old.index.held in
-        let S : List Batch → Type 0 = λ j. Stores result tally.batch j (journal new) in
-        let A : Option (ℕ × ℕ) → Type 0 = λ f. FaultAfter result f new.manifest.fault in
-        let B : Option Batch → Type 0 = λ f. Fails result tally.batch f new.failed in
-        let V : List Batch → Type 0 = λ j. Receives result j tally.batch (journal new) in
-        record {
-          new = stored_in new;
-          still = refl;
-          held = old.index.held;
-          refused = subst F fault (subst R at (refused known.games (subst G (sym at) known.are_games)));
-          stores = subst S at stores;
-          fault = subst A fault (fault_after result leaves);
-          fails = subst B (ap (λ (s : Store). s.failed) same) fails;
-          marked = marked;
-          receives = subst V at (receives result receipt tells);
-        }
+        let J : List Batch → Type 0 = λ j. P (cause old.manifest.fault known.games j tally) in
+        let F : Option (ℕ × ℕ) → Type 0 = λ f. P (cause f known.games known.journal tally) in
+        subst F fault (subst J at (by known.games (subst G (sym at) known.are_games)))
 
-    pub clash : OneGame → IsClash result tally (Some (stored_in old))
-    clash one = by_result result (refused sound.games sound.are_games) stores tells
-      where
-        by_result : (r : Result (Receipt J) (CommitFault J)) → Refuses r (cause old.manifest.fault sound.games (journal old) tally) tally old.index.held → Stores r tally.batch (journal old) (journal new)
-            → Tells r (journal new) new.index.held → IsClash r tally (Some (stored_in old))
-        by_result (Ok receipt) refuses stores tells = tt
-        by_result (Err (faults.Full games bytes note)) refuses stores tells = tt
-        by_result (Err (faults.OutOfMemory stored)) refuses stores tells = tt
-        by_result (Err (faults.DiskFault before after mark)) refuses stores tells = tt
-        by_result (Err (faults.Closed before after mark)) refuses stores tells = tt
-        by_result (Err (faults.Clash handed pairs note)) refuses stores tells =
-            let by = clash_cause old.manifest.fault sound.games (journal old) tally pairs.items refuses.0 in
-            let note_is : note ≡ journal old = tells.0 ∙ stores in
-            let G : List Batch → Type 0 = λ j. AreGamesOf j sound.games in (
-              refuses.1,
-              (by.some, (sound.games, (subst G (sym note_is) sound.are_games, (by.are, known_games)))),
-            )
-          where
-            known_games : (known : Known) → Some (stored_in old) ≡ Some (store_of known) → known.games ≡ sound.games
-            known_games known is =
-                let at : journal old ≡ known.journal = ap (λ (s : Store). s.journal) (some_same (stored_in old) (store_of known) is) in
-                let G : List Batch → Type 0 = λ j. AreGamesOf j known.games in
-                same_games one (texts_of (journal old)) known.games sound.games (subst G (sym at) known.are_games) sound.are_games
+    adds : desk.AddsBatch disk tally old new → AddsBatch known tally (stored_in new)
+    adds is = record {
+      refused = refused (λ why. why ≡ None) is.refused;
+      stores = is.stores ∙ ap (λ (j : List Batch). j ++ tally.batch ∷ []) at;
+      fault = ap (λ (l : Log D). l.fault) is.manifest.rest ∙ fault;
+      fails = is.failed ∙ failed;
+    }
+
+    refuses : (why : Cause) → desk.Refuses why tally old new → Refuses why known tally (stored_in new)
+    refuses why is = record {
+      refused = refused (λ cause. cause ≡ Some why) is.refused;
+      stores = is.stores ∙ at;
+      fault = ap (λ (l : Log D). l.fault) is.manifest ∙ fault;
+      fails = is.failed ∙ failed;
+    }
+
+    module _ {J : Type 0} where
+      by_answer : (answer : Result (Receipt J) (CommitFault J)) → desk.CommitsBy disk left_since tally old new had has answer → CommitsTo known tally (stored_in new) answer
+      by_answer (Ok receipt) is = (
+        adds is.store,
+        record {
+          batches = is.receipt.batches ∙ ap (λ (j : List Batch). length j + 1) at;
+          first = is.receipt.first ∙ ap game_count at;
+          games = is.receipt.games;
+        },
+        is.told,
+      )
+      by_answer (Err (faults.Closed before after mark)) is = (refuses (IsClosed before after) is.store, is.marked)
+      by_answer (Err (faults.Clash handed pairs note)) is = (refuses (HasIds pairs.items) is.store, is.back)
+      by_answer (Err (faults.Full games bytes note)) is = (refuses (HasNoRoom games bytes) is.store, is.told)
+      by_answer (Err (faults.DiskFault before after mark)) is = (
+        record {
+          refused = refused (λ why. why ≡ None) is.store.refused;
+          stores = is.store.stores ∙ at;
+          was_open = sym fault ∙ is.store.manifest.sound;
+          fault = ap (λ (l : Log D). l.fault) is.store.manifest.rest;
+          fails = is.store.failed;
+        },
+        is.marked,
+      )
+      by_answer (Err (faults.OutOfMemory true)) is = adds is.store
+      by_answer (Err (faults.OutOfMemory false)) is = record {
+        held = old.index.held;
+        refused = refused (λ why. MayLack why old.index.held) is.store.refused;
+        stores = is.store.stores ∙ at;
+        fault = ap (λ (l : Log D). l.fault) is.store.manifest ∙ fault;
+        fails = is.store.failed ∙ failed;
+      }
+
+  pub commits : {J : Type 0} (answer : Result (Receipt J) (CommitFault J)) → desk.CommitsBy disk left_since tally old new had has answer → (known : Known) → Some (stored_in old) ≡ Some (store_of known)
+      → Commits answer known tally (Some (stored_in new))
+  commits answer is known is_known = record { new = stored_in new; still = refl; by = by_answer known is_known answer is }
+
+-- the games of a store that is known are those of its journal
+pub known_games : {D : Type 0} (old : Stored D) (sound : IsSound (journal old)) → OneGame → (known : Known) → Some (stored_in old) ≡ Some (store_of known) → known.games ≡ sound.games
+known_games old sound one known is =
+    let at : journal old ≡ known.journal = ap (λ (s : Store). s.journal) (some_same (stored_in old) (store_of known) is) in
+    let G : List Batch → Type 0 = λ j. AreGamesOf j known.games in
+    same_games one (texts_of (journal old)) known.games sound.games (subst G (sym at) known.are_games) sound.are_games
 
 -- ---- an import
 

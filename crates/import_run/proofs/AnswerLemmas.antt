@@ -1,17 +1,19 @@
--- What the answer to a commit tells by itself, from the clauses of the commit.
+-- What the answer to a commit tells by itself.
 use Rattle.std.proofs.Common.{◌≡◌, ◌≢◌, ◌∙◌, ℕ, Bool, true, false, List, [], ◌∷◌, ◌++◌, length, take, Option, None, Some, Result, Ok, Err, if◌then◌else◌, refl, sym, ap, subst}
-use Rattle.std.specs.Prelude.{IfOk, slice_get}
+use Rattle.std.specs.Prelude.{slice_get}
+use Rattle.disk_model.specs.Disk.{DiskState}
 use Rattle.explorer_model.specs.declared.archive.Batch.{Batch}
 use Rattle.explorer_model.specs.declared.archive.Game.{Game}
 use Rattle.explorer_model.specs.Imports.{numbers_of}
-use Rattle.explorer_model.specs.Journal.{byte_count, game_count}
+use Rattle.explorer_model.specs.Journal.{IsSound, byte_count, game_count}
 use Rattle.explorer_model.specs.Visits.{AreGamesOf}
-use Rattle.published_index.specs.Changes.{Change}
+use Rattle.published_index.specs.Places.{Drawing}
 use Rattle.tally_rows.specs.Tally.{Counted}
 use Rattle.ingest_desk.specs.Causes.{Cause, HasIds, HasNoRoom, IsClosed, cause, cause_by, has_no_room}
 use Rattle.ingest_desk.specs.Clashes.{clashes_of}
-use Rattle.ingest_desk.specs.Commits.{IsMarked, IsReceiptOf, Refuses, Stores, Tells}
+use Rattle.ingest_desk.specs.Commits.{CommitsBy, IsReceiptOf}
 use Rattle.ingest_desk.specs.Reporting.{IsReceipt}
+use Rattle.ingest_desk.specs.Stored.{Stored, journal}
 use Rattle.ingest_desk.specs.declared.clashing.Clashing.{Clashing}
 use Rattle.ingest_desk.specs.declared.fault.CommitFault.{CommitFault}
 use Rattle.ingest_desk.specs.declared.fault.CommitFault.TheVariants as faults
@@ -98,36 +100,38 @@ module _ (stored : List Game) (journal : List Batch) (tally : Counted) (are : Ar
 
 -- ---- answers
 
-module _ {J : Type 0} (fault : Option (ℕ × ℕ)) (stored : List Game) (journal new : List Batch) (tally : Counted) (held held' : Option Change) (are : AreGamesOf journal stored) where
-  receipt-of : (receipt : Receipt J) → IsReceiptOf receipt journal tally.batch → receipt.note ≡ journal ++ tally.batch ∷ []
-      → IsReceipt receipt (length journal) tally.batch
-  receipt-of receipt is note = record {
-    batches = is.batches;
-    stands = ap (λ (l : List Batch). slice_get l (length journal)) note ∙ get_behind journal tally.batch;
-    games = is.games;
-    first = is.first ∙ sym (ap (λ (l : List Batch). game_count (take (length journal) l)) note ∙ ap game_count (take_front journal tally.batch));
-  }
+module _ {D J : Type 0} (disk : D → DiskState) (left_since : D → ℕ → List ℕ → Type 0) (tally : Counted) (old new : Stored D) (had has : Drawing) (sound : IsSound (journal old)) where
+  receipt-of : (receipt : Receipt J) → IsReceiptOf receipt (journal old) tally.batch → receipt.note ≡ journal old ++ tally.batch ∷ []
+      → IsReceipt receipt (length (journal old)) tally.batch
+  receipt-of receipt is note =
+      let before = journal old in
+      record {
+        batches = is.batches;
+        stands = ap (λ (l : List Batch). slice_get l (length before)) note ∙ get_behind before tally.batch;
+        games = is.games;
+        first = is.first ∙ sym (ap (λ (l : List Batch). game_count (take (length before) l)) note ∙ ap game_count (take_front before tally.batch));
+      }
 
-  pub answers-to : (result : Result (Receipt J) (CommitFault J)) → Refuses result (cause fault stored journal tally) tally held → Stores result tally.batch journal new
-      → IfOk result (λ receipt. IsReceiptOf receipt journal tally.batch) → Tells result new held' → IsMarked result tally.batch → AnswersTo result tally
-  answers-to (Ok receipt) refused stores is tells marked = record { place = length journal; is = receipt-of receipt is (tells.0 ∙ stores) }
-  answers-to (Err (faults.Closed before after mark)) refused stores is tells marked = marked
-  answers-to (Err (faults.DiskFault before after mark)) refused stores is tells marked = marked
-  answers-to (Err (faults.Clash handed pairs note)) refused stores is tells marked = tt
-  answers-to (Err (faults.OutOfMemory out)) refused stores is tells marked = tt
-  answers-to (Err (faults.Full games bytes note)) refused stores is tells marked =
+  pub answers-to : (result : Result (Receipt J) (CommitFault J)) → CommitsBy disk left_since tally old new had has result → AnswersTo result tally
+  answers-to (Ok receipt) is = record { place = length (journal old); is = receipt-of receipt is.receipt (is.told ∙ is.store.stores) }
+  answers-to (Err (faults.Closed before after mark)) is = is.marked
+  answers-to (Err (faults.DiskFault before after mark)) is = is.marked
+  answers-to (Err (faults.Clash handed pairs note)) is = tt
+  answers-to (Err (faults.OutOfMemory out)) is = tt
+  answers-to (Err (faults.Full games bytes note)) is =
       let P : List Batch → Type 0 = λ j. IsFullFor j games bytes tally in
-      subst P (sym (tells.0 ∙ stores)) (full stored journal tally are games bytes fault refused)
+      let are = sound.are_games in
+      subst P (sym (is.told ∙ is.store.stores)) (full sound.games (journal old) tally are games bytes old.manifest.fault (is.store.refused sound.games are))
 
-  pub clash-of : (told : Option Store) → ((known : Known) → told ≡ Some (store_of known) → known.games ≡ stored)
-      → (result : Result (Receipt J) (CommitFault J)) → Refuses result (cause fault stored journal tally) tally held → Stores result tally.batch journal new
-      → Tells result new held' → IsClash result tally told
-  clash-of told same (Ok receipt) refused stores tells = tt
-  clash-of told same (Err (faults.Closed before after mark)) refused stores tells = tt
-  clash-of told same (Err (faults.DiskFault before after mark)) refused stores tells = tt
-  clash-of told same (Err (faults.Full games bytes note)) refused stores tells = tt
-  clash-of told same (Err (faults.OutOfMemory out)) refused stores tells = tt
-  clash-of told same (Err (faults.Clash handed pairs note)) refused stores tells =
-      let named = ids stored journal tally are pairs.items fault refused.0 in
-      let P : List Batch → Type 0 = λ j. AreGamesOf j stored in
-      (refused.1, (named.0, (stored, (subst P (sym (tells.0 ∙ stores)) are, (named.1, same)))))
+  pub clash-of : (told : Option Store) → ((known : Known) → told ≡ Some (store_of known) → known.games ≡ sound.games)
+      → (result : Result (Receipt J) (CommitFault J)) → CommitsBy disk left_since tally old new had has result → IsClash result tally told
+  clash-of told same (Ok receipt) is = tt
+  clash-of told same (Err (faults.Closed before after mark)) is = tt
+  clash-of told same (Err (faults.DiskFault before after mark)) is = tt
+  clash-of told same (Err (faults.Full games bytes note)) is = tt
+  clash-of told same (Err (faults.OutOfMemory out)) is = tt
+  clash-of told same (Err (faults.Clash handed pairs note)) is =
+      let are = sound.are_games in
+      let named = ids sound.games (journal old) tally are pairs.items old.manifest.fault (is.store.refused sound.games are) in
+      let P : List Batch → Type 0 = λ j. AreGamesOf j sound.games in
+      (is.back, (named.0, (sound.games, (subst P (sym (is.told ∙ is.store.stores)) are, (named.1, same)))))

@@ -1,14 +1,15 @@
 -- What the drawer of an import draws, step by step.
 use Rattle.std.proofs.Common.{◌≡◌, ◌≤◌, ◌+◌, ◌-◌, ℕ, true, false, List, [], ◌∷◌, ◌++◌, length, Result, Ok, Err, refl, sym, ap, subst, ◌∙◌, append_assoc, append-nil, arith}
 use Rattle.std.proofs.lemmas.List.{map-append}
-use Rattle.std.specs.Prelude.{IfOk}
 use Rattle.std.specs.Prelude.{IsErrAnd}
 use Rattle.explorer_model.specs.declared.fault.Stop.{Stop}
 use Rattle.explorer_model.specs.declared.fault.Stop.TheVariants as stops
-use Rattle.explorer_model.specs.declared.archive.Batch.{Batch}
+use Rattle.disk_model.specs.Disk.{DiskState}
+use Rattle.tally_rows.specs.Tally.{Counted}
 use Rattle.published_index.specs.Places.{Drawing, with_place, with_places}
-use Rattle.ingest_desk.specs.Commits.{Draws, IsReceiptOf}
+use Rattle.ingest_desk.specs.Commits.{CommitsBy}
 use Rattle.ingest_desk.specs.Drawn.{DrawsFor, most_untold, receipt_places}
+use Rattle.ingest_desk.specs.Stored.{Stored, journal}
 use Rattle.ingest_desk.specs.Importers.{ending_of}
 use Rattle.ingest_desk.specs.declared.report.End.TheVariants as ends
 use Rattle.ingest_desk.specs.declared.report.Report.{Report}
@@ -111,17 +112,17 @@ stopped-draws (faults.OutOfMemory true) old new decided draws = absurd decided
 stopped-draws (faults.OutOfMemory false) old new decided draws = draws
 
 -- what a commit draws, by its answer alone
-pub place-of : {J : Type 0} (answer : Result (Receipt J) (CommitFault J)) (journal : List Batch) (batch : Batch) (old new : Drawing)
-    → IfOk answer (λ receipt. IsReceiptOf receipt journal batch) → Draws answer (length journal) old new → DrawsPlace answer old new
-place-of (Ok receipt) journal batch old new is-of draws =
-    let here : receipt.batches - 1 ≡ length journal = let is = is-of.batches in omega arith in
-    draws ∙ ap (λ (p : ℕ). with_place p old) (sym here)
-place-of (Err (faults.Closed before after mark)) journal batch old new is-of draws = draws
-place-of (Err (faults.Clash handed pairs note)) journal batch old new is-of draws = draws
-place-of (Err (faults.Full games bytes note)) journal batch old new is-of draws = draws
-place-of (Err (faults.DiskFault before after mark)) journal batch old new is-of draws = draws
-place-of (Err (faults.OutOfMemory true)) journal batch old new is-of draws = (length journal, draws)
-place-of (Err (faults.OutOfMemory false)) journal batch old new is-of draws = draws
+pub place-of : {D J : Type 0} (disk : D → DiskState) (left_since : D → ℕ → List ℕ → Type 0) (tally : Counted) (old new : Stored D) (had has : Drawing) (answer : Result (Receipt J) (CommitFault J))
+    → CommitsBy disk left_since tally old new had has answer → DrawsPlace answer had has
+place-of disk left_since tally old new had has (Ok receipt) is =
+    let here : receipt.batches - 1 ≡ length (journal old) = let batches = is.receipt.batches in omega arith in
+    is.drawn ∙ ap (λ (p : ℕ). with_place p had) (sym here)
+place-of disk left_since tally old new had has (Err (faults.Closed before after mark)) is = is.drawn
+place-of disk left_since tally old new had has (Err (faults.Clash handed pairs note)) is = is.drawn
+place-of disk left_since tally old new had has (Err (faults.Full games bytes note)) is = is.drawn
+place-of disk left_since tally old new had has (Err (faults.DiskFault before after mark)) is = is.drawn
+place-of disk left_since tally old new had has (Err (faults.OutOfMemory true)) is = (length (journal old), is.drawn)
+place-of disk left_since tally old new had has (Err (faults.OutOfMemory false)) is = is.drawn
 
 -- ---- a step that lacks memory
 

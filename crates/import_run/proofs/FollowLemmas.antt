@@ -8,11 +8,11 @@ use Rattle.explorer_model.specs.Journal.{IsSound, byte_count, game_count}
 use Rattle.record_log.specs.Log.{Log}
 use Rattle.segment_blocks.specs.Segment.{CountedSpan}
 use Rattle.tally_rows.specs.Tally.{Counted}
+use Rattle.published_index.specs.Places.{Drawing}
 use Rattle.ingest_desk.specs.Causes.{HasIds, HasNoRoom, IsClosed, cause, cause_by, has_no_room}
 use Rattle.ingest_desk.specs.Clashes.{clashes_of}
-use Rattle.ingest_desk.specs.Commits.{Leaves, Refuses, Stores, Tells}
+use Rattle.ingest_desk.specs.Commits.{CommitsBy}
 use Rattle.ingest_desk.specs.Installs.{list_by}
-use Rattle.ingest_desk.specs.Listing.{Lists}
 use Rattle.ingest_desk.specs.Stored.{Stored, journal}
 use Rattle.ingest_desk.specs.declared.clashing.Clashing.{Clashing}
 use Rattle.ingest_desk.specs.declared.fault.CommitFault.{CommitFault}
@@ -53,48 +53,47 @@ module _ {D : Type 0} (disk : D → DiskState) (left_since : D → ℕ → List 
     lists = ap list_by is ∙ nothing_held mid.index held ∙ list;
   }
 
-  module _ {J : Type 0} (tally : Counted) (sound : IsSound (journal old)) where
-    by_result : mid.manifest.fault ≡ None → (result : Result (Receipt J) (CommitFault J)) → Refuses result (cause old.manifest.fault sound.games (journal old) tally) tally old.index.held
-        → Stores result tally.batch (journal old) (journal mid) → Tells result (journal mid) mid.index.held → Lists result tally.batch old.index mid.index.list
-        → Leaves disk result tally.batch old.manifest mid.manifest → MergesBehind result mid.index new.index → (old.manifest.fault ≡ None) × Follows old new
-    by_result none (Ok receipt) refused stores tells lists adds merged = (
-      adds.sound,
+  module _ {J : Type 0} (tally : Counted) (had has : Drawing) (sound : IsSound (journal old)) where
+    by_answer : mid.manifest.fault ≡ None → (answer : Result (Receipt J) (CommitFault J)) → CommitsBy disk left_since tally old mid had has answer
+        → MergesBehind answer mid.index new.index → (old.manifest.fault ≡ None) × Follows old new
+    by_answer none (Ok receipt) is merged = (
+      is.store.manifest.sound,
       record {
         batches = tally.batch ∷ [];
-        journal_is = same.same_journal ∙ stores;
+        journal_is = same.same_journal ∙ is.store.stores;
         lists = (
           list_by new.index,
           record {
-            roomy = lists.0;
-            room = lists.1;
+            roomy = is.list.roomy;
+            room = is.list.room;
             longer = mid.index.list;
-            puts = lists.2;
-            merged = subst (λ (l : List CountedSpan). IsMerged l (list_by new.index)) (nothing_held mid.index tells.1) merged;
+            puts = is.list.puts;
+            merged = subst (λ (l : List CountedSpan). IsMerged l (list_by new.index)) (nothing_held mid.index is.none_held) merged;
           },
           refl,
         );
       },
     )
-    by_result none (Err (faults.Closed before after mark)) refused stores tells lists leaves merged =
-        let sound_before : old.manifest.fault ≡ None = fault_same leaves none in
+    by_answer none (Err (faults.Closed before after mark)) is merged =
+        let sound_before : old.manifest.fault ≡ None = fault_same is.store.manifest none in
         let C : Option (ℕ × ℕ) → Type 0 = λ f. cause f sound.games (journal old) tally ≡ Some (IsClosed before after) in
+        let refused = is.store.refused sound.games sound.are_games in
         absurd (not_closed (clashes_of (numbers_of sound.games) tally.classes) (journal old) tally.batch before after (subst C sound_before refused))
-    by_result none (Err (faults.Clash handed pairs note)) refused stores tells lists leaves merged = (fault_same leaves none, stays stores tells.1 lists merged)
-    by_result none (Err (faults.Full games bytes note)) refused stores tells lists leaves merged = (fault_same leaves none, stays stores tells.1 lists merged)
-    by_result none (Err (faults.DiskFault before after mark)) refused stores tells lists breaks merged =
-        let broken : mid.manifest.fault ≡ Some (before, after) = ap (λ (l : Log D). l.fault) breaks.rest in
+    by_answer none (Err (faults.Clash handed pairs note)) is merged = (fault_same is.store.manifest none, stays is.store.stores is.none_held is.list merged)
+    by_answer none (Err (faults.Full games bytes note)) is merged = (fault_same is.store.manifest none, stays is.store.stores is.none_held is.list merged)
+    by_answer none (Err (faults.DiskFault before after mark)) is merged =
+        let broken : mid.manifest.fault ≡ Some (before, after) = ap (λ (l : Log D). l.fault) is.store.manifest.rest in
         absurd (none_some (before, after) (sym broken ∙ none))
-    by_result none (Err (faults.OutOfMemory stored)) refused stores tells lists leaves merged = absurd merged
+    by_answer none (Err (faults.OutOfMemory stored)) is merged = absurd merged
 
-    pub commit_alone : (result : Result (Receipt J) (CommitFault J)) → Refuses result (cause old.manifest.fault sound.games (journal old) tally) tally old.index.held
-        → Stores result tally.batch (journal old) (journal mid) → Tells result (journal mid) mid.index.held → Lists result tally.batch old.index mid.index.list
-        → Leaves disk result tally.batch old.manifest mid.manifest → IsSince disk left_since old mid → (lacked lacks now : Bool) → (lacks ≡ false → MergesBehind result mid.index new.index)
+    pub commit_alone : (answer : Result (Receipt J) (CommitFault J)) → CommitsBy disk left_since tally old mid had has answer
+        → IsSince disk left_since old mid → (lacked lacks now : Bool) → (lacks ≡ false → MergesBehind answer mid.index new.index)
         → (now ≡ false → (lacked ≡ false) × (lacks ≡ false)) → IsSinceAlone disk left_since old new lacked now
-    commit_alone result refused stores tells lists leaves since lacked lacks now merges either = record {
+    commit_alone answer is since lacked lacks now merges either = record {
       since = since_before disk left_since old mid new since (since_same disk left_since mid new same.same_journal same.same_manifest same.same_failed);
-      keeps_up = λ had sound_now.
-          let both = either had in
+      keeps_up = λ had_memory sound_now.
+          let both = either had_memory in
           let sound_then : mid.manifest.fault ≡ None = ap (λ (l : Log D). l.fault) (sym same.same_manifest) ∙ sound_now in
-          let follows = by_result sound_then result refused stores tells lists leaves (merges both.1) in
+          let follows = by_answer sound_then answer is (merges both.1) in
           record { had_memory = both.0; was_sound = follows.0; follows = follows.1 };
     }

@@ -14,16 +14,15 @@ use Rattle.published_index.specs.Changes.{Change}
 use Rattle.tally_rows.specs.Tally.{Counted}
 use Rattle.batch_tally.specs.Tallying.{IsExaminationOfText, IsTallying, IsTallyMade}
 use Rattle.batch_tally.specs.declared.tallying.Tallying.{Tallying}
-use Rattle.ingest_desk.specs.Causes.{HasIds, IsClosed, cause, cause_by}
+use Rattle.ingest_desk.specs.Causes.{Cause, HasIds, HasNoRoom, IsClosed, cause, cause_by}
 use Rattle.ingest_desk.specs.Clashes.{and_clash, clashes_from, clashes_of, ids_of}
-use Rattle.ingest_desk.specs.Commits.{Refuses}
 use Rattle.ingest_desk.specs.declared.clashing.Clashing.{Clashing}
 use Rattle.ingest_desk.specs.declared.fault.CommitFault.{CommitFault}
 use Rattle.ingest_desk.specs.declared.fault.CommitFault.TheVariants as faults
 use Rattle.ingest_desk.specs.declared.receipt.Receipt.{Receipt}
 use Rattle.import_run.specs.declared.settle.Done.{Done}
 use Rattle.import_run.specs.declared.text_group.TalliedGroup.{TalliedGroup}
-use Rattle.import_run.specs.Committing.{Commits, Known, Store, store_of}
+use Rattle.import_run.specs.Committing.{Commits, CommitsTo, Known, Store, cause_in, store_of}
 use Rattle.import_run.specs.Grouping.{Ascend, IsTallied, merged}
 use Rattle.import_run.specs.Hand.{InHand}
 use Rattle.import_run.specs.Labelling.{CountsUnder, IsTallyUnder, under}
@@ -149,6 +148,15 @@ more {label} one told cuts counted places refused now r number named refused' re
 some_none : {A : Type 0} (x : A) → Some x ≡ None → ⊥
 some_none x e = cc
 
+none_ids : (pairs : List Clashing) → (let none : Option Cause = None in none) ≡ Some (HasIds pairs) → ⊥
+none_ids pairs e = cc
+
+closed_ids : (before after : ℕ) (pairs : List Clashing) → Some (IsClosed before after) ≡ Some (HasIds pairs) → ⊥
+closed_ids before after pairs e = cc
+
+room_ids : (games bytes : ℕ) (pairs : List Clashing) → Some (HasNoRoom games bytes) ≡ Some (HasIds pairs) → ⊥
+room_ids games bytes pairs e = cc
+
 module _ {J : Type 0} where
   pub decided : (fault : CommitFault J) → ((handed : Counted) (pairs : ArrayVec Clashing) (note : List Batch) → fault ≡ faults.Clash handed pairs note → ⊥)
       → ((stored : Bool) → fault ≡ faults.OutOfMemory stored → ⊥) → IsDecided {J = J} (Err fault)
@@ -158,15 +166,19 @@ module _ {J : Type 0} where
   decided (faults.DiskFault before after mark) clash memory = tt
   decided (faults.OutOfMemory stored) clash memory = memory stored refl
 
-  no_pairs : (answer : Result (Receipt J) (CommitFault J)) (pairs : List Clashing) (journal : List Batch) (tally : Counted) (held : Option Change) → IsDecided answer
-      → Refuses answer (cause_by pairs journal tally.batch) tally held → pairs ≡ []
-  no_pairs answer [] journal tally held never refused = refl
-  no_pairs (Ok receipt) (p ∷ pairs) journal tally held never refused = absurd (some_none _ refused)
-  no_pairs (Err (faults.Closed before after mark)) (p ∷ pairs) journal tally held never refused = cc
-  no_pairs (Err (faults.Clash handed named note)) (p ∷ pairs) journal tally held never refused = absurd never
-  no_pairs (Err (faults.Full g b note)) (p ∷ pairs) journal tally held never refused = cc
-  no_pairs (Err (faults.DiskFault before after mark)) (p ∷ pairs) journal tally held never refused = absurd (some_none _ refused)
-  no_pairs (Err (faults.OutOfMemory stored)) (p ∷ pairs) journal tally held never refused = absurd never
+  -- a commit that is decided found no ids
+  no_ids : (known : Known) (tally : Counted) (new : Store) (answer : Result (Receipt J) (CommitFault J)) → IsDecided answer → CommitsTo known tally new answer
+      → (pairs : List Clashing) → cause_in known tally ≡ Some (HasIds pairs) → ⊥
+  no_ids known tally new (Ok receipt) never by pairs is = absurd (none_ids pairs (sym by.0.refused ∙ is))
+  no_ids known tally new (Err (faults.Closed before after mark)) never by pairs is = absurd (closed_ids before after pairs (sym by.0.refused ∙ is))
+  no_ids known tally new (Err (faults.Clash handed named note)) never by pairs is = absurd never
+  no_ids known tally new (Err (faults.Full games bytes note)) never by pairs is = absurd (room_ids games bytes pairs (sym by.0.refused ∙ is))
+  no_ids known tally new (Err (faults.DiskFault before after mark)) never by pairs is = absurd (none_ids pairs (sym by.0.refused ∙ is))
+  no_ids known tally new (Err (faults.OutOfMemory stored)) never by pairs is = absurd never
+
+no_pairs : (pairs : List Clashing) (journal : List Batch) (tally : Counted) → ((ids : List Clashing) → cause_by pairs journal tally.batch ≡ Some (HasIds ids) → ⊥) → pairs ≡ []
+no_pairs [] journal tally never = refl
+no_pairs (p ∷ pairs) journal tally never = absurd (never (p ∷ pairs) refl)
 
 none_head : (at : ℕ) (o : Option ℕ) (rest : List Clashing) → and_clash at o rest ≡ [] → o ≡ None
 none_head at None rest e = refl
@@ -202,19 +214,19 @@ unnamed {label} (Some f) games journal counted cs counts nothing = all_none cs
 unnamed {label} None games journal counted cs counts nothing =
     kept_none (numbers_of games) 0 cs (ap (clashes_from 0 (numbers_of games)) (sym (counted_ids cs counted counts)) ∙ no_clashes games journal counted nothing)
 
-module _ {J : Type 0} where
-  kept_unnamed : {label : List ℕ} (fault : Option (ℕ × ℕ)) (games : List Game) (journal : List Batch) (answer : Result (Receipt J) (CommitFault J)) (counted : Counted) (held : Option Change) (cs : List Candidate) → CountsUnder label cs counted → IsDecided answer
-      → Refuses answer (cause fault games journal counted) counted held → AllByRecursion (λ c. stored_by fault games (id_of c) ≡ None) cs
-  kept_unnamed {label} (Some f) games journal answer counted held cs counts never refused = all_none cs
-  kept_unnamed {label} None games journal answer counted held cs counts never refused =
-      kept_none (numbers_of games) 0 cs (ap (clashes_from 0 (numbers_of games)) (sym (counted_ids cs counted counts)) ∙ no_pairs answer (clashes_of (numbers_of games) counted.classes) journal counted held never refused)
+kept_unnamed : {label : List ℕ} (fault : Option (ℕ × ℕ)) (games : List Game) (journal : List Batch) (counted : Counted) (cs : List Candidate) → CountsUnder label cs counted
+    → ((ids : List Clashing) → cause fault games journal counted ≡ Some (HasIds ids) → ⊥) → AllByRecursion (λ c. stored_by fault games (id_of c) ≡ None) cs
+kept_unnamed {label} (Some f) games journal counted cs counts never = all_none cs
+kept_unnamed {label} None games journal counted cs counts never =
+    kept_none (numbers_of games) 0 cs (ap (clashes_from 0 (numbers_of games)) (sym (counted_ids cs counted counts)) ∙ no_pairs (clashes_of (numbers_of games) counted.classes) journal counted never)
 
+module _ {J : Type 0} where
   -- a clash leaves the store as it was
   pub still_clash : (known : Known) (handed counted : Counted) (pairs : ArrayVec Clashing) (note : List Batch) (now now' : Option Store) → IsStill known now
       → ((k : Known) → now ≡ Some (store_of k) → Commits {J = J} (Err (faults.Clash handed pairs note)) k counted now') → IsStill known now'
   still_clash known handed counted pairs note now now' is holds =
       let commits = holds known is in
-      commits.still ∙ (λ i. Some (record { journal = commits.stores i; fault = commits.fault i; failed = commits.fails i }))
+      commits.still ∙ (λ i. Some (record { journal = commits.by.0.stores i; fault = commits.by.0.fault i; failed = commits.by.0.fails i }))
 
   -- what a clash names is stored
   pub right_clash : (known : Known) (handed counted : Counted) (pairs : ArrayVec Clashing) (note : List Batch) (now now' : Option Store) (games : List Game) → IsStill known now
@@ -227,7 +239,7 @@ module _ {J : Type 0} where
       by_fault None at here = here
       by_fault (Some f) at here =
           let P : Option (ℕ × ℕ) → Type 0 = λ k. cause k known.games known.journal counted ≡ Some (HasIds pairs.items) in
-          absurd (closed_clash f pairs.items (subst P at (holds known is).refused.0))
+          absurd (closed_clash f pairs.items (subst P at (holds known is).by.0.refused))
 
   -- ---- the end of a group
 
@@ -238,7 +250,7 @@ module _ {J : Type 0} where
       let still = r.still known refl in
       let commits = holds known still in
       let N = stored_by known.fault known.games in
-      let none = kept_unnamed known.fault known.games known.journal answer counted commits.held (kept r.stored (verdicts r.examinations)) r.made never commits.refused in
+      let none = kept_unnamed known.fault known.games known.journal counted (kept r.stored (verdicts r.examinations)) r.made (no_ids known counted commits.new answer never commits.by) in
       let same = same_settled r.stored N (verdicts r.examinations) (exact r.stored N (verdicts r.examinations) (r.right known refl) none) in
       let P : List Candidate → Type 0 = λ cs. CountsUnder label cs counted in
       let Q : Option (Result (Receipt J) (CommitFault J)) → Type 0 = λ a. IsAnswer label known (kept N (verdicts r.examinations)) a now' in
@@ -269,15 +281,15 @@ module _ {J : Type 0} where
       (now' : Option Store) → Commits {J = J} (Err (faults.OutOfMemory stored)) known counted now' → MayHaveMore label known (cuts ∷ []) now'
   lacks_commit {label} known cuts places refused now counted r true now' commits =
       let N = stored_by known.fault known.games in
-      let none = unnamed known.fault known.games known.journal counted (kept r.stored (verdicts r.examinations)) r.made commits.refused in
+      let none = unnamed known.fault known.games known.journal counted (kept r.stored (verdicts r.examinations)) r.made commits.by.refused in
       let same = same_settled r.stored N (verdicts r.examinations) (exact r.stored N (verdicts r.examinations) (r.right known refl) none) in
       let batch : IsBatchOf label known cuts counted.batch = record {
         examinations = r.examinations;
         are_examinations = r.are_examinations;
         batch_is = ap (batch_of label) (sym (ap candidates same)) ∙ r.made.batch;
       } in
-      record { new = commits.new; still = commits.still; fault = commits.fault; journal = inr (counted.batch, batch, commits.stores) }
-  lacks_commit {label} known cuts places refused now counted r false now' commits = record { new = commits.new; still = commits.still; fault = commits.fault; journal = inl commits.stores }
+      record { new = commits.new; still = commits.still; fault = commits.by.fault; journal = inr (counted.batch, batch, commits.by.stores) }
+  lacks_commit {label} known cuts places refused now counted r false now' commits = record { new = commits.new; still = commits.still; fault = commits.by.fault; journal = inl commits.by.stores }
 
 pub on_err : {T E : Type 0} (result : Result T E) {P : Type 0} → P → OnErr result P
 on_err (Ok t) p = tt

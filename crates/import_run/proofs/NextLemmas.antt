@@ -10,7 +10,7 @@ use Rattle.explorer_model.specs.Cuts.{Cut}
 use Rattle.explorer_model.specs.Imports.{Accounted, Candidate, Examination, IsExaminationOf, Verdict, batch_of, candidates, numbers_of, refusals, verdict_behind, verdicts, verdicts_behind}
 use Rattle.explorer_model.specs.Visits.{AreGamesOf}
 use Rattle.ingest_desk.specs.Causes.{Cause, IsClosed, cause}
-use Rattle.ingest_desk.specs.Commits.{IsReceiptOf, Refuses}
+use Rattle.ingest_desk.specs.Commits.{IsReceiptOf}
 use Rattle.ingest_desk.specs.declared.fault.CommitFault.{CommitFault}
 use Rattle.ingest_desk.specs.declared.receipt.Receipt.{Receipt}
 use Rattle.tally_rows.specs.Tally.{Counted}
@@ -92,12 +92,12 @@ module _ {J : Type 0} where
       let same = sym (append_assoc journal (b ∷ []) batches) in
       (are.0, are.1, receipts_more (journal ++ b ∷ []) receipts batches receipt batch are.2 (subst P same is) (subst Q same note))
 
-  not_closed : (receipt : Receipt J) (fault : Option (ℕ × ℕ)) (games : List Game) (journal : List Batch) (tally : Counted) (held : Option Change) → Refuses {J = J} (Ok receipt) (cause fault games journal tally) tally held → fault ≡ None
-  not_closed receipt None games journal tally held refused = refl
-  not_closed receipt (Some f) games journal tally held refused = absurd (some_none (IsClosed f.0 f.1) refused)
-    where
-      some_none : (x : Cause) → Some x ≡ None → ⊥
-      some_none x e = cc
+not_closed : (fault : Option (ℕ × ℕ)) (games : List Game) (journal : List Batch) (tally : Counted) → cause fault games journal tally ≡ None → fault ≡ None
+not_closed None games journal tally is = refl
+not_closed (Some f) games journal tally is = absurd (some_none (IsClosed f.0 f.1) is)
+  where
+    some_none : (x : Cause) → Some x ≡ None → ⊥
+    some_none x e = cc
 
 module _ {J : Type 0} {label : List ℕ} (start : Known) (groups : List (List Cut)) (receipts receipts' : List (Receipt J)) (refused refused' : List Refusal) (told told' : Option Store) (cuts : List Cut) (p : Progress label start groups receipts refused told) where
   -- the batch of the group, or none
@@ -153,15 +153,15 @@ module _ {J : Type 0} {label : List ℕ} (start : Known) (groups : List (List Cu
       let P : Option (Result (Receipt J) (CommitFault J)) → Type 0 = λ a. IsAnswer label p.known (kept (stored_by p.known.fault p.known.games) vs) a told' in
       let a = subst P is s.answer in
       let commits = a.2 in
-      let same = same_behind p.known.fault p.known.games vs (inl (not_closed receipt p.known.fault p.known.games p.known.journal a.0 commits.held commits.refused)) in
+      let same = same_behind p.known.fault p.known.games vs (inl (not_closed p.known.fault p.known.games p.known.journal a.0 commits.by.0.refused)) in
       let C : List (Receipt J) → Type 0 = λ r. AreReceiptsOf start.journal r (p.batches ++ a.0.batch ∷ []) in
       let I : List Batch → Type 0 = λ j. IsReceiptOf receipt j a.0.batch in
-      step s.examinations s.are_examinations (λ some. absurd (none_some p.known.fault (is_some_by start.fault p.known.fault p.fault some) (not_closed receipt p.known.fault p.known.games p.known.journal a.0 commits.held commits.refused)))
+      step s.examinations s.are_examinations (λ some. absurd (none_some p.known.fault (is_some_by start.fault p.known.fault p.fault some) (not_closed p.known.fault p.known.games p.known.journal a.0 commits.by.0.refused)))
       (refused_is ∙ ap (λ (l : List Refusal). refused ++ l) (s.refused ∙ ap refusals same))
       (Some a.0.batch) (ap (λ (v : List Verdict). batch_of label (candidates v)) (sym same) ∙ a.1.batch)
-      (subst C (sym receipts_is) (receipts_more start.journal receipts p.batches receipt a.0.batch p.receipts_are (subst I p.journal commits.receives.0)
-      (commits.receives.1 ∙ commits.stores ∙ ap (λ (j : List Batch). j ++ a.0.batch ∷ []) p.journal)))
-      (commits.still ∙ (λ i. Some (record { journal = commits.stores i; fault = commits.fault i; failed = commits.fails i })))
+      (subst C (sym receipts_is) (receipts_more start.journal receipts p.batches receipt a.0.batch p.receipts_are (subst I p.journal commits.by.1)
+      (commits.by.2 ∙ commits.by.0.stores ∙ ap (λ (j : List Batch). j ++ a.0.batch ∷ []) p.journal)))
+      (commits.still ∙ (λ i. Some (record { journal = commits.by.0.stores i; fault = commits.by.0.fault i; failed = commits.by.0.fails i })))
 
 -- ---- want of memory
 
@@ -177,7 +177,7 @@ module _ {J : Type 0} where
       let P : Option (Result (Receipt J) (CommitFault J)) → Type 0 = λ a. IsAnswer label known (kept (stored_by known.fault known.games) (verdicts s.examinations)) a told' in
       let a = subst P is s.answer in
       let batch : IsBatchOf label known cuts a.0.batch = record { examinations = s.examinations; are_examinations = s.are_examinations; batch_is = a.1.batch } in
-      record { new = a.2.new; still = a.2.still; fault = a.2.fault; journal = inr (a.0.batch, batch, a.2.stores) }
+      record { new = a.2.new; still = a.2.still; fault = a.2.by.0.fault; journal = inr (a.0.batch, batch, a.2.by.0.stores) }
 
   pub lacking : {T : Type 0} (result : Result T (Stop (Stopped J))) {P : Type 0} → P → IfErr result (λ stop. WhereLacking stop P)
   lacking (Ok t) p = tt

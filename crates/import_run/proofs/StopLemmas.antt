@@ -190,17 +190,17 @@ module _ {J : Type 0} {label : List ℕ} (start : Known) (stream : List ℕ) (le
       let commits = s.answer.2 in
       let P : End J → Type 0 = λ e. EndsSo label start stream left_over p.batches (refused ++ stopped.refused.items) told e in
       subst P (sym is) (record {
-        stands = (commits.marked, sym p.fault ∙ closed_cause p.known.fault p.known.games p.known.journal s.answer.0 before' after commits.refused, ends_at (faults.Closed before' after mark) s);
+        stands = (commits.by.1, sym p.fault ∙ closed_cause p.known.fault p.known.games p.known.journal s.answer.0 before' after commits.by.0.refused, ends_at (faults.Closed before' after mark) s);
         quiet = λ old new same. same;
         new = commits.new;
         still = commits.still;
-        stores = same_store commits.new commits.stores commits.fault;
+        stores = same_store commits.new commits.by.0.stores commits.by.0.fault;
       })
   ends_by (faults.DiskFault before' after mark) is decided s =
       let commits = s.answer.2 in
-      let opens = open_cause p.known.fault p.known.games p.known.journal s.answer.0 commits.refused in
+      let opens = open_cause p.known.fault p.known.games p.known.journal s.answer.0 commits.by.0.refused in
       let K : Option (ℕ × ℕ) → Type 0 = λ f. cause f p.known.games p.known.journal s.answer.0 ≡ None in
-      let room = room_cause p.known.games p.known.journal s.answer.0 (subst K opens commits.refused) in
+      let room = room_cause p.known.games p.known.journal s.answer.0 (subst K opens commits.by.0.refused) in
       let left = kept (stored_by p.known.fault p.known.games) (verdicts s.examinations) in
       let within = over_false (game_count p.known.journal + length left) (byte_count p.known.journal + sum_by (λ (candidate : Candidate). length candidate.text) left)
       (sym (over_with label p.known.journal left s.answer.0.batch s.answer.1.batch) ∙ room.room) in
@@ -209,24 +209,24 @@ module _ {J : Type 0} {label : List ℕ} (start : Known) (stream : List ℕ) (le
       let M : Option Batch → Type 0 = λ failed. IsMark kinds.DiskFault before' after failed mark in
       subst P (sym is) (record {
         stands = (
-          subst M (sym commits.fails) commits.marked,
+          subst M (sym commits.by.0.fails) commits.by.1,
           sym p.fault ∙ opens,
-          (ends_at (faults.DiskFault before' after mark) s, subst H p.journal within, commits.fails ∙ sym s.answer.1.batch),
+          (ends_at (faults.DiskFault before' after mark) s, subst H p.journal within, commits.by.0.fails ∙ sym s.answer.1.batch),
         );
         quiet = λ old new same. same;
         new = commits.new;
         still = commits.still;
-        stores = (commits.stores ∙ p.journal, commits.fault.1);
+        stores = (commits.by.0.stores ∙ p.journal, commits.by.0.fault);
       })
   ends_by (faults.Full games bytes note) is decided s =
       let commits = s.answer.2 in
-      let full = full_cause p.known.fault p.known.games p.known.journal s.answer.0 games bytes commits.refused in
+      let full = full_cause p.known.fault p.known.games p.known.journal s.answer.0 games bytes commits.by.0.refused in
       let left = kept (stored_by p.known.fault p.known.games) (verdicts s.examinations) in
       let ids = counted_ids left s.answer.0 s.answer.1 in
       let new = kept_none (numbers_of p.known.games) 0 left (ap (clashes_from 0 (numbers_of p.known.games)) (sym ids) ∙ full.1.by.new) in
       let over = sym (over_with label p.known.journal left s.answer.0.batch s.answer.1.batch) ∙ full.1.by.room in
       let passes = over_true (game_count p.known.journal + length left) (byte_count p.known.journal + sum_by (λ (candidate : Candidate). length candidate.text) left) over in
-      let told_is : note ≡ p.known.journal = commits.receives ∙ commits.stores in
+      let told_is : note ≡ p.known.journal = commits.by.1 ∙ commits.by.0.stores in
       let P : End J → Type 0 = λ e. EndsSo label start stream left_over p.batches (refused ++ stopped.refused.items) told e in
       let F : List Batch → Type 0 = λ j. FindsNoRoom j games bytes left in
       let G : ℕ → Type 0 = λ g. AreWithin (g + length left) (bytes + sum_by (λ candidate. length candidate.text) left) → ⊥ in
@@ -244,7 +244,7 @@ module _ {J : Type 0} {label : List ℕ} (start : Known) (stream : List ℕ) (le
         quiet = λ old new same. same;
         new = commits.new;
         still = commits.still;
-        stores = same_store commits.new commits.stores commits.fault;
+        stores = same_store commits.new commits.by.0.stores commits.by.0.fault;
       })
 
   pub ends_so : StopsAt label p.known next stopped told → EndsSo label start stream left_over p.batches (refused ++ stopped.refused.items) told stopped.end

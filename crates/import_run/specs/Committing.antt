@@ -1,16 +1,18 @@
 -- Statement: what a commit does to a store, as it is told by one who stores there.
-use Rattle.std.specs.Prelude.{◌≡◌, ◌≢◌, ℕ, List, [], Option, None, Some, Result, Ok, Err}
+use Rattle.std.specs.Prelude.{◌≡◌, ◌≢◌, ℕ, true, false, List, [], ◌∷◌, ◌++◌, Option, None, Some, Result, Ok, Err}
 use Rattle.explorer_model.specs.declared.archive.Batch.{Batch}
 use Rattle.explorer_model.specs.declared.archive.Game.{Game}
 use Rattle.explorer_model.specs.Imports.{numbers_of}
 use Rattle.explorer_model.specs.Visits.{AreGamesOf}
 use Rattle.published_index.specs.Changes.{Change}
 use Rattle.tally_rows.specs.Tally.{Counted}
-use Rattle.ingest_desk.specs.Causes.{cause}
+use Rattle.ingest_desk.specs.Causes.{Cause, HasIds, HasNoRoom, IsClosed, cause}
 use Rattle.ingest_desk.specs.Clashes.{clashes_of}
-use Rattle.ingest_desk.specs.Commits.{Fails, IsMarked, IsReceiptOf, Refuses, Stores}
+use Rattle.ingest_desk.specs.Commits.{IsReceiptOf, MayLack}
+use Rattle.ingest_desk.specs.Marked.{IsMark}
 use Rattle.ingest_desk.specs.declared.fault.CommitFault.{CommitFault}
 use Rattle.ingest_desk.specs.declared.fault.CommitFault.TheVariants as faults
+use Rattle.ingest_desk.specs.declared.mark.MarkKind.TheVariants as kinds
 use Rattle.ingest_desk.specs.declared.receipt.Receipt.{Receipt}
 
 -- the stored journal, and the counts of the disk fault that closed the store, if one did, with the
@@ -32,33 +34,69 @@ abbrev pub store_of : Known → Store
 store_of known =
     record { journal = known.journal; fault = known.fault; failed = known.failed }
 
--- a disk fault closes the store, and nothing else does
-abbrev pub FaultAfter : {J : Type 0} → Result (Receipt J) (CommitFault J)
-    → Option (ℕ × ℕ) → Option (ℕ × ℕ) → Type 0
-FaultAfter (Err (faults.DiskFault before after mark)) old new =
-    (old ≡ None) × (new ≡ Some (before, after))
-FaultAfter _ old new = new ≡ old
+-- ---- what a commit does to a store that is known
 
--- the receipt of a batch, and the note of a full store, have the whole journal
-abbrev pub Receives : {J : Type 0} → Result (Receipt J) (CommitFault J)
-    → List Batch → Batch → List Batch → Type 0
-Receives (Ok receipt) old batch new = IsReceiptOf receipt old batch × (receipt.note ≡ new)
-Receives (Err (faults.Full games bytes note)) old batch new = note ≡ new
-Receives (Err fault) old batch new = Unit {0}
+-- the first cause not to store the tally's batch
+abbrev pub cause_in : Known → Counted → Option Cause
+cause_in known tally = cause known.fault known.games known.journal tally
 
--- what a commit does to a store that is known, whatever is held there
+-- nothing is against the batch, and it stands behind the journal
+pub record AddsBatch (known : Known) (tally : Counted) (new : Store) : Type 0 where
+  pub refused : cause_in known tally ≡ None
+  pub stores : new.journal ≡ known.journal ++ tally.batch ∷ []
+  pub fault : new.fault ≡ known.fault
+  pub fails : new.failed ≡ known.failed
+
+-- nothing is against the batch, but a disk fault with these counts closes the store
+pub record BreaksOff (before after : ℕ) (known : Known) (tally : Counted) (new : Store)
+    : Type 0 where
+  pub refused : cause_in known tally ≡ None
+  pub stores : new.journal ≡ known.journal
+  pub was_open : known.fault ≡ None
+  pub fault : new.fault ≡ Some (before, after)
+  pub fails : new.failed ≡ Some tally.batch
+
+-- this is against the batch, and the store is as it was
+pub record Refuses (why : Cause) (known : Known) (tally : Counted) (new : Store) : Type 0 where
+  pub refused : cause_in known tally ≡ Some why
+  pub stores : new.journal ≡ known.journal
+  pub fault : new.fault ≡ known.fault
+  pub fails : new.failed ≡ known.failed
+
+-- memory is wanting before the batch is stored, whatever is held there
+pub record Lacks (known : Known) (tally : Counted) (new : Store) : Type 0 where
+  pub held : Option Change
+  pub refused : MayLack (cause_in known tally) held
+  pub stores : new.journal ≡ known.journal
+  pub fault : new.fault ≡ known.fault
+  pub fails : new.failed ≡ known.failed
+
+-- By the answer. The note of a receipt, and of a full store, has the whole journal.
+abbrev pub CommitsTo : {J : Type 0} → Known → Counted → Store
+    → Result (Receipt J) (CommitFault J) → Type 0
+CommitsTo known tally new (Ok receipt) =
+    AddsBatch known tally new × IsReceiptOf receipt known.journal tally.batch
+    × (receipt.note ≡ new.journal)
+CommitsTo known tally new (Err (faults.Closed before after mark)) =
+    Refuses (IsClosed before after) known tally new × IsMark kinds.Closed before after None mark
+CommitsTo known tally new (Err (faults.Clash handed pairs note)) =
+    Refuses (HasIds pairs.items) known tally new × (handed ≡ tally)
+CommitsTo known tally new (Err (faults.Full games bytes note)) =
+    Refuses (HasNoRoom games bytes) known tally new × (note ≡ new.journal)
+CommitsTo known tally new (Err (faults.DiskFault before after mark)) =
+    BreaksOff before after known tally new
+    × IsMark kinds.DiskFault before after (Some tally.batch) mark
+CommitsTo known tally new (Err (faults.OutOfMemory true)) = AddsBatch known tally new
+CommitsTo known tally new (Err (faults.OutOfMemory false)) = Lacks known tally new
+
+-- the store that is told then is what the commit left
 pub record Commits {J : Type 0} (result : Result (Receipt J) (CommitFault J))
     (known : Known) (tally : Counted) (told : Option Store) : Type 0 where
   pub new : Store
   pub still : told ≡ Some new
-  pub held : Option Change
-  pub refused :
-      Refuses result (cause known.fault known.games known.journal tally) tally held
-  pub stores : Stores result tally.batch known.journal new.journal
-  pub fault : FaultAfter result known.fault new.fault
-  pub fails : Fails result tally.batch known.failed new.failed
-  pub marked : IsMarked result tally.batch
-  pub receives : Receives result known.journal tally.batch new.journal
+  pub by : CommitsTo known tally new result
+
+-- ---- a clash
 
 -- A clash hands the tally back, and some of its ids are stored: those that have a number by the
 -- games of the note's journal. Where the store is known, these are its games.

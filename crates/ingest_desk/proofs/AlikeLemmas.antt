@@ -271,8 +271,8 @@ pub lists_alike : {J : Type 0} → HasOneTally → (answer : Result (Receipt J) 
     → Lists answer batch old first → Lists answer batch old second → StandAlike first second
 lists_alike one (Ok receipt) batch old first second had a b =
     let list = list_by old in
-    puts_alike one batch a.0 b.0 first second
-    (rooms_alike list list a.0 b.0 (alike_self list) a.1 b.1) a.2 b.2
+    puts_alike one batch a.roomy b.roomy first second
+    (rooms_alike list list a.roomy b.roomy (alike_self list) a.room b.room) a.puts b.puts
 lists_alike one (Err (faults.Closed before after mark)) batch old first second had a b =
     same_alike old.list first second a b
 lists_alike one (Err (faults.Clash handed pairs note)) batch old first second had a b =

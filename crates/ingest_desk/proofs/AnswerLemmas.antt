@@ -8,8 +8,7 @@ use Rattle.record_log.specs.Log.{Log, Adds, Breaks}
 use Rattle.tally_rows.specs.Tally.{Counted}
 use Rattle.published_index.specs.Changes.{Change}
 use Rattle.published_index.specs.Places.{Drawing}
-use Rattle.ingest_desk.specs.Answers.{IsAnswer, HadMemory}
-use Rattle.ingest_desk.specs.Commits.{Draws}
+use Rattle.ingest_desk.specs.Answers.{Draws, HadMemory, IsAnswer}
 use Rattle.ingest_desk.specs.Causes.{Cause, HasIds, HasNoRoom, IsClosed}
 use Rattle.ingest_desk.specs.declared.clashing.Clashing.{Clashing}
 use Rattle.ingest_desk.specs.declared.fault.CommitFault.{CommitFault}
@@ -69,68 +68,68 @@ module _ {D J : Type 0} (disk : D → DiskState) (tally : Counted) (games : List
   one-ok : (receipt : Receipt J) (other : Result (Receipt J) (CommitFault J)) → First (Ok receipt) → Second other
       → HadMemory other → Ok receipt ≡ other
   one-ok receipt (Ok r) a b had =
-      let batches = a.receipt.batches ∙ sym b.receipt.batches in
-      let first = a.receipt.first ∙ sym b.receipt.first in
-      let count = a.receipt.games ∙ sym b.receipt.games in
-      let note = a.told.0 ∙ a.stores ∙ sym b.stores ∙ sym b.told.0 in
+      let batches = a.2.batches ∙ sym b.2.batches in
+      let first = a.2.first ∙ sym b.2.first in
+      let count = a.2.games ∙ sym b.2.games in
+      let note = a.3 ∙ sym b.3 in
       λ i. Ok (record { batches = batches i; first = first i; games = count i; note = note i })
-  one-ok receipt (Err (faults.Closed before later mark)) a b had = absurd (cc (clash a.refused b.refused))
-  one-ok receipt (Err (faults.Clash handed pairs note)) a b had = absurd (cc (clash a.refused b.refused.0))
-  one-ok receipt (Err (faults.Full g bytes note)) a b had = absurd (cc (clash a.refused b.refused))
+  one-ok receipt (Err (faults.Closed before later mark)) a b had = absurd (cc (clash a.0 b.0))
+  one-ok receipt (Err (faults.Clash handed pairs note)) a b had = absurd (cc (clash a.0 b.0))
+  one-ok receipt (Err (faults.Full g bytes note)) a b had = absurd (cc (clash a.0 b.0))
   one-ok receipt (Err (faults.DiskFault before later mark)) a b had =
-      let never : ◌≡◌ {A = Option (ℕ × ℕ)} None (Some (before, later)) = sym (stored-open disk old new _ a.leaves) ∙ same ∙ broken disk old after before later b.leaves in
+      let never : ◌≡◌ {A = Option (ℕ × ℕ)} None (Some (before, later)) = sym (stored-open disk old new _ a.1) ∙ same ∙ broken disk old after before later b.1 in
       absurd (cc (never))
   one-ok receipt (Err (faults.OutOfMemory stored)) a b had = absurd had
 
   one-closed : (before later : ℕ) (mark : Marked) (other : Result (Receipt J) (CommitFault J))
       → First (Err (faults.Closed before later mark)) → Second other → HadMemory other → Err (faults.Closed before later mark) ≡ other
-  one-closed before later mark (Ok r) a b had = absurd (cc (clash a.refused b.refused))
+  one-closed before later mark (Ok r) a b had = absurd (cc (clash a.0 b.0))
   one-closed before later mark (Err (faults.Closed before' later' mark')) a b had =
-      let counts = closed-counts before later before' later' (clash a.refused b.refused) in
-      let marks = one-mark kinds.Closed before later before' later' None mark mark' counts a.marked b.marked in
+      let counts = closed-counts before later before' later' (clash a.0 b.0) in
+      let marks = one-mark kinds.Closed before later before' later' None mark mark' counts a.2 b.2 in
       λ i. Err (faults.Closed (counts.0 i) (counts.1 i) (marks i))
-  one-closed before later mark (Err (faults.Clash handed pairs note)) a b had = absurd (cc (clash a.refused b.refused.0))
-  one-closed before later mark (Err (faults.Full g bytes note)) a b had = absurd (cc (clash a.refused b.refused))
-  one-closed before later mark (Err (faults.DiskFault before' later' mark')) a b had = absurd (cc (clash a.refused b.refused))
+  one-closed before later mark (Err (faults.Clash handed pairs note)) a b had = absurd (cc (clash a.0 b.0))
+  one-closed before later mark (Err (faults.Full g bytes note)) a b had = absurd (cc (clash a.0 b.0))
+  one-closed before later mark (Err (faults.DiskFault before' later' mark')) a b had = absurd (cc (clash a.0 b.0))
   one-closed before later mark (Err (faults.OutOfMemory stored)) a b had = absurd had
 
   one-clash : (handed : Counted) (pairs : ArrayVec Clashing) (note : List Batch) (other : Result (Receipt J) (CommitFault J))
       → First (Err (faults.Clash handed pairs note)) → Second other → HadMemory other → Err (faults.Clash handed pairs note) ≡ other
-  one-clash handed pairs note (Ok r) a b had = absurd (cc (clash a.refused.0 b.refused))
-  one-clash handed pairs note (Err (faults.Closed before later mark)) a b had = absurd (cc (clash a.refused.0 b.refused))
+  one-clash handed pairs note (Ok r) a b had = absurd (cc (clash a.0 b.0))
+  one-clash handed pairs note (Err (faults.Closed before later mark)) a b had = absurd (cc (clash a.0 b.0))
   one-clash handed pairs note (Err (faults.Clash handed' pairs' note')) a b had =
-      let tallies = a.refused.1 ∙ sym b.refused.1 in
-      let ids = same-ids pairs.items pairs'.items (clash a.refused.0 b.refused.0) in
-      let notes = a.told.0 ∙ a.stores ∙ sym b.stores ∙ sym b.told.0 in
+      let tallies = a.2 ∙ sym b.2 in
+      let ids = same-ids pairs.items pairs'.items (clash a.0 b.0) in
+      let notes = a.3 ∙ sym b.3 in
       λ i. Err (faults.Clash (tallies i) (record { items = ids i }) (notes i))
-  one-clash handed pairs note (Err (faults.Full g bytes note')) a b had = absurd (cc (clash a.refused.0 b.refused))
-  one-clash handed pairs note (Err (faults.DiskFault before later mark)) a b had = absurd (cc (clash a.refused.0 b.refused))
+  one-clash handed pairs note (Err (faults.Full g bytes note')) a b had = absurd (cc (clash a.0 b.0))
+  one-clash handed pairs note (Err (faults.DiskFault before later mark)) a b had = absurd (cc (clash a.0 b.0))
   one-clash handed pairs note (Err (faults.OutOfMemory stored)) a b had = absurd had
 
   one-full : (g bytes : ℕ) (note : List Batch) (other : Result (Receipt J) (CommitFault J))
       → First (Err (faults.Full g bytes note)) → Second other → HadMemory other → Err (faults.Full g bytes note) ≡ other
-  one-full g bytes note (Ok r) a b had = absurd (cc (clash a.refused b.refused))
-  one-full g bytes note (Err (faults.Closed before later mark)) a b had = absurd (cc (clash a.refused b.refused))
-  one-full g bytes note (Err (faults.Clash handed pairs note')) a b had = absurd (cc (clash a.refused b.refused.0))
+  one-full g bytes note (Ok r) a b had = absurd (cc (clash a.0 b.0))
+  one-full g bytes note (Err (faults.Closed before later mark)) a b had = absurd (cc (clash a.0 b.0))
+  one-full g bytes note (Err (faults.Clash handed pairs note')) a b had = absurd (cc (clash a.0 b.0))
   one-full g bytes note (Err (faults.Full g' bytes' note')) a b had =
-      let counts = room-counts g bytes g' bytes' (clash a.refused b.refused) in
-      let notes = a.told.0 ∙ a.stores ∙ sym b.stores ∙ sym b.told.0 in
+      let counts = room-counts g bytes g' bytes' (clash a.0 b.0) in
+      let notes = a.2 ∙ sym b.2 in
       λ i. Err (faults.Full (counts.0 i) (counts.1 i) (notes i))
-  one-full g bytes note (Err (faults.DiskFault before later mark)) a b had = absurd (cc (clash a.refused b.refused))
+  one-full g bytes note (Err (faults.DiskFault before later mark)) a b had = absurd (cc (clash a.0 b.0))
   one-full g bytes note (Err (faults.OutOfMemory stored)) a b had = absurd had
 
   one-fault : (before later : ℕ) (mark : Marked) (other : Result (Receipt J) (CommitFault J))
       → First (Err (faults.DiskFault before later mark)) → Second other → HadMemory other → Err (faults.DiskFault before later mark) ≡ other
   one-fault before later mark (Ok r) a b had =
-      let never : ◌≡◌ {A = Option (ℕ × ℕ)} None (Some (before, later)) = sym (stored-open disk old after _ b.leaves) ∙ sym same ∙ broken disk old new before later a.leaves in
+      let never : ◌≡◌ {A = Option (ℕ × ℕ)} None (Some (before, later)) = sym (stored-open disk old after _ b.1) ∙ sym same ∙ broken disk old new before later a.1 in
       absurd (cc (never))
-  one-fault before later mark (Err (faults.Closed before' later' mark')) a b had = absurd (cc (clash a.refused b.refused))
-  one-fault before later mark (Err (faults.Clash handed pairs note)) a b had = absurd (cc (clash a.refused b.refused.0))
-  one-fault before later mark (Err (faults.Full g bytes note)) a b had = absurd (cc (clash a.refused b.refused))
+  one-fault before later mark (Err (faults.Closed before' later' mark')) a b had = absurd (cc (clash a.0 b.0))
+  one-fault before later mark (Err (faults.Clash handed pairs note)) a b had = absurd (cc (clash a.0 b.0))
+  one-fault before later mark (Err (faults.Full g bytes note)) a b had = absurd (cc (clash a.0 b.0))
   one-fault before later mark (Err (faults.DiskFault before' later' mark')) a b had =
       let counts = fault-counts before later before' later'
-      (sym (broken disk old new before later a.leaves) ∙ same ∙ broken disk old after before' later' b.leaves) in
-      let marks = one-mark kinds.DiskFault before later before' later' (Some tally.batch) mark mark' counts a.marked b.marked in
+      (sym (broken disk old new before later a.1) ∙ same ∙ broken disk old after before' later' b.1) in
+      let marks = one-mark kinds.DiskFault before later before' later' (Some tally.batch) mark mark' counts a.2 b.2 in
       λ i. Err (faults.DiskFault (counts.0 i) (counts.1 i) (marks i))
   one-fault before later mark (Err (faults.OutOfMemory stored)) a b had = absurd had
 

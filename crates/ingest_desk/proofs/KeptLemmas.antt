@@ -31,9 +31,7 @@ use Rattle.published_index.specs.Changes.{AddOf, Change, JoinAt, with_held, with
 use Rattle.published_index.specs.Cover.{journal_of}
 use Rattle.published_index.specs.States.{Publishing, journal_by}
 use Rattle.ingest_desk.specs.Installs.{caught_up, list_by}
-use Rattle.ingest_desk.specs.Commits.{Fails, IsFaultOf, failed_after}
-use Rattle.ingest_desk.specs.declared.fault.CommitFault.{CommitFault}
-use Rattle.ingest_desk.specs.declared.fault.CommitFault.TheVariants as commits
+use Rattle.ingest_desk.specs.Commits.{failed_after}
 use Rattle.ingest_desk.specs.Kept.{IsKept, Keeps, KeepsBy}
 use Rattle.ingest_desk.specs.Registers.{IsRegisterOf, IsSame, text_bytes}
 use Rattle.ingest_desk.specs.declared.register.Register.{Register}
@@ -42,28 +40,6 @@ use Rattle.ingest_desk.proofs.RegisterLemmas.{fewer_batches, register_same}
 
 pub fault_none : (counts : ℕ × ℕ) → Some counts ≡ None → ⊥
 fault_none counts e = cc
-
--- ---- the batch that failed
-
--- what is kept of it where the manifest has not taken a batch
-pub fails_by : {J : Type 0} (fault : AppendFault) (answer : CommitFault J) (batch : Batch)
-    (old new : Option Batch) → IsFaultOf fault answer → old ≡ None
-    → new ≡ failed_after fault batch → Fails (Err answer) batch old new
-fails_by (appends.Closed b a) (commits.Closed before after mark) batch old new is none kept = kept ∙ sym none
-fails_by (appends.Closed b a) (commits.Clash handed pairs note) batch old new is none kept = absurd is
-fails_by (appends.Closed b a) (commits.Full games bytes note) batch old new is none kept = absurd is
-fails_by (appends.Closed b a) (commits.DiskFault before after mark) batch old new is none kept = absurd is
-fails_by (appends.Closed b a) (commits.OutOfMemory stored) batch old new is none kept = absurd is
-fails_by (appends.DiskFault b a) (commits.Closed before after mark) batch old new is none kept = absurd is
-fails_by (appends.DiskFault b a) (commits.Clash handed pairs note) batch old new is none kept = absurd is
-fails_by (appends.DiskFault b a) (commits.Full games bytes note) batch old new is none kept = absurd is
-fails_by (appends.DiskFault b a) (commits.DiskFault before after mark) batch old new is none kept = kept
-fails_by (appends.DiskFault b a) (commits.OutOfMemory stored) batch old new is none kept = absurd is
-fails_by appends.OutOfMemory (commits.Closed before after mark) batch old new is none kept = absurd is
-fails_by appends.OutOfMemory (commits.Clash handed pairs note) batch old new is none kept = absurd is
-fails_by appends.OutOfMemory (commits.Full games bytes note) batch old new is none kept = absurd is
-fails_by appends.OutOfMemory (commits.DiskFault before after mark) batch old new is none kept = absurd is
-fails_by appends.OutOfMemory (commits.OutOfMemory stored) batch old new is none kept = kept ∙ sym none
 
 -- ---- the index
 

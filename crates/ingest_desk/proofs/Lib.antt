@@ -8,6 +8,7 @@ pub mod RecountLemmas
 pub mod CountingLemmas
 pub mod SoundLemmas
 pub mod ListingLemmas
+pub mod CommitLemmas
 pub mod AlikeLemmas
 pub mod InstallLemmas
 pub mod JobLemmas

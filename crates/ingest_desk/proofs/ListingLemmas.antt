@@ -3,21 +3,14 @@ use Rattle.std.proofs.Common.{◌≡◌, ◌≤◌, ◌<◌, ◌+◌, ℕ, Bool,
 use Rattle.std.proofs.lemmas.Bool.Decides.{nat_tests}
 use Rattle.std.proofs.lemmas.List.{map-append}
 use Rattle.std.specs.Prelude.{nat_lt}
-use Rattle.explorer_model.specs.declared.archive.Batch.{Batch}
 use Rattle.explorer_model.specs.Spans.{Span}
 use Rattle.explorer_model.specs.Timeline.{both}
 use Rattle.segment_blocks.specs.Segment.{CountedSpan}
 use Rattle.segment_merge.specs.Merging.{IsMergeOf}
 use Rattle.published_index.specs.Changes.{JoinAt, with_change}
 use Rattle.published_index.specs.Cover.{list_limit, spans_of}
-use Rattle.published_index.specs.States.{Publishing}
-use Rattle.ingest_desk.specs.Commits.{IsStoring}
-use Rattle.ingest_desk.specs.Installs.{list_by}
-use Rattle.ingest_desk.specs.Listing.{JoinsPicked, Lists, ListsStored, MakesRoom}
+use Rattle.ingest_desk.specs.Listing.{JoinsPicked, MakesRoom}
 use Rattle.ingest_desk.specs.Picking.{IsLastDue, NoneDueFrom}
-use Rattle.ingest_desk.specs.declared.fault.CommitFault.{CommitFault}
-use Rattle.ingest_desk.specs.declared.fault.CommitFault.TheVariants as faults
-use Rattle.ingest_desk.specs.declared.receipt.Receipt.{Receipt}
 use Rattle.ingest_desk.proofs.PickingLemmas.{CanMerge, is_picked, one_picked, same_place}
 
 -- a full list gets room by the join of the last neighbours that are to become one
@@ -42,23 +35,6 @@ room_by_join items list new at left right joined are due can full merged list_is
     list_is = list_is;
   };
 }
-
--- what a commit does by storing
-pub lists_by : {J : Type 0} (result : Result (Receipt J) (CommitFault J)) (batch : Batch)
-    (old : Publishing) (roomy new : List CountedSpan) → IsStoring result
-    → MakesRoom (list_by old) roomy → ListsStored result batch roomy new
-    → Lists result batch old new
-lists_by (Ok receipt) batch old roomy new storing room puts = (roomy, room, puts)
-lists_by (Err (faults.Closed before after mark)) batch old roomy new storing room same =
-    absurd storing
-lists_by (Err (faults.Clash handed pairs note)) batch old roomy new storing room same =
-    absurd storing
-lists_by (Err (faults.Full games bytes note)) batch old roomy new storing room same = absurd storing
-lists_by (Err (faults.DiskFault before after mark)) batch old roomy new storing room same =
-    subst (MakesRoom (list_by old)) (sym same) room
-lists_by (Err (faults.OutOfMemory true)) batch old roomy new storing room same =
-    subst (MakesRoom (list_by old)) (sym same) room
-lists_by (Err (faults.OutOfMemory false)) batch old roomy new storing room same = tt
 
 -- ---- a list gets room in one way
 

@@ -6,6 +6,7 @@ use Rattle.explorer_model.specs.declared.archive.Batch.{Batch}
 use Rattle.explorer_model.specs.declared.archive.Game.{Game}
 use Rattle.explorer_model.specs.Journal.{IsBatch, IsSound}
 use Rattle.explorer_model.specs.Timeline.{IsPrefix}
+use Rattle.explorer_model.specs.Visits.{AreGamesOf}
 use Rattle.explorer_model.proofs.Timelines.{prefix-self, prefix-trans}
 use Rattle.record_log.specs.Log.{EachImage, Log}
 use Rattle.manifest.specs.Manifest.{HasJournal, IsWithOrWithoutBatch}
@@ -13,8 +14,8 @@ use Rattle.tally_rows.specs.Tally.{Counted}
 use Rattle.segment_blocks.specs.Segment.{CountedSpan}
 use Rattle.published_index.specs.Changes.{AddOf, Change, JoinAt, with_held}
 use Rattle.published_index.specs.Cover.{journal_of}
-use Rattle.ingest_desk.specs.Causes.{IsClosed, cause}
-use Rattle.ingest_desk.specs.Commits.{Refuses}
+use Rattle.ingest_desk.specs.Causes.{Cause, IsClosed, cause}
+use Rattle.ingest_desk.specs.Commits.{IsOpenBy, MayLack, StoresBy}
 use Rattle.ingest_desk.specs.Kept.{Keeps, KeepsBy}
 use Rattle.ingest_desk.specs.Lives.{Life, Failed, Reopened, after, opening, with_pending}
 use Rattle.ingest_desk.specs.Lives as lives
@@ -198,27 +199,27 @@ module _ {D : Type 0} (disk : D → DiskState) (left_since : D → ℕ → List 
         → IsCommit disk left_since tally old new answer → HasLived disk left_since life old
         → LivesOn disk left_since life (event_of answer tally.batch) new
     commit_lives life tally old new (Ok receipt) is lived =
-        let none = none_pends life.pending old.manifest.fault lived.closed is.manifest.sound in
-        let open_is : new.manifest.fault ≡ None = ap (λ (l : Log D). l.fault) is.manifest.rest ∙ is.manifest.sound in
+        let none = none_pends life.pending old.manifest.fault lived.closed is.store.manifest.sound in
+        let open_is : new.manifest.fault ≡ None = ap (λ (l : Log D). l.fault) is.store.manifest.rest ∙ is.store.manifest.sound in
         let next = after life (lives.Stored tally.batch) in
-        (none, stores_lives life next tally old new (Ok receipt) is lived open_is is.stores refl none)
+        (none, stores_lives life next tally old new (Ok receipt) is lived open_is is.store.stores refl none)
     commit_lives life tally old new (Err (faults.OutOfMemory true)) is lived =
-        let none = none_pends life.pending old.manifest.fault lived.closed is.manifest.sound in
-        let open_is : new.manifest.fault ≡ None = ap (λ (l : Log D). l.fault) is.manifest.rest ∙ is.manifest.sound in
+        let none = none_pends life.pending old.manifest.fault lived.closed is.store.manifest.sound in
+        let open_is : new.manifest.fault ≡ None = ap (λ (l : Log D). l.fault) is.store.manifest.rest ∙ is.store.manifest.sound in
         let next = after life (lives.Kept tally.batch) in
-        (none, stores_lives life next tally old new (Err (faults.OutOfMemory true)) is lived open_is is.stores refl none)
+        (none, stores_lives life next tally old new (Err (faults.OutOfMemory true)) is lived open_is is.store.stores refl none)
     commit_lives life tally old new (Err (faults.DiskFault before later mark)) is lived =
-        let none = none_pends life.pending old.manifest.fault lived.closed is.manifest.sound in
-        let closed = ap (λ (l : Log D). l.fault) is.manifest.rest in
-        (none, fails_lives life tally.batch old new (before, later) lived is.stores closed is.failed is.keeps)
+        let none = none_pends life.pending old.manifest.fault lived.closed is.store.manifest.sound in
+        let closed = ap (λ (l : Log D). l.fault) is.store.manifest.rest in
+        (none, fails_lives life tally.batch old new (before, later) lived is.store.stores closed is.store.failed is.keeps)
     commit_lives life tally old new (Err (faults.OutOfMemory false)) is lived =
-        same_life life old new (record { journal_is = is.stores; manifest_is = is.manifest; failed_is = is.failed }) lived
+        same_life life old new (record { journal_is = is.store.stores; manifest_is = is.store.manifest; failed_is = is.store.failed }) lived
     commit_lives life tally old new (Err (faults.Closed before later mark)) is lived =
-        same_life life old new (record { journal_is = is.stores; manifest_is = is.manifest; failed_is = is.failed }) lived
+        same_life life old new (record { journal_is = is.store.stores; manifest_is = is.store.manifest; failed_is = is.store.failed }) lived
     commit_lives life tally old new (Err (faults.Clash handed pairs note)) is lived =
-        same_life life old new (record { journal_is = is.stores; manifest_is = is.manifest; failed_is = is.failed }) lived
+        same_life life old new (record { journal_is = is.store.stores; manifest_is = is.store.manifest; failed_is = is.store.failed }) lived
     commit_lives life tally old new (Err (faults.Full games bytes note)) is lived =
-        same_life life old new (record { journal_is = is.stores; manifest_is = is.manifest; failed_is = is.failed }) lived
+        same_life life old new (record { journal_is = is.store.stores; manifest_is = is.store.manifest; failed_is = is.store.failed }) lived
 
     -- ---- a crash meanwhile
 
@@ -243,14 +244,14 @@ module _ {D : Type 0} (disk : D → DiskState) (left_since : D → ℕ → List 
 
         by : (answer : Result (Receipt J) (CommitFault J)) → IsCommit disk left_since tally old new answer
             → LeavesOnly disk left_since old.manifest.disk new.manifest.disk (ReopensTo (after life (Failed batch)))
-        by (Ok receipt) it = nothing_against (it.refused is.was_sound.games is.was_sound.are_games)
-        by (Err (faults.OutOfMemory true)) it = nothing_against (it.refused is.was_sound.games is.was_sound.are_games)
+        by (Ok receipt) it = nothing_against (it.store.refused is.was_sound.games is.was_sound.are_games)
+        by (Err (faults.OutOfMemory true)) it = nothing_against (it.store.refused is.was_sound.games is.was_sound.are_games)
         by (Err (faults.DiskFault before later mark)) it =
-            nothing_against (it.refused is.was_sound.games is.was_sound.are_games)
-        by (Err (faults.OutOfMemory false)) it = leaves_old life batch old new lived none it.manifest
-        by (Err (faults.Closed before later mark)) it = leaves_old life batch old new lived none it.manifest
-        by (Err (faults.Clash handed pairs note)) it = leaves_old life batch old new lived none it.manifest
-        by (Err (faults.Full games bytes note)) it = leaves_old life batch old new lived none it.manifest
+            nothing_against (it.store.refused is.was_sound.games is.was_sound.are_games)
+        by (Err (faults.OutOfMemory false)) it = leaves_old life batch old new lived none it.store.manifest
+        by (Err (faults.Closed before later mark)) it = leaves_old life batch old new lived none it.store.manifest
+        by (Err (faults.Clash handed pairs note)) it = leaves_old life batch old new lived none it.store.manifest
+        by (Err (faults.Full games bytes note)) it = leaves_old life batch old new lived none it.store.manifest
 
   -- ---- openings
 
@@ -324,7 +325,7 @@ module _ {D : Type 0} (disk : D → DiskState) (left_since : D → ℕ → List 
       (answer : Result (Receipt J) (CommitFault J)) → IsCommit disk left_since tally old new answer
       → HasFailedBy before later answer → new.manifest.fault ≡ Some (before, later)
   fault_closes tally old new before later (Err (faults.DiskFault b l mark)) is failed =
-      ap (λ (l : Log D). l.fault) is.manifest.rest ∙ λ i. Some (failed.0 i, failed.1 i)
+      ap (λ (l : Log D). l.fault) is.store.manifest.rest ∙ λ i. Some (failed.0 i, failed.1 i)
   fault_closes tally old new before later (Ok receipt) is failed = absurd failed
   fault_closes tally old new before later (Err (faults.Closed b l mark)) is failed = absurd failed
   fault_closes tally old new before later (Err (faults.Clash handed pairs note)) is failed = absurd failed
@@ -335,7 +336,7 @@ module _ {D : Type 0} (disk : D → DiskState) (left_since : D → ℕ → List 
       (answer : Result (Receipt J) (CommitFault J)) → IsCommit disk left_since tally old new answer
       → IsClosedBy before later answer → StoresNothing old new
   closed_same tally old new before later (Err (faults.Closed b l mark)) is closed =
-      record { journal_is = is.stores; manifest_is = is.manifest; failed_is = is.failed }
+      record { journal_is = is.store.stores; manifest_is = is.store.manifest; failed_is = is.store.failed }
   closed_same tally old new before later (Ok receipt) is closed = absurd closed
   closed_same tally old new before later (Err (faults.DiskFault b l mark)) is closed = absurd closed
   closed_same tally old new before later (Err (faults.Clash handed pairs note)) is closed = absurd closed
@@ -345,29 +346,41 @@ module _ {D : Type 0} (disk : D → DiskState) (left_since : D → ℕ → List 
   same_cause : (b a b' a' : ℕ) → Some (IsClosed b a) ≡ Some (IsClosed b' a') → (b' ≡ b) × (a' ≡ a)
   same_cause b a b' a' is = (cc, cc)
 
-  closed_answers : {J : Type 0} (tally : Counted) (games : List Game) (journal : List Batch) (held : Option Change)
-      (before later : ℕ) (answer : Result (Receipt J) (CommitFault J))
-      → Refuses answer (cause (Some (before, later)) games journal tally) tally held
+  closed_answers : {J : Type 0} (tally : Counted) (old new : Stored D) (games : List Game)
+      (before later : ℕ) (answer : Result (Receipt J) (CommitFault J)) → StoresBy disk tally old new answer
+      → AreGamesOf (journal old) games → old.manifest.fault ≡ Some (before, later)
       → IsClosedBy before later answer
-  closed_answers tally games journal held before later (Ok receipt) refuses = absurd (cc (refuses))
-  closed_answers tally games journal held before later (Err (faults.Closed b l mark)) refuses =
-      same_cause before later b l refuses
-  closed_answers tally games journal held before later (Err (faults.Clash handed pairs note)) refuses = absurd (cc (refuses.0))
-  closed_answers tally games journal held before later (Err (faults.Full g bytes note)) refuses = absurd (cc (refuses))
-  closed_answers tally games journal held before later (Err (faults.DiskFault b l mark)) refuses = absurd (cc (refuses))
-  closed_answers tally games journal held before later (Err (faults.OutOfMemory true)) refuses = absurd (cc (refuses))
-  closed_answers tally games journal held before later (Err (faults.OutOfMemory false)) (inl none) = absurd (cc (none))
-  closed_answers tally games journal held before later (Err (faults.OutOfMemory false)) (inr lacks) = absurd lacks.1
+  closed_answers {J} tally old new games before later answer is are closed = by answer is
+    where
+      closed_is : (why : Option Cause) → cause old.manifest.fault games (journal old) tally ≡ why
+          → Some (IsClosed before later) ≡ why
+      closed_is why is =
+          sym (ap (λ (f : Option (ℕ × ℕ)). cause f games (journal old) tally) closed) ∙ is
+
+      none : cause old.manifest.fault games (journal old) tally ≡ None → ⊥
+      none is = cc (closed_is None is)
+
+      lacks : MayLack (cause old.manifest.fault games (journal old) tally) old.index.held → ⊥
+      lacks (inl is) = none is
+      lacks (inr held) =
+          subst IsOpenBy (ap (λ (f : Option (ℕ × ℕ)). cause f games (journal old) tally) closed) held.1
+
+      by : (answer : Result (Receipt J) (CommitFault J)) → StoresBy disk tally old new answer
+          → IsClosedBy before later answer
+      by (Ok receipt) it = absurd (none (it.refused games are))
+      by (Err (faults.Closed b l mark)) it = same_cause before later b l (closed_is _ (it.refused games are))
+      by (Err (faults.Clash handed pairs note)) it = absurd (cc (closed_is _ (it.refused games are)))
+      by (Err (faults.Full g b note)) it = absurd (cc (closed_is _ (it.refused games are)))
+      by (Err (faults.DiskFault b l mark)) it = absurd (none (it.refused games are))
+      by (Err (faults.OutOfMemory true)) it = absurd (none (it.refused games are))
+      by (Err (faults.OutOfMemory false)) it = absurd (lacks (it.refused games are))
 
   pub stays_closed : {J : Type 0} (tally : Counted) (old new : Stored D) (before later : ℕ)
       (answer : Result (Receipt J) (CommitFault J)) → IsCommit disk left_since tally old new answer
       → old.manifest.fault ≡ Some (before, later) → IsClosedBy before later answer × StoresNothing old new
   stays_closed tally old new before later answer is closed =
-      let games = is.was_sound.games in
-      let P : Option (ℕ × ℕ) → Type 0 =
-      λ f. Refuses answer (cause f games (journal old) tally) tally old.index.held in
-      let refuses = subst P closed (is.refused games is.was_sound.are_games) in
-      let answers = closed_answers tally games (journal old) old.index.held before later answer refuses in
+      let answers = closed_answers tally old new is.was_sound.games before later answer is.store
+      is.was_sound.are_games closed in
       (answers, closed_same tally old new before later answer is answers)
 
 -- nothing is wrong with what a life leaves

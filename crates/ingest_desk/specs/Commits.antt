@@ -1,22 +1,31 @@
--- Statement: what a commit answers, and what it leaves.
+-- Statement: what a commit answers, and what it leaves, by its answer.
 use Rattle.std.specs.Prelude.{◌≡◌, ◌⊎◌, ◌≢◌, ℕ, ◌+◌, true, false, List, [], ◌∷◌, ◌++◌, length, Option, None, Some, Result, Ok, Err}
 use Rattle.disk_model.specs.Disk.{DiskState}
 use Rattle.explorer_model.specs.declared.archive.Batch.{Batch}
+use Rattle.explorer_model.specs.declared.archive.Game.{Game}
 use Rattle.explorer_model.specs.Journal.{game_count}
 use Rattle.explorer_model.specs.StoreFile.{payload_of}
-use Rattle.record_log.specs.Log.{Adds, Breaks, Log}
+use Rattle.explorer_model.specs.Visits.{AreGamesOf}
+use Rattle.record_log.specs.Log.{Adds, Breaks, EachImage}
 use Rattle.record_log.specs.declared.fault.AppendFault.{AppendFault}
 use Rattle.record_log.specs.declared.fault.AppendFault.TheVariants as appends
+use Rattle.manifest.specs.Manifest.{HasJournal}
 use Rattle.tally_rows.specs.Tally.{Counted}
 use Rattle.segment_blocks.specs.Segment.{CountedSpan, IsSegment}
 use Rattle.published_index.specs.Changes.{AddOf, Change}
 use Rattle.published_index.specs.Places.{Drawing, with_place}
-use Rattle.ingest_desk.specs.Causes.{Cause, HasIds, HasNoRoom, IsClosed}
+use Rattle.ingest_desk.specs.Causes.{Cause, HasIds, HasNoRoom, IsClosed, cause}
+use Rattle.ingest_desk.specs.Installs.{list_by}
+use Rattle.ingest_desk.specs.Listing.{MakesRoom, PublishesBatch}
+use Rattle.ingest_desk.specs.Marked.{IsMark, Marked}
+use Rattle.ingest_desk.specs.Stored.{Stored, journal}
+use Rattle.ingest_desk.specs.declared.clashing.Clashing.{Clashing}
 use Rattle.ingest_desk.specs.declared.fault.CommitFault.{CommitFault}
 use Rattle.ingest_desk.specs.declared.fault.CommitFault.TheVariants as faults
 use Rattle.ingest_desk.specs.declared.mark.MarkKind.TheVariants as kinds
-use Rattle.ingest_desk.specs.Marked.{IsMark}
 use Rattle.ingest_desk.specs.declared.receipt.Receipt.{Receipt}
+
+-- ---- what is against a batch
 
 -- no earlier commit met a disk fault
 abbrev pub IsOpenBy : Option Cause → Type 0
@@ -28,49 +37,62 @@ IsOpenBy _ = Unit {0}
 abbrev pub MayLack : Option Cause → Option Change → Type 0
 MayLack cause held = (cause ≡ None) ⊎ ((held ≢ None) × IsOpenBy cause)
 
--- Each answer has its cause; with a cause there is no other answer, but for want of memory where a
--- change was held. A clash hands the tally back.
-abbrev pub Refuses : {J : Type 0} → Result (Receipt J) (CommitFault J)
-    → Option Cause → Counted → Option Change → Type 0
-Refuses (Ok receipt) cause tally held = cause ≡ None
-Refuses (Err (faults.Closed before after mark)) cause tally held =
-    cause ≡ Some (IsClosed before after)
-Refuses (Err (faults.Clash handed pairs note)) cause tally held =
-    (cause ≡ Some (HasIds pairs.items)) × (handed ≡ tally)
-Refuses (Err (faults.Full games bytes note)) cause tally held =
-    cause ≡ Some (HasNoRoom games bytes)
-Refuses (Err (faults.DiskFault before after mark)) cause tally held = cause ≡ None
-Refuses (Err (faults.OutOfMemory true)) cause tally held = cause ≡ None
-Refuses (Err (faults.OutOfMemory false)) cause tally held = MayLack cause held
+-- this is the first cause not to store the batch, or none is
+abbrev pub HasCause : {D : Type 0} → Counted → Stored D → Option Cause → Type 0
+HasCause tally old why = (games : List Game) → AreGamesOf (journal old) games
+    → cause old.manifest.fault games (journal old) tally ≡ why
 
--- the batch is stored, or the journal is as it was
-abbrev pub Stores : {J : Type 0} → Result (Receipt J) (CommitFault J)
-    → Batch → List Batch → List Batch → Type 0
-Stores (Ok receipt) batch old new = new ≡ old ++ batch ∷ []
-Stores (Err (faults.OutOfMemory true)) batch old new = new ≡ old ++ batch ∷ []
-Stores (Err _) batch old new = new ≡ old
+-- ---- what becomes of what is stored
 
--- the drawer has drawn the place of the batch where it is stored, and else nothing
-abbrev pub Draws : {J : Type 0} → Result (Receipt J) (CommitFault J) → ℕ → Drawing → Drawing → Type 0
-Draws (Ok receipt) place old new = new ≡ with_place place old
-Draws (Err (faults.OutOfMemory true)) place old new = new ≡ with_place place old
-Draws (Err _) place old new = new ≡ old
+-- nothing is against the batch, and it stands behind the journal
+pub record AddsBatch {D : Type 0} (disk : D → DiskState) (tally : Counted) (old new : Stored D)
+    : Type 0 where
+  pub refused : HasCause tally old None
+  pub stores : journal new ≡ journal old ++ tally.batch ∷ []
+  pub manifest : Adds disk (length (payload_of tally.batch)) old.manifest new.manifest
+  pub failed : new.failed ≡ old.failed
 
--- what is left of the manifest: a disk fault closes it, and nothing else does
-abbrev pub Leaves : {D J : Type 0} → (D → DiskState)
-    → Result (Receipt J) (CommitFault J) → Batch → Log D → Log D → Type 0
-Leaves disk (Ok receipt) batch old new = Adds disk (length (payload_of batch)) old new
-Leaves disk (Err (faults.OutOfMemory true)) batch old new =
-    Adds disk (length (payload_of batch)) old new
-Leaves disk (Err (faults.DiskFault before after mark)) batch old new =
-    Breaks disk before after old new
-Leaves disk (Err _) batch old new = new ≡ old
+-- nothing is against the batch, but a call of the disk fails: that closes the store, with these
+-- counts, and the batch is the one that failed
+pub record BreaksOff {D : Type 0} (disk : D → DiskState) (before after : ℕ) (tally : Counted)
+    (old new : Stored D) : Type 0 where
+  pub refused : HasCause tally old None
+  pub stores : journal new ≡ journal old
+  pub manifest : Breaks disk before after old.manifest new.manifest
+  pub failed : new.failed ≡ Some tally.batch
 
--- the batch that failed afterwards: that of a disk fault, and else the same as before
-abbrev pub Fails : {J : Type 0} → Result (Receipt J) (CommitFault J)
-    → Batch → Option Batch → Option Batch → Type 0
-Fails (Err (faults.DiskFault before after mark)) batch old new = new ≡ Some batch
-Fails _ batch old new = new ≡ old
+-- this is against the batch, and what is stored is as it was
+pub record Refuses {D : Type 0} (why : Cause) (tally : Counted) (old new : Stored D)
+    : Type 0 where
+  pub refused : HasCause tally old (Some why)
+  pub stores : journal new ≡ journal old
+  pub manifest : new.manifest ≡ old.manifest
+  pub failed : new.failed ≡ old.failed
+
+-- memory is wanting before the batch is stored, and what is stored is as it was
+pub record Lacks {D : Type 0} (tally : Counted) (old new : Stored D) : Type 0 where
+  pub refused : (games : List Game) → AreGamesOf (journal old) games
+      → MayLack (cause old.manifest.fault games (journal old) tally) old.index.held
+  pub stores : journal new ≡ journal old
+  pub manifest : new.manifest ≡ old.manifest
+  pub failed : new.failed ≡ old.failed
+
+-- what becomes of it by the answer; this alone is what a store's life tells
+abbrev pub StoresBy : {D J : Type 0} → (D → DiskState) → Counted → Stored D → Stored D
+    → Result (Receipt J) (CommitFault J) → Type 0
+StoresBy disk tally old new (Ok receipt) = AddsBatch disk tally old new
+StoresBy disk tally old new (Err (faults.Closed before after mark)) =
+    Refuses (IsClosed before after) tally old new
+StoresBy disk tally old new (Err (faults.Clash handed pairs note)) =
+    Refuses (HasIds pairs.items) tally old new
+StoresBy disk tally old new (Err (faults.Full games bytes note)) =
+    Refuses (HasNoRoom games bytes) tally old new
+StoresBy disk tally old new (Err (faults.DiskFault before after mark)) =
+    BreaksOff disk before after tally old new
+StoresBy disk tally old new (Err (faults.OutOfMemory true)) = AddsBatch disk tally old new
+StoresBy disk tally old new (Err (faults.OutOfMemory false)) = Lacks tally old new
+
+-- ---- the answers
 
 -- the receipt of a batch behind a journal
 pub record IsReceiptOf {J : Type 0} (receipt : Receipt J) (old : List Batch)
@@ -79,14 +101,6 @@ pub record IsReceiptOf {J : Type 0} (receipt : Receipt J) (old : List Batch)
   pub first : receipt.first ≡ game_count old
   pub games : receipt.games ≡ length batch.texts
 
--- where there is a note, it has the whole journal, and all of it is published
-abbrev pub Tells : {J : Type 0} → Result (Receipt J) (CommitFault J)
-    → List Batch → Option Change → Type 0
-Tells (Ok receipt) journal held = (receipt.note ≡ journal) × (held ≡ None)
-Tells (Err (faults.Clash handed pairs note)) journal held = (note ≡ journal) × (held ≡ None)
-Tells (Err (faults.Full games bytes note)) journal held = (note ≡ journal) × (held ≡ None)
-Tells (Err _) journal held = Unit {0}
-
 -- the batch waits to be published behind the list
 pub record Waits (batch : Batch) (held : Option Change) : Type 0 where
   pub segment : CountedSpan
@@ -94,42 +108,88 @@ pub record Waits (batch : Batch) (held : Option Change) : Type 0 where
   pub batch_is : segment.span.batches ≡ batch ∷ []
   pub counts : IsSegment segment
 
--- what is held after a disk fault, which is nothing, and where the batch is stored without memory
--- to publish it
-abbrev pub HoldsThen : {J : Type 0} → Result (Receipt J) (CommitFault J)
-    → Batch → Option Change → Type 0
-HoldsThen (Err (faults.DiskFault before after mark)) batch held = held ≡ None
-HoldsThen (Err (faults.OutOfMemory true)) batch held = Waits batch held
-HoldsThen _ batch held = Unit {0}
+-- A tally is committed to a store, which is old before and new behind it, by a drawer that had drawn
+-- some places before and has drawn these behind it. Where there is a note, it has the whole journal,
+-- and all of it is published.
+module _ {D : Type 0} (disk : D → DiskState) (left_since : D → ℕ → List ℕ → Type 0)
+    (tally : Counted) (old new : Stored D) (had has : Drawing) where
+  -- The batch is stored, its place drawn, and all is published. A crash leaves just the journal.
+  pub record Acknowledges {J : Type 0} (answer : Receipt J) : Type 0 where
+    pub store : AddsBatch disk tally old new
+    pub drawn : has ≡ with_place (length (journal old)) had
+    pub receipt : IsReceiptOf answer (journal old) tally.batch
+    pub told : answer.note ≡ journal new
+    pub none_held : new.index.held ≡ None
+    pub list : PublishesBatch tally.batch old.index new.index.list
+    pub kept : EachImage disk left_since new.manifest.disk (HasJournal (journal new))
 
--- a mark has the kind and the counts of its answer, and after a disk fault the batch that failed
-abbrev pub IsMarked : {J : Type 0} → Result (Receipt J) (CommitFault J)
-    → Batch → Type 0
-IsMarked (Err (faults.Closed before after mark)) batch = IsMark kinds.Closed before after None mark
-IsMarked (Err (faults.DiskFault before after mark)) batch =
-    IsMark kinds.DiskFault before after (Some batch) mark
-IsMarked _ batch = Unit {0}
+  -- an earlier commit met a disk fault, with these counts, which the mark has too
+  pub record MeetsClosed (before after : ℕ) (mark : Marked) : Type 0 where
+    pub store : Refuses (IsClosed before after) tally old new
+    pub drawn : has ≡ had
+    pub marked : IsMark kinds.Closed before after None mark
+    pub list : new.index.list ≡ old.index.list
 
--- ---- a batch that nothing is against
+  -- ids of the batch are stored, and the tally is handed back; what was held is published
+  pub record MeetsClash (handed : Counted) (pairs : List Clashing) (note : List Batch)
+      : Type 0 where
+    pub store : Refuses (HasIds pairs) tally old new
+    pub drawn : has ≡ had
+    pub back : handed ≡ tally
+    pub told : note ≡ journal new
+    pub none_held : new.index.held ≡ None
+    pub list : new.index.list ≡ list_by old.index
 
--- it is stored, or the disk fails or memory is wanting
-abbrev pub IsStoring : {J : Type 0} → Result (Receipt J) (CommitFault J)
-    → Type 0
-IsStoring (Ok receipt) = Unit {0}
-IsStoring (Err (faults.DiskFault before after mark)) = Unit {0}
-IsStoring (Err (faults.OutOfMemory stored)) = Unit {0}
-IsStoring (Err _) = ⊥
+  -- a limit would be passed, and so much is stored; what was held is published
+  pub record MeetsFull (games bytes : ℕ) (note : List Batch) : Type 0 where
+    pub store : Refuses (HasNoRoom games bytes) tally old new
+    pub drawn : has ≡ had
+    pub told : note ≡ journal new
+    pub none_held : new.index.held ≡ None
+    pub list : new.index.list ≡ list_by old.index
 
--- the answer for a fault of the manifest
-abbrev pub IsFaultOf : {J : Type 0} → AppendFault → CommitFault J → Type 0
-IsFaultOf (appends.Closed before after) (faults.Closed before' after' mark) =
-    (before' ≡ before) × (after' ≡ after)
-IsFaultOf (appends.DiskFault before after) (faults.DiskFault before' after' mark) =
-    (before' ≡ before) × (after' ≡ after)
-IsFaultOf appends.OutOfMemory (faults.OutOfMemory stored) = stored ≡ false
-IsFaultOf _ _ = ⊥
+  -- a call of the disk failed, and the mark has its counts and the batch
+  pub record MeetsFault (before after : ℕ) (mark : Marked) : Type 0 where
+    pub store : BreaksOff disk before after tally old new
+    pub drawn : has ≡ had
+    pub none_held : new.index.held ≡ None
+    pub marked : IsMark kinds.DiskFault before after (Some tally.batch) mark
+    pub list : MakesRoom (list_by old.index) new.index.list
 
--- the batch that failed, where the manifest has not taken it
+  -- the batch is stored, its place drawn, and it waits for memory to be published
+  pub record HoldsBatch : Type 0 where
+    pub store : AddsBatch disk tally old new
+    pub drawn : has ≡ with_place (length (journal old)) had
+    pub holds : Waits tally.batch new.index.held
+    pub list : MakesRoom (list_by old.index) new.index.list
+
+  -- memory was wanting before
+  pub record LacksMemory : Type 0 where
+    pub store : Lacks tally old new
+    pub drawn : has ≡ had
+
+  -- a commit, by its answer
+  abbrev pub CommitsBy : {J : Type 0} → Result (Receipt J) (CommitFault J) → Type 0
+  CommitsBy (Ok receipt) = Acknowledges receipt
+  CommitsBy (Err (faults.Closed before after mark)) = MeetsClosed before after mark
+  CommitsBy (Err (faults.Clash handed pairs note)) = MeetsClash handed pairs.items note
+  CommitsBy (Err (faults.Full games bytes note)) = MeetsFull games bytes note
+  CommitsBy (Err (faults.DiskFault before after mark)) = MeetsFault before after mark
+  CommitsBy (Err (faults.OutOfMemory true)) = HoldsBatch
+  CommitsBy (Err (faults.OutOfMemory false)) = LacksMemory
+
+-- ---- where the manifest has not taken a batch
+
+-- the answer for its fault, whose mark names the batch that failed
+abbrev pub IsFaultOf : {J : Type 0} → AppendFault → Batch → CommitFault J → Type 0
+IsFaultOf (appends.Closed before after) batch (faults.Closed before' after' mark) =
+    (before' ≡ before) × (after' ≡ after) × IsMark kinds.Closed before' after' None mark
+IsFaultOf (appends.DiskFault before after) batch (faults.DiskFault before' after' mark) =
+    (before' ≡ before) × (after' ≡ after) × IsMark kinds.DiskFault before' after' (Some batch) mark
+IsFaultOf appends.OutOfMemory batch (faults.OutOfMemory stored) = stored ≡ false
+IsFaultOf _ batch _ = ⊥
+
+-- the batch that failed
 abbrev pub failed_after : AppendFault → Batch → Option Batch
 failed_after (appends.DiskFault before after) batch = Some batch
 failed_after _ batch = None

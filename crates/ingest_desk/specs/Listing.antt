@@ -34,21 +34,21 @@ pub record PutsBehind (batch : Batch) (list new : List CountedSpan) : Type 0 whe
   pub counts : IsSegment segment
   pub list_is : new ≡ list ++ segment ∷ []
 
+-- a list that is full gets room first, and then the segment of the batch comes behind it
+pub record PublishesBatch (batch : Batch) (old : Publishing) (new : List CountedSpan)
+    : Type 0 where
+  pub roomy : List CountedSpan
+  pub room : MakesRoom (list_by old) roomy
+  pub puts : PutsBehind batch roomy new
+
 -- What is published after a commit. Behind a store that is closed it stays. Else it is first what it
 -- was with the change that was held; a list that is full gets room where nothing is against the batch.
 abbrev pub Lists : {J : Type 0} → Result (Receipt J) (CommitFault J)
     → Batch → Publishing → List CountedSpan → Type 0
-Lists (Ok receipt) batch old new =
-    (roomy : List CountedSpan) × MakesRoom (list_by old) roomy × PutsBehind batch roomy new
+Lists (Ok receipt) batch old new = PublishesBatch batch old new
 Lists (Err (faults.Closed before after mark)) batch old new = new ≡ old.list
 Lists (Err (faults.Clash handed pairs note)) batch old new = new ≡ list_by old
 Lists (Err (faults.Full games bytes note)) batch old new = new ≡ list_by old
 Lists (Err (faults.DiskFault before after mark)) batch old new = MakesRoom (list_by old) new
 Lists (Err (faults.OutOfMemory true)) batch old new = MakesRoom (list_by old) new
 Lists (Err (faults.OutOfMemory false)) batch old new = Unit {0}
-
--- what is published once a batch that nothing is against is stored or not
-abbrev pub ListsStored : {J : Type 0} → Result (Receipt J) (CommitFault J)
-    → Batch → List CountedSpan → List CountedSpan → Type 0
-ListsStored (Ok receipt) batch list new = PutsBehind batch list new
-ListsStored (Err fault) batch list new = new ≡ list

@@ -11,7 +11,7 @@ use Rattle.record_log.specs.Log.{EachImage}
 use Rattle.manifest.specs.Manifest.{HasJournal, IsManifestOf, IsWithOrWithoutBatch}
 use Rattle.tally_rows.specs.Tally.{Counted}
 use Rattle.ingest_desk.specs.Causes.{cause}
-use Rattle.ingest_desk.specs.Commits.{Fails, Leaves, Refuses, Stores}
+use Rattle.ingest_desk.specs.Commits.{StoresBy}
 use Rattle.ingest_desk.specs.Kept.{Keeps}
 use Rattle.ingest_desk.specs.Lives.{Life, LifeEvent, Reopened, IsAllowed, after}
 use Rattle.ingest_desk.specs.Lives as lives
@@ -55,16 +55,12 @@ event_of (Err (faults.OutOfMemory true)) batch = Some (lives.Kept batch)
 event_of (Err (faults.DiskFault before later mark)) batch = Some (lives.Failed batch)
 event_of (Err _) batch = None
 
--- what the clauses of `commit`, and behind it those of `batches`, say of the store
+-- what the clauses of `commit`, and behind it those of `batches`, say of what is stored
 pub record IsCommit {D J : Type 0} (disk : D → DiskState) (left_since : D → ℕ → List ℕ → Type 0)
     (tally : Counted) (old new : Stored D) (answer : Result (Receipt J) (CommitFault J))
     : Type 0 where
-  pub refused : (games : List Game) → AreGamesOf (journal old) games
-      → Refuses answer (cause old.manifest.fault games (journal old) tally) tally old.index.held
+  pub store : StoresBy disk tally old new answer
   pub was_sound : IsSound (journal old)
-  pub stores : Stores answer tally.batch (journal old) (journal new)
-  pub manifest : Leaves disk answer tally.batch old.manifest new.manifest
-  pub failed : Fails answer tally.batch old.failed new.failed
   pub crash : old.manifest.fault ≡ None → LeavesOnly disk left_since
       old.manifest.disk new.manifest.disk (IsWithOrWithoutBatch (journal old) tally.batch)
   pub behind : (games : List Game) → AreGamesOf (journal old) games

@@ -1,5 +1,5 @@
 //! A batch is stored and published.
-ghost use Rattle.std.specs.Prelude.{◌≡◌, ◌<◌, ◌≤◌, ◌+◌, ◌^◌, ◌++◌, ◌∷◌, [], ℕ, List, Option, None, Some, IfOk, OnOk, length};
+ghost use Rattle.std.specs.Prelude.{◌≡◌, ◌<◌, ◌≤◌, ◌+◌, ◌^◌, ◌++◌, ◌∷◌, [], List, None, IfOk, length};
 ghost use Rattle.std.specs.Arc.{arc_value};
 ghost use Rattle.std.specs.Option.{option_map};
 ghost use Rattle.disk_model.specs.Disk.{LeavesOnly};
@@ -7,13 +7,11 @@ ghost use Rattle.explorer_model.specs.declared.archive.Batch.{Batch as StoredBat
 ghost use Rattle.explorer_model.specs.declared.archive.Game.{Game};
 ghost use Rattle.explorer_model.specs.Journal.{IsSound};
 ghost use Rattle.explorer_model.specs.Visits.{AreGamesOf};
-ghost use Rattle.record_log.specs.Log.{EachImage};
-ghost use Rattle.manifest.specs.Manifest.{HasJournal, IsWithOrWithoutBatch};
+ghost use Rattle.manifest.specs.Manifest.{IsWithOrWithoutBatch};
 ghost use Rattle.segment_blocks.specs.Segment.{IsSegment};
 ghost use Rattle.published_index.specs.Cover.{list_limit};
 ghost use Rattle.ingest_desk.specs.Causes.{Judges, cause, cause_of_new};
-ghost use Rattle.ingest_desk.specs.Commits.{Draws, Fails, HoldsThen, IsFaultOf, IsMarked, IsReceiptOf, IsStoring, Leaves, Refuses, Stores, Tells, failed_after};
-ghost use Rattle.ingest_desk.specs.Listing.{Lists, ListsStored};
+ghost use Rattle.ingest_desk.specs.Commits.{CommitsBy, IsFaultOf, failed_after};
 ghost use Rattle.ingest_desk.specs.Registers.{IsSegmentOf};
 ghost use Rattle.ingest_desk.specs.Stored.{journal};
 
@@ -45,27 +43,14 @@ impl<D: Disk, J: Index> Ingest<D, J> {
         tally: Tally,
         mine: &mut Drawer<J>,
     ) -> Result<Receipt<J>, CommitFault<J>>
+        ensures answer { CommitsBy D.disk D.left_since tally self.old self.new
+            mine.old mine.new result }
         ensures sound { IsSound (journal self.old) }
-        ensures refused { (games : List Game) → AreGamesOf (journal self.old) games
-            → Refuses result (cause self.old.manifest.fault games (journal self.old) tally)
-            tally self.old.index.held }
-        ensures stores { Stores result tally.batch (journal self.old) (journal self.new) }
-        ensures drawn { Draws result (length (journal self.old)) mine.old mine.new }
-        ensures manifest { Leaves D.disk result tally.batch self.old.manifest self.new.manifest }
-        ensures receipt { IfOk result
-            (λ receipt. IsReceiptOf receipt (journal self.old) tally.batch) }
-        ensures told { Tells result (journal self.new) self.new.index.held }
-        ensures holds { HoldsThen result tally.batch self.new.index.held }
-        ensures marked { IsMarked result tally.batch }
-        ensures failed { Fails result tally.batch self.old.failed self.new.failed }
-        ensures list { Lists result tally.batch self.old.index self.new.index.list }
         ensures few { length self.new.index.list ≤ list_limit }
 
         ensures crash { self.old.manifest.fault ≡ None → LeavesOnly D.disk D.left_since
             self.old.manifest.disk self.new.manifest.disk
             (IsWithOrWithoutBatch (journal self.old) tally.batch) }
-        ensures kept { OnOk result (EachImage D.disk D.left_since self.new.manifest.disk
-            (HasJournal (journal self.new))) }
         // What nothing is against is sound behind the journal, so that what a crash leaves meanwhile
         // is opened.
         ensures behind { (games : List Game) → AreGamesOf (journal self.old) games
@@ -152,23 +137,12 @@ impl<D: Disk, J: Index> Ingest<D, J> {
         requires fits { (games : List Game) → AreGamesOf (journal self.old) games
             → cause_of_new games (journal self.old) tally ≡ None }
 
-        ensures answers { IsStoring result }
-        ensures stores { Stores result tally.batch (journal self.old) (journal self.new) }
-        ensures drawn { Draws result (length (journal self.old)) mine.old mine.new }
-        ensures manifest { Leaves D.disk result tally.batch self.old.manifest self.new.manifest }
-        ensures receipt { IfOk result
-            (λ receipt. IsReceiptOf receipt (journal self.old) tally.batch) }
-        ensures told { Tells result (journal self.new) self.new.index.held }
-        ensures holds { HoldsThen result tally.batch self.new.index.held }
-        ensures marked { IsMarked result tally.batch }
-        ensures failed { Fails result tally.batch self.old.failed self.new.failed }
-        ensures list { ListsStored result tally.batch self.old.index.list self.new.index.list }
+        ensures answer { CommitsBy D.disk D.left_since tally self.old self.new
+            mine.old mine.new result }
         ensures few { length self.new.index.list ≤ list_limit }
         ensures crash { LeavesOnly D.disk D.left_since
             self.old.manifest.disk self.new.manifest.disk
             (IsWithOrWithoutBatch (journal self.old) tally.batch) }
-        ensures kept { OnOk result (EachImage D.disk D.left_since self.new.manifest.disk
-            (HasJournal (journal self.new))) }
     {
         let games = tally.classes().len();
         if self.register.reserve(games).is_err() {
@@ -221,8 +195,7 @@ fn failed_by(fault: &AppendFault, batch: &Batch) -> Option<Snapshot<Batch>>
 
 /// The answer where the manifest has not taken a batch.
 fn fault_of<J: Index>(fault: AppendFault, batch: &Batch) -> CommitFault<J>
-    ensures fault { IsFaultOf fault result }
-    ensures marked { IsMarked (Err result) batch.now }
+    ensures { IsFaultOf fault batch.now result }
 {
     match fault {
         AppendFault::Closed { before, after } => CommitFault::Closed {

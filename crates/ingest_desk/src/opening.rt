@@ -1,11 +1,6 @@
 //! Opening a store.
-ghost use Rattle.std.specs.Prelude.{◌≡◌, ◌≤◌, None, IfOk, IfErr, IfSome};
-ghost use Rattle.disk_model.specs.Disk.{IsQuiet};
-ghost use Rattle.explorer_model.specs.Journal.{IsSound};
-ghost use Rattle.record_log.specs.Log.{EachImage};
-ghost use Rattle.manifest.specs.Manifest.{HasJournal};
-ghost use Rattle.published_index.specs.Cover.{journal_of};
-ghost use Rattle.ingest_desk.specs.Openings.{IsNotOpened};
+ghost use Rattle.std.specs.Prelude.{◌≡◌, ◌≤◌, MatchResult};
+ghost use Rattle.ingest_desk.specs.Openings.{IsHandedBack, IsOpened};
 
 use crate::recount::{Recounted, recount};
 use crate::unnamed::Unnamed;
@@ -34,20 +29,8 @@ pub fn open<R: Wait + Threads + Sync, D: Disk>(
     requires some { 1 ≤ readers }
     requires few { readers ≤ 64 }
 
-    ensures read { IfOk result (λ unnamed. IfSome (D.disk disk).content
-        (HasJournal (journal_of unnamed.index.list))) }
-    ensures sound { IfOk result (λ unnamed. unnamed.manifest.fault ≡ None) }
-    ensures recounted { IfOk result (λ unnamed. IsSound (journal_of unnamed.index.list)) }
-    ensures images { IfOk result (λ unnamed. EachImage D.disk D.left_since unnamed.manifest.disk
-        (HasJournal (journal_of unnamed.index.list))) }
-    ensures readers { IfOk result (λ unnamed. unnamed.index.readers ≡ readers) }
-    ensures refused { IfErr result (λ back. IsNotOpened D.disk back.fault disk back.disk) }
-
-    ensures quiet { IfOk result
-        (λ unnamed. IsQuiet D.disk D.left_since disk unnamed.manifest.disk) }
-    ensures no_fault { IfOk result
-        (λ unnamed. (D.disk unnamed.manifest.disk).faults ≡ (D.disk disk).faults) }
-    ensures quiet_refused { IfErr result (λ back. IsQuiet D.disk D.left_since disk back.disk) }
+    ensures { MatchResult result (IsOpened D.disk D.left_since disk readers)
+        (IsHandedBack D.disk D.left_since disk) }
 {
     let opened = manifest::open(alloc, disk)?;
     let manifest::Opened { manifest, journal } = opened;

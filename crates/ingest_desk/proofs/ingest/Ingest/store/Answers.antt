@@ -1,20 +1,22 @@
-use Rattle.std.proofs.Common.{◌≡◌, List, [], ◌∷◌, ◌++◌, None, Option, Err, length, sym, ap, ◌∙◌, subst, arith}
+use Rattle.std.proofs.Common.{◌≡◌, List, [], ◌∷◌, ◌++◌, None, Option, Err, length, refl, sym, ap, ◌∙◌, subst, arith}
 use Rattle.std.specs.Arc.{arc_value}
 use Rattle.std.specs.Option.{option_map}
 use Rattle.explorer_model.specs.declared.archive.Batch.{Batch}
 use Rattle.explorer_model.specs.Journal.{IsSound}
-use Rattle.record_log.specs.Log.{EachImage}
+use Rattle.explorer_model.specs.StoreFile.{payload_of}
+use Rattle.record_log.specs.Log.{Adds, EachImage}
 use Rattle.manifest.proofs.PayloadLemmas.{texts-fit}
 use Rattle.manifest.specs.Manifest.{HasJournal}
 use Rattle.segment_blocks.specs.Segment.{CountedSpan}
 use Rattle.tally_rows.specs.Tally.{IsCounted}
 use Rattle.published_index.specs.Changes.{AddOf}
 use Rattle.published_index.specs.Cover.{journal_of}
-use Rattle.ingest_desk.specs.Commits.{IsMarked, failed_after}
+use Rattle.ingest_desk.specs.Commits.{CommitsBy, IsFaultOf, failed_after}
 use Rattle.ingest_desk.specs.Kept.{Keeps}
 use Rattle.ingest_desk.specs.Registers.{IsRegisterOf}
 use Rattle.published_index.specs.States.{journal_by}
-use Rattle.ingest_desk.proofs.KeptLemmas.{fails_by, keeps_after, keeps_sound, kept_register, listed, low, made, none_failed, sound_manifest, storable}
+use Rattle.ingest_desk.proofs.CommitLemmas.{IsNotTaken, IsTaken, holds, not_taken, put, uncaused}
+use Rattle.ingest_desk.proofs.KeptLemmas.{keeps_after, keeps_sound, kept_register, listed, low, made, none_failed, sound_manifest, storable}
 use Rattle.ingest_desk.proofs.RegisterLemmas.{fewer_batches, first_is, fits_of, fits_same, long, register_same, sound_behind}
 use Rattle.ingest_desk.proofs.ingest.Ingest.store.Goals as goal
 use Rattle.ingest_desk.proofs.ingest.Ingest.store.Goals.{in-Ok-put, in-Err-put}
@@ -89,26 +91,39 @@ invariant_of-self-in-Err g c =
           (c.in-Err.ensures.any_moment j is) c.in-Err.ensures.cases);
     }
 
-pub returns-in-Err-clause-marked : goal.returns-in-Err-clause-marked
-returns-in-Err-clause-marked g c =
-    let tally = c.args.tally in
-    let batches = ap (λ (s : CountedSpan). s.span.batches) c.deref.ensures ∙ c.in-Ok.ensures.tally.batches in
-    let batch = first_is _ tally.batch _ batches c.batch_of-batch.ensures in
-    subst (λ (b : Batch). IsMarked (Err c.fault_of.result) b) batch c.fault_of.ensures.marked
-
-pub returns-in-Err-clause-failed : goal.returns-in-Err-clause-failed
-returns-in-Err-clause-failed g c =
+pub returns-in-Err-clause-answer : goal.returns-in-Err-clause-answer
+returns-in-Err-clause-answer g c =
     let s = c.self in
     let d = g.D.Disk in
     let m = s.inside.manifest in
     let j = journal_by s.inside.publisher in
     let open_is = rw (← s.view_is) at c.requires.open in
+    let fits = rw (← s.view_is) at c.requires.fits in
+    let none = rw (← s.view_is) at c.requires.none_held in
+    let room = rw (← s.view_is) at c.requires.room in
     let tally = c.args.tally in
+    let fault = c.in-Err.fault in
     let batches = ap (λ (s : CountedSpan). s.span.batches) c.deref.ensures ∙ c.in-Ok.ensures.tally.batches in
     let batch = first_is _ tally.batch _ batches c.batch_of-batch.ensures in
-    let none = none_failed d.disk d.left_since _ j m s.invariant.keeps open_is in
-    rw (← s.view_is) (fails_by c.in-Err.fault c.fault_of.result tally.batch _ _ c.fault_of.ensures.fault none
-    (c.failed_by.ensures ∙ ap (failed_after c.in-Err.fault) batch))
+    let none_yet = none_failed d.disk d.left_since _ j m s.invariant.keeps open_is in
+    let failed = option_map (λ b. b.value) s.inside.failed in
+    let failed_now = option_map (λ b. b.value) c.failed_by.result in
+    let not : IsNotTaken d.disk tally (record { manifest = m; index = s.inside.publisher; failed = failed })
+    (record { manifest = c.store.new.self; index = s.inside.publisher; failed = failed_now }) fault = record {
+      uncaused = uncaused tally (record { manifest = m; index = s.inside.publisher; failed = failed }) open_is fits;
+      open_is = open_is;
+      none_held = none;
+      few = room;
+      none_failed = none_yet;
+      index_is = refl;
+      manifest = c.in-Err.ensures.cases;
+      failed = c.failed_by.ensures ∙ ap (failed_after fault) batch;
+    } in
+    let drawer = c.args.mine.now in
+    subst (λ old. CommitsBy d.disk d.left_since tally old
+    (record { manifest = c.store.new.self; index = s.inside.publisher; failed = failed_now }) drawer drawer (Err c.fault_of.result)) s.view_is
+    (not_taken d.disk d.left_since tally _ _ drawer fault c.fault_of.result not
+    (subst (λ (b : Batch). IsFaultOf fault b c.fault_of.result) batch c.fault_of.ensures))
 
 pub enter-requires-clause-fits : goal.enter-requires-clause-fits
 enter-requires-clause-fits g c =
@@ -172,55 +187,53 @@ invariant_of-self-2 g c =
           c.store.new.self (c.in_default-store.ensures.stored j is))));
     }
 
-pub returns-clause-kept : goal.returns-clause-kept
-returns-clause-kept g c =
+pub returns-clause-answer : goal.returns-clause-answer
+returns-clause-answer g c =
     let s = c.self in
     let d = g.D.Disk in
     let m = s.inside.manifest in
     let index = s.inside.publisher in
     let j = journal_by index in
     let tally = c.args.tally in
-    let none : index.held ≡ None = rw (← s.view_is) at c.requires.none_held in
     let open_is = rw (← s.view_is) at c.requires.open in
+    let fits = rw (← s.view_is) at c.requires.fits in
+    let none : index.held ≡ None = rw (← s.view_is) at c.requires.none_held in
+    let room = rw (← s.view_is) at c.requires.room in
     let is = sound_manifest d.disk d.left_since _ j m s.invariant.keeps open_is in
+    let segment = arc_value c.in-Ok.segment in
     let made_of = c.in-Ok.ensures.tally in
     let batches = ap (λ (s : CountedSpan). s.span.batches) c.deref.ensures ∙ made_of.batches in
     let batch = first_is _ tally.batch _ batches c.batch_of-batch.ensures in
+    let whole = ap length (listed index none) in
+    let list = ap (λ (l : List CountedSpan). length (journal_of l)) c.list.ensures.list in
+    let place = c.batches-place.ensures.batches in
+    let starts : segment.span.first ≡ length (journal_of index.list) = omega (arith, c.in-Ok.ensures.first, place, list, whole) in
+    let failed = option_map (λ b. b.value) s.inside.failed in
+    let takes : IsTaken d.disk tally (record { manifest = m; index = index; failed = failed })
+    (record { manifest = c.store.new.self; index = c.put.new.self; failed = failed }) segment = record {
+      uncaused = uncaused tally (record { manifest = m; index = index; failed = failed }) open_is fits;
+      none_held = none;
+      few = room;
+      manifest = subst (λ (b : Batch). Adds d.disk (length (payload_of b)) m c.store.new.self) batch c.in_default-store.ensures.cases;
+      failed_is = refl;
+      starts = starts;
+      batch_is = made_of.batches;
+      counts = c.in-Ok.ensures.counts;
+    } in
+    let counted : IsCounted tally = subst IsCounted c.tally.view_is c.tally.invariant in
     let all : journal_by c.put.new.self ≡ j ++ tally.batch ∷ [] =
-    made index c.put.new.self (AddOf (arc_value c.in-Ok.segment)) c.put.result none c.put.ensures.makes
+    made index c.put.new.self (AddOf segment) c.put.result none c.put.ensures.makes
     ∙ ap (λ bs. j ++ bs) made_of.batches in
     let I : List Batch → Type 0 = λ l. EachImage d.disk d.left_since c.store.new.self.disk (HasJournal l) in
     let stored = c.in_default-store.ensures.stored j is in
     let kept : I (journal_by c.put.new.self) =
     subst I (sym all) (subst I (ap (λ (b : Batch). j ++ b ∷ []) batch) stored.images) in
-    elim c.match-put.branch [
-      | in-Ok-put w ↦ rw w.result-is kept
-      | in-Err-put w ↦ rw w.result-is tt
-    ]
-
-pub returns-clause-receipt : goal.returns-clause-receipt
-returns-clause-receipt g c =
-    let s = c.self in
-    let index = s.inside.publisher in
-    let tally = c.args.tally in
-    let none : index.held ≡ None = rw (← s.view_is) at c.requires.none_held in
-    let counted : IsCounted tally = subst IsCounted c.tally.view_is c.tally.invariant in
-    let whole = ap length (listed index none) in
-    let list = ap (λ (l : List CountedSpan). length (journal_of l)) c.list.ensures.list in
-    elim c.match-put.branch [
+    rw (← s.view_is) (elim c.match-put.branch [
       | in-Ok-put w ↦
-          rw w.result-is (rw (← s.view_is) (record {
-            batches = omega (arith, c.batches-place.ensures.batches, list, whole);
+          rw w.result-is (put d.disk d.left_since tally _ _ c.args.mine.now c.put.new.mine segment takes c.put.ensures.drawn _ (record {
+            batches = omega (arith, place, list, whole);
             first = c.games-first.ensures ∙ c.reserve.ensures.same.games ∙ s.invariant.knows.games;
             games = ap length c.classes-games.ensures ∙ long tally counted;
-          }))
-      | in-Err-put w ↦ rw w.result-is tt
-    ]
-
-pub returns-clause-drawn : goal.returns-clause-drawn
-returns-clause-drawn g c =
-    let s = c.self in
-    elim c.match-put.branch [
-      | in-Ok-put w ↦ rw w.result-is (rw (← s.view_is) c.put.ensures.drawn)
-      | in-Err-put w ↦ rw w.result-is (rw (← s.view_is) c.put.ensures.drawn)
-    ]
+          }) w.in-Ok-put.ensures.makes kept)
+      | in-Err-put w ↦ rw w.result-is (holds d.disk d.left_since tally _ _ c.args.mine.now c.put.new.mine segment takes c.put.ensures.drawn w.in-Err-put.ensures.makes)
+    ])
