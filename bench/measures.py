@@ -183,6 +183,42 @@ def query(options):
                   ["", "seconds", "processor seconds", "peak MB"], rows)]
 
 
+# Positions that are looked up in rows of a scratch file: one with rows in each part, one with few rows, one with none.
+SPILLED_TARGETS = {
+    "the start": "",
+    "after 1. a4 h5": "play=a2a4,h7h5",
+    "two kings": "fen=8/8/4k3/8/8/4K3/8/8%20w%20-%20-",
+}
+
+
+def reads_of(scratch, *words):
+    """How often a run reads of a file at a place, by strace."""
+    traced = measuring.work_folder() / "reads"
+    Ran([measuring.need("strace", "strace"), "-f", "-y", "-e", "trace=pread64", "-o", traced, *words])
+    return traced.read_text(errors="replace").count(f"<{scratch}>")
+
+
+def spill(options):
+    """`explorer query --spill`: rows in a scratch file, beside rows in memory, and how often the file is read."""
+    scratch = (measuring.work_folder() / "scratch").resolve()
+    rows, reads = [], []
+    for games in dict.fromkeys((options.few, options.most)):
+        store = measuring.store_of(measuring.games(options.archive, games))
+        for workers in sorted({min(options.workers), max(options.workers)}):
+            words = [measuring.explorer(), "query", store, "", "--workers", workers]
+            for kind, more in (("in memory", ()), ("in a file", ("--spill", scratch))):
+                ran = measuring.best(options.rounds, lambda words=(*words, *more): Ran(words))
+                rows.append([f"{games:,}", workers, kind, f"{ran.seconds:.2f}", f"{ran.peak:.0f}"])
+        size = f"{scratch.stat().st_size:,}"
+        asked = [reads_of(scratch, measuring.explorer(), "query", store, query, "--spill", scratch)
+                 for query in SPILLED_TARGETS.values()]
+        reads.append([f"{games:,}", size, *(f"{count:,}" for count in asked)])
+    scratch.unlink()
+    return [table("`explorer query` by rows in memory and in a scratch file",
+                  ["games", "workers", "rows", "seconds", "peak MB"], rows),
+            table("Bytes of the scratch file, and reads of a look-up", ["games", "bytes", *SPILLED_TARGETS], reads)]
+
+
 @contextlib.contextmanager
 def serving(options, readers, *files):
     """A server over a copy of the store of many games, by its port and process."""
@@ -711,9 +747,9 @@ def lookup(options):
 
 
 MEASURES = {
-    "count": count, "instructions": instructions, "shares": shares, "import": imports, "query": query, "tally": tally,
-    "segments": segments, "steps": steps, "store": store, "lookup": lookup, "lookups": lookups, "replies": replies,
-    "kept": kept, "openings": openings, "players": players,
+    "count": count, "instructions": instructions, "shares": shares, "import": imports, "query": query, "spill": spill,
+    "tally": tally, "segments": segments, "steps": steps, "store": store, "lookup": lookup, "lookups": lookups,
+    "replies": replies, "kept": kept, "openings": openings, "players": players,
     "perft": perft, "wire": wire, "gate": gate,
 }
 # Those that are taken by a script with a program of its own, that ask for positions, and that read a store.
@@ -726,7 +762,7 @@ def file_sizes(name, options):
     """How many games the files have that a measure reads."""
     few, many, more = options.few, options.many, options.many + options.more
     sizes = {"count": (few, many), "import": (few, many), "instructions": (INSTRUCTED,), "shares": (few,), "tally": (many,),
-             "segments": (few, options.most), "steps": (many, more), "replies": (many, more)}
+             "segments": (few, options.most), "spill": (few, options.most), "steps": (many, more), "replies": (many, more)}
     return sizes.get(name, (many,) if name in READING else ())
 
 
