@@ -95,6 +95,23 @@ class Stores(unittest.TestCase):
             self.assertEqual(self.run_program("import", self.store, str(self.folder / "games"))[0], 0)
         self.assertEqual(self.run_program("batches", self.store), (0, "1 512 \n2 1 \n3 2 \n", ""))
 
+    def test_a_store_is_no_scratch_file(self):
+        self.assertEqual(self.run_program("create", self.store)[0], 0)
+        (self.folder / "games").write_bytes(game(1, "1-0", "1. e4 1-0"))
+        self.assertEqual(self.run_program("import", self.store, str(self.folder / "games"))[0], 0)
+        store, soft, hard, scratch = pathlib.Path(self.store), self.folder / "soft", self.folder / "hard", self.folder / "scratch"
+        soft.symlink_to(store)
+        hard.hardlink_to(store)
+        stored, answer = store.read_bytes(), self.run_program("query", self.store)
+        self.assertEqual(answer[0], 0)
+        for name in (store, soft, hard, self.folder):
+            self.assertEqual(self.run_program("query", self.store, "--spill", str(name)), (10, "", f"cannot open {name}\n"), name)
+            self.assertEqual(store.read_bytes(), stored, name)
+        # A file that is no store is emptied, and has a row of 129 bytes for each of the two positions.
+        scratch.write_bytes(b"before")
+        self.assertEqual(self.run_program("query", self.store, "--spill", str(scratch)), answer)
+        self.assertEqual(scratch.stat().st_size, 2 * 129)
+
     def first_store(self, batches):
         """Writes a store of format 1 with batches of so many texts of one byte, and gives the bytes of one of format 2 with them, and
         the gate of the last batch."""

@@ -8,6 +8,7 @@ use Rattle.std.proofs.lemmas.Str.Ascii.{IsAscii-nil}
 use Rattle.explorer_model.specs.Best.{best, best_one, others, better, worse}
 use Rattle.explorer_model.specs.declared.answer.Found.{Found}
 use Rattle.explorer_model.specs.declared.answer.Listed.{Listed}
+use Rattle.explorer_model.specs.declared.answer.MoveLine.{MoveLine}
 use Rattle.explorer_model.specs.declared.archive.Batch.{Batch}
 use Rattle.explorer_model.specs.declared.archive.Classes.{Classes}
 use Rattle.explorer_model.specs.declared.archive.Game.{Game}
@@ -29,6 +30,7 @@ use Rattle.explorer_model.specs.Finds.{IsLineOf, IsRecount, IsFound}
 use Rattle.explorer_model.specs.Letters.{letter_of, file_letter, rank_digit, square_text}
 use Rattle.explorer_model.specs.Players.{IsPlayerFound, IsPlayerLineOf, IsPlayerRecount, is_wanted}
 use Rattle.explorer_model.specs.San.{role_text, start_text, capture_text, promotion_text, castling_text, mark_text, named_text, captures, MoveText, SanText}
+use Rattle.explorer_model.specs.SoundClasses.{AreSoundClasses}
 use Rattle.explorer_model.specs.Visits.{GameAt, IsTextOf, IsGameAt, texts_of}
 use Rattle.explorer_model.proofs.Lists.{filter-have}
 use Rattle.explorer_model.proofs.SoundClasses.{game-sound}
@@ -243,6 +245,31 @@ recount-plain query games_at found plain is =
 pub plain-found : (journal : List Batch) (query : Query) (found : Found) → IsFound journal query found → IsPlainFound found
 plain-found journal query found is =
     recount-plain query is.answer.games_at found (games_at-plain query.at (texts_of journal) is.games is.answer.games_at is.are_games is.answer.are_games_at) is.answer.recount
+
+-- ---- an answer of SAN texts and of games whose tags are sound
+
+game-kept : (game : Option Listed) → IfSome game (λ g. AreSoundClasses g.classes) → IsPlainGame game
+game-kept None sound = tt
+game-kept (Some game) sound = sound.id
+
+lines-kept : (at : Position) (lines : List MoveLine) → AllByRecursion (λ line. SanText at line.next line.san) lines
+    → AllByRecursion (λ line. IfSome line.game (λ game. AreSoundClasses game.classes)) lines → AllByRecursion IsPlainLine lines
+lines-kept at [] texts games = tt
+lines-kept at (line ∷ lines) texts games =
+    (record { san = san-ascii at line.next line.san texts.0; game = game-kept line.game games.0 }, lines-kept at lines texts.1 games.1)
+
+games-kept : (games : List Listed) → AllByRecursion (λ game. AreSoundClasses game.classes) games → AllByRecursion HasPlainId games
+games-kept [] sound = tt
+games-kept (game ∷ games) sound = (sound.0.id, games-kept games sound.1)
+
+pub plain-sound : (at : Position) (found : Found) → AllByRecursion (λ line. SanText at line.next line.san) found.moves
+    → AllByRecursion (λ line. IfSome line.game (λ game. AreSoundClasses game.classes)) found.moves
+    → AllByRecursion (λ game. AreSoundClasses game.classes) found.top → AllByRecursion (λ game. AreSoundClasses game.classes) found.recent → IsPlainFound found
+plain-sound at found texts games top recent = record {
+  moves = All-from_recursion IsPlainLine found.moves (lines-kept at found.moves texts games);
+  top = All-from_recursion HasPlainId found.top (games-kept found.top top);
+  recent = All-from_recursion HasPlainId found.recent (games-kept found.recent recent);
+}
 
 -- ---- what is found of a player's games
 

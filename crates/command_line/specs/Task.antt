@@ -59,6 +59,10 @@ text_rule name = record (optional_rule name) { long = Some name }
 abbrev pub openings_rule : Rule
 openings_rule = text_rule (codes "openings")
 
+-- `--spill NAME`
+abbrev pub spill_rule : Rule
+spill_rule = text_rule (codes "spill")
+
 -- `NAME`, which is a number within bounds
 abbrev pub number_rule : Text → Bounds → Rule
 number_rule name bounds = record (required_rule name) {
@@ -106,11 +110,11 @@ abbrev pub migrate_shape : Shape
 migrate_shape = (with_rules (new_app (codes "migrate"))
     (required_rule (codes "old") ∷ required_rule (codes "new") ∷ [])).top
 
--- `query STORE [QUERY] [--workers N] [--openings FILE]`
+-- `query STORE [QUERY] [--workers N] [--openings FILE] [--spill NAME]`
 abbrev pub query_shape : Shape
 query_shape = (with_rules (new_app (codes "query"))
     (required_rule (codes "store") ∷ optional_rule (codes "query") ∷ workers_rule
-    ∷ openings_rule ∷ [])).top
+    ∷ openings_rule ∷ spill_rule ∷ [])).top
 
 -- `serve STORE ADDRESS [FILE]... [--workers N] [--readers N] [--connections N] [--openings FILE]`
 abbrev pub serve_shape : Shape
@@ -155,8 +159,8 @@ pub data Task : Type 0 where
   Import : (store file : List ℕ) (workers : ℕ) (label : List ℕ) → Task
   -- make a store of the batches of a store in the first format
   Migrate : (old new : List ℕ) → Task
-  -- answer a query over a store
-  Query : (store query : List ℕ) (workers : ℕ) (openings : Option (List ℕ)) → Task
+  -- answer a query over a store; spill is the name of a scratch file, where one is given
+  Query : (store query : List ℕ) (workers : ℕ) (openings spill : Option (List ℕ)) → Task
   -- serve a store at an address while files are imported into it
   Serve : (store address : List ℕ) (files : List (List ℕ)) (workers readers connections : ℕ)
       (openings : Option (List ℕ)) → Task
@@ -187,6 +191,10 @@ workers_in = number_in (codes "workers") workers_bounds 4
 abbrev pub openings_in : List Row → Option (List ℕ)
 openings_in = first_of (codes "openings")
 
+-- the name of a scratch file, where one is given
+abbrev pub spill_in : List Row → Option (List ℕ)
+spill_in = first_of (codes "spill")
+
 abbrev pub count_task : List Row → Task
 count_task rows = Count (word_in (codes "query") rows) (workers_in rows) (openings_in rows)
 
@@ -196,7 +204,7 @@ import_task rows = Import (word_in (codes "store") rows) (word_in (codes "file")
 
 abbrev pub query_task : List Row → Task
 query_task rows = Query (word_in (codes "store") rows) (word_in (codes "query") rows)
-    (workers_in rows) (openings_in rows)
+    (workers_in rows) (openings_in rows) (spill_in rows)
 
 abbrev pub serve_task : List Row → Task
 serve_task rows = Serve (word_in (codes "store") rows) (word_in (codes "address") rows)

@@ -16,8 +16,9 @@ task_in (commands.Create store) = Create (string_bytes store)
 task_in (commands.Import store file workers label) =
     Import (string_bytes store) (string_bytes file) workers (string_bytes label)
 task_in (commands.Migrate old new) = Migrate (string_bytes old) (string_bytes new)
-task_in (commands.Query store query workers openings) =
+task_in (commands.Query store query workers openings spill) =
     Query (string_bytes store) (string_bytes query) workers (option_map string_bytes openings)
+    (option_map string_bytes spill)
 task_in (commands.Serve store address files workers readers connections openings) =
     Serve (string_bytes store) (string_bytes address) (map string_bytes files.items)
     workers readers connections (option_map string_bytes openings)
@@ -35,7 +36,7 @@ IsInBounds (Count query workers openings) = IsIn workers_bounds workers
 IsInBounds (Create store) = Unit {0}
 IsInBounds (Import store file workers label) = IsIn workers_bounds workers
 IsInBounds (Migrate old new) = Unit {0}
-IsInBounds (Query store query workers openings) = IsIn workers_bounds workers
+IsInBounds (Query store query workers openings spill) = IsIn workers_bounds workers
 IsInBounds (Serve store address files workers readers connections openings) =
     IsIn workers_bounds workers × IsIn readers_bounds readers
     × IsIn connections_bounds connections

@@ -22,6 +22,7 @@ ghost use Rattle.command_line.specs.Task.{
   required_rule,
   seed_bounds,
   serve_shape,
+  spill_rule,
   text_rule,
   trial_shape,
   with_rules,
@@ -135,7 +136,8 @@ fn query_command<'a>(alloc: Global) -> Result<Command<'a>, AllocError>
 {
     let command = Command::new(alloc, "query").about("Answer a query over the games of a store");
     let command = with_args(command, store_arg(alloc), query_arg(alloc))?;
-    with_args(command, workers_arg(alloc), openings_arg(alloc))
+    let command = with_args(command, workers_arg(alloc), openings_arg(alloc))?;
+    with_arg(command, spill_arg(alloc))
 }
 
 fn serve_command<'a>(alloc: Global) -> Result<Command<'a>, AllocError>
@@ -293,6 +295,16 @@ fn openings_arg<'a>(alloc: Global) -> Arg<'a>
         .long("openings")
         .value_name("FILE")
         .help("A file of openings, by which answers are named")
+}
+
+fn spill_arg<'a>(alloc: Global) -> Arg<'a>
+    ensures rule { rule_of result ≡ spill_rule }
+    ensures local { result.global ≡ false }
+{
+    Arg::new(alloc, "spill")
+        .long("spill")
+        .value_name("NAME")
+        .help("A scratch file, which is emptied, for what memory is not to hold")
 }
 
 fn readers_arg<'a>(alloc: Global) -> Arg<'a>

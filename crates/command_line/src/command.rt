@@ -39,12 +39,13 @@ pub enum Command {
         old: String,
         new: String,
     },
-    /// Answer a query over a store.
+    /// Answer a query over a store, with rows in the scratch file of this name, where one is given.
     Query {
         store: String,
         query: String,
         workers: u8,
         openings: Option<String>,
+        spill: Option<String>,
     },
     /// Serve a store at an address by 1 to 64 readers, each for 1 to 1,000,000 connections, while
     /// files are imported into it.
@@ -166,6 +167,7 @@ fn query_of(alloc: Global, given: &ArgMatches<'_>) -> Result<Command, AllocError
         query: word_of(alloc, given, "query")?,
         workers: workers_of(given),
         openings: optional_word_of(alloc, given, "openings")?,
+        spill: optional_word_of(alloc, given, "spill")?,
     })
 }
 

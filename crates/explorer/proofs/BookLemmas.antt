@@ -108,6 +108,8 @@ module _ (name : List ℕ) (before given after : HostState) (file file' : Stream
   lacks_bytes faults.Usage (stream, reads, has) = absurd has
   lacks_bytes (faults.BadParameter parameter) (stream, reads, has) = absurd has
   lacks_bytes faults.BadLabel (stream, reads, has) = absurd has
+  lacks_bytes faults.SpillFault (stream, reads, has) = absurd has
+  lacks_bytes (faults.SpillDamaged part) (stream, reads, has) = absurd has
   lacks_bytes faults.WriteFault (stream, reads, has) = absurd has
   lacks_bytes faults.DiskFault (stream, reads, has) = absurd has
   lacks_bytes (faults.NotEmpty size) (stream, reads, has) = absurd has
@@ -143,6 +145,8 @@ module _ (name : List ℕ) (before given after : HostState) (file file' : Stream
     book_of_bytes (Err faults.Usage) reads = absurd reads
     book_of_bytes (Err (faults.BadParameter parameter)) reads = absurd reads
     book_of_bytes (Err faults.BadLabel) reads = absurd reads
+    book_of_bytes (Err faults.SpillFault) reads = absurd reads
+    book_of_bytes (Err (faults.SpillDamaged part)) reads = absurd reads
     book_of_bytes (Err faults.WriteFault) reads = absurd reads
     book_of_bytes (Err faults.DiskFault) reads = absurd reads
     book_of_bytes (Err (faults.NotEmpty size)) reads = absurd reads

@@ -259,6 +259,8 @@ broken {E} book query input input' output errors errors' host refused fault made
     by_fault faults.Usage counted = absurd counted
     by_fault (faults.BadParameter parameter) counted = absurd counted
     by_fault faults.BadLabel counted = absurd counted
+    by_fault faults.SpillFault counted = absurd counted
+    by_fault (faults.SpillDamaged part) counted = absurd counted
     by_fault faults.OpeningsTooLong counted = absurd counted
     by_fault (faults.BadOpenings row cause) counted = absurd counted
     by_fault faults.WriteFault counted = absurd counted

@@ -96,6 +96,8 @@ module _ (store file : List ℕ) (before after : World) (told : IsToldStore stor
   comes (Stopped faults.Usage) by = absurd by
   comes (Stopped (faults.BadParameter name)) by = absurd by
   comes (Stopped faults.BadLabel) by = absurd by
+  comes (Stopped faults.SpillFault) by = absurd by
+  comes (Stopped (faults.SpillDamaged part)) by = absurd by
   comes (Stopped faults.OpeningsTooLong) by = absurd by
   comes (Stopped (faults.BadOpenings row cause)) by = absurd by
   comes (Stopped faults.ReadFault) by = absurd by

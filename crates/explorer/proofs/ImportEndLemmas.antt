@@ -165,6 +165,8 @@ module _ (store file label : List ℕ) (before after : World) where
   imports_by endings.Whole (Stopped faults.Usage) to outcome = absurd outcome
   imports_by endings.Whole (Stopped (faults.BadParameter parameter)) to outcome = absurd outcome
   imports_by endings.Whole (Stopped faults.BadLabel) to outcome = absurd outcome
+  imports_by endings.Whole (Stopped faults.SpillFault) to outcome = absurd outcome
+  imports_by endings.Whole (Stopped (faults.SpillDamaged part)) to outcome = absurd outcome
   imports_by endings.Whole (Stopped faults.OpeningsTooLong) to outcome = absurd outcome
   imports_by endings.Whole (Stopped (faults.BadOpenings row cause)) to outcome = absurd outcome
   imports_by endings.Whole (Stopped faults.ReadFault) to outcome = absurd outcome
@@ -187,12 +189,12 @@ module _ (store file label : List ℕ) (before after : World) where
 
 -- ---- a disk stays out while a file is asked for
 
-stays_out : (store : List ℕ) (call : HostCall) → handed (ADisk store) call ≡ 0 → returned (ADisk store) call ≡ 0 → (calls : Option (List HostCall)) → IfSome calls (λ cs. 0 < out (ADisk store) cs)
+pub stays_out : (store : List ℕ) (call : HostCall) → handed (ADisk store) call ≡ 0 → returned (ADisk store) call ≡ 0 → (calls : Option (List HostCall)) → IfSome calls (λ cs. 0 < out (ADisk store) cs)
     → IfSome (noted call calls) (λ cs. 0 < out (ADisk store) cs)
 stays_out store call none none' None h = tt
 stays_out store call none none' (Some cs) h = omega (arith, none, none', h)
 
-by_calls : (store : List ℕ) (before after : HostState) (calls : Option (List HostCall)) → after.calls ≡ calls → IfSome calls (λ cs. 0 < out (ADisk store) cs) → IsOut (ADisk store) after
+pub by_calls : (store : List ℕ) (before after : HostState) (calls : Option (List HostCall)) → after.calls ≡ calls → IfSome calls (λ cs. 0 < out (ADisk store) cs) → IsOut (ADisk store) after
 by_calls store before after calls is h =
     let P : Option (List HostCall) → Type 0 = λ c. IfSome c (λ cs. 0 < out (ADisk store) cs) in
     subst P (sym is) h

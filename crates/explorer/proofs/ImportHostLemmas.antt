@@ -14,7 +14,7 @@ use Rattle.explorer.proofs.ToldStoreLemmas.{left_by}
 -- ---- a host with another disk
 
 -- the last that is put under a name stands there
-put_twice : (name : List ℕ) (first second : Option (List ℕ)) (disks : List ℕ → Option (List ℕ))
+pub put_twice : (name : List ℕ) (first second : Option (List ℕ)) (disks : List ℕ → Option (List ℕ))
     → put name second (put name first disks) ≡ put name second disks
 put_twice name first second disks = λ i other. once (bytes_eq other name) (disks other) i
   where

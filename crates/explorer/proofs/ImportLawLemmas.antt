@@ -239,6 +239,8 @@ module _ (store image file stream label : List ℕ) (all : List (List Cut)) (gro
   comes (Stopped faults.Usage) fed by = absurd by
   comes (Stopped (faults.BadParameter name)) fed by = absurd by
   comes (Stopped faults.BadLabel) fed by = absurd by
+  comes (Stopped faults.SpillFault) fed by = absurd by
+  comes (Stopped (faults.SpillDamaged part)) fed by = absurd by
   comes (Stopped faults.OpeningsTooLong) fed by = absurd by
   comes (Stopped (faults.BadOpenings row cause)) fed by = absurd by
   comes (Stopped (faults.NotEmpty size)) fed by = absurd by

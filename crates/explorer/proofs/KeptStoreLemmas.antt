@@ -135,6 +135,8 @@ module _ (old : List ℕ) (file : List ℕ) where
         of_ending (Stopped faults.Usage) by = absurd by
         of_ending (Stopped (faults.BadParameter name)) by = absurd by
         of_ending (Stopped faults.BadLabel) by = absurd by
+        of_ending (Stopped faults.SpillFault) by = absurd by
+        of_ending (Stopped (faults.SpillDamaged part)) by = absurd by
         of_ending (Stopped faults.OpeningsTooLong) by = absurd by
         of_ending (Stopped (faults.BadOpenings row cause)) by = absurd by
         of_ending (Stopped faults.ReadFault) by = absurd by

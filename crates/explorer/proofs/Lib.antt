@@ -21,6 +21,7 @@ mod WorkerLists
 mod DrawerLemmas
 mod DrawnLawLemmas
 mod QueryLemmas
+mod SpillLemmas
 mod ServeLemmas
 mod ByteLemmas
 mod SampleLemmas
@@ -34,6 +35,7 @@ mod MigrateLemmas
 mod MigrateLawLemmas
 mod KeptStoreLemmas
 mod QuestionLemmas
+mod SpillLawLemmas
 mod ListLemmas
 mod ListLawLemmas
 mod ImportHostLemmas

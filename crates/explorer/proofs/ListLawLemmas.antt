@@ -97,6 +97,8 @@ module _ (store file : List ℕ) (before after : World)
   comes (Stopped faults.Usage) fed by = absurd by
   comes (Stopped (faults.BadParameter name)) fed by = absurd by
   comes (Stopped faults.BadLabel) fed by = absurd by
+  comes (Stopped faults.SpillFault) fed by = absurd by
+  comes (Stopped (faults.SpillDamaged part)) fed by = absurd by
   comes (Stopped faults.OpeningsTooLong) fed by = absurd by
   comes (Stopped (faults.BadOpenings row cause)) fed by = absurd by
   comes (Stopped faults.ReadFault) fed by = absurd by

@@ -154,6 +154,8 @@ module _ {D : Type 0} (disk : D → DiskState) (left_since : D → ℕ → List 
       of_ending (Stopped faults.Usage) by = safe
       of_ending (Stopped (faults.BadParameter name)) by = safe
       of_ending (Stopped faults.BadLabel) by = safe
+      of_ending (Stopped faults.SpillFault) by = safe
+      of_ending (Stopped (faults.SpillDamaged part)) by = safe
       of_ending (Stopped faults.OpeningsTooLong) by = safe
       of_ending (Stopped (faults.BadOpenings row cause)) by = safe
       of_ending (Stopped faults.ReadFault) by = safe
@@ -220,6 +222,8 @@ module _ (old new : List ℕ) (before after : World) (only : OnlyHost before aft
     by_disk faults.Usage uses = absurd uses.does
     by_disk (faults.BadParameter name) uses = absurd uses.does
     by_disk faults.BadLabel uses = absurd uses.does
+    by_disk faults.SpillFault uses = absurd uses.does
+    by_disk (faults.SpillDamaged part) uses = absurd uses.does
     by_disk faults.OpeningsTooLong uses = absurd uses.does
     by_disk (faults.BadOpenings row cause) uses = absurd uses.does
     by_disk faults.ReadFault uses = absurd uses.does

@@ -242,6 +242,8 @@ comes stream all book query before after (Stopped (faults.Full games bytes)) tol
 comes stream all book query before after (Stopped faults.Usage) told groups_are faultless counts = absurd counts
 comes stream all book query before after (Stopped (faults.BadParameter name)) told groups_are faultless counts = absurd counts
 comes stream all book query before after (Stopped faults.BadLabel) told groups_are faultless counts = absurd counts
+comes stream all book query before after (Stopped faults.SpillFault) told groups_are faultless counts = absurd counts
+comes stream all book query before after (Stopped (faults.SpillDamaged part)) told groups_are faultless counts = absurd counts
 comes stream all book query before after (Stopped faults.OpeningsTooLong) told groups_are faultless counts = absurd counts
 comes stream all book query before after (Stopped (faults.BadOpenings row cause)) told groups_are faultless counts = absurd counts
 comes stream all book query before after (Stopped faults.DiskFault) told groups_are faultless counts = absurd counts

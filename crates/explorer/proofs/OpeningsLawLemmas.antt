@@ -130,6 +130,8 @@ module _ (name bytes : List ℕ) (before : HostState) (told : before.files name 
   faulty faults.Usage after small same came fed lacks = absurd lacks
   faulty (faults.BadParameter parameter) after small same came fed lacks = absurd lacks
   faulty faults.BadLabel after small same came fed lacks = absurd lacks
+  faulty faults.SpillFault after small same came fed lacks = absurd lacks
+  faulty (faults.SpillDamaged part) after small same came fed lacks = absurd lacks
   faulty faults.WriteFault after small same came fed lacks = absurd lacks
   faulty faults.DiskFault after small same came fed lacks = absurd lacks
   faulty (faults.NotEmpty size) after small same came fed lacks = absurd lacks
@@ -221,10 +223,11 @@ pub record SameHost (before read : HostState) : Type 0 where
   pub own : read.own_faults ≡ before.own_faults
   pub disk_faults : read.disk_faults ≡ before.disk_faults
   pub files : read.file_faults ≡ before.file_faults
+  pub port_faults : read.port_faults ≡ before.port_faults
 
 pub same_host : (openings : Option (List ℕ)) (book : List NamedPosition) (before read : HostState)
     → HasBook openings book before read → SameHost before read
-same_host None book before read has = rw has.1 (record { disks = refl; own = refl; disk_faults = refl; files = refl })
+same_host None book before read has = rw has.1 (record { disks = refl; own = refl; disk_faults = refl; files = refl; port_faults = refl })
 same_host (Some name) book before read (stream, reads, is) =
     let file = reads.file in
     record {
@@ -232,4 +235,5 @@ same_host (Some name) book before read (stream, reads, is) =
       own = ap (λ (h : HostState). h.own_faults) file.takes.rest ∙ ap (λ (h : HostState). h.own_faults) file.hands.rest;
       disk_faults = ap (λ (h : HostState). h.disk_faults) file.takes.rest ∙ ap (λ (h : HostState). h.disk_faults) file.hands.rest;
       files = reads.came;
+      port_faults = ap (λ (h : HostState). h.port_faults) file.takes.rest ∙ ap (λ (h : HostState). h.port_faults) file.hands.rest;
     }

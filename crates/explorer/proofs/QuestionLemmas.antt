@@ -129,6 +129,8 @@ module _ (store file : List ℕ) (query : Query) (book : List NamedPosition) (be
   comes (Stopped faults.Usage) fed by = absurd by
   comes (Stopped (faults.BadParameter name)) fed by = absurd by
   comes (Stopped faults.BadLabel) fed by = absurd by
+  comes (Stopped faults.SpillFault) fed by = absurd by
+  comes (Stopped (faults.SpillDamaged part)) fed by = absurd by
   comes (Stopped faults.OpeningsTooLong) fed by = absurd by
   comes (Stopped (faults.BadOpenings row cause)) fed by = absurd by
   comes (Stopped faults.ReadFault) fed by = absurd by
@@ -205,18 +207,18 @@ module _ (store file : List ℕ) (openings : Option (List ℕ)) (before after ot
   same_named query (inr stops) (inr stops') =
       one_fault book_once openings before after other ending ending' opens read_well read_well' fed fed' stops stops'
 
-  same_asking : (r s : Result Query BadParameter) → r ≡ s → AsksFor store openings r before after ending
-      → AsksFor store openings s before other ending' → BothCome
+  same_asking : (r s : Result Query BadParameter) → r ≡ s → AsksFor (AsksBy store) openings r before after ending
+      → AsksFor (AsksBy store) openings s before other ending' → BothCome
   same_asking r s is by by' =
-      of_one s (subst (λ (q : Result Query BadParameter). AsksFor store openings q before after ending) is by) by'
+      of_one s (subst (λ (q : Result Query BadParameter). AsksFor (AsksBy store) openings q before after ending) is by) by'
     where
-      of_one : (q : Result Query BadParameter) → AsksFor store openings q before after ending
-          → AsksFor store openings q before other ending' → BothCome
+      of_one : (q : Result Query BadParameter) → AsksFor (AsksBy store) openings q before after ending
+          → AsksFor (AsksBy store) openings q before other ending' → BothCome
       of_one (Err bad) by by' = (by.0 ∙ sym by'.0, by.1 ∙ sym by'.1)
       of_one (Ok query) by by' = same_named query by by'
 
-  pub one_question : (text : List ℕ) → OneQuery → QueriesBy store text openings before after ending
-      → QueriesBy store text openings before other ending' → BothCome
+  pub one_question : (text : List ℕ) → OneQuery → QueriesBy (AsksBy store) text openings before after ending
+      → QueriesBy (AsksBy store) text openings before other ending' → BothCome
   one_question text query (inl a) second = absurd (fed (ap status_of a.0))
   one_question text query (inr a) (inl b) = absurd (fed' (ap status_of b.0))
   one_question text query (inr a) (inr b) = same_asking a.0 b.0 (query text a.0 b.0 a.1 b.1) a.2 b.2

@@ -49,6 +49,8 @@ refused_by service before after Done seven by = absurd (omega (arith, seven))
 refused_by service before after (Stopped faults.Usage) seven by = absurd by
 refused_by service before after (Stopped (faults.BadParameter name)) seven by = absurd by
 refused_by service before after (Stopped faults.BadLabel) seven by = absurd by
+refused_by service before after (Stopped faults.SpillFault) seven by = absurd by
+refused_by service before after (Stopped (faults.SpillDamaged part)) seven by = absurd by
 refused_by service before after (Stopped faults.OpeningsTooLong) seven by = absurd by
 refused_by service before after (Stopped (faults.BadOpenings row cause)) seven by = absurd by
 refused_by service before after (Stopped faults.ReadFault) seven by = absurd (omega (arith, seven))
@@ -120,6 +122,8 @@ module _ (service : Service) (image : List ℕ) (before after : World)
   comes (Stopped faults.Usage) fed by = absurd by
   comes (Stopped (faults.BadParameter name)) fed by = absurd by
   comes (Stopped faults.BadLabel) fed by = absurd by
+  comes (Stopped faults.SpillFault) fed by = absurd by
+  comes (Stopped (faults.SpillDamaged part)) fed by = absurd by
   comes (Stopped faults.OpeningsTooLong) fed by = absurd by
   comes (Stopped (faults.BadOpenings row cause)) fed by = absurd by
   comes (Stopped (faults.NotEmpty size)) fed by = absurd by

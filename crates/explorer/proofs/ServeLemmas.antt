@@ -606,6 +606,8 @@ module _ (service : Service) (before after : World) (worked : IsWorked service b
   by-worker faults.Usage is first disk counted sees none reports = absurd is
   by-worker (faults.BadParameter p) is first disk counted sees none reports = absurd is
   by-worker faults.BadLabel is first disk counted sees none reports = absurd is
+  by-worker faults.SpillFault is first disk counted sees none reports = absurd is
+  by-worker (faults.SpillDamaged part) is first disk counted sees none reports = absurd is
   by-worker faults.OpeningsTooLong is first disk counted sees none reports = absurd is
   by-worker (faults.BadOpenings row cause) is first disk counted sees none reports = absurd is
   by-worker faults.WriteFault is first disk counted sees none reports = absurd is

@@ -17,11 +17,12 @@ use Rattle.explorer.specs.declared.fault.Fault.TheVariants as faults
 use Rattle.explorer.specs.Book.{HasBook, LacksBook, NamedBy, StopsAtBook}
 use Rattle.explorer.specs.Create.{CreatesBy}
 use Rattle.explorer.specs.ImportStore.{ImportsBy, ImportsLabelled, ImportsSo, ImportsTo}
-use Rattle.explorer.specs.Laws.{GoesWell, HasMemory, HoldAlike, ImportAlike, IsToldErrors, IsToldFile, IsToldOutput, IsToldStore, MigratedAlike, LacksOpenings, OpensWell, IsToldOpenings, ReadsWell, RefusedAlike, ReportsWell, ServedAlike, ServedAlikeBehind, ServesDoors, WritesWell, serving, with_book, with_workers}
+use Rattle.explorer.specs.Laws.{CountsSpills, GoesWell, HasMemory, HoldAlike, ImportAlike, IsToldErrors, IsToldFile, IsToldOutput, IsToldStore, MigratedAlike, LacksOpenings, OpensWell, IsToldOpenings, ReadsWell, RefusedAlike, ReportsWell, ServedAlike, ServedAlikeBehind, ServesDoors, SpilledAlike, SpillsWell, WritesWell, serving, with_book, with_workers}
 use Rattle.explorer.specs.Lines.{AreLinesOf, Ending, Done, Stopped, Tells, status_of}
 use Rattle.explorer.specs.ListBatches.{ListsBy}
 use Rattle.explorer.specs.Migrate.{MigratesBy}
-use Rattle.explorer.specs.QueryStore.{AsksBy, AsksFor, QueriesBy}
+use Rattle.explorer.specs.QuerySpilled.{SpillsBy}
+use Rattle.explorer.specs.QueryStore.{Asking, AsksBy, AsksFor, QueriesBy}
 use Rattle.explorer.specs.Report.{report}
 use Rattle.explorer.specs.Run.{Ends, Meets, Runs, StartsWithout}
 use Rattle.explorer.specs.Serve.{Serves}
@@ -42,6 +43,7 @@ use Rattle.explorer.proofs.OpeningsLawLemmas.{OneBook, SameHost, one_book, same_
 use Rattle.explorer.proofs.QuestionLemmas.{OneOpening, one_question, told_since, well_since}
 use Rattle.explorer.proofs.RunLawLemmas.{append_all, no_memory, opens_before, same_lines, told_behind}
 use Rattle.explorer.proofs.ServeLawLemmas.{both_refused, both_served, refused_errors, refused_too}
+use Rattle.explorer.proofs.SpillLawLemmas.{one_spilling}
 use Rattle.explorer.proofs.TrialLawLemmas.{OneSample, one_trial}
 
 -- ---- how an ending is told
@@ -112,6 +114,8 @@ created_errors store before after (Stopped (faults.CannotOpen name)) by = by_hos
 created_errors store before after (Stopped faults.Usage) by = absurd by
 created_errors store before after (Stopped (faults.BadParameter name)) by = absurd by
 created_errors store before after (Stopped faults.BadLabel) by = absurd by
+created_errors store before after (Stopped faults.SpillFault) by = absurd by
+created_errors store before after (Stopped (faults.SpillDamaged part)) by = absurd by
 created_errors store before after (Stopped faults.OpeningsTooLong) by = absurd by
 created_errors store before after (Stopped (faults.BadOpenings row cause)) by = absurd by
 created_errors store before after (Stopped faults.ReadFault) by = absurd by
@@ -136,6 +140,8 @@ migrated_errors old new before after (Stopped faults.OutOfMemory) by = by_host b
 migrated_errors old new before after (Stopped faults.Usage) by = absurd by
 migrated_errors old new before after (Stopped (faults.BadParameter name)) by = absurd by
 migrated_errors old new before after (Stopped faults.BadLabel) by = absurd by
+migrated_errors old new before after (Stopped faults.SpillFault) by = absurd by
+migrated_errors old new before after (Stopped (faults.SpillDamaged part)) by = absurd by
 migrated_errors old new before after (Stopped faults.OpeningsTooLong) by = absurd by
 migrated_errors old new before after (Stopped (faults.BadOpenings row cause)) by = absurd by
 migrated_errors old new before after (Stopped faults.ReadFault) by = absurd by
@@ -154,6 +160,8 @@ asked_errors store query book before after (Stopped (faults.CannotOpen name)) by
 asked_errors store query book before after (Stopped faults.Usage) by = absurd by
 asked_errors store query book before after (Stopped (faults.BadParameter name)) by = absurd by
 asked_errors store query book before after (Stopped faults.BadLabel) by = absurd by
+asked_errors store query book before after (Stopped faults.SpillFault) by = absurd by
+asked_errors store query book before after (Stopped (faults.SpillDamaged part)) by = absurd by
 asked_errors store query book before after (Stopped faults.OpeningsTooLong) by = absurd by
 asked_errors store query book before after (Stopped (faults.BadOpenings row cause)) by = absurd by
 asked_errors store query book before after (Stopped faults.ReadFault) by = absurd by
@@ -171,15 +179,41 @@ named_errors openings Does before after ending errors (inl (book, read, has, doe
 named_errors None Does before after ending errors (inr stops) = absurd stops
 named_errors (Some name) Does before after ending errors (inr (fault, is, lacks, only)) = by_host before after only
 
-asked_for : (store : List ℕ) (openings : Option (List ℕ)) (r : Result AQuery BadParameter) (before after : World) (ending : Ending)
-    → AsksFor store openings r before after ending → after.errors ≡ before.errors
-asked_for store openings (Err bad) before after ending by = ap (λ (w : World). w.errors) by.1
-asked_for store openings (Ok query) before after ending by =
-    named_errors openings (AsksBy store query) before after ending (λ book now does. asked_errors store query book now after ending does) by
+spilled_errors : (store name : List ℕ) (query : AQuery) (book : List NamedPosition) (before after : World) (ending : Ending) → SpillsBy store name query book before after ending → after.errors ≡ before.errors
+spilled_errors store name query book before after Done by = ap (λ (w : World). w.errors) by.rest
+spilled_errors store name query book before after (Stopped faults.WriteFault) by = ap (λ (w : World). w.errors) by.rest
+spilled_errors store name query book before after (Stopped faults.NotAStore) by = by_host before after by.1
+spilled_errors store name query book before after (Stopped (faults.OtherFormat number)) by = by_host before after by.1
+spilled_errors store name query book before after (Stopped (faults.Damaged gate)) by = by_host before after by.1
+spilled_errors store name query book before after (Stopped faults.OutOfMemory) by = by_host before after by.1
+spilled_errors store name query book before after (Stopped (faults.CannotOpen refused)) by = by_host before after by.1
+spilled_errors store name query book before after (Stopped (faults.SpillDamaged part)) by = by_host before after by.1
+spilled_errors store name query book before after (Stopped faults.DiskFault) by = by_host before after by.2
+spilled_errors store name query book before after (Stopped faults.SpillFault) by = by_host before after by.2
+spilled_errors store name query book before after (Stopped faults.Usage) by = absurd by
+spilled_errors store name query book before after (Stopped (faults.BadParameter parameter)) by = absurd by
+spilled_errors store name query book before after (Stopped faults.BadLabel) by = absurd by
+spilled_errors store name query book before after (Stopped faults.OpeningsTooLong) by = absurd by
+spilled_errors store name query book before after (Stopped (faults.BadOpenings row cause)) by = absurd by
+spilled_errors store name query book before after (Stopped faults.ReadFault) by = absurd by
+spilled_errors store name query book before after (Stopped faults.TooMuchInput) by = absurd by
+spilled_errors store name query book before after (Stopped (faults.Full games bytes)) by = absurd by
+spilled_errors store name query book before after (Stopped (faults.NotEmpty size)) by = absurd by
+spilled_errors store name query book before after (Stopped faults.CannotAccept) by = absurd by
 
-queried_errors : (store text : List ℕ) (openings : Option (List ℕ)) (before after : World) (ending : Ending) → QueriesBy store text openings before after ending → after.errors ≡ before.errors
-queried_errors store text openings before after ending (inl (is, same)) = ap (λ (w : World). w.errors) same
-queried_errors store text openings before after ending (inr (r, reads, by)) = asked_for store openings r before after ending by
+-- what is asked by a query and a book writes nothing to the errors
+abbrev LeavesErrors : Asking → Type 0
+LeavesErrors Asks = (query : AQuery) (book : List NamedPosition) (before after : World) (ending : Ending) → Asks query book before after ending → after.errors ≡ before.errors
+
+asked_for : (Asks : Asking) → LeavesErrors Asks → (openings : Option (List ℕ)) (r : Result AQuery BadParameter) (before after : World) (ending : Ending)
+    → AsksFor Asks openings r before after ending → after.errors ≡ before.errors
+asked_for Asks leaves openings (Err bad) before after ending by = ap (λ (w : World). w.errors) by.1
+asked_for Asks leaves openings (Ok query) before after ending by =
+    named_errors openings (Asks query) before after ending (λ book now does. leaves query book now after ending does) by
+
+queried_errors : (Asks : Asking) → LeavesErrors Asks → (text : List ℕ) (openings : Option (List ℕ)) (before after : World) (ending : Ending) → QueriesBy Asks text openings before after ending → after.errors ≡ before.errors
+queried_errors Asks leaves text openings before after ending (inl (is, same)) = ap (λ (w : World). w.errors) same
+queried_errors Asks leaves text openings before after ending (inr (r, reads, by)) = asked_for Asks leaves openings r before after ending by
 
 listed_errors : (store : List ℕ) (before after : World) (ending : Ending) → ListsBy store before after ending → after.errors ≡ before.errors
 listed_errors store before after Done by = ap (λ (w : World). w.errors) by.rest
@@ -193,6 +227,8 @@ listed_errors store before after (Stopped faults.OutOfMemory) by = by_host befor
 listed_errors store before after (Stopped faults.Usage) by = absurd by
 listed_errors store before after (Stopped (faults.BadParameter name)) by = absurd by
 listed_errors store before after (Stopped faults.BadLabel) by = absurd by
+listed_errors store before after (Stopped faults.SpillFault) by = absurd by
+listed_errors store before after (Stopped (faults.SpillDamaged part)) by = absurd by
 listed_errors store before after (Stopped faults.OpeningsTooLong) by = absurd by
 listed_errors store before after (Stopped (faults.BadOpenings row cause)) by = absurd by
 listed_errors store before after (Stopped faults.ReadFault) by = absurd by
@@ -208,6 +244,8 @@ tried_errors games seed before after (Stopped faults.OutOfMemory) by = ap (λ (w
 tried_errors games seed before after (Stopped faults.Usage) by = absurd by
 tried_errors games seed before after (Stopped (faults.BadParameter name)) by = absurd by
 tried_errors games seed before after (Stopped faults.BadLabel) by = absurd by
+tried_errors games seed before after (Stopped faults.SpillFault) by = absurd by
+tried_errors games seed before after (Stopped (faults.SpillDamaged part)) by = absurd by
 tried_errors games seed before after (Stopped faults.OpeningsTooLong) by = absurd by
 tried_errors games seed before after (Stopped (faults.BadOpenings row cause)) by = absurd by
 tried_errors games seed before after (Stopped faults.ReadFault) by = absurd by
@@ -253,6 +291,8 @@ labelled_errors store file label before after (Stopped faults.OutOfMemory) (inr 
 labelled_errors store file label before after (Stopped faults.Usage) by = absurd by
 labelled_errors store file label before after (Stopped (faults.BadParameter name)) by = absurd by
 labelled_errors store file label before after (Stopped faults.BadLabel) by = absurd by
+labelled_errors store file label before after (Stopped faults.SpillFault) by = absurd by
+labelled_errors store file label before after (Stopped (faults.SpillDamaged part)) by = absurd by
 labelled_errors store file label before after (Stopped faults.OpeningsTooLong) by = absurd by
 labelled_errors store file label before after (Stopped (faults.BadOpenings row cause)) by = absurd by
 labelled_errors store file label before after (Stopped (faults.NotEmpty size)) by = absurd by
@@ -276,14 +316,18 @@ stops_no_usage (Some name) before after ending (fault, is, lacks, only) usage =
     let fault_is : fault ≡ faults.Usage = cc in
     subst (λ (f : Fault). LacksBook name f before.host after.host) fault_is lacks
 
-no_usage_by : (store : List ℕ) (openings : Option (List ℕ)) (r : Result AQuery BadParameter) (before after : World) (ending : Ending) → AsksFor store openings r before after ending → ending ≡ Stopped faults.Usage → ⊥
-no_usage_by store openings (Err bad) before after ending by usage = let same : Stopped (faults.BadParameter bad.name) ≡ Stopped faults.Usage = sym by.0 ∙ usage in cc
-no_usage_by store openings (Ok query) before after ending (inl (book, read, has, by)) usage = subst (λ (e : Ending). AsksBy store query book (record before { host = read }) after e) usage by
-no_usage_by store openings (Ok query) before after ending (inr stops) usage = stops_no_usage openings before after ending stops usage
+abbrev NoUsage : Asking → Type 0
+NoUsage Asks = (query : AQuery) (book : List NamedPosition) (before after : World) → Asks query book before after (Stopped faults.Usage) → ⊥
 
-no_usage_asked : (store text : List ℕ) (openings : Option (List ℕ)) (before after : World) (ending : Ending) → QueriesBy store text openings before after ending → ending ≡ Stopped faults.Usage → ⊥
-no_usage_asked store text openings before after ending (inl (is, starves)) usage = let same : Stopped faults.OutOfMemory ≡ Stopped faults.Usage = sym is ∙ usage in cc
-no_usage_asked store text openings before after ending (inr (r, reads, by)) usage = no_usage_by store openings r before after ending by usage
+no_usage_by : (Asks : Asking) → NoUsage Asks → (openings : Option (List ℕ)) (r : Result AQuery BadParameter) (before after : World) (ending : Ending) → AsksFor Asks openings r before after ending → ending ≡ Stopped faults.Usage → ⊥
+no_usage_by Asks none openings (Err bad) before after ending by usage = let same : Stopped (faults.BadParameter bad.name) ≡ Stopped faults.Usage = sym by.0 ∙ usage in cc
+no_usage_by Asks none openings (Ok query) before after ending (inl (book, read, has, by)) usage =
+    none query book (record before { host = read }) after (subst (λ (e : Ending). Asks query book (record before { host = read }) after e) usage by)
+no_usage_by Asks none openings (Ok query) before after ending (inr stops) usage = stops_no_usage openings before after ending stops usage
+
+no_usage_asked : (Asks : Asking) → NoUsage Asks → (text : List ℕ) (openings : Option (List ℕ)) (before after : World) (ending : Ending) → QueriesBy Asks text openings before after ending → ending ≡ Stopped faults.Usage → ⊥
+no_usage_asked Asks none text openings before after ending (inl (is, starves)) usage = let same : Stopped faults.OutOfMemory ≡ Stopped faults.Usage = sym is ∙ usage in cc
+no_usage_asked Asks none text openings before after ending (inr (r, reads, by)) usage = no_usage_by Asks none openings r before after ending by usage
 
 -- nor does an import
 no_usage_imported : (store file label : List ℕ) (before after : World) (ending : Ending) → ImportsBy store file label before after ending → ending ≡ Stopped faults.Usage → ⊥
@@ -314,6 +358,14 @@ goes_before ending before ended after tells well =
       writes = sym (ap (λ (w : World). w.output.write_faults) rest) ∙ well.writes;
       refusals = sym (ap (λ (w : World). w.host.own_faults) rest) ∙ well.refusals;
       faults = sym (ap (λ (w : World). w.host.disk_faults) rest) ∙ well.faults;
+    }
+
+spills_before : (name : List ℕ) (ending : Ending) (before ended after : World) → Tells ending ended after → SpillsWell name before after → SpillsWell name before ended
+spills_before name ending before ended after tells well =
+    let rest = told_rest ending ended after tells in
+    record {
+      faults = sym (ap (λ (w : World). w.host.port_faults) rest) ∙ well.faults;
+      told = subst (λ (o : Option (List ℕ)). IsSome o) (ap (λ (w : World). w.host.ports name) rest) well.told;
     }
 
 not_usage : (ending : Ending) (status : ℕ) → status ≡ status_of ending → status ≢ 2 → ending ≡ Stopped faults.Usage → ⊥
@@ -375,18 +427,52 @@ module _ (words words' : List (List ℕ)) (before after other : World) (status s
       (goes_before second.ending before second.ended other second.tells well') there there' meets meets')
 
   -- of a question
-  pub one_asking : (store text image : List ℕ) (openings : Option (List ℕ)) (workers workers' : ℕ) → OneAnswer → OneNaming → OneOpening → OneBook → OneQuery → task_of words ≡ Some (Query store text workers openings) → task_of words' ≡ Some (Query store text workers' openings)
+  pub one_asking : (store text image : List ℕ) (openings : Option (List ℕ)) (workers workers' : ℕ) → OneAnswer → OneNaming → OneOpening → OneBook → OneQuery → task_of words ≡ Some (Query store text workers openings None) → task_of words' ≡ Some (Query store text workers' openings None)
       → IsToldStore store image before → IsToldOpenings openings before → GoesWell before after → OpensWell openings before after → GoesWell before other → OpensWell openings before other → status ≢ 9 → status' ≢ 9 → (status ≡ status') × (after ≡ other)
   one_asking store text image openings workers workers' found one_naming once book_once query asks asks' told opens well read well' read' fed fed' =
-      let meets = meets_task (Query store text workers openings) words before first.ended first.ending status asks fed first.status_is first.meets in
-      let meets' = meets_task (Query store text workers' openings) words' before second.ended second.ending status' asks' fed' second.status_is second.meets in
-      one_run_of ([], no_more before.errors first.ended.errors (queried_errors store text openings before first.ended first.ending meets))
-      ([], no_more before.errors second.ended.errors (queried_errors store text openings before second.ended second.ending meets'))
-      (no_usage_asked store text openings before first.ended first.ending meets)
+      let meets = meets_task (Query store text workers openings None) words before first.ended first.ending status asks fed first.status_is first.meets in
+      let meets' = meets_task (Query store text workers' openings None) words' before second.ended second.ending status' asks' fed' second.status_is second.meets in
+      one_run_of ([], no_more before.errors first.ended.errors (queried_errors (AsksBy store) (asked_errors store) text openings before first.ended first.ending meets))
+      ([], no_more before.errors second.ended.errors (queried_errors (AsksBy store) (asked_errors store) text openings before second.ended second.ending meets'))
+      (no_usage_asked (AsksBy store) (λ query book before after by. by) text openings before first.ended first.ending meets)
       (one_question store image openings before first.ended second.ended first.ending second.ending found one_naming once book_once told opens
       (goes_before first.ending before first.ended after first.tells well) (opens_before openings first.ending before first.ended after first.tells read)
       (goes_before second.ending before second.ended other second.tells well') (opens_before openings second.ending before second.ended other second.tells read')
       (fed_by status first.ending first.status_is fed) (fed_by status' second.ending second.status_is fed') text query meets meets')
+
+  -- of one through a scratch file
+  pub one_spilled : (store name text image : List ℕ) (openings : Option (List ℕ)) (workers workers' : ℕ) → OneAnswer → OneNaming → OneOpening → OneBook → OneQuery → task_of words ≡ Some (Query store text workers openings (Some name)) → task_of words' ≡ Some (Query store text workers' openings (Some name))
+      → IsToldStore store image before → IsToldOpenings openings before → CountsSpills before → GoesWell before after → OpensWell openings before after → SpillsWell name before after → GoesWell before other → OpensWell openings before other → SpillsWell name before other → status ≢ 9 → status' ≢ 9
+      → (status ≡ status') × SpilledAlike name after other
+  one_spilled store name text image openings workers workers' found one_naming once book_once query asks asks' told opens spill well read kept well' read' kept' fed fed' =
+      let meets = meets_task (Query store text workers openings (Some name)) words before first.ended first.ending status asks fed first.status_is first.meets in
+      let meets' = meets_task (Query store text workers' openings (Some name)) words' before second.ended second.ending status' asks' fed' second.status_is second.meets in
+      let grew = no_more before.errors first.ended.errors (queried_errors (SpillsBy store name) (spilled_errors store name) text openings before first.ended first.ending meets) in
+      let grew' = no_more before.errors second.ended.errors (queried_errors (SpillsBy store name) (spilled_errors store name) text openings before second.ended second.ending meets') in
+      let fine = calm first.ending before first.ended after [] errors reports grew first.tells in
+      let fine' = calm second.ending before second.ended other [] errors reports' grew' second.tells in
+      let rest = told_rest first.ending first.ended after first.tells in
+      let rest' = told_rest second.ending second.ended other second.tells in
+      let host : after.host ≡ first.ended.host = ap (λ (w : World). w.host) rest in
+      let host' : other.host ≡ second.ended.host = ap (λ (w : World). w.host) rest' in
+      let both = one_spilling store name image openings before first.ended second.ended first.ending second.ending found one_naming once book_once told opens spill
+      (goes_before first.ending before first.ended after first.tells well) (opens_before openings first.ending before first.ended after first.tells read) (spills_before name first.ending before first.ended after first.tells kept)
+      (goes_before second.ending before second.ended other second.tells well') (opens_before openings second.ending before second.ended other second.tells read') (spills_before name second.ending before second.ended other second.tells kept')
+      (fed_by status first.ending first.status_is fed) (fed_by status' second.ending second.status_is fed') text query meets meets' in
+      let alike = both.1 in
+      let moved = subst (λ (e : Ending). Tells e second.ended other) (sym both.0) second.tells in
+      let P : HostState → HostState → Type 0 = λ h k. k ≡ record h { ports = put name (k.ports name) h.ports } in (
+        first.status_is ∙ ap status_of both.0 ∙ sym second.status_is,
+        record {
+          streams = record {
+            input = ap (λ (w : World). w.input) rest' ∙ alike.streams.input ∙ sym (ap (λ (w : World). w.input) rest);
+            output = ap (λ (w : World). w.output) rest' ∙ alike.streams.output ∙ sym (ap (λ (w : World). w.output) rest);
+            errors = sym (told_alike first.ending before first.ended after second.ended other
+                (no_usage_asked (SpillsBy store name) (λ query book before after by. by) text openings before first.ended first.ending meets) fine fine' (sym alike.streams.errors) first.tells moved);
+          };
+          rest = subst (λ (h : HostState). P h other.host) (sym host) (subst (λ (k : HostState). P first.ended.host k) (sym host') alike.rest);
+        },
+      )
 
   -- of a listing
   pub one_listed : (store image : List ℕ) (workers workers' : ℕ) → OneOpening → task_of words ≡ Some (Batches store workers) → task_of words' ≡ Some (Batches store workers') → IsToldStore store image before → GoesWell before after → GoesWell before other
@@ -502,6 +588,8 @@ stops_not_seven (Some name) before after ending (fault, is, lacks, only) seven =
     by_fault faults.Usage lacks seven = lacks
     by_fault (faults.BadParameter parameter) lacks seven = lacks
     by_fault faults.BadLabel lacks seven = lacks
+    by_fault faults.SpillFault lacks seven = lacks
+    by_fault (faults.SpillDamaged part) lacks seven = lacks
     by_fault faults.WriteFault lacks seven = lacks
     by_fault faults.DiskFault lacks seven = lacks
     by_fault (faults.NotEmpty size) lacks seven = lacks

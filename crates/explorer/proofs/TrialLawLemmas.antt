@@ -111,6 +111,8 @@ module _ (games seed : ℕ) (one : OneGame) (accounts : OneAccount) (sample : On
   comes before after (Stopped faults.Usage) told well fed by = absurd by
   comes before after (Stopped (faults.BadParameter name)) told well fed by = absurd by
   comes before after (Stopped faults.BadLabel) told well fed by = absurd by
+  comes before after (Stopped faults.SpillFault) told well fed by = absurd by
+  comes before after (Stopped (faults.SpillDamaged part)) told well fed by = absurd by
   comes before after (Stopped faults.OpeningsTooLong) told well fed by = absurd by
   comes before after (Stopped (faults.BadOpenings row cause)) told well fed by = absurd by
   comes before after (Stopped faults.ReadFault) told well fed by = absurd by

@@ -18,6 +18,11 @@ abbrev pub IsNamingOf : List NamedPosition → Query → Found → Naming → Ty
 IsNamingOf book query found naming =
     IsNaming book query (map (λ line. line.next) found.moves) naming
 
+-- the line of what is found for a query, by a book
+abbrev pub IsLineOf : List NamedPosition → Query → Found → Vec ℕ Global → Type 0
+IsLineOf book query found line = (naming : Naming)
+    × IsNamingOf book query found naming × (line.items ≡ answer_line found naming)
+
 -- the line that answers a query over a journal by a book
 abbrev pub IsAnswer : List NamedPosition → Query → List Batch → Vec ℕ Global → Type 0
 IsAnswer book query journal line = (found : Found) × (naming : Naming)

@@ -6,6 +6,9 @@ use Rattle.explorer_model.specs.declared.query.BadParameter as query_fault
 use Rattle.explorer_model.specs.declared.store.LogFault.TheVariants as log
 use Rattle.ingest_desk.specs.declared.report.ImportEnding.{ImportEnding}
 use Rattle.ingest_desk.specs.declared.report.ImportEnding.TheVariants as endings
+use Rattle.ingest_desk.specs.declared.spill_fault.SpillOpenFault.{SpillOpenFault}
+use Rattle.ingest_desk.specs.declared.spill_fault.SpillOpenFault.TheVariants as spilling
+use Rattle.spill_blobs.specs.declared.port_fault.PortFault.TheVariants as ports
 use Rattle.record_log.specs.declared.fault.AppendFault.{AppendFault}
 use Rattle.record_log.specs.declared.fault.AppendFault.TheVariants as append
 use Rattle.record_log.specs.declared.fault.CreateFault.{CreateFault}
@@ -13,7 +16,7 @@ use Rattle.record_log.specs.declared.fault.CreateFault.TheVariants as creation
 use Rattle.record_log.specs.declared.fault.OpenFault.{OpenFault}
 use Rattle.record_log.specs.declared.fault.OpenFault.TheVariants as opening
 use Rattle.explorer.specs.declared.fault.Fault.{Fault}
-use Rattle.explorer.specs.declared.fault.Fault.TheVariants.{BadParameter, Damaged, DiskFault, Full, NotAStore, NotEmpty, OtherFormat, OutOfMemory, ReadFault, TooMuchInput}
+use Rattle.explorer.specs.declared.fault.Fault.TheVariants.{BadParameter, Damaged, DiskFault, Full, NotAStore, NotEmpty, OtherFormat, OutOfMemory, ReadFault, SpillDamaged, SpillFault, TooMuchInput}
 
 abbrev pub fault_of_query : Stop query_fault.BadParameter → Fault
 fault_of_query (stops.Fault bad) = BadParameter bad.name
@@ -47,6 +50,13 @@ fault_of_opening (opening.Log (log.OtherFormat number)) = OtherFormat number
 fault_of_opening (opening.Log (log.Damaged at)) = Damaged at
 fault_of_opening (opening.DiskFault before after) = DiskFault
 fault_of_opening opening.OutOfMemory = OutOfMemory
+
+-- an answer through a scratch file that is not there
+abbrev pub fault_of_spilling : SpillOpenFault → Fault
+fault_of_spilling (spilling.Store fault) = fault_of_opening fault
+fault_of_spilling (spilling.Port (ports.ReadFault before after)) = SpillFault
+fault_of_spilling (spilling.Port (ports.Damaged part)) = SpillDamaged part
+fault_of_spilling (spilling.Port (ports.WriteFault before after)) = SpillFault
 
 -- Why a store is not opened, by how many calls of its disk have failed before and after: one failed,
 -- or else what was found.

@@ -68,7 +68,7 @@ CountsAtMost (Some _) = ⊥
 -- the name of the file of openings that is asked for, where one is
 abbrev pub openings_of : Option Task → Option (List ℕ)
 openings_of (Some (Count query workers openings)) = openings
-openings_of (Some (Query store query workers openings)) = openings
+openings_of (Some (Query store query workers openings spill)) = openings
 openings_of (Some (Serve store address files workers readers connections openings)) = openings
 openings_of _ = None
 
@@ -187,6 +187,22 @@ pub record MigratedAlike (new : List ℕ) (after other : World) : Type 0 where
   pub rest : other.host ≡ record after.host {
     calls = other.host.calls;
     disks = put new (other.host.disks new) after.host.disks;
+  }
+
+-- the count of scratch files that came back with faults doesn't stand at its greatest number
+abbrev pub CountsSpills : World → Type 0
+CountsSpills world = world.host.port_faults < 2 ^ 64 - 1
+
+-- no scratch file came back with faults, and what stands under the name is told
+pub record SpillsWell (name : List ℕ) (before after : World) : Type 0 where
+  pub faults : after.host.port_faults ≡ before.host.port_faults
+  pub told : IsSome (after.host.ports name)
+
+-- runs came to the same, but for the bytes under the name of a scratch file
+pub record SpilledAlike (name : List ℕ) (after other : World) : Type 0 where
+  pub streams : SameStreams after other
+  pub rest : other.host ≡ record after.host {
+    ports = put name (other.host.ports name) after.host.ports;
   }
 
 -- the service with so many workers

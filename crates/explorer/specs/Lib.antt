@@ -22,5 +22,6 @@ pub mod Serve
 pub mod Serving
 pub mod Workers
 pub mod QueryStore
+pub mod QuerySpilled
 pub mod ListBatches
 pub mod Concluding

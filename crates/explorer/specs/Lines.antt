@@ -8,7 +8,7 @@ use Rattle.explorer_model.specs.Query.{parameter_text}
 use Rattle.explorer_model.specs.Refusals.{book_cause_text}
 use Rattle.explorer.specs.World.{World}
 use Rattle.explorer.specs.declared.fault.Fault.{Fault}
-use Rattle.explorer.specs.declared.fault.Fault.TheVariants.{BadLabel, BadOpenings, BadParameter, CannotAccept, CannotOpen, Damaged, DiskFault, Full, NotAStore, NotEmpty, OpeningsTooLong, OtherFormat, OutOfMemory, ReadFault, TooMuchInput, Usage, WriteFault}
+use Rattle.explorer.specs.declared.fault.Fault.TheVariants.{BadLabel, BadOpenings, BadParameter, CannotAccept, CannotOpen, Damaged, DiskFault, Full, NotAStore, NotEmpty, OpeningsTooLong, OtherFormat, OutOfMemory, ReadFault, SpillDamaged, SpillFault, TooMuchInput, Usage, WriteFault}
 
 -- all that the words ask for was done, or a fault stopped it
 pub data Ending : Type 0 where
@@ -34,6 +34,8 @@ status_of (Stopped CannotAccept) = 10
 status_of (Stopped TooMuchInput) = 11
 status_of (Stopped OpeningsTooLong) = 12
 status_of (Stopped (BadOpenings line cause)) = 12
+status_of (Stopped SpillFault) = 13
+status_of (Stopped (SpillDamaged part)) = 14
 
 -- games and bytes that are stored, without the group that finds no room
 abbrev pub full_line : ℕ → ℕ → List ℕ
@@ -70,6 +72,9 @@ AreLinesOf CannotAccept lines = lines ≡ codes "cannot accept\n" ∷ []
 AreLinesOf TooMuchInput lines = lines ≡ codes "too much input\n" ∷ []
 AreLinesOf OpeningsTooLong lines = lines ≡ codes "openings too long\n" ∷ []
 AreLinesOf (BadOpenings line cause) lines = lines ≡ openings_line line cause ∷ []
+AreLinesOf SpillFault lines = lines ≡ codes "spill fault\n" ∷ []
+AreLinesOf (SpillDamaged part) lines =
+    lines ≡ (codes "spill damaged " ++ decimal part ++ codes "\n") ∷ []
 
 -- what is written of it is one piece, since no name is in it
 abbrev pub HasOneLine : Fault → Type 0

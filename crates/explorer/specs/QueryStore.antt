@@ -56,20 +56,24 @@ AsksBy store query book before after (Stopped OutOfMemory) =
     UsesDisk store IsUnchanged before.host after.host × OnlyHost before after
 AsksBy store query book before after (Stopped _) = ⊥
 
--- a run by what the query reads as; the file of openings is read before the store is asked for
-abbrev pub AsksFor : List ℕ → Option (List ℕ) → Result Query query_fault.BadParameter → World
-    → World → Ending → Type 0
-AsksFor store openings (Err bad) before after ending =
-    (ending ≡ Stopped (BadParameter bad.name)) × (after ≡ before)
-AsksFor store openings (Ok query) before after ending =
-    NamedBy openings (AsksBy store query) before after ending
+-- what a query and a book come to
+abbrev pub Asking : Type 1
+Asking = Query → List NamedPosition → World → World → Ending → Type 0
 
--- a run of `query` by its ending
-abbrev pub QueriesBy : List ℕ → List ℕ → Option (List ℕ) → World → World → Ending → Type 0
-QueriesBy store text openings before after ending =
+-- a run by what the query reads as; the file of openings is read before all else is asked for
+abbrev pub AsksFor : Asking → Option (List ℕ) → Result Query query_fault.BadParameter → World
+    → World → Ending → Type 0
+AsksFor Asks openings (Err bad) before after ending =
+    (ending ≡ Stopped (BadParameter bad.name)) × (after ≡ before)
+AsksFor Asks openings (Ok query) before after ending =
+    NamedBy openings (Asks query) before after ending
+
+-- a run of `query` by its ending, where this is what is asked by its query and its book
+abbrev pub QueriesBy : Asking → List ℕ → Option (List ℕ) → World → World → Ending → Type 0
+QueriesBy Asks text openings before after ending =
     ((ending ≡ Stopped OutOfMemory) × (after ≡ before))
     ⊎ ((query : Result Query query_fault.BadParameter)
-    × QueryReads text query × AsksFor store openings query before after ending)
+    × QueryReads text query × AsksFor Asks openings query before after ending)
 
 -- ---- bridge: what the code comes to on the way
 

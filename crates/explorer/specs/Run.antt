@@ -9,7 +9,8 @@ use Rattle.explorer.specs.ImportStore.{ImportsBy}
 use Rattle.explorer.specs.Lines.{Ending, Stopped, Tells, status_of}
 use Rattle.explorer.specs.ListBatches.{ListsBy}
 use Rattle.explorer.specs.Migrate.{MigratesBy}
-use Rattle.explorer.specs.QueryStore.{QueriesBy}
+use Rattle.explorer.specs.QuerySpilled.{SpillsBy}
+use Rattle.explorer.specs.QueryStore.{AsksBy, QueriesBy}
 use Rattle.explorer.specs.Serve.{Serves}
 use Rattle.explorer.specs.Trial.{TriesBy}
 use Rattle.command_line.specs.Task.{Task, Batches, Count, Create, Import, Migrate, Query, Serve, Trial, task_of}
@@ -24,8 +25,10 @@ Ends (Create store) before after ending = CreatesBy store before after ending
 Ends (Import store file workers label) before after ending =
     ImportsBy store file label before after ending
 Ends (Migrate old new) before after ending = MigratesBy old new before after ending
-Ends (Query store query workers openings) before after ending =
-    QueriesBy store query openings before after ending
+Ends (Query store query workers openings None) before after ending =
+    QueriesBy (AsksBy store) query openings before after ending
+Ends (Query store query workers openings (Some spill)) before after ending =
+    QueriesBy (SpillsBy store spill) query openings before after ending
 Ends (Serve store address files workers readers connections openings) before after ending =
     NamedBy openings (λ book. Serves (record {
       store = store;

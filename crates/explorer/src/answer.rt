@@ -1,9 +1,11 @@
 //! The answer to a query over what is published.
 ghost use Rattle.std.specs.Prelude.{◌≡◌, ◌<◌, ◌≤◌, IfOk};
-ghost use Rattle.explorer_model.specs.Chess.{IsValid};
+ghost use Rattle.std.specs.List.{AllByRecursion};
+ghost use Rattle.answer_json.specs.Plain.{IsPlainFound};
+ghost use Rattle.explorer_model.specs.Chess.{IsValid, Legal};
 ghost use Rattle.explorer_model.specs.Finds.{IsFound};
 ghost use Rattle.published_index.specs.Cover.{journal_of};
-ghost use Rattle.explorer.specs.Answer.{IsAnswer};
+ghost use Rattle.explorer.specs.Answer.{IsAnswer, IsLineOf};
 ghost use Rattle.session.specs.Naming.{IsPlayed};
 
 use answer_json::answer::named_body;
@@ -36,8 +38,24 @@ pub fn line_for<J: Index>(
     what_is_found_is_plain();
     found_moves_are_legal();
     let found = found_in(alloc, publisher, query)?;
-    let names = naming(alloc, book, query, &found)?;
-    let mut line = named_body(alloc, &found, &names)?;
+    line_of(alloc, book, query, &found)
+}
+
+/// The line of what is found for the query, with the openings that the book names.
+pub fn line_of(
+    alloc: Global,
+    book: &Book,
+    query: &Query,
+    found: &Found,
+) -> Result<Vec<u8>, AllocError>
+    requires played { IsPlayed query.now }
+    requires valid { IsValid query.now.at }
+    requires plain { IsPlainFound found.now }
+    requires legal { AllByRecursion (λ line. Legal query.now.at line.next) found.now.moves }
+    ensures { IfOk result (IsLineOf book.now query.now found.now) }
+{
+    let names = naming(alloc, book, query, found)?;
+    let mut line = named_body(alloc, found, &names)?;
     line.push(b'\n')?;
     Ok(line)
 }

@@ -48,6 +48,10 @@ pub enum Fault {
     OpeningsTooLong,
     /// The first faulty line of the file of openings; lines count from 1.
     BadOpenings { line: u32, cause: BookCause },
+    /// A call of the scratch file failed.
+    SpillFault,
+    /// What is read back of the part of this number are no rows that were written.
+    SpillDamaged { part: u32 },
 }
 
 impl From<AllocError> for Fault {
@@ -107,6 +111,8 @@ impl Fault {
             Fault::CannotOpen { .. } | Fault::CannotAccept => 10,
             Fault::TooMuchInput => 11,
             Fault::OpeningsTooLong | Fault::BadOpenings { .. } => 12,
+            Fault::SpillFault => 13,
+            Fault::SpillDamaged { .. } => 14,
         };
         Status { number }
     }
@@ -148,6 +154,8 @@ impl Fault {
             Fault::TooMuchInput => fixed_line("too much input\n"),
             Fault::OpeningsTooLong => fixed_line("openings too long\n"),
             Fault::BadOpenings { line, cause } => openings_line(*line, *cause),
+            Fault::SpillFault => fixed_line("spill fault\n"),
+            Fault::SpillDamaged { part } => number_line("spill damaged ", u64::from(*part)),
         }
     }
 }

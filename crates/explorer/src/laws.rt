@@ -1,6 +1,6 @@
 //! Laws of what a run promises. Each is the contract of a function that only cites the laws below
 //! it.
-ghost use Rattle.std.specs.Prelude.{◌≡◌, ◌≢◌, ◌⊎◌, ◌<◌, ◌≤◌, ℕ, List, Option, Some, IsSome, length, take};
+ghost use Rattle.std.specs.Prelude.{◌≡◌, ◌≢◌, ◌⊎◌, ◌<◌, ◌≤◌, ℕ, List, Option, None, Some, IsSome, length, take};
 ghost use Rattle.std.specs.List.{AllByRecursion};
 ghost use Rattle.outside.specs.Doors.{Connections};
 ghost use Rattle.host.specs.Hosts.{HostState};
@@ -25,11 +25,12 @@ ghost use Rattle.explorer.specs.Create.{CreatesBy};
 ghost use Rattle.explorer.specs.Imported.{new_store};
 ghost use Rattle.explorer.specs.ImportStore.{ImportsBy};
 ghost use Rattle.command_line.specs.Task.{Batches, Create, Import, Migrate, Query as Ask, Trial, task_of};
-ghost use Rattle.explorer.specs.Laws.{CountsAtMost, GoesWell, HasMemory, ImportAlike, IsAnswered, IsDrawnAtDoor, IsDrawnForFile, IsFullIn, IsNoRepeat, IsTold, IsToldErrors, IsToldFile, IsToldOpenings, IsToldOutput, IsToldStore, LacksOpenings, MigratedAlike, OpensWell, ReadsWell, RefusedAlike, ReportsWell, ServedAlike, ServedAlikeBehind, WritesWell, WroteAlike, WroteAlikeButReport, openings_of, serving, with_book, with_workers};
+ghost use Rattle.explorer.specs.Laws.{CountsAtMost, CountsSpills, GoesWell, HasMemory, ImportAlike, IsAnswered, IsDrawnAtDoor, IsDrawnForFile, IsFullIn, IsNoRepeat, IsTold, IsToldErrors, IsToldFile, IsToldOpenings, IsToldOutput, IsToldStore, LacksOpenings, MigratedAlike, OpensWell, ReadsWell, RefusedAlike, ReportsWell, ServedAlike, ServedAlikeBehind, SpilledAlike, SpillsWell, WritesWell, WroteAlike, WroteAlikeButReport, openings_of, serving, with_book, with_workers};
 ghost use Rattle.explorer.specs.Lines.{Ending, status_of};
 ghost use Rattle.explorer.specs.ListBatches.{ListsBy};
 ghost use Rattle.explorer.specs.Migrate.{MigratesBy};
-ghost use Rattle.explorer.specs.QueryStore.{QueriesBy};
+ghost use Rattle.explorer.specs.QuerySpilled.{SpillsBy};
+ghost use Rattle.explorer.specs.QueryStore.{AsksBy, QueriesBy};
 ghost use Rattle.explorer.specs.Run.{Runs};
 ghost use Rattle.explorer.specs.Serve.{GoesOn, Serves};
 ghost use Rattle.explorer.specs.Served.{DoorRun, IsWorked, Service};
@@ -165,9 +166,31 @@ pub fn a_question_is_determined()
         → GoesWell before after → OpensWell openings before after
         → GoesWell before other → OpensWell openings before other
         → status_of ending ≢ 9 → status_of ending' ≢ 9
-        → QueriesBy store text openings before after ending
-        → QueriesBy store text openings before other ending'
+        → QueriesBy (AsksBy store) text openings before after ending
+        → QueriesBy (AsksBy store) text openings before other ending'
         → (ending ≡ ending') × (after ≡ other) }
+{
+    answers_are_determined();
+    opening_is_determined();
+    query_is_determined();
+    naming_is_determined();
+    book_is_determined();
+}
+
+/// Runs of `query` through a scratch file over one told store, and one told file of openings where one
+/// is given, have one ending, and come to the same but for the scratch file's bytes, where these are
+/// told, no call fails and memory is there.
+pub fn a_spilled_question_is_determined()
+    ensures { (store name file text : List ℕ) (openings : Option (List ℕ))
+        (before after other : World) (ending ending' : Ending)
+        → IsToldStore store file before → IsToldOpenings openings before
+        → CountsSpills before
+        → GoesWell before after → OpensWell openings before after → SpillsWell name before after
+        → GoesWell before other → OpensWell openings before other → SpillsWell name before other
+        → status_of ending ≢ 9 → status_of ending' ≢ 9
+        → QueriesBy (SpillsBy store name) text openings before after ending
+        → QueriesBy (SpillsBy store name) text openings before other ending'
+        → (ending ≡ ending') × SpilledAlike name after other }
 {
     answers_are_determined();
     opening_is_determined();
@@ -339,8 +362,8 @@ pub fn a_run_of_a_command_is_determined()
     ensures asks { (words words' : List (List ℕ)) (store text image : List ℕ)
         (openings : Option (List ℕ))
         (workers workers' : ℕ) (before after other : World) (status status' : ℕ)
-        → task_of words ≡ Some (Ask store text workers openings)
-        → task_of words' ≡ Some (Ask store text workers' openings)
+        → task_of words ≡ Some (Ask store text workers openings None)
+        → task_of words' ≡ Some (Ask store text workers' openings None)
         → IsToldStore store image before → IsToldOpenings openings before
         → IsToldErrors before
         → GoesWell before after → OpensWell openings before after → ReportsWell before after
@@ -348,6 +371,20 @@ pub fn a_run_of_a_command_is_determined()
         → status ≢ 9 → status' ≢ 9
         → Runs words before after status → Runs words' before other status'
         → (status ≡ status') × (after ≡ other) }
+    ensures spills { (words words' : List (List ℕ)) (store name text image : List ℕ)
+        (openings : Option (List ℕ))
+        (workers workers' : ℕ) (before after other : World) (status status' : ℕ)
+        → task_of words ≡ Some (Ask store text workers openings (Some name))
+        → task_of words' ≡ Some (Ask store text workers' openings (Some name))
+        → IsToldStore store image before → IsToldOpenings openings before
+        → CountsSpills before → IsToldErrors before
+        → GoesWell before after → OpensWell openings before after → SpillsWell name before after
+        → ReportsWell before after
+        → GoesWell before other → OpensWell openings before other → SpillsWell name before other
+        → ReportsWell before other
+        → status ≢ 9 → status' ≢ 9
+        → Runs words before after status → Runs words' before other status'
+        → (status ≡ status') × SpilledAlike name after other }
     ensures lists { (words words' : List (List ℕ)) (store image : List ℕ)
         (workers workers' : ℕ) (before after other : World) (status status' : ℕ)
         → task_of words ≡ Some (Batches store workers)

@@ -20,6 +20,7 @@ mod opening;
 mod openings;
 mod order;
 mod program;
+mod query_spilled;
 mod query_store;
 mod report;
 mod returning;

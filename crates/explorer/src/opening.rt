@@ -44,13 +44,19 @@ pub fn first_cause<D: Disk>(before: u64, back: Back<D, OpenFault>) -> Back<D, Op
     ensures cause { FirstCause before (D.disk back.disk).faults back.fault result.fault }
 {
     let Back { disk, fault } = back;
-    let after = disk.faults();
-    let cause = if before < after {
+    let fault = cause_of(before, disk.faults(), fault);
+    Back { disk, fault }
+}
+
+/// The same, where so many calls have failed by then.
+pub fn cause_of(before: u64, after: u64, fault: OpenFault) -> OpenFault
+    ensures { FirstCause before after fault result }
+{
+    if before < after {
         OpenFault::DiskFault { before, after }
     } else {
         fault
-    };
-    Back { disk, fault: cause }
+    }
 }
 
 /// Why a store is not opened, as a run tells it.

@@ -1,4 +1,4 @@
-//! What the command `import` is asked for.
+//! What some commands are asked for.
 ghost use Rattle.std.specs.Prelude.{◌≤◌};
 
 use opening_names::Book;
@@ -10,6 +10,18 @@ pub struct ImportOrder {
     pub file: String,
     /// The text that is to be the label of the batches that are stored, and may be none.
     pub label: String,
+    /// How many threads work at once, 1 to 16.
+    pub workers: usize,
+    ghost some_workers: { 1 ≤ workers },
+    ghost few_workers: { workers ≤ 16 },
+}
+
+/// What is asked of the command `query` where rows are to stand in a scratch file.
+#[derive(Debug, Drop)]
+pub struct SpillOrder {
+    pub store: String,
+    /// The name of the scratch file, which is emptied.
+    pub spill: String,
     /// How many threads work at once, 1 to 16.
     pub workers: usize,
     ghost some_workers: { 1 ≤ workers },

@@ -15,7 +15,8 @@ use crate::import_store::import_store;
 use crate::list_batches::list_batches;
 use crate::migrate::migrate;
 use crate::openings::book_of;
-use crate::order::{ImportOrder, Order};
+use crate::order::{ImportOrder, Order, SpillOrder};
+use crate::query_spilled::query_spilled;
 use crate::query_store::query_store;
 use crate::serve::serve;
 use crate::status::Status;
@@ -137,15 +138,30 @@ fn run_command<R: AllocGlobal + Wait + Threads + Sync, I: Source, O: Sink, E: Si
             query,
             workers,
             openings,
-        } => query_store(
-            rt,
-            store,
-            query.as_bytes(),
-            openings,
-            usize::from(workers),
-            output,
-            host,
-        ),
+            spill,
+        } => match spill {
+            None => query_store(
+                rt,
+                store,
+                query.as_bytes(),
+                openings,
+                usize::from(workers),
+                output,
+                host,
+            ),
+            Some(spill) => query_spilled(
+                rt,
+                SpillOrder {
+                    store,
+                    spill,
+                    workers: usize::from(workers),
+                },
+                query.as_bytes(),
+                openings,
+                output,
+                host,
+            ),
+        },
         Command::Serve {
             store,
             address,

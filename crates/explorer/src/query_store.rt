@@ -44,7 +44,7 @@ pub fn query_store<R: AllocGlobal + Wait + Threads + Sync, O: Sink, H: Host>(
     ensures { (input errors : Stream) →
         let before = world input (O.sink output.old) errors (H.host host.old) in
         let after = world input (O.sink output.new) errors (H.host host.new) in
-        QueriesBy (string_bytes store) query_text.now (option_map string_bytes openings)
+        QueriesBy (AsksBy (string_bytes store)) query_text.now (option_map string_bytes openings)
         before after (ending_of result) }
 {
     // law: a query plays legal moves, which lead to the position asked for

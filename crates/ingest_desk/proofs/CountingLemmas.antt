@@ -153,11 +153,13 @@ module _ (journal : List Batch) (gate : ℕ) (register : Register) (list : List 
       (subst (λ (n : ℕ). AllFrom IsCountedAt n is.others left) (ap length is.so_far.whole) is.counted)
 
   pub stops-there : ¬ IsSound (is.so_far.before ++ next-in.batch ∷ []) → IsUnsoundAt journal gate
-  stops-there unsound = unsound_at journal gate register list is.others next-in.later next-in.batch is.so_far next-in.are unsound
+  stops-there unsound =
+      unsound_at journal is.so_far.before is.others next-in.later next-in.batch gate is.so_far.split is.so_far.place next-in.are
+      is.so_far.knows.sound unsound
 
   pub low-behind : length (store_of journal) ≤ gate_limit → gate + (5 + one.size) ≤ gate_limit
   low-behind low =
-      let below = next_low journal gate register list is.others next-in.later next-in.batch is.so_far next-in.are low in
+      let below = next_low journal is.so_far.before is.others next-in.later next-in.batch gate is.so_far.split is.so_far.place next-in.are low in
       omega (arith, below, next-in.at.size)
 
   module _ (new : Register) (segment : CountedSpan) (more : HasOneMore is.so_far.before next-in.batch new segment) where

@@ -6,6 +6,7 @@ pub mod PickingLemmas
 pub mod TallyingLemmas
 pub mod RecountLemmas
 pub mod CountingLemmas
+pub mod SpillLemmas
 pub mod SoundLemmas
 pub mod ListingLemmas
 pub mod CommitLemmas

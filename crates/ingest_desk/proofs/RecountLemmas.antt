@@ -140,43 +140,49 @@ pub record IsCountedUpTo (journal : List Batch) (gate : ℕ) (register : Registe
   pub few : length list ≤ 18
   pub place : gate ≡ length (store_of before)
 
-module _ (journal : List Batch) (gate : ℕ) (register : Register) (list : List CountedSpan)
-    (others rest : List Batch) (batch : Batch)
-    (so_far : IsCountedUpTo journal gate register list others) (next : others ≡ batch ∷ rest) where
-  split_next : journal ≡ so_far.before ++ batch ∷ rest
-  split_next = so_far.split ∙ ap (λ (l : List Batch). so_far.before ++ l) next
+-- the batch that follows the batches before a gate
+module _ (journal before others rest : List Batch) (batch : Batch) (gate : ℕ)
+    (split : journal ≡ before ++ others) (place : gate ≡ length (store_of before))
+    (next : others ≡ batch ∷ rest) where
+  split_next : journal ≡ before ++ batch ∷ rest
+  split_next = split ∙ ap (λ (l : List Batch). before ++ l) next
+
+  pub split_more : journal ≡ (before ++ batch ∷ []) ++ rest
+  split_more = split_next ∙ sym (append_assoc before (batch ∷ []) rest)
 
   pub next_storable : All IsStorable journal → IsStorable batch
   next_storable all =
       let P : List Batch → Type 0 = λ l. All IsStorable l in
       let each = subst P split_next all in
-      subst IsStorable (get_or-append_seam so_far.before batch rest batch)
-      (each (length so_far.before) batch
-      (omega (arith, length-append so_far.before (batch ∷ rest))))
+      subst IsStorable (get_or-append_seam before batch rest batch)
+      (each (length before) batch (omega (arith, length-append before (batch ∷ rest))))
 
-  pub unsound_at : ¬ IsSound (so_far.before ++ batch ∷ []) → IsUnsoundAt journal gate
-  unsound_at unsound = record {
-    before = so_far.before;
+  pub unsound_at : IsSound before → ¬ IsSound (before ++ batch ∷ []) → IsUnsoundAt journal gate
+  unsound_at sound unsound = record {
+    before = before;
     batch = batch;
     rest = rest;
     is = split_next;
-    sound = so_far.knows.sound;
+    sound = sound;
     unsound = unsound;
-    place = so_far.place;
+    place = place;
   }
 
   -- the gate behind the next record is not too far
   pub next_low : length (store_of journal) ≤ gate_limit → gate + (5 + length (payload_of batch)) ≤ gate_limit
   next_low low =
-      let front = map payload_of so_far.before in
+      let front = map payload_of before in
       let whole : length (store_of journal)
-      ≡ length (store_of so_far.before) + (5 + length (payload_of batch))
+      ≡ length (store_of before) + (5 + length (payload_of batch))
       + length (flat_map record_bytes (map payload_of rest)) =
       ap (λ (l : List Batch). length (store_of l)) split_next
-      ∙ ap (λ (l : List (List ℕ)). length (front_of store_format l)) (map-append payload_of so_far.before (batch ∷ rest))
+      ∙ ap (λ (l : List (List ℕ)). length (front_of store_format l)) (map-append payload_of before (batch ∷ rest))
       ∙ length-front store_format front (payload_of batch) (map payload_of rest) in
-      omega (arith, low, whole, so_far.place)
+      omega (arith, low, whole, place)
 
+module _ (journal : List Batch) (gate : ℕ) (register : Register) (list : List CountedSpan)
+    (others rest : List Batch) (batch : Batch)
+    (so_far : IsCountedUpTo journal gate register list others) (next : others ≡ batch ∷ rest) where
   -- with the segment of the batch
   pub counted_more : (new : Register) (segment : CountedSpan) (after : List CountedSpan) (further : ℕ)
       → HasOneMore so_far.before batch new segment
@@ -184,7 +190,7 @@ module _ (journal : List Batch) (gate : ℕ) (register : Register) (list : List 
       → further ≡ gate + (5 + length (payload_of batch)) → IsCountedUpTo journal further new after rest
   counted_more new segment after further more list_is same few place = record {
     before = so_far.before ++ batch ∷ [];
-    split = split_next ∙ sym (append_assoc so_far.before (batch ∷ []) rest);
+    split = split_more journal so_far.before others rest batch gate so_far.split so_far.place next;
     knows = more.knows;
     list_is = list_is;
     whole = same ∙ journal-one list segment ∙ ap (λ bs. journal_of list ++ bs) more.batches

@@ -14,6 +14,7 @@ pub mod Drawn
 pub mod Importers
 pub mod Recounts
 pub mod Openings
+pub mod Spilling
 pub mod Installs
 pub mod Jobs
 pub mod Listing

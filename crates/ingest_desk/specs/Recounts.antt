@@ -71,12 +71,13 @@ AllFrom R place (batch ∷ batches) (x ∷ xs) = R place batch x × AllFrom R (p
 
 -- ---- how they are put together
 
--- the register is that of one batch more, and the segment has the batch
+-- the register is that of one batch more, and the segment has the batch and a game for each text
 pub record HasOneMore (journal : List Batch) (batch : Batch) (register : Register)
     (segment : CountedSpan) : Type 0 where
   pub knows : IsRegisterOf (journal ++ batch ∷ []) register
   pub first : segment.span.first ≡ length journal
   pub batches : segment.span.batches ≡ batch ∷ []
+  pub games : length segment.classes ≡ length batch.texts
 
 -- the register and the segments are those of the journal
 pub record IsRecountOf (journal : List Batch) (recounted : Recounted) : Type 0 where

@@ -1,21 +1,20 @@
 //! The batches of a journal, each counted by itself, side by side.
-ghost use Rattle.std.specs.Prelude.{◌≡◌, ◌<◌, ◌+◌, ◌^◌, IfOk, MatchOption, Ok, length, map};
+ghost use Rattle.std.specs.Prelude.{◌≡◌, ◌<◌, ◌≤◌, ◌+◌, ◌^◌, IfOk, MatchOption, Ok, length, map};
 ghost use Rattle.std.specs.List.{All};
-ghost use Rattle.std.specs.Arc.{arc_value};
 ghost use Rattle.explorer_model.specs.declared.archive.Batch.{Batch as StoredBatch};
 ghost use Rattle.explorer_model.specs.StoreFile.{IsStorable, payload_of};
 ghost use Rattle.ingest_desk.specs.Recounts.{AllFrom, IsAloneAt, IsAt, IsBatchTallied, IsCountedAt, IsNeverSound};
 
-use crate::commit::share_of;
 use batch_tally::{Tallying, tally};
 use explorer_model::archive::{Batch, Placed, Texts};
 use explorer_model::label::Label;
 use game_replay::laws::game_is_determined;
 use outside::FreeGate;
 use published_index::SharedSegment;
+use segment_blocks::Segment;
 use side_by_side::map_each;
 use std::alloc::{AllocError, Global};
-use std::sync::Wait;
+use std::sync::{Arc, Wait};
 use std::thread::Threads;
 
 /// A batch that was counted by itself, whatever stands in others.
@@ -97,14 +96,35 @@ fn count_alone<R: Threads + Sync>(
     ensures { IfOk result (IsCountedAt at.place at.batch) }
 {
     let size = payload_size(&at.batch);
+    let segment = match segment_at(rt, alloc, at, 1)? {
+        Some(segment) => Some(Arc::new(alloc, segment)?),
+        None => None,
+    };
+    Ok(CountedBatch { size, segment })
+}
+
+/// The segment of a batch, counted with so many workers. There is none where no journal is sound
+/// with the batch.
+pub(crate) fn segment_at<R: Threads + Sync>(
+    rt: &R,
+    alloc: Global,
+    at: BatchAt,
+    workers: usize,
+) -> Result<Option<Segment>, AllocError>
+    requires some_workers { 1 ≤ workers }
+    requires few_workers { workers ≤ 16 }
+    requires storable { IsStorable at.batch }
+    requires place { at.place + 1 < 2 ^ 32 }
+    ensures { IfOk result (λ found. MatchOption found (IsNeverSound at.batch)
+        (IsAloneAt at.place at.batch)) }
+{
     let BatchAt {
         place,
         batch: Batch { label, texts },
     } = at;
     let texts = placed_texts(alloc, texts)?;
-    let tallying = tally(rt, alloc, texts, 1, &FreeGate)?;
-    let segment = segment_of(alloc, place, label, tallying)?;
-    Ok(CountedBatch { size, segment })
+    let tallying = tally(rt, alloc, texts, workers, &FreeGate)?;
+    segment_of(alloc, place, label, tallying)
 }
 
 /// The segment of a batch that was tallied, under its label. There is none where no journal is sound
@@ -114,11 +134,11 @@ fn segment_of(
     place: u32,
     label: Label,
     tallying: Tallying,
-) -> Result<Option<SharedSegment>, AllocError>
+) -> Result<Option<Segment>, AllocError>
     requires { place + 1 < 2 ^ 32 }
     ensures { IfOk result (λ found. (batch : StoredBatch) → IsStorable batch → label ≡ batch.label
         → IsBatchTallied batch tallying → MatchOption found (IsNeverSound batch)
-        (λ segment. IsAloneAt place batch (arc_value segment))) }
+        (IsAloneAt place batch)) }
 {
     game_is_determined();
     let Tallying {
@@ -134,7 +154,7 @@ fn segment_of(
     };
     let counted = counted.labelled(label);
     let _batch = counted.batch();
-    Ok(Some(share_of(alloc, place, counted)?))
+    Ok(Some(Segment::of(alloc, place, counted)?))
 }
 
 /// The texts of a batch. Their places do not count.
@@ -149,7 +169,7 @@ fn placed_texts(alloc: Global, texts: Texts) -> Result<Vec<Placed>, AllocError>
 }
 
 /// How many bytes the payload of a batch has.
-fn payload_size(batch: &Batch) -> u64
+pub(crate) fn payload_size(batch: &Batch) -> u64
     requires { IsStorable batch.now }
     ensures { result ≡ length (payload_of batch.now) }
 {

@@ -29,6 +29,8 @@ mod receipt;
 mod recount;
 mod register;
 mod report;
+mod spill_fault;
+mod spilling;
 mod unnamed;
 
 pub use clashing::Clashing;
@@ -41,4 +43,6 @@ pub use merge_desk::MergeDesk;
 pub use opening::open;
 pub use receipt::Receipt;
 pub use report::{End, ImportCall, ImportEnding, Report};
+pub use spill_fault::SpillOpenFault;
+pub use spilling::open_spilled;
 pub use unnamed::{Named, Unnamed, fresh};

@@ -1,5 +1,5 @@
 //! A journal counted anew, batch by batch.
-ghost use Rattle.std.specs.Prelude.{◌≡◌, ◌≤◌, ◌++◌, ◌∷◌, [], ℕ, List, IfOk, IfSome, MatchOption, MatchResult, length};
+ghost use Rattle.std.specs.Prelude.{◌≡◌, ◌≤◌, ◌++◌, ◌∷◌, [], ℕ, List, IfOk, IfSome, MatchBool, MatchOption, MatchResult, length};
 ghost use Rattle.std.specs.List.{All};
 ghost use Rattle.std.specs.Arc.{arc_value};
 ghost use Rattle.explorer_model.specs.declared.archive.Batch.{Batch as StoredBatch};
@@ -15,6 +15,7 @@ use explorer_model::archive::Batch;
 use explorer_model::fault::Stop;
 use game_replay::laws::game_is_determined;
 use published_index::SharedSegment;
+use segment_blocks::Segment;
 use std::alloc::{AllocError, Global};
 use std::sync::Wait;
 use std::thread::Threads;
@@ -71,14 +72,30 @@ fn fitting(
         → MatchOption found (¬ IsSound (journal ++ batch ∷ []))
         (λ segment. HasOneMore journal batch register.new (arc_value segment))) }
 {
-    game_is_determined();
     let Some(segment) = segment else {
         return Ok(None);
     };
-    if !register.takes(&segment) {
-        return Ok(None);
+    if takes_in(register, &segment)? {
+        Ok(Some(segment))
+    } else {
+        Ok(None)
+    }
+}
+
+/// Puts the batch of a segment in, where the journal is sound with the batch. Says whether it is.
+pub(crate) fn takes_in(register: &mut Register, segment: &Segment) -> Result<bool, AllocError>
+    requires knows { (journal : List StoredBatch) × IsRegisterOf journal register.old }
+    requires counted { (place : ℕ) × (batch : StoredBatch) × IsAloneAt place batch segment.now }
+    ensures { IfOk result (λ fits. (journal : List StoredBatch) (batch : StoredBatch)
+        → IsRegisterOf journal register.old → IsAloneAt (length journal) batch segment.now
+        → MatchBool fits (HasOneMore journal batch register.new segment.now)
+        (¬ IsSound (journal ++ batch ∷ []))) }
+{
+    game_is_determined();
+    if !register.takes(segment) {
+        return Ok(false);
     }
     register.reserve(segment.games() as usize)?;
-    register.enter(&segment);
-    Ok(Some(segment))
+    register.enter(segment);
+    Ok(true)
 }

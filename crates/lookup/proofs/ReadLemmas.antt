@@ -9,12 +9,12 @@ use Rattle.explorer_model.specs.declared.chess.Position.{Position}
 use Rattle.explorer_model.specs.declared.fault.Stop.{Stop}
 use Rattle.explorer_model.specs.declared.fault.Stop.TheVariants.{Fault, OutOfMemory}
 use Rattle.lookup.specs.declared.part_rows.PartRows.{PartRows}
-use Rattle.lookup.specs.Reading.{most_steps, AreJudged, AreRead, IsUndamaged, StopsAt}
+use Rattle.lookup.specs.Reading.{most_steps, AreJudged, AreRead, IsPartOf, IsUndamaged, StopsAt}
 use Rattle.outside.specs.Ports.{Scratch}
 use Rattle.segment_blocks.specs.Kept.{KeptSpan, kept_of}
 use Rattle.segment_blocks.specs.Segment.{CountedSpan}
 use Rattle.spill_blobs.specs.Ends.{Reads}
-use Rattle.spill_blobs.specs.Judging.{blocks_at, GivesRowsOf, Judges}
+use Rattle.spill_blobs.specs.Judging.{blocks_at, GivesRowsOf, Judges, NamesPart}
 use Rattle.spill_blobs.specs.Marks.{marks}
 use Rattle.spill_blobs.specs.Sets.{games_in, set_bytes, JudgesPart}
 use Rattle.spill_blobs.specs.SoundRows as sound
@@ -114,6 +114,13 @@ undamaged key segment OutOfMemory given = tt
 undamaged key segment (Fault (ReadFault first last)) given = tt
 undamaged key segment (Fault (WriteFault first last)) given = tt
 undamaged key segment (Fault (Damaged part)) given = given
+
+-- a part that is named is one of the set's
+pub part-of : (n count : ℕ) (stop : Stop PortFault) → n < count → NamesPart n (Err stop) → IsPartOf count stop
+part-of n count OutOfMemory within named = tt
+part-of n count (Fault (ReadFault first last)) within named = tt
+part-of n count (Fault (WriteFault first last)) within named = tt
+part-of n count (Fault (Damaged part)) within named = subst (λ (k : ℕ). k < count) (sym named) within
 
 -- ---- what it costs
 

@@ -64,6 +64,11 @@ abbrev pub IsUndamaged : Stop PortFault → Type 0
 IsUndamaged (Fault (Damaged part)) = ⊥
 IsUndamaged _ = ⊤
 
+-- a part that is damaged is one of so many
+abbrev pub IsPartOf : ℕ → Stop PortFault → Type 0
+IsPartOf count (Fault (Damaged part)) = part < count
+IsPartOf count _ = ⊤
+
 -- ---- what it costs
 
 -- where the index of a segment has fewer than 2 to the power of `digits` keys: the steps to where a

@@ -3,7 +3,7 @@ ghost use Rattle.std.specs.Prelude.{◌≡◌, ℕ, ◌+◌, ◌≤◌, ◌<◌,
 ghost use Rattle.std.specs.List.{All, AllZip, sum_by};
 ghost use Rattle.explorer_model.specs.Chess.{IsValid};
 ghost use Rattle.explorer_model.specs.Tidy.{IsTidyKey};
-ghost use Rattle.lookup.specs.Reading.{hits_in, hits_of_part, most_steps, read_steps, AreJudged, AreOfKey, AreRead, IsUndamaged, StopsAt};
+ghost use Rattle.lookup.specs.Reading.{hits_in, hits_of_part, most_steps, read_steps, AreJudged, AreOfKey, AreRead, IsPartOf, IsUndamaged, StopsAt};
 ghost use Rattle.row_sums.specs.Hits.{hit_as};
 ghost use Rattle.segment_blocks.specs.Segment.{CountedSpan};
 ghost use Rattle.spill_blobs.specs.Judging.{ReadsPart};
@@ -49,6 +49,7 @@ pub fn rows_of_parts<P: Port, L: Ledger>(
         → Holds set.now (P.port port.old) → AllZip (AreOfKey key) set.now parts.items) }
     ensures whole { IfErr result (λ stop. (key : List ℕ) → IsTidyKey at.now key
         → Holds set.now (P.port port.old) → IsUndamaged stop) }
+    ensures part { IfErr result (IsPartOf (length set.now)) }
     ensures judged { IfOk result (λ _. (key : List ℕ) → IsTidyKey at.now key
         → IfSome (P.port port.old).appended
         (λ told. AreJudged at.now key set.now told (length set.now))) }

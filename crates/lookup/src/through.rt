@@ -4,7 +4,7 @@ ghost use Rattle.std.specs.List.{All, AllByRecursion, AllZip, sum_by};
 ghost use Rattle.explorer_model.specs.Chess.{IsValid, Legal};
 ghost use Rattle.explorer_model.specs.Finds.{IsFound};
 ghost use Rattle.explorer_model.specs.Tidy.{IsTidyKey};
-ghost use Rattle.lookup.specs.Reading.{most_steps, read_steps, AreJudged, AreOfKey, AreRead, IsUndamaged, StopsAt};
+ghost use Rattle.lookup.specs.Reading.{most_steps, read_steps, AreJudged, AreOfKey, AreRead, IsPartOf, IsUndamaged, StopsAt};
 ghost use Rattle.lookup.specs.Sound.{IsSoundAnswer};
 ghost use Rattle.segment_blocks.specs.Segment.{CountedSpan};
 ghost use Rattle.spill_blobs.specs.Judging.{ReadsPart};
@@ -50,6 +50,7 @@ pub fn look_through<P: Port, L: Ledger>(
     ensures kept { IfOk result (λ _. P.port port.new ≡ P.port port.old) }
     ensures faults { IfErr result
         (λ stop. ReadsPart (Err stop) (P.port port.old) (P.port port.new)) }
+    ensures part { IfErr result (IsPartOf (length set.now)) }
     ensures judged { IfOk result (λ _. (key : List ℕ) → IsTidyKey query.now.at key
         → IfSome (P.port port.old).appended
         (λ told. AreJudged query.now.at key set.now told (length set.now))) }

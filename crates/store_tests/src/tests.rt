@@ -9,6 +9,7 @@ mod merges;
 mod published;
 mod samples;
 mod segments;
+mod spills;
 mod stores;
 
 ghost use Rattle.std.specs.Prelude.{◌≡◌, ◌≤◌, ◌<◌, length, IsTrue, IfOk};

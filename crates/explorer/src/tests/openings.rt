@@ -5,7 +5,7 @@ use host::{MemFile, MemHost};
 use std::alloc::{AllocError, Global};
 use std::test::Fail;
 
-const KINGS_PAWN: &str = "B00\tKing's Pawn Game\t1. e4";
+pub const KINGS_PAWN: &str = "B00\tKing's Pawn Game\t1. e4";
 
 /// What is answered where no game is, behind a move that has the opening.
 const NAMED: &str = "{\"black\":0,\"draws\":0,\"moves\":[],\
@@ -13,7 +13,7 @@ const NAMED: &str = "{\"black\":0,\"draws\":0,\"moves\":[],\
 \"white\":0}\n";
 
 /// The answer over a game whose one move has the opening.
-fn named_move(alloc: Global) -> Result<String, AllocError> {
+pub fn named_move(alloc: Global) -> Result<String, AllocError> {
     let game = listed(alloc, "aaaaaaa1", "e2e4", "white")?;
     format!(in alloc;
         "{{\"black\":0,\"draws\":0,\"moves\":[{{\"averageRating\":1500,\"black\":0,\"draws\":0,\

@@ -21,7 +21,7 @@ use std::thread::Threads;
 
 /// A game, told apart by White's name of three letters.
 #[derive(Clone, Copy)]
-struct Played<'a> {
+pub(super) struct Played<'a> {
     white: &'a str,
     ratings: (u16, u16),
     time: &'a str,
@@ -30,7 +30,7 @@ struct Played<'a> {
     result: &'a str,
 }
 
-fn text_of(alloc: Global, game: &Played) -> Result<Placed, AllocError> {
+pub(super) fn text_of(alloc: Global, game: &Played) -> Result<Placed, AllocError> {
     let (white, date, time) = (game.white, game.date, game.time);
     let (own, other) = game.ratings;
     let (moves, result) = (game.moves, game.result);
@@ -61,7 +61,7 @@ fn segment_of_games<R: Threads + Sync>(
 
 /// What is asked of the starting position.
 #[derive(Clone, Copy)]
-struct Asked {
+pub(super) struct Asked {
     filter: Filter,
     moves: u32,
     top: u8,
@@ -86,7 +86,7 @@ fn everything_of(filter: Filter) -> Asked {
     }
 }
 
-fn query_of(alloc: Global, asked: &Asked) -> Query
+pub(super) fn query_of(alloc: Global, asked: &Asked) -> Query
     ensures at { IsValid result.at }
     ensures top { result.top ≤ 4 }
     ensures recent { result.recent ≤ 4 }
@@ -141,7 +141,7 @@ fn push_months(alloc: Global, text: &mut String, lines: &[MonthLine]) -> Result<
 }
 
 /// The answer in one line; a game stands there as its White's name.
-fn told(alloc: Global, found: &Found) -> Result<String, AllocError> {
+pub(super) fn told(alloc: Global, found: &Found) -> Result<String, AllocError> {
     let mut text = String::new(alloc);
     push_totals(alloc, &mut text, &found.totals)?;
     text.push_str("; moves")?;
@@ -251,13 +251,17 @@ const UNTIL_JANUARY: &str = "2/1/0; moves d4 2000 0/1/0 Cid e4 1500 1/0/0 Ann; t
 
 const SHORT: &str = "3/1/1; moves e4 1567 2/0/1; top Cid Bea; recent Dan";
 
+pub(super) fn five_games() -> [Played<'static>; 5] {
+    [ann(), bea(), cid(), dan(), eve()]
+}
+
 /// Segments of so many of the five games, one segment after another.
 fn segments_of<R: Threads + Sync>(
     rt: &R,
     alloc: Global,
     sizes: &[usize],
 ) -> Result<Vec<SharedSegment>, Fail> {
-    let games = [ann(), bea(), cid(), dan(), eve()];
+    let games = five_games();
     let mut segments = Vec::new(alloc);
     let mut rest = &games[..];
     let mut place = 0u32;
@@ -302,7 +306,7 @@ fn told_by_cut<R: Threads + Sync>(
 }
 
 /// What is asked of the five games, and the answer in one line.
-fn table() -> [(Asked, &'static str); 6] {
+pub(super) fn table() -> [(Asked, &'static str); 6] {
     let [rapid, group_1400, since, until] = narrowed();
     let short = Asked {
         moves: 1,

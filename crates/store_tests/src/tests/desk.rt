@@ -4,6 +4,7 @@ ghost use Rattle.std.specs.Prelude.{◌≡◌};
 use super::stores::{commit_games, damage_of, games, join_twice, named, new_store, opened};
 use super::text;
 use disk_model::{Disk, MemDisk};
+use explorer_model::archive::Placed;
 use ingest_desk::{CommitFault, Ingest, Receipt, Standing, Unnamed};
 use published_index::{Drawer, Index};
 use std::alloc::{AllocError, Global};
@@ -31,17 +32,31 @@ pub(super) fn store_file(alloc: Global, games: u32, size: u32) -> Result<Vec<u8>
     Ok(file)
 }
 
-/// Puts the record of a batch behind a file: its gate, its length, no label, and its texts behind their count.
+/// Puts the record of a batch of such games behind a file.
 fn push_record(
     alloc: Global,
     file: &mut Vec<u8>,
     first: u32,
     count: u32,
 ) -> Result<(), AllocError> {
-    let mut payload = vec![in alloc; 0]?;
-    payload.extend_from_slice(&count.to_le_bytes()[..2])?;
+    let mut texts = Vec::new(alloc);
     for number in first..first.saturating_add(count) {
-        let game = text(alloc, number, 0, "")?.bytes;
+        texts.push(text(alloc, number, 0, "")?)?;
+    }
+    push_batch(alloc, file, texts.as_slice())
+}
+
+/// Puts the record of a batch behind a file: its gate, its length, no label, and its texts behind
+/// their count.
+pub(super) fn push_batch(
+    alloc: Global,
+    file: &mut Vec<u8>,
+    texts: &[Placed],
+) -> Result<(), AllocError> {
+    let mut payload = vec![in alloc; 0]?;
+    payload.extend_from_slice(&(texts.len() as u64).to_le_bytes()[..2])?;
+    for text in texts {
+        let game = &text.bytes;
         payload.extend_from_slice(&(game.len() as u64).to_le_bytes()[..4])?;
         payload.extend_from_slice(game.as_slice())?;
     }

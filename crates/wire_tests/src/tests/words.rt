@@ -26,7 +26,7 @@ fn shown(alloc: Global, words: &[&str]) -> Result<String, AllocError> {
 #[test]
 fn each_command_is_read(rt: HostRuntime) -> Result<(), Fail> {
     let alloc = rt.alloc();
-    let table: [(&[&str], &str); 22] = [
+    let table: [(&[&str], &str); 24] = [
         (&["batches", "s"], "Batches { store: \"s\", workers: 4 }"),
         (
             &["batches", "--workers", "16", "s"],
@@ -76,15 +76,23 @@ fn each_command_is_read(rt: HostRuntime) -> Result<(), Fail> {
         (&["migrate", "s", "t"], "Migrate { old: \"s\", new: \"t\" }"),
         (
             &["query", "s"],
-            "Query { store: \"s\", query: \"\", workers: 4, openings: None }",
+            "Query { store: \"s\", query: \"\", workers: 4, openings: None, spill: None }",
         ),
         (
             &["query", "s", "q", "--workers", "2"],
-            "Query { store: \"s\", query: \"q\", workers: 2, openings: None }",
+            "Query { store: \"s\", query: \"q\", workers: 2, openings: None, spill: None }",
         ),
         (
             &["query", "s", "--openings="],
-            "Query { store: \"s\", query: \"\", workers: 4, openings: Some(\"\") }",
+            "Query { store: \"s\", query: \"\", workers: 4, openings: Some(\"\"), spill: None }",
+        ),
+        (
+            &["query", "s", "--spill", "x", "q"],
+            "Query { store: \"s\", query: \"q\", workers: 4, openings: None, spill: Some(\"x\") }",
+        ),
+        (
+            &["query", "s", "--spill=s", "--openings", "o"],
+            "Query { store: \"s\", query: \"\", workers: 4, openings: Some(\"o\"), spill: Some(\"s\") }",
         ),
         (
             &["serve", "s", "a:1"],
@@ -126,7 +134,7 @@ fn each_command_is_read(rt: HostRuntime) -> Result<(), Fail> {
 #[test]
 fn other_words_are_refused(rt: HostRuntime) -> Result<(), Fail> {
     let alloc = rt.alloc();
-    let table: [(&[&str], &str); 31] = [
+    let table: [(&[&str], &str); 35] = [
         (
             &[],
             "error: 'explorer' requires a subcommand but one was not provided\n",
@@ -167,6 +175,10 @@ fn other_words_are_refused(rt: HostRuntime) -> Result<(), Fail> {
         (
             &["count", "--openings", "a", "--openings", "b"],
             "error: the argument '--openings <FILE>' cannot be used multiple times\n",
+        ),
+        (
+            &["count", "--spill", "x"],
+            "error: unexpected argument '--spill' found\n",
         ),
         (
             &["create"],
@@ -213,8 +225,20 @@ fn other_words_are_refused(rt: HostRuntime) -> Result<(), Fail> {
             "error: unexpected argument 'r' found\n",
         ),
         (
+            &["query", "s", "--spill"],
+            "error: a value is required for '--spill <NAME>' but none was supplied\n",
+        ),
+        (
+            &["query", "s", "--spill", "x", "--spill", "x"],
+            "error: the argument '--spill <NAME>' cannot be used multiple times\n",
+        ),
+        (
             &["serve", "s"],
             "error: the following required arguments were not provided:\n  <ADDRESS>\n",
+        ),
+        (
+            &["serve", "s", "a", "--spill", "x"],
+            "error: unexpected argument '--spill' found\n",
         ),
         (
             &["serve", "s", "a", "--readers", "65"],

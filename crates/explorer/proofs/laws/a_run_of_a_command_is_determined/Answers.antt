@@ -1,4 +1,4 @@
-use Rattle.explorer.proofs.StoreRunLemmas.{one_asking, one_creating, one_importing, one_listed, one_migrating, one_refusing, one_serving, one_trying}
+use Rattle.explorer.proofs.StoreRunLemmas.{one_asking, one_creating, one_importing, one_listed, one_migrating, one_refusing, one_serving, one_spilled, one_trying}
 use Rattle.explorer.proofs.NoRoomLemmas.{accounts_from}
 use Rattle.explorer.proofs.laws.a_run_of_a_command_is_determined.Goals as goal
 
@@ -11,6 +11,12 @@ returns-clause-asks c = λ words words' store text image openings workers worker
     let once = c.opening_is_determined.ensures in
     one_asking words words' before after other status status' first second errors reports reports' store text image openings workers workers' c.answers_are_determined.ensures c.naming_is_determined.ensures
     (record { opened = once.opened; refused = once.refused; either = once.either }) c.book_is_determined.ensures c.query_is_determined.ensures asks asks' told opens well read well' read' fed fed'
+
+pub returns-clause-spills : goal.returns-clause-spills
+returns-clause-spills c = λ words words' store name text image openings workers workers' before after other status status' asks asks' told opens spill errors well read kept reports well' read' kept' reports' fed fed' first second.
+    let once = c.opening_is_determined.ensures in
+    one_spilled words words' before after other status status' first second errors reports reports' store name text image openings workers workers' c.answers_are_determined.ensures c.naming_is_determined.ensures
+    (record { opened = once.opened; refused = once.refused; either = once.either }) c.book_is_determined.ensures c.query_is_determined.ensures asks asks' told opens spill well read kept well' read' kept' fed fed'
 
 pub returns-clause-lists : goal.returns-clause-lists
 returns-clause-lists c = λ words words' store image workers workers' before after other status status' asks asks' told errors well reports well' reports' fed fed' first second.

@@ -1,7 +1,8 @@
 use Rattle.std.proofs.Common.{ℕ, List, inl, inr, map, option_map, refl, rules, subst, string_bytes}
 use Rattle.explorer.specs.Count.{Counts}
 use Rattle.explorer.specs.Lines.{ending_of}
-use Rattle.explorer.specs.QueryStore.{QueriesBy}
+use Rattle.explorer.specs.QuerySpilled.{SpillsBy}
+use Rattle.explorer.specs.QueryStore.{AsksBy, QueriesBy}
 use Rattle.explorer.specs.Serve.{Serves}
 use Rattle.explorer.specs.Served.{Service}
 use Rattle.explorer.specs.World.{world}
@@ -28,19 +29,27 @@ returns-in-Count g c =
     (world (g.I.Source.source c.count.new.input) (g.O.Sink.sink c.count.new.output) (g.E.Sink.sink c.count.new.errors) (g.H.Host.host c.count.new.host)) (ending_of c.count.result))
     c.as_bytes.ensures.value c.count.ensures)
 
-pub returns-in-Query : goal.returns-in-Query
-returns-in-Query g c =
-    rw c.in-Query.is (subst (λ (text : List ℕ). QueriesBy (string_bytes c.in-Query.store) text (option_map string_bytes c.in-Query.openings)
+pub returns-in-None : goal.returns-in-None
+returns-in-None g c =
+    rw c.in-Query.is (rw c.in-None.is (subst (λ (text : List ℕ). QueriesBy (AsksBy (string_bytes c.in-Query.store)) text (option_map string_bytes c.in-Query.openings)
     (world (g.I.Source.source c.args.input.now) (g.O.Sink.sink c.args.output.now) (g.E.Sink.sink c.args.errors.now) (g.H.Host.host c.args.host.now))
     (world (g.I.Source.source c.args.input.now) (g.O.Sink.sink c.query_store.new.output) (g.E.Sink.sink c.args.errors.now) (g.H.Host.host c.query_store.new.host)) (ending_of c.query_store.result))
-    c.as_bytes-in-Query.ensures.value
-    (c.query_store.ensures (g.I.Source.source c.args.input.now) (g.E.Sink.sink c.args.errors.now)))
+    c.as_bytes-in-None.ensures.value
+    (c.query_store.ensures (g.I.Source.source c.args.input.now) (g.E.Sink.sink c.args.errors.now))))
+
+pub returns-in-Query : goal.returns-in-Query
+returns-in-Query g c =
+    rw c.in-Query.is (rw c.in-Some.is (subst (λ (text : List ℕ). QueriesBy (SpillsBy (string_bytes c.in-Query.store) (string_bytes c.in-Some.spill)) text (option_map string_bytes c.in-Query.openings)
+    (world (g.I.Source.source c.args.input.now) (g.O.Sink.sink c.args.output.now) (g.E.Sink.sink c.args.errors.now) (g.H.Host.host c.args.host.now))
+    (world (g.I.Source.source c.args.input.now) (g.O.Sink.sink c.query_spilled.new.output) (g.E.Sink.sink c.args.errors.now) (g.H.Host.host c.query_spilled.new.host)) (ending_of c.query_spilled.result))
+    c.as_bytes-in-Some.ensures.value
+    (c.query_spilled.ensures (g.I.Source.source c.args.input.now) (g.E.Sink.sink c.args.errors.now))))
 
 pub returns-in-Err : goal.returns-in-Err
 returns-in-Err g c = rw c.in-Serve.is (inr (stops_by (option_map string_bytes c.in-Serve.openings) _ _ _ _ _ c.in-Err.fault (rw c.in-Err.is at c.book_of.ensures)))
 
-pub returns-in-Ok : goal.returns-in-Ok
-returns-in-Ok g c =
+pub returns-in-Serve : goal.returns-in-Serve
+returns-in-Serve g c =
     let before = world (g.I.Source.source c.args.input.now) (g.O.Sink.sink c.args.output.now) (g.E.Sink.sink c.args.errors.now) (g.H.Host.host c.book_of.new.host) in
     let after = world (g.I.Source.source c.args.input.now) (g.O.Sink.sink c.serve.new.output) (g.E.Sink.sink c.serve.new.errors) (g.H.Host.host c.serve.new.host) in
     let files = map string_bytes c.in-Serve.files.items in
@@ -49,5 +58,5 @@ returns-in-Ok g c =
     let serves = subst (λ (s : Service). Serves s before after (ending_of c.serve.result)) same (c.serve.ensures (g.I.Source.source c.args.input.now)) in
     rw c.in-Serve.is (inl (c.in-Ok.book, g.H.Host.host c.book_of.new.host, (rw c.in-Ok.is at c.book_of.ensures), serves))
 
-pub returns-in-Trial : goal.returns-in-Trial
-returns-in-Trial g c = rw c.in-Trial.is (c.trial.ensures (g.I.Source.source c.args.input.now) (g.E.Sink.sink c.args.errors.now) (g.H.Host.host c.args.host.now))
+pub returns : goal.returns
+returns g c = rw c.in-Trial.is (c.trial.ensures (g.I.Source.source c.args.input.now) (g.E.Sink.sink c.args.errors.now) (g.H.Host.host c.args.host.now))

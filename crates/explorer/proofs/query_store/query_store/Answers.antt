@@ -1,4 +1,5 @@
 use Rattle.std.proofs.Common.{Ok, inl, inr, option_map, string_bytes}
+use Rattle.explorer.specs.QueryStore.{AsksBy}
 use Rattle.explorer.specs.World.{world}
 use Rattle.explorer.proofs.BookLemmas.{stops_by}
 use Rattle.explorer.proofs.QueryLemmas.{unread}
@@ -13,7 +14,7 @@ query_by-requires-clause-played g c = λ κs within. record {
 
 pub returns-in-Err : goal.returns-in-Err
 returns-in-Err g c = λ input errors.
-    unread (string_bytes c.args.store) c.args.query_text.now (option_map string_bytes c.args.openings)
+    unread (AsksBy (string_bytes c.args.store)) c.args.query_text.now (option_map string_bytes c.args.openings)
     (world input (g.O.Sink.sink c.args.output.now) errors (g.H.Host.host c.args.host.now)) c.in-Err.stop c.from.result c.from.ensures c.in-Err.ensures.reads
 
 pub returns-in-Err-book_of : goal.returns-in-Err-book_of

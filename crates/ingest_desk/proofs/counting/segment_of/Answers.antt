@@ -30,6 +30,6 @@ returns c = λ batch storable label tallied.
       counted = c.batch-batch.ensures.counted;
       batch_is = ap (λ (t : Counted). t.batch) c.labelled-counted.ensures
           ∙ counted_batch tallied.texts c.args.tallying c.in-Some.counted batch c.args.label label tallied.same tallied.is none c.in-Some.is;
-      made_of = c.in_ok-share_of.ensures.tally;
-      first = λ below. c.in_ok-share_of.ensures.first;
+      made_of = record { batches = c.in_ok-of.ensures.batches; classes = c.in_ok-of.ensures.classes };
+      first = λ below. c.in_ok-of.ensures.first;
     }

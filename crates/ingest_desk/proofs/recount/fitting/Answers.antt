@@ -1,58 +1,22 @@
-use Rattle.std.proofs.Common.{◌≡◌, List, None, [], ◌∷◌, ◌++◌, ap, ◌∙◌, sym, subst, arith}
-use Rattle.std.proofs.lemmas.Bool.{MatchBool-at_false, MatchBool-at_true}
-use Rattle.explorer_model.specs.declared.archive.Batch.{Batch}
+use Rattle.std.proofs.Common.{[], ◌∷◌, ◌++◌, length, sym, subst}
+use Rattle.std.proofs.lemmas.Bool.{MatchBool-at_true}
 use Rattle.explorer_model.specs.Journal.{IsSound}
 use Rattle.segment_blocks.specs.Segment.{CountedSpan}
-use Rattle.ingest_desk.specs.Causes.{cause_of_new}
-use Rattle.ingest_desk.specs.Registers.{IsRegisterOf, IsSegmentOf}
-use Rattle.ingest_desk.proofs.RecountLemmas.{no_cause_of}
-use Rattle.ingest_desk.proofs.RegisterLemmas.{fewer_batches, fits_of, fits_same, register_same}
+use Rattle.ingest_desk.specs.Recounts.{HasOneMore, IsAloneAt}
 use Rattle.ingest_desk.proofs.recount.fitting.Goals as goal
 
 pub returns-in_default : goal.returns-in_default
 returns-in_default c = λ journal batch is found.
     (rw c.in_default.is at found) journal is.sound
 
-pub returns-then-not-takes : goal.returns-then-not-takes
-returns-then-not-takes c = λ journal batch is found sound.
-    let alone = rw c.in-Some.is at found in
-    let tally = alone.tally in
-    let whole : IsSound (journal ++ tally.batch ∷ []) =
-    subst (λ (b : Batch). IsSound (journal ++ b ∷ [])) (sym alone.batch_is) sound in
-    let none = cause_of_new is.sound.games journal tally ≡ None in
-    MatchBool-at_false none (¬ none) c.if-not-takes.true
-    (c.takes.ensures tally alone.counted (subst (IsSegmentOf tally) (sym c.deref.ensures) alone.made_of) journal is.sound.games is is.sound.are_games)
-    (no_cause_of c.game_is_determined.ensures journal tally is.sound alone.counted whole)
+pub takes_in-requires-clause-counted : goal.takes_in-requires-clause-counted
+takes_in-requires-clause-counted c =
+    let given = rw c.in-Some.is at c.requires.counted in
+    (given.0, given.1, subst (IsAloneAt given.0 given.1) (sym c.deref.ensures) given.2)
 
-pub enter-requires-clause-fits : goal.enter-requires-clause-fits
-enter-requires-clause-fits c =
-    let alone = (rw c.in-Some.is at c.requires.counted).2 in
-    let tally = alone.tally in
-    let journal = c.requires.knows.0 in
-    let is = c.requires.knows.1 in
-    let new = c.reserve.new.self in
-    let same = c.in_ok-reserve.ensures.same in
-    let none = cause_of_new is.sound.games journal tally ≡ None in
-    let fits = fits_of journal c.args.register.now tally is
-    (MatchBool-at_true none (¬ none) c.if-not-takes.false
-    (c.takes.ensures tally alone.counted (subst (IsSegmentOf tally) (sym c.deref.ensures) alone.made_of) journal is.sound.games is is.sound.are_games)) in
-    record {
-      tally = tally;
-      counted = alone.counted;
-      made_of = subst (IsSegmentOf tally) (sym c.deref-3.ensures) alone.made_of;
-      fits = fits_same c.args.register.now new tally same fits;
-      few = omega (arith, same.batches, same.games, is.batches, is.games, fewer_batches journal is.sound);
-    }
-
-pub returns : goal.returns
-returns c = λ journal batch is found.
+pub returns-then-branch : goal.returns-then-branch
+returns-then-branch c = λ journal batch is found.
     let alone = rw c.in-Some.is at found in
-    let same = c.in_ok-reserve.ensures.same in
-    let batches = alone.made_of.batches ∙ ap (λ (b : Batch). b ∷ []) alone.batch_is in
-    let R : List Batch → Type 0 = λ l. IsRegisterOf (journal ++ l) c.enter.new.self in
-    record {
-      knows = subst R (ap (λ (s : CountedSpan). s.span.batches) c.deref-3.ensures ∙ batches)
-          (c.enter.ensures journal (register_same journal c.args.register.now c.reserve.new.self is same));
-      first = alone.first (omega (arith, fewer_batches journal is.sound, is.sound.within.0));
-      batches = batches;
-    }
+    let more = MatchBool-at_true (HasOneMore journal batch c.takes_in.new.register c.deref.result.now) (¬ IsSound (journal ++ batch ∷ [])) c.if-branch.true
+    (c.in_ok-takes_in.ensures journal batch is (subst (IsAloneAt (length journal) batch) (sym c.deref.ensures) alone)) in
+    subst (λ (s : CountedSpan). HasOneMore journal batch c.takes_in.new.register s) c.deref.ensures more

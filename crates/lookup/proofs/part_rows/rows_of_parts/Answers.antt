@@ -5,7 +5,7 @@ use Rattle.std.proofs.lemmas.List.{take_all}
 use Rattle.std.proofs.lemmas.List.Sums.{sum_by-take-le}
 use Rattle.lookup.specs.declared.part_rows.PartRows.{PartRows}
 use Rattle.lookup.specs.Reading.{most_steps, read_steps, AreJudged, AreOfKey, AreRead}
-use Rattle.lookup.proofs.ReadLemmas.{Placed, both-some, cost-more, cost-within, few-marks, games-more, games-within, kept-games, most-read, placed, read-more, some-at, stops-at, undamaged, zip-at}
+use Rattle.lookup.proofs.ReadLemmas.{Placed, both-some, cost-more, cost-within, few-marks, games-more, games-within, kept-games, most-read, part-of, placed, read-more, some-at, stops-at, undamaged, zip-at}
 use Rattle.outside.specs.Ports.{Scratch}
 use Rattle.segment_blocks.specs.Kept.{KeptSpan}
 use Rattle.segment_blocks.specs.Segment.{CountedSpan}
@@ -95,6 +95,12 @@ returns-in-Err-clause-whole g c = λ key tidy holds.
     undamaged key place.value c.in-Err.stop
     (some-at (λ (s : CountedSpan). GivesRowsOf key s (Err c.in-Err.stop)) (slice_get set i) place.value place.is
     (c.in-Err.ensures.found key tidy (subst (λ (s : Scratch). Holds set s) (sym c.loop-part.invariant.same) holds)))
+
+pub returns-in-Err-clause-part : goal.returns-in-Err-clause-part
+returns-in-Err-clause-part g c =
+    let set = c.args.set.now in
+    let i = c.loop-part.part in
+    part-of i (length set) c.in-Err.stop (omega (arith, c.loop-part-test.true, c.parts-count.ensures.count)) c.in-Err.ensures.named
 
 pub returns-in-Err-clause-stopped : goal.returns-in-Err-clause-stopped
 returns-in-Err-clause-stopped g c = λ key tidy.

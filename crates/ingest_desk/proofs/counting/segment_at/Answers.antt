@@ -1,5 +1,5 @@
 use Rattle.ingest_desk.proofs.RecountLemmas.{short_texts}
-use Rattle.ingest_desk.proofs.counting.count_alone.Goals as goal
+use Rattle.ingest_desk.proofs.counting.segment_at.Goals as goal
 
 pub tally-requires-clause-short : goal.tally-requires-clause-short
 tally-requires-clause-short g c = λ κs within k d below.
