@@ -156,9 +156,13 @@ fn commit_once<C: Committer<J>, J: Index, R: Wait + Threads + Sync, G: Gate>(
         Err(fault) => fault,
     };
     match fault {
-        CommitFault::Clash { tally, pairs, note } => {
+        CommitFault::Clash {
+            handed,
+            pairs,
+            note,
+        } => {
             clashes.push_reserved(note);
-            let (batch, _classes, _rows) = tally.into_parts();
+            let batch = handed.into_batch(alloc)?;
             let Batch { label, texts } = batch;
             let named = name(alloc, texts, places.as_slice(), pairs.as_slice())?;
             let refused = merge(alloc, refused.as_slice(), named.refused.as_slice())?;

@@ -2,6 +2,7 @@ pub mod Clashes
 pub mod IdTable
 pub mod Causes
 pub mod Registers
+pub mod Readies
 pub mod Marked
 pub mod Marking
 pub mod Stored

@@ -17,8 +17,10 @@ ghost use Rattle.ingest_desk.specs.Stored.{journal};
 
 use crate::batches::batch_of;
 use crate::fault::CommitFault;
+use crate::handed::Handed;
 use crate::ingest::Ingest;
 use crate::mark::Mark;
+use crate::ready::Ready;
 use crate::receipt::Receipt;
 use crate::register::Verdict;
 use disk_model::Disk;
@@ -26,10 +28,9 @@ use explorer_model::archive::Batch;
 use game_replay::laws::game_is_determined;
 use published_index::{Drawer, Index, SharedSegment};
 use record_log::AppendFault;
-use segment_blocks::Segment;
 use std::alloc::{AllocError, Global};
 use std::snapshot::Snapshot;
-use std::sync::{Arc, Wait};
+use std::sync::Wait;
 use std::thread::Threads;
 use tally_rows::Tally;
 
@@ -57,7 +58,54 @@ impl<D: Disk, J: Index> Ingest<D, J> {
             → cause self.old.manifest.fault games (journal self.old) tally ≡ None
             → IsSound (journal self.old ++ tally.batch ∷ []) }
     {
-        self.known(&tally);
+        self.commit_handed(rt, alloc, Handed::unpacked(tally), mine)
+    }
+
+    /// Stores a batch that is packed already, as `commit` does, and hands it back where ids of it are
+    /// stored. It packs no row.
+    pub fn commit_ready<R: Wait + Threads + Sync>(
+        &mut self,
+        rt: &R,
+        alloc: Global,
+        ready: Ready,
+        mine: &mut Drawer<J>,
+    ) -> Result<Receipt<J>, CommitFault<J>>
+        ensures answer { CommitsBy D.disk D.left_since ready self.old self.new
+            mine.old mine.new result }
+        ensures sound { IsSound (journal self.old) }
+        ensures few { length self.new.index.list ≤ list_limit }
+
+        ensures crash { self.old.manifest.fault ≡ None → LeavesOnly D.disk D.left_since
+            self.old.manifest.disk self.new.manifest.disk
+            (IsWithOrWithoutBatch (journal self.old) ready.batch) }
+        ensures behind { (games : List Game) → AreGamesOf (journal self.old) games
+            → cause self.old.manifest.fault games (journal self.old) ready ≡ None
+            → IsSound (journal self.old ++ ready.batch ∷ []) }
+    {
+        self.commit_handed(rt, alloc, Handed::packed(ready), mine)
+    }
+
+    /// Stores and publishes a batch, packed or not.
+    fn commit_handed<R: Wait + Threads + Sync>(
+        &mut self,
+        rt: &R,
+        alloc: Global,
+        handed: Handed,
+        mine: &mut Drawer<J>,
+    ) -> Result<Receipt<J>, CommitFault<J>>
+        ensures answer { CommitsBy D.disk D.left_since handed self.old self.new
+            mine.old mine.new result }
+        ensures sound { IsSound (journal self.old) }
+        ensures few { length self.new.index.list ≤ list_limit }
+
+        ensures crash { self.old.manifest.fault ≡ None → LeavesOnly D.disk D.left_since
+            self.old.manifest.disk self.new.manifest.disk
+            (IsWithOrWithoutBatch (journal self.old) handed.batch) }
+        ensures behind { (games : List Game) → AreGamesOf (journal self.old) games
+            → cause self.old.manifest.fault games (journal self.old) handed ≡ None
+            → IsSound (journal self.old ++ handed.batch ∷ []) }
+    {
+        self.known(&handed);
         if let Some((before, after)) = self.fault() {
             return Err(CommitFault::Closed {
                 before,
@@ -68,10 +116,14 @@ impl<D: Disk, J: Index> Ingest<D, J> {
         if self.catch_up(rt).is_err() {
             return Err(CommitFault::OutOfMemory { stored: false });
         }
-        match self.judge(&tally) {
+        match self.judge(&handed) {
             Verdict::Clash(pairs) => {
                 let note = self.tell();
-                Err(CommitFault::Clash { tally, pairs, note })
+                Err(CommitFault::Clash {
+                    handed,
+                    pairs,
+                    note,
+                })
             }
             Verdict::Full { games, bytes } => {
                 let whole = self.tell();
@@ -85,25 +137,25 @@ impl<D: Disk, J: Index> Ingest<D, J> {
                 if self.make_room(rt, alloc).is_err() {
                     return Err(CommitFault::OutOfMemory { stored: false });
                 }
-                self.store(rt, alloc, tally, mine)
+                self.pack_and_store(rt, alloc, handed, mine)
             }
         }
     }
 
     /// What is true of each ingest: its journal is sound, and so it is with a batch that nothing is
     /// against; a crash leaves it; and its list is short.
-    fn known(&self, tally: &Tally)
+    fn known(&self, handed: &Handed)
         ensures sound { IsSound (journal self.now) }
         ensures behind { (games : List Game) → AreGamesOf (journal self.now) games
-            → cause self.now.manifest.fault games (journal self.now) tally.now ≡ None
-            → IsSound (journal self.now ++ tally.now.batch ∷ []) }
+            → cause self.now.manifest.fault games (journal self.now) handed.now ≡ None
+            → IsSound (journal self.now ++ handed.now.batch ∷ []) }
         ensures crash { self.now.manifest.fault ≡ None → (batch : StoredBatch)
             → LeavesOnly D.disk D.left_since self.now.manifest.disk self.now.manifest.disk
             (IsWithOrWithoutBatch (journal self.now) batch) }
         ensures few { length self.now.index.list ≤ list_limit }
     {
         game_is_determined();
-        let _batch = tally.batch();
+        let _batch = handed.batch();
         let _register = &self.register;
         let _list = self.publisher.list();
     }
@@ -116,40 +168,69 @@ impl<D: Disk, J: Index> Ingest<D, J> {
     }
 
     /// Whether a batch can be stored, where no disk fault closed the store. It takes no memory.
-    fn judge(&self, tally: &Tally) -> Verdict
+    fn judge(&self, handed: &Handed) -> Verdict
         ensures { (games : List Game) → AreGamesOf (journal self.now) games
-            → Judges result (cause_of_new games (journal self.now) tally.now) }
+            → Judges result (cause_of_new games (journal self.now) handed.now) }
     {
-        self.register.judge(tally)
+        self.register.judge(handed)
     }
 
-    /// Stores and publishes a batch that nothing is against.
-    fn store<R: Wait>(
+    /// Stores and publishes a batch that nothing is against, and packs it only if it is not packed yet.
+    fn pack_and_store<R: Wait>(
         &mut self,
         rt: &R,
         alloc: Global,
-        tally: Tally,
+        handed: Handed,
         mine: &mut Drawer<J>,
     ) -> Result<Receipt<J>, CommitFault<J>>
         requires open { self.old.manifest.fault ≡ None }
         requires none_held { self.old.index.held ≡ None }
         requires room { length self.old.index.list < list_limit }
         requires fits { (games : List Game) → AreGamesOf (journal self.old) games
-            → cause_of_new games (journal self.old) tally ≡ None }
+            → cause_of_new games (journal self.old) handed ≡ None }
 
-        ensures answer { CommitsBy D.disk D.left_since tally self.old self.new
+        ensures answer { CommitsBy D.disk D.left_since handed self.old self.new
             mine.old mine.new result }
         ensures few { length self.new.index.list ≤ list_limit }
         ensures crash { LeavesOnly D.disk D.left_since
             self.old.manifest.disk self.new.manifest.disk
-            (IsWithOrWithoutBatch (journal self.old) tally.batch) }
+            (IsWithOrWithoutBatch (journal self.old) handed.batch) }
     {
-        let games = tally.classes().len();
+        self.known(&handed);
+        match handed.into_ready(alloc) {
+            Ok(ready) => self.store(rt, alloc, ready, mine),
+            Err(_) => Err(CommitFault::OutOfMemory { stored: false }),
+        }
+    }
+
+    /// Stores and publishes a batch that nothing is against. It packs nothing.
+    fn store<R: Wait>(
+        &mut self,
+        rt: &R,
+        alloc: Global,
+        ready: Ready,
+        mine: &mut Drawer<J>,
+    ) -> Result<Receipt<J>, CommitFault<J>>
+        requires open { self.old.manifest.fault ≡ None }
+        requires none_held { self.old.index.held ≡ None }
+        requires room { length self.old.index.list < list_limit }
+        requires fits { (games : List Game) → AreGamesOf (journal self.old) games
+            → cause_of_new games (journal self.old) ready ≡ None }
+
+        ensures answer { CommitsBy D.disk D.left_since ready self.old self.new
+            mine.old mine.new result }
+        ensures few { length self.new.index.list ≤ list_limit }
+        ensures crash { LeavesOnly D.disk D.left_since
+            self.old.manifest.disk self.new.manifest.disk
+            (IsWithOrWithoutBatch (journal self.old) ready.batch) }
+    {
+        let _batch = ready.batch();
+        let games = ready.classes().len();
         if self.register.reserve(games).is_err() {
             return Err(CommitFault::OutOfMemory { stored: false });
         }
         let place = self.publisher.list().batches();
-        let Ok(segment) = share_of(alloc, place, tally) else {
+        let Ok(segment) = ready.share_at(alloc, place) else {
             return Err(CommitFault::OutOfMemory { stored: false });
         };
         let batch = batch_of(&segment, 0);
@@ -178,9 +259,7 @@ pub(crate) fn share_of(alloc: Global, place: u32, tally: Tally) -> Result<Shared
     ensures tally { IfOk result (λ segment. IsSegmentOf tally (arc_value segment)) }
     ensures counts { IfOk result (λ segment. IsSegment (arc_value segment)) }
 {
-    let segment = Segment::of(alloc, place, tally)?;
-    let _span = segment.span();
-    Ok(Arc::new(alloc, segment)?)
+    Ready::of(alloc, tally)?.share_at(alloc, place)
 }
 
 /// The batch that failed where the manifest has not taken it: it is one of a disk fault alone.

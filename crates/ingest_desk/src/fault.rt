@@ -1,10 +1,10 @@
 //! Why a batch or a merged segment is refused.
 use crate::clashing::Clashing;
+use crate::handed::Handed;
 use crate::job::Standing;
 use crate::mark::Mark;
 use arrayvec::ArrayVec;
 use published_index::{Index, Note};
-use tally_rows::Tally;
 
 /// Why a batch is not acknowledged.
 #[derive(Drop)]
@@ -18,7 +18,7 @@ pub enum CommitFault<J: Index> {
     /// Texts of the batch have ids of stored games: these, in the order of their places. The note has
     /// the whole journal.
     Clash {
-        tally: Tally,
+        handed: Handed,
         pairs: ArrayVec<Clashing, 512>,
         note: Note<J>,
     },

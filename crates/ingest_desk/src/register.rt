@@ -14,13 +14,13 @@ ghost use Rattle.ingest_desk.specs.Registers.{CanEnter, IsRegisterOf, IsSame, Is
 
 use crate::batches::batch_of;
 use crate::clashing::Clashing;
+use crate::handed::Handed;
 use crate::ids::Ids;
 use arrayvec::ArrayVec;
 use explorer_model::archive::Bytes;
 use game_replay::laws::game_is_determined;
 use segment_blocks::Segment;
 use std::alloc::{AllocError, Global};
-use tally_rows::Tally;
 
 /// The most games of a journal.
 const GAME_LIMIT: u64 = 262_144;
@@ -73,15 +73,15 @@ impl Register {
     }
 
     /// Whether a batch can be stored behind the journal. It takes no memory.
-    pub(crate) fn judge(&self, tally: &Tally) -> Verdict
+    pub(crate) fn judge(&self, handed: &Handed) -> Verdict
         requires { AreWithin self.now.games self.now.bytes }
         ensures { (journal : List ABatch) (games : List Game) → IsRegisterOf journal self.now
             → AreGamesOf journal games
-            → Judges result (cause_of_new games journal tally.now) }
+            → Judges result (cause_of_new games journal handed.now) }
     {
         game_is_determined();
-        let batch = tally.batch();
-        let classes = tally.classes();
+        let batch = handed.batch();
+        let classes = handed.classes();
         let pairs = self.ids.clashes(classes);
         if !pairs.is_empty() {
             return Verdict::Clash(pairs);

@@ -1,5 +1,5 @@
-//! That the clauses of `commit`, `fresh` and `open` are what the laws of a store's life speak of. Each
-//! function does what it calls, and says what that is in the life of the store.
+//! That the clauses of `commit`, `commit_ready`, `fresh` and `open` are what the laws of a store's life
+//! speak of. Each function does what it calls, and says what that is in the life of the store.
 ghost use Rattle.std.specs.Prelude.{◌≡◌, ◌≤◌, [], ℕ, IfOk, List, Some};
 ghost use Rattle.manifest.specs.Manifest.{IsManifestOf};
 ghost use Rattle.ingest_desk.specs.Lives.{Life, opening};
@@ -8,7 +8,7 @@ ghost use Rattle.ingest_desk.specs.Stored.{stored_by};
 
 use disk_model::Disk;
 use ingest_desk::laws::{commits_are_events, openings_are_events};
-use ingest_desk::{CommitFault, Ingest, Receipt, Unnamed, fresh, open};
+use ingest_desk::{CommitFault, Ingest, Ready, Receipt, Unnamed, fresh, open};
 use manifest::Manifest;
 use published_index::{Drawer, Index};
 use record_log::{Back, OpenFault};
@@ -31,6 +31,24 @@ pub fn commit_in_life<D: Disk, J: Index, R: Wait + Threads + Sync>(
     // law: each answer is an event or none
     commits_are_events::<D, J>();
     let answer = ingest.commit(rt, alloc, tally, drawer);
+    let _after = ingest.batches();
+    answer
+}
+
+/// Commits a batch that is packed already: the answer is the same event.
+pub fn commit_ready_in_life<D: Disk, J: Index, R: Wait + Threads + Sync>(
+    rt: &R,
+    alloc: Global,
+    ingest: &mut Ingest<D, J>,
+    drawer: &mut Drawer<J>,
+    ready: Ready,
+) -> Result<Receipt<J>, CommitFault<J>>
+    ensures { (life : Life) → HasLived D.disk D.left_since life ingest.old
+        → LivesOn D.disk D.left_since life (event_of result ready.batch) ingest.new }
+{
+    // law: each answer is an event or none
+    commits_are_events::<D, J>();
+    let answer = ingest.commit_ready(rt, alloc, ready, drawer);
     let _after = ingest.batches();
     answer
 }

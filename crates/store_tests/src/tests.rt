@@ -7,6 +7,7 @@ mod held;
 mod labels;
 mod merges;
 mod published;
+mod readies;
 mod samples;
 mod segments;
 mod spills;

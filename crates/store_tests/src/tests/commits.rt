@@ -93,7 +93,7 @@ fn clash_of<J: Index>(answer: Result<Receipt<J>, CommitFault<J>>) -> Option<Clas
     };
     match fault {
         CommitFault::Clash {
-            tally: _tally,
+            handed: _handed,
             pairs,
             note: _note,
         } => pairs.as_slice().first().copied(),

@@ -5,7 +5,7 @@ use super::stores::{commit_games, damage_of, games, join_twice, named, new_store
 use super::text;
 use disk_model::{Disk, MemDisk};
 use explorer_model::archive::Placed;
-use ingest_desk::{CommitFault, Ingest, Receipt, Standing, Unnamed};
+use ingest_desk::{CommitFault, Ingest, Ready, Receipt, Standing, Unnamed};
 use published_index::{Drawer, Index};
 use std::alloc::{AllocError, Global};
 use std::marker::Brand;
@@ -113,6 +113,9 @@ fn fill<J: Index, R: Threads + Wait + Abort + Sync>(
     let last = commit_games(rt, alloc, ingest, drawer, LIMIT - 1, 1)?;
     assert_eq!(rt; last, Some((513, 262_143, 1)));
     let full = room_for(rt, alloc, ingest, drawer, LIMIT, 1)?;
+    assert_eq!(rt; full, Some((262_144, 262_144 * 195)));
+    let ready = Ready::of(alloc, games(rt, alloc, LIMIT, 1)?)?;
+    let full = room_of(ingest.commit_ready(rt, alloc, ready, drawer));
     assert_eq!(rt; full, Some((262_144, 262_144 * 195)));
     Ok(())
 }

@@ -24,8 +24,8 @@ pub name-requires-clause-few : goal.name-requires-clause-few
 name-requires-clause-few g c =
     let x = c.in-Clash in
     let cl = rw x.is at c.in-Err.ensures.clash in
-    let same = ap (λ b. length b.texts) c.into_parts-batch.ensures.batch in
-    omega (arith, same, c.into_parts-batch.ensures.counted.batch.few)
+    let same = ap (λ b. length b.texts) c.in_ok-batch-in-Clash.ensures.batch in
+    omega (arith, same, c.in_ok-batch-in-Clash.ensures.counted.batch.few)
 
 pub name-requires-clause-long : goal.name-requires-clause-long
 name-requires-clause-long g c =
@@ -34,7 +34,7 @@ name-requires-clause-long g c =
     let cl = rw x.is at c.in-Err.ensures.clash in
     let N = numbers_of cl.1.1.0 in
     let theirs = batch_texts c.args.counted.batch.label h.candidates c.args.counted.batch h.counts.batch in
-    let texts = ap (λ b. b.texts) (c.into_parts-batch.ensures.batch ∙ ap (λ t. t.batch) cl.0) ∙ theirs in
+    let texts = ap (λ b. b.texts) (c.in_ok-batch-in-Clash.ensures.batch ∙ ap (λ t. t.batch) cl.0) ∙ theirs in
     let pairs = cl.1.1.1.1.0 ∙ ap (clashes_from 0 N) (counted_ids h.candidates c.args.counted h.counts) in
     let size = ap length texts in
     let long = ap length (c.as_slice.ensures.value ∙ h.places_are) in
@@ -47,12 +47,12 @@ tally-requires-clause-few g c =
     let cl = rw x.is at c.in-Err.ensures.clash in
     let N = numbers_of cl.1.1.0 in
     let theirs = batch_texts c.args.counted.batch.label h.candidates c.args.counted.batch h.counts.batch in
-    let texts = ap (λ b. b.texts) (c.into_parts-batch.ensures.batch ∙ ap (λ t. t.batch) cl.0) ∙ theirs in
+    let texts = ap (λ b. b.texts) (c.in_ok-batch-in-Clash.ensures.batch ∙ ap (λ t. t.batch) cl.0) ∙ theirs in
     let pairs = cl.1.1.1.1.0 ∙ ap (clashes_from 0 N) (counted_ids h.candidates c.args.counted h.counts) in
     let named = c.in_ok-named-in-Clash.ensures h.candidates N texts (c.as_slice.ensures.value ∙ h.places_are) (c.as_slice-in-Clash.ensures.value ∙ pairs) in
     let less = left_lt N 0 h.candidates (λ e. cl.1.0 (pairs ∙ e)) in
     let size = size_is c.args.counted.batch.label h.candidates (Some c.args.counted) h.counts in
-    let counted = rw cl.0 at c.into_parts-batch.ensures.counted in
+    let counted = rw cl.0 at c.in_ok-batch-in-Clash.ensures.counted in
     rw named.1 (omega (arith, less, size, counted.batch.few, length-map (left_by N h.candidates) placed))
 
 pub tally-requires-clause-short : goal.tally-requires-clause-short
@@ -62,10 +62,10 @@ tally-requires-clause-short g c =
     let cl = rw x.is at c.in-Err.ensures.clash in
     let N = numbers_of cl.1.1.0 in
     let theirs = batch_texts c.args.counted.batch.label h.candidates c.args.counted.batch h.counts.batch in
-    let texts = ap (λ b. b.texts) (c.into_parts-batch.ensures.batch ∙ ap (λ t. t.batch) cl.0) ∙ theirs in
+    let texts = ap (λ b. b.texts) (c.in_ok-batch-in-Clash.ensures.batch ∙ ap (λ t. t.batch) cl.0) ∙ theirs in
     let pairs = cl.1.1.1.1.0 ∙ ap (clashes_from 0 N) (counted_ids h.candidates c.args.counted h.counts) in
     let named = c.in_ok-named-in-Clash.ensures h.candidates N texts (c.as_slice.ensures.value ∙ h.places_are) (c.as_slice-in-Clash.ensures.value ∙ pairs) in
-    let counted = rw cl.0 at c.into_parts-batch.ensures.counted in
+    let counted = rw cl.0 at c.in_ok-batch-in-Clash.ensures.counted in
     let P : List (List ℕ) → Type 0 = λ l. All (λ (t : List ℕ). length t ≤ text_limit) l in
     rw named.1 (λ κs le. short (λ (t : List ℕ). length t ≤ text_limit) N h.candidates (subst P theirs counted.batch.short))
 
@@ -76,20 +76,20 @@ returns-in-Clash-clause-again g c = λ told label cuts r.
     let cl = rw x.is at c.in-Err.ensures.clash in
     let N = numbers_of cl.1.1.0 in
     let theirs = batch_texts label cs c.args.counted.batch r.made.batch in
-    let texts = ap (λ b. b.texts) (c.into_parts-batch.ensures.batch ∙ ap (λ t. t.batch) cl.0) ∙ theirs in
+    let texts = ap (λ b. b.texts) (c.in_ok-batch-in-Clash.ensures.batch ∙ ap (λ t. t.batch) cl.0) ∙ theirs in
     let pairs = cl.1.1.1.1.0 ∙ ap (clashes_from 0 N) (counted_ids cs c.args.counted r.made) in
     let known = rw x.is at c.in-Err.ensures.told in
     let named = c.in_ok-named-in-Clash.ensures cs N texts (c.as_slice.ensures.value ∙ r.places_are) (c.as_slice-in-Clash.ensures.value ∙ pairs) in
     let refused = c.in_ok-refused-in-Clash.ensures ∙ ap (λ l. merged l c.as_slice-in-Clash-3.result.now) c.as_slice-in-Clash-2.ensures.value ∙ ap (merged c.args.refused.items) c.as_slice-in-Clash-3.ensures.value in
     let before = g.C.Committer.told c.args.committer.now in
     let after = g.C.Committer.told c.commit.new.self in
-    let named_is = ap (λ b. b.label) (c.into_parts-batch.ensures.batch ∙ ap (λ t. t.batch) cl.0) ∙ label_is label cs c.args.counted.batch r.made.batch in
+    let named_is = ap (λ b. b.label) (c.in_ok-batch-in-Clash.ensures.batch ∙ ap (λ t. t.batch) cl.0) ∙ label_is label cs c.args.counted.batch r.made.batch in
     let tally_is = c.labelled.ensures ∙ ap (λ (l : List ℕ). option_map (under l) c.in_ok-again-in-Clash.again.tally) named_is in
     more c.game_is_determined.ensures told cuts c.args.counted c.args.places.items c.args.refused.items before r
     N c.in_ok-named-in-Clash.named.refused.items c.in_ok-refused-in-Clash.refused.items c.in_ok-named-in-Clash.named.rest.items c.in_ok-again-in-Clash.again _ after
     named.0 named.1 refused c.in_ok-again-in-Clash.ensures tally_is
-    (λ k e. still_clash k x.tally c.args.counted x.pairs x.note before after (r.still k e) known)
-    (λ k e. right_clash k x.tally c.args.counted x.pairs x.note before after cl.1.1.0 (r.still k e) known cl.1.1.1.1.1)
+    (λ k e. still_clash k x.handed c.args.counted x.pairs x.note before after (r.still k e) known)
+    (λ k e. right_clash k x.handed c.args.counted x.pairs x.note before after cl.1.1.0 (r.still k e) known cl.1.1.1.1.1)
 
 pub returns-in-Clash-clause-again_beside : goal.returns-in-Clash-clause-again_beside
 returns-in-Clash-clause-again_beside g c = λ label cuts r.
@@ -98,12 +98,12 @@ returns-in-Clash-clause-again_beside g c = λ label cuts r.
     let cl = rw x.is at c.in-Err.ensures.clash in
     let N = numbers_of cl.1.1.0 in
     let theirs = batch_texts label cs c.args.counted.batch r.rounds.made.batch in
-    let texts = ap (λ b. b.texts) (c.into_parts-batch.ensures.batch ∙ ap (λ t. t.batch) cl.0) ∙ theirs in
+    let texts = ap (λ b. b.texts) (c.in_ok-batch-in-Clash.ensures.batch ∙ ap (λ t. t.batch) cl.0) ∙ theirs in
     let pairs = cl.1.1.1.1.0 ∙ ap (clashes_from 0 N) (counted_ids cs c.args.counted r.rounds.made) in
     let named = c.in_ok-named-in-Clash.ensures cs N texts (c.as_slice.ensures.value ∙ r.rounds.places_are) (c.as_slice-in-Clash.ensures.value ∙ pairs) in
     let refused = c.in_ok-refused-in-Clash.ensures ∙ ap (λ l. merged l c.as_slice-in-Clash-3.result.now) c.as_slice-in-Clash-2.ensures.value ∙ ap (merged c.args.refused.items) c.as_slice-in-Clash-3.ensures.value in
     let notes = extended c.push_reserved.new.self.items c.reserve.new.self.items (x.note ∷ []) c.args.clashes.now.items (x.note ∷ []) c.push_reserved.ensures.items c.reserve.ensures.items refl in
-    let named_is = ap (λ b. b.label) (c.into_parts-batch.ensures.batch ∙ ap (λ t. t.batch) cl.0) ∙ label_is label cs c.args.counted.batch r.rounds.made.batch in
+    let named_is = ap (λ b. b.label) (c.in_ok-batch-in-Clash.ensures.batch ∙ ap (λ t. t.batch) cl.0) ∙ label_is label cs c.args.counted.batch r.rounds.made.batch in
     let tally_is = c.labelled.ensures ∙ ap (λ (l : List ℕ). option_map (under l) c.in_ok-again-in-Clash.again.tally) named_is in
     more_beside c.game_is_determined.ensures cuts c.args.counted c.args.places.items c.args.refused.items c.args.clashes.now.items c.push_reserved.new.self.items r
     N c.in_ok-named-in-Clash.named.refused.items c.in_ok-refused-in-Clash.refused.items c.in_ok-named-in-Clash.named.rest.items c.in_ok-again-in-Clash.again _
@@ -121,7 +121,7 @@ returns-in-Clash-clause-fewer g c =
     let cl = rw x.is at c.in-Err.ensures.clash in
     let N = numbers_of cl.1.1.0 in
     let theirs = batch_texts c.args.counted.batch.label h.candidates c.args.counted.batch h.counts.batch in
-    let texts = ap (λ b. b.texts) (c.into_parts-batch.ensures.batch ∙ ap (λ t. t.batch) cl.0) ∙ theirs in
+    let texts = ap (λ b. b.texts) (c.in_ok-batch-in-Clash.ensures.batch ∙ ap (λ t. t.batch) cl.0) ∙ theirs in
     let pairs = cl.1.1.1.1.0 ∙ ap (clashes_from 0 N) (counted_ids h.candidates c.args.counted h.counts) in
     let named = c.in_ok-named-in-Clash.ensures h.candidates N texts (c.as_slice.ensures.value ∙ h.places_are) (c.as_slice-in-Clash.ensures.value ∙ pairs) in
     let less = left_lt N 0 h.candidates (λ e. cl.1.0 (pairs ∙ e)) in
@@ -150,23 +150,29 @@ returns-in-Ok-clause-notes g c = notes_same c.args.clashes.now.items c.reserve.n
 pub returns-in_err-reserve-clause-memory : goal.returns-in_err-reserve-clause-memory
 returns-in_err-reserve-clause-memory g c = on_err c.from_residual.result (λ (label : List ℕ) (known : Known) (cuts : List Cut) (r : Rounds label (Some (store_of known)) cuts (Some c.args.counted) c.args.places.items c.args.refused.items (g.C.Committer.told c.args.committer.now)). lacks_still label known (cuts ∷ []) (g.C.Committer.told c.args.committer.now) (r.still known refl))
 
+pub returns-in_err-batch-in-Clash-clause-memory : goal.returns-in_err-batch-in-Clash-clause-memory
+returns-in_err-batch-in-Clash-clause-memory g c = on_err c.from_residual-in_err-batch-in-Clash.result (λ (label : List ℕ) (known : Known) (cuts : List Cut) (r : Rounds label (Some (store_of known)) cuts (Some c.args.counted) c.args.places.items c.args.refused.items (g.C.Committer.told c.args.committer.now)).
+    let x = c.in-Clash in
+    let after = g.C.Committer.told c.commit.new.self in
+    lacks_still label known (cuts ∷ []) after (still_clash known x.handed c.args.counted x.pairs x.note (g.C.Committer.told c.args.committer.now) after (r.still known refl) (rw x.is at c.in-Err.ensures.told)))
+
 pub returns-in_err-named-in-Clash-clause-memory : goal.returns-in_err-named-in-Clash-clause-memory
 returns-in_err-named-in-Clash-clause-memory g c = on_err c.from_residual-in_err-named-in-Clash.result (λ (label : List ℕ) (known : Known) (cuts : List Cut) (r : Rounds label (Some (store_of known)) cuts (Some c.args.counted) c.args.places.items c.args.refused.items (g.C.Committer.told c.args.committer.now)).
     let x = c.in-Clash in
     let after = g.C.Committer.told c.commit.new.self in
-    lacks_still label known (cuts ∷ []) after (still_clash known x.tally c.args.counted x.pairs x.note (g.C.Committer.told c.args.committer.now) after (r.still known refl) (rw x.is at c.in-Err.ensures.told)))
+    lacks_still label known (cuts ∷ []) after (still_clash known x.handed c.args.counted x.pairs x.note (g.C.Committer.told c.args.committer.now) after (r.still known refl) (rw x.is at c.in-Err.ensures.told)))
 
 pub returns-in_err-refused-in-Clash-clause-memory : goal.returns-in_err-refused-in-Clash-clause-memory
 returns-in_err-refused-in-Clash-clause-memory g c = on_err c.from_residual-in_err-refused-in-Clash.result (λ (label : List ℕ) (known : Known) (cuts : List Cut) (r : Rounds label (Some (store_of known)) cuts (Some c.args.counted) c.args.places.items c.args.refused.items (g.C.Committer.told c.args.committer.now)).
     let x = c.in-Clash in
     let after = g.C.Committer.told c.commit.new.self in
-    lacks_still label known (cuts ∷ []) after (still_clash known x.tally c.args.counted x.pairs x.note (g.C.Committer.told c.args.committer.now) after (r.still known refl) (rw x.is at c.in-Err.ensures.told)))
+    lacks_still label known (cuts ∷ []) after (still_clash known x.handed c.args.counted x.pairs x.note (g.C.Committer.told c.args.committer.now) after (r.still known refl) (rw x.is at c.in-Err.ensures.told)))
 
 pub returns-in_err-again-in-Clash-clause-memory : goal.returns-in_err-again-in-Clash-clause-memory
 returns-in_err-again-in-Clash-clause-memory g c = on_err c.from_residual-in_err-again-in-Clash.result (λ (label : List ℕ) (known : Known) (cuts : List Cut) (r : Rounds label (Some (store_of known)) cuts (Some c.args.counted) c.args.places.items c.args.refused.items (g.C.Committer.told c.args.committer.now)).
     let x = c.in-Clash in
     let after = g.C.Committer.told c.commit.new.self in
-    lacks_still label known (cuts ∷ []) after (still_clash known x.tally c.args.counted x.pairs x.note (g.C.Committer.told c.args.committer.now) after (r.still known refl) (rw x.is at c.in-Err.ensures.told)))
+    lacks_still label known (cuts ∷ []) after (still_clash known x.handed c.args.counted x.pairs x.note (g.C.Committer.told c.args.committer.now) after (r.still known refl) (rw x.is at c.in-Err.ensures.told)))
 
 pub returns-in-OutOfMemory-clause-memory : goal.returns-in-OutOfMemory-clause-memory
 returns-in-OutOfMemory-clause-memory g c = λ label known cuts r.
@@ -200,6 +206,11 @@ returns g c =
 
 pub returns-in_err-reserve-clause-drawn_few : goal.returns-in_err-reserve-clause-drawn_few
 returns-in_err-reserve-clause-drawn_few g c = on_err c.from_residual.result (few-none 1 _ _ refl)
+
+pub returns-in_err-batch-in-Clash-clause-drawn_few : goal.returns-in_err-batch-in-Clash-clause-drawn_few
+returns-in_err-batch-in-Clash-clause-drawn_few g c =
+    let x = c.in-Clash in
+    on_err c.from_residual-in_err-batch-in-Clash.result (few-none 1 _ _ (rw x.is at c.in-Err.ensures.drawn))
 
 pub returns-in_err-named-in-Clash-clause-drawn_few : goal.returns-in_err-named-in-Clash-clause-drawn_few
 returns-in_err-named-in-Clash-clause-drawn_few g c =

@@ -1,20 +1,10 @@
 use Rattle.ingest_desk.proofs.ingest.Ingest.commit.Goals as goal
 
-pub returns-then-is_err-clause-crash : goal.returns-then-is_err-clause-crash
-returns-then-is_err-clause-crash g c =
-    rw c.catch_up.ensures.manifest (λ sound. c.known.ensures.crash sound c.args.tally.batch)
+pub returns-clause-answer : goal.returns-clause-answer
+returns-clause-answer g c = rw c.unpacked.ensures at c.commit_handed.ensures.answer
 
-pub returns-in-Clash-clause-crash : goal.returns-in-Clash-clause-crash
-returns-in-Clash-clause-crash g c =
-    rw (c.tell-note.ensures.same, c.catch_up.ensures.manifest)
-    (λ sound. c.known.ensures.crash sound c.args.tally.batch)
+pub returns-clause-crash : goal.returns-clause-crash
+returns-clause-crash g c = rw c.unpacked.ensures at c.commit_handed.ensures.crash
 
-pub returns-in-Full-clause-crash : goal.returns-in-Full-clause-crash
-returns-in-Full-clause-crash g c =
-    rw (c.tell-whole.ensures.same, c.catch_up.ensures.manifest)
-    (λ sound. c.known.ensures.crash sound c.args.tally.batch)
-
-pub returns-then-is_err-2-clause-crash : goal.returns-then-is_err-2-clause-crash
-returns-then-is_err-2-clause-crash g c =
-    rw (c.make_room.ensures.manifest, c.catch_up.ensures.manifest)
-    (λ sound. c.known.ensures.crash sound c.args.tally.batch)
+pub returns-clause-behind : goal.returns-clause-behind
+returns-clause-behind g c = rw c.unpacked.ensures at c.commit_handed.ensures.behind

@@ -7,7 +7,7 @@ pub returns-clause-behind : goal.returns-clause-behind
 returns-clause-behind g c =
     let s = c.self in
     rw (← s.view_is) (λ games are none.
-    sound_uncaused c.game_is_determined.ensures _ c.args.tally.now s.invariant.knows.sound
+    sound_uncaused c.game_is_determined.ensures _ c.args.handed.now s.invariant.knows.sound
     c.batch-batch.ensures.counted _ games are none)
 
 pub returns-clause-crash : goal.returns-clause-crash

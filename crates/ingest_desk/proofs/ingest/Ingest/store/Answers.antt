@@ -28,8 +28,8 @@ invariant_of-self g c =
     kept_register d.disk d.left_since s.inside.manifest s.inside.publisher s.inside.register
     c.reserve.new.self s.invariant c.reserve.ensures.same
 
-pub share_of-requires : goal.share_of-requires
-share_of-requires g c =
+pub share_at-requires : goal.share_at-requires
+share_at-requires g c =
     let s = c.self in
     let index = s.inside.publisher in
     let none : index.held ≡ None = rw (← s.view_is) at c.requires.none_held in
@@ -47,8 +47,8 @@ invariant_of-self-in_default g c =
 
 pub store-requires-clause-storable : goal.store-requires-clause-storable
 store-requires-clause-storable g c =
-    let tally = c.args.tally in
-    let counted : IsCounted tally = subst IsCounted c.tally.view_is c.tally.invariant in
+    let tally = c.args.ready in
+    let counted : IsCounted tally = c.batch-batch.ensures.counted in
     let batches = ap (λ (s : CountedSpan). s.span.batches) c.deref.ensures ∙ c.in-Ok.ensures.tally.batches in
     let batch = first_is _ tally.batch _ batches c.batch_of-batch.ensures in
     rw batch (storable tally.batch counted.batch)
@@ -59,8 +59,8 @@ store-requires-clause-low g c =
     let d = g.D.Disk in
     let m = s.inside.manifest in
     let j = journal_by s.inside.publisher in
-    let tally = c.args.tally in
-    let counted : IsCounted tally = subst IsCounted c.tally.view_is c.tally.invariant in
+    let tally = c.args.ready in
+    let counted : IsCounted tally = c.batch-batch.ensures.counted in
     let batches = ap (λ (s : CountedSpan). s.span.batches) c.deref.ensures ∙ c.in-Ok.ensures.tally.batches in
     let batch = first_is _ tally.batch _ batches c.batch_of-batch.ensures in
     let open_is = rw (← s.view_is) at c.requires.open in
@@ -76,8 +76,8 @@ invariant_of-self-in-Err g c =
     let j = journal_by s.inside.publisher in
     let open_is = rw (← s.view_is) at c.requires.open in
     let is = sound_manifest d.disk d.left_since _ j m s.invariant.keeps open_is in
-    let tally = c.args.tally in
-    let counted : IsCounted tally = subst IsCounted c.tally.view_is c.tally.invariant in
+    let tally = c.args.ready in
+    let counted : IsCounted tally = c.batch-batch.ensures.counted in
     let batches = ap (λ (s : CountedSpan). s.span.batches) c.deref.ensures ∙ c.in-Ok.ensures.tally.batches in
     let batch = first_is _ tally.batch _ batches c.batch_of-batch.ensures in
     let fits_are = rw (← s.view_is) at c.requires.fits in
@@ -101,7 +101,7 @@ returns-in-Err-clause-answer g c =
     let fits = rw (← s.view_is) at c.requires.fits in
     let none = rw (← s.view_is) at c.requires.none_held in
     let room = rw (← s.view_is) at c.requires.room in
-    let tally = c.args.tally in
+    let tally = c.args.ready in
     let fault = c.in-Err.fault in
     let batches = ap (λ (s : CountedSpan). s.span.batches) c.deref.ensures ∙ c.in-Ok.ensures.tally.batches in
     let batch = first_is _ tally.batch _ batches c.batch_of-batch.ensures in
@@ -131,8 +131,8 @@ enter-requires-clause-fits g c =
     let j = journal_by s.inside.publisher in
     let r = s.inside.register in
     let same = c.reserve.ensures.same in
-    let tally = c.args.tally in
-    let counted : IsCounted tally = subst IsCounted c.tally.view_is c.tally.invariant in
+    let tally = c.args.ready in
+    let counted : IsCounted tally = c.batch-batch.ensures.counted in
     let fits_are = rw (← s.view_is) at c.requires.fits in
     let knows = s.invariant.knows in
     let fits = fits_of j r tally knows (fits_are knows.sound.games knows.sound.are_games) in
@@ -149,8 +149,8 @@ enter-requires-clause-fits g c =
 
 pub overflow_cast-result : goal.overflow_cast-result
 overflow_cast-result g c =
-    let tally = c.args.tally in
-    let counted : IsCounted tally = subst IsCounted c.tally.view_is c.tally.invariant in
+    let tally = c.args.ready in
+    let counted : IsCounted tally = c.batch-batch.ensures.counted in
     omega (arith, ap length c.classes-games.ensures, long tally counted, counted.batch.few)
 
 pub invariant_of-self-2 : goal.invariant_of-self-2
@@ -160,7 +160,7 @@ invariant_of-self-2 g c =
     let m = s.inside.manifest in
     let index = s.inside.publisher in
     let j = journal_by index in
-    let tally = c.args.tally in
+    let tally = c.args.ready in
     let shared = c.in-Ok.segment in
     let none : index.held ≡ None = rw (← s.view_is) at c.requires.none_held in
     let open_is = rw (← s.view_is) at c.requires.open in
@@ -194,7 +194,7 @@ returns-clause-answer g c =
     let m = s.inside.manifest in
     let index = s.inside.publisher in
     let j = journal_by index in
-    let tally = c.args.tally in
+    let tally = c.args.ready in
     let open_is = rw (← s.view_is) at c.requires.open in
     let fits = rw (← s.view_is) at c.requires.fits in
     let none : index.held ≡ None = rw (← s.view_is) at c.requires.none_held in
@@ -220,7 +220,7 @@ returns-clause-answer g c =
       batch_is = made_of.batches;
       counts = c.in-Ok.ensures.counts;
     } in
-    let counted : IsCounted tally = subst IsCounted c.tally.view_is c.tally.invariant in
+    let counted : IsCounted tally = c.batch-batch.ensures.counted in
     let all : journal_by c.put.new.self ≡ j ++ tally.batch ∷ [] =
     made index c.put.new.self (AddOf segment) c.put.result none c.put.ensures.makes
     ∙ ap (λ bs. j ++ bs) made_of.batches in

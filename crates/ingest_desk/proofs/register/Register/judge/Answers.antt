@@ -10,20 +10,20 @@ use Rattle.ingest_desk.proofs.register.Register.judge.Goals as goal
 pub clashes-pairs-requires : goal.clashes-pairs-requires
 clashes-pairs-requires c =
     rw c.classes-classes.ensures
-    (omega (arith, long c.args.tally.now c.batch-batch.ensures.counted, c.batch-batch.ensures.counted.batch.few))
+    (omega (arith, long c.args.handed.now c.batch-batch.ensures.counted, c.batch-batch.ensures.counted.batch.few))
 
 pub returns-then-not-is_empty : goal.returns-then-not-is_empty
 returns-then-not-is_empty c = λ journal games is are.
     let ids = number_at c.args.self.now.ids in
     let pairs = c.clashes-pairs.result.items in
-    judged_clash c.game_is_determined.ensures journal games c.args.self.now is are c.args.tally.now pairs
+    judged_clash c.game_is_determined.ensures journal games c.args.self.now is are c.args.handed.now pairs
     (c.clashes-pairs.ensures ∙ ap (clashes_of ids) c.classes-classes.ensures)
     (length_some pairs (sym c.is_empty.ensures ∙ c.if-not-is_empty.true))
 
 pub returns-then-is_over : goal.returns-then-is_over
 returns-then-is_over c = λ journal games is are.
     let now = c.args.self.now in
-    let tally = c.args.tally.now in
+    let tally = c.args.handed.now in
     let pairs = c.clashes-pairs.result.items in
     let texts = c.as_slice.ensures ∙ ap (λ (b : Batch). b.texts) c.batch-batch.ensures.batch in
     let bytes : c.bytes_of.result ≡ text_bytes tally.batch =
@@ -40,7 +40,7 @@ returns-then-is_over c = λ journal games is are.
 pub returns : goal.returns
 returns c = λ journal games is are.
     let now = c.args.self.now in
-    let tally = c.args.tally.now in
+    let tally = c.args.handed.now in
     let pairs = c.clashes-pairs.result.items in
     let texts = c.as_slice.ensures ∙ ap (λ (b : Batch). b.texts) c.batch-batch.ensures.batch in
     let bytes : c.bytes_of.result ≡ text_bytes tally.batch =
