@@ -257,7 +257,7 @@ class Crates(unittest.TestCase):
     def test_each_has_six_wrong_bodies_or_more(self):
         inside = collections.Counter(path.parts[-3] for path in CRATES.glob("*/must-fail/*.edit"))
         outside = collections.Counter(path.parent.name for path in (TOP / "bench/wrong").glob("*/*.edit"))
-        self.assertEqual((sum(inside.values()), len(inside)), (17, 13))
+        self.assertEqual((sum(inside.values()), len(inside)), (18, 13))
         self.assertEqual({name for name, count in (inside + outside).items() if count >= 6}, {name for name in crates() if not name.endswith("_tests")})
 
 

@@ -8,6 +8,7 @@ mod migrating;
 mod openings;
 mod serving;
 mod set_ups;
+mod spilling;
 mod stores;
 mod streams;
 mod trials;
