@@ -1,3 +1,4 @@
+//! The calls of a disk in memory.
 /// A call that a disk in memory remembers.
 #[derive(Drop)]
 pub enum DiskCall {

@@ -1,4 +1,4 @@
-// Connections in memory.
+//! Connections in memory.
 ghost use Rattle.std.specs.Prelude.{◌≡◌, ◌<◌, ◌⊎◌, ◌↔◌, [], Some, IfOk, IsErr, IsTrue, OnErr, MatchOption, map};
 ghost use Rattle.outside.specs.Doors.{GivesNone, Accepts, FailsToAccept};
 ghost use Rattle.outside.specs.Memory.{stream_of, fails_next, after_call};

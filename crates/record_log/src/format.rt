@@ -1,3 +1,4 @@
+//! What formats of log files are.
 /// A format of log files, which the layer above chooses.
 #[derive(Clone, Copy, Debug, PartialEq, Eq)]
 pub struct Format {
