@@ -10,7 +10,7 @@ ghost use Rattle.batch_tally.specs.KeyedBoard.{moved};
 use explorer_model::chess::{Move, Piece, Position, Role, arriving, piece_of};
 use explorer_model::square::{Square, halfway};
 use legal_moves::board::Board;
-use packed_keys::{key_of, pack_squares, write_square};
+use packed_keys::{PositionKey, key_of, pack_squares, write_square};
 use std::marker::Model;
 
 /// A board with its squares packed as in a key: a move writes few of them.
@@ -55,7 +55,7 @@ impl KeyedBoard {
     }
 
     /// The key of the tidy form.
-    pub fn tidy_key(&self) -> [u8; 34]
+    pub fn tidy_key(&self) -> PositionKey
         ensures { IsTidyKey self.now result }
     {
         let position = self.board.as_position();

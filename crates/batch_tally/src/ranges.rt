@@ -13,7 +13,7 @@ ghost use Rattle.std.specs.declared.alloc.Global.{Global};
 use crate::accepting::Accepted;
 use crate::leaves::all_made;
 use crate::singles::Count;
-use side_by_side::map_taken;
+use side_by_side::{Workers, map_taken};
 use std::alloc::{AllocError, Global};
 use std::thread::Threads;
 use tally_rows::{CountedRow, KeyRange, Single, rows_of};
@@ -25,9 +25,8 @@ pub fn row_parts<R: Threads + Sync>(
     rt: &R,
     alloc: Global,
     games: &[Accepted],
-    workers: usize,
+    workers: Workers,
 ) -> Result<Vec<Vec<CountedRow>>, AllocError>
-    requires some_workers { 1 ≤ workers }
     requires counted { All IsCounted games.now }
     requires few { length games.now ≤ group_limit }
     ensures { IfOk result
@@ -43,14 +42,13 @@ pub fn row_parts<R: Threads + Sync>(
 
 /// How many ranges there are for so many workers: three for each, of which the first are long and the
 /// last short, and one where no other works.
-fn count_ranges(workers: usize) -> usize
-    requires { 1 ≤ workers }
+fn count_ranges(workers: Workers) -> usize
     ensures { 1 ≤ result }
 {
-    if workers == 1 {
+    if workers.count == 1 {
         return 1;
     }
-    workers.saturating_mul(3)
+    workers.count.saturating_mul(3)
 }
 
 /// The rows in each range, where all games have so many singles.
@@ -59,7 +57,7 @@ fn rows_of_ranges<R: Threads + Sync>(
     alloc: Global,
     games: &[Accepted],
     ranges: Vec<KeyRange>,
-    workers: usize,
+    workers: Workers,
     singles: usize,
 ) -> Result<Vec<Result<Vec<CountedRow>, AllocError>>, AllocError>
     requires counted { All IsCounted games.now }
@@ -78,7 +76,7 @@ fn rows_of_ranges<R: Threads + Sync>(
         ensures { IfOk result (λ rows. (r : KeyRange)
             → AreRowsIn games.entry.now (slice_index_or ranges.entry.now n r) rows.items) }
     { rows_within(alloc, games, ranges[n], room_of(singles, n, ranges.len())) };
-    let results = map_taken(rt, alloc, workers, ranges.len(), &enter, &within)?;
+    let results = map_taken(rt, alloc, workers.count, ranges.len(), &enter, &within)?;
     let _count = results.as_slice().len();
     Ok(results)
 }

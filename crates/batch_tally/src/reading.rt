@@ -16,7 +16,7 @@ use explorer_model::fault::{GameFault, Stop};
 use game_replay::laws::games_begin_validly;
 use game_replay::replay;
 use outside::Gate;
-use side_by_side::map_taken;
+use side_by_side::{Workers, map_taken};
 use std::alloc::{AllocError, Global};
 use std::sync::Arc;
 use std::thread::Threads;
@@ -73,10 +73,9 @@ pub fn read_all<R: Threads + Sync, G: Gate>(
     rt: &R,
     alloc: Global,
     texts: Vec<Placed>,
-    workers: usize,
+    workers: Workers,
     gate: &G,
 ) -> Result<Vec<Reading>, AllocError>
-    requires some_workers { 1 ≤ workers }
     requires short { All (λ text. length text.bytes ≤ text_limit) texts.items }
     ensures { IfOk result (λ readings. AllZip IsReadingOf texts.items readings.items) }
 {
@@ -88,8 +87,7 @@ pub fn read_all<R: Threads + Sync, G: Gate>(
 }
 
 /// Runs of so many texts, one after another. Any do; the first are long, and the last short.
-fn runs_of(alloc: Global, texts: usize, workers: usize) -> Result<Vec<Run>, AllocError>
-    requires { 1 ≤ workers }
+fn runs_of(alloc: Global, texts: usize, workers: Workers) -> Result<Vec<Run>, AllocError>
     ensures { IfOk result (λ runs. AreRunsFrom 0 texts runs.items) }
 {
     let mut runs = Vec::new(alloc);
@@ -110,14 +108,13 @@ fn runs_of(alloc: Global, texts: usize, workers: usize) -> Result<Vec<Run>, Allo
 
 /// How many texts the next run has of those that are left: a third of a worker's share of them. Where
 /// no other works, it has as many as it may.
-fn share_of(left: usize, workers: usize) -> usize
-    requires { 1 ≤ workers }
+fn share_of(left: usize, workers: Workers) -> usize
     ensures { result ≤ left }
 {
-    if workers == 1 {
+    if workers.count == 1 {
         return LONGEST.min(left);
     }
-    let share = left / workers.saturating_mul(3);
+    let share = left / workers.count.saturating_mul(3);
     share.max(SHORTEST).min(LONGEST).min(left)
 }
 
@@ -127,7 +124,7 @@ fn read_runs<R: Threads + Sync, G: Gate>(
     alloc: Global,
     texts: &[Placed],
     runs: Vec<Run>,
-    workers: usize,
+    workers: Workers,
     gate: &G,
 ) -> Result<Vec<Result<Vec<Contents>, AllocError>>, AllocError>
     requires { AreShort texts.now }
@@ -147,7 +144,7 @@ fn read_runs<R: Threads + Sync, G: Gate>(
             → AllZip AreContentsOf (run_of texts.entry.now (slice_index_or runs.entry.now n r))
             made.items) }
     { read_run(alloc, texts, runs[n]) };
-    let results = map_taken(rt, alloc, workers, runs.len(), &enter, &read_one)?;
+    let results = map_taken(rt, alloc, workers.count, runs.len(), &enter, &read_one)?;
     let _count = results.as_slice().len();
     Ok(results)
 }

@@ -13,6 +13,7 @@ ghost use Rattle.batch_tally.specs.Steps.{step_as};
 use crate::step::Step;
 use crate::steps::steps_of;
 use explorer_model::archive::{Classes, Game};
+use packed_keys::PositionKey;
 use std::alloc::{AllocError, Global};
 use std::sync::Arc;
 use tally_rows::{RowKey, Single, first_word};
@@ -191,7 +192,7 @@ fn single_of(classes: &Classes, step: &Step) -> Single
 }
 
 /// The rating of the player who is to move in the position of a key.
-fn mover_rating(classes: &Classes, key: &[u8; 34]) -> u16
+fn mover_rating(classes: &Classes, key: &PositionKey) -> u16
     ensures { result ≡ mover_rating key.now classes.now }
 {
     if key[32] % 2 == 1 {

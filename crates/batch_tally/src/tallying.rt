@@ -14,6 +14,7 @@ use explorer_model::fault::Refusal;
 use explorer_model::label::Label;
 use explorer_model::list::Items;
 use outside::Gate;
+use side_by_side::Workers;
 use std::alloc::{AllocError, Global};
 use std::thread::Threads;
 use tally_rows::Tally;
@@ -45,6 +46,7 @@ pub fn tally<R: Threads + Sync, G: Gate>(
     requires short { All (λ text. length text.bytes ≤ text_limit) texts.items }
     ensures { IfOk result (λ tallying. IsTallying texts.items tallying) }
 {
+    let workers = Workers { count: workers };
     let readings = read_all(rt, alloc, texts, workers, gate)?;
     let group = accept(alloc, readings)?;
     let places = places_of(alloc, group.accepted.as_slice())?;
@@ -73,9 +75,8 @@ fn tally_of<R: Threads + Sync>(
     rt: &R,
     alloc: Global,
     accepted: Vec<Accepted>,
-    workers: usize,
+    workers: Workers,
 ) -> Result<Option<Tally>, AllocError>
-    requires some_workers { 1 ≤ workers }
     requires candidates { AreCandidates accepted.items }
     requires counted { All IsCounted accepted.items }
     ensures { IfOk result (λ tally. IsTallyMade (map candidate_as accepted.items) tally) }

@@ -21,7 +21,7 @@ use Rattle.explorer_model.specs.Stop as model
 use Rattle.ingest_desk.specs.declared.report.ImportEnding.{ImportEnding}
 use Rattle.ingest_desk.specs.declared.report.ImportEnding.TheVariants as endings
 use Rattle.import_run.specs.Committing.{Known}
-use Rattle.import_run.specs.Ending.{IsCutOff, IsTooMuch}
+use Rattle.import_run.specs.Ending.{IsCutOff, IsTooMuch, MayRise}
 use Rattle.explorer.specs.declared.fault.Fault.{Fault}
 use Rattle.explorer.specs.declared.fault.Fault.TheVariants as faults
 use Rattle.explorer.specs.declared.importing.Came.{Came}
@@ -37,7 +37,7 @@ use Rattle.explorer.proofs.NewStoreLemmas.{known_is_new}
 -- ---- want of memory
 
 pub starves_at_once : (before : World) → Starves before before (Stopped faults.OutOfMemory)
-starves_at_once before = record { ending_is = refl; stream = []; reads = reads-none before.input; below = omega arith; came = refl; rest = refl }
+starves_at_once before = record { ending_is = refl; stream = []; reads = reads-none before.input; below = omega arith; came = inl refl; rest = refl }
 
 pub starves_reading : (input input' output errors : Stream) (host : HostState) → ReadsBelow input input' → Starves (world input output errors host) (world input' output errors host) (Stopped faults.OutOfMemory)
 starves_reading input input' output errors host reads = record { ending_is = refl; stream = reads.stream; reads = reads.reads; below = reads.below; came = reads.came; rest = refl }
@@ -49,14 +49,14 @@ if_err (Err fault) holds = holds
 
 -- nothing was read
 pub below_nothing : (input : Stream) → ReadsBelow input input
-below_nothing input = record { stream = []; reads = reads-none input; below = omega arith; came = refl }
+below_nothing input = record { stream = []; reads = reads-none input; below = omega arith; came = inl refl }
 
--- an import that came to its end, or for which memory was wanting, read below the bound, and no read failed
+-- an import that came to its end, or for which memory was wanting, read below the bound
 below_by : (label : List ℕ) (ending : ImportEnding) (start : Known) (stream : List ℕ) (left : Option (List ℕ)) (batches : List Batch) (refused : List Refusal) (stored : List Batch) (failed : Option Batch) (disk disk_after : DiskState) (source source_after : Stream)
     → (fault_by ending ≡ None) ⊎ (fault_by ending ≡ Some faults.OutOfMemory) → StandsBy label ending start stream left batches refused stored failed → FaultsBy ending disk disk_after source source_after
-    → (length stream < input_limit) × (source_after.read_faults ≡ source.read_faults)
-below_by label endings.Whole start stream left batches refused stored failed disk disk_after source source_after ends stands faults_are = (stands.below, faults_are.reads)
-below_by label endings.OutOfMemory start stream left batches refused stored failed disk disk_after source source_after ends stands faults_are = (stands.below, faults_are.reads)
+    → (length stream < input_limit) × MayRise source.read_faults source_after.read_faults
+below_by label endings.Whole start stream left batches refused stored failed disk disk_after source source_after ends stands faults_are = (stands.below, inl faults_are.reads)
+below_by label endings.OutOfMemory start stream left batches refused stored failed disk disk_after source source_after ends stands faults_are = (stands.below, faults_are.1)
 below_by label (endings.ReadFault first last) start stream left batches refused stored failed disk disk_after source source_after (inl none) stands faults_are = absurd (cc)
 below_by label (endings.ReadFault first last) start stream left batches refused stored failed disk disk_after source source_after (inr memory) stands faults_are = absurd (cc)
 below_by label (endings.TooMuch bytes) start stream left batches refused stored failed disk disk_after source source_after (inl none) stands faults_are = absurd (cc)
@@ -84,7 +84,7 @@ below_lacking label journal stored disk disk_after source source_after came is m
 -- where memory is wanting for the report of an input that was read to its end
 pub below_counted : (book : List NamedPosition) (query : Query) (faults faults_after : ℕ) (before after : Stream) (refused : List Refusal) (line : Vec ℕ Global) → CountedTo book query faults faults_after before after refused (Ok line) → ReadsBelow before after
 below_counted book query faults faults_after before after refused line (batches, (imports, answer, came)) =
-    record { stream = imports.stream; reads = imports.reads; below = imports.stands.below; came = came }
+    record { stream = imports.stream; reads = imports.reads; below = imports.stands.below; came = inl came }
 
 -- ---- an import into a new store
 
@@ -170,7 +170,7 @@ module _ (book : List NamedPosition) (query : Query) (label : List ℕ) (unlabel
             is.batches,
             (
               new_by (λ stream. IsFullAt no_label games bytes new_store stream source_after.left) (stands_at (endings.Full games bytes) e) (stored_by_ending (endings.Full games bytes) e),
-              (faults_at (endings.Full games bytes) e).reads,
+              (faults_at (endings.Full games bytes) e).1,
             ),
           )
       by_ending (endings.TooMuch bytes) e ends =

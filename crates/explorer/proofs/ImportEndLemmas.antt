@@ -69,10 +69,10 @@ from_opening : (e : ImportEnding) (disk opened disk_after : DiskState) (source s
 from_opening endings.Whole disk opened disk_after source source_after same f = record { calls = f.calls ∙ same; reads = f.reads }
 from_opening (endings.ReadFault first last) disk opened disk_after source source_after same f = (f.0 ∙ same, f.1)
 from_opening (endings.DiskFault first last) disk opened disk_after source source_after same f = (subst (λ (n : ℕ). Rises n disk_after.faults) same f.0, f.1)
-from_opening (endings.Closed first last) disk opened disk_after source source_after same f = record { calls = f.calls ∙ same; reads = f.reads }
-from_opening (endings.Full games bytes) disk opened disk_after source source_after same f = record { calls = f.calls ∙ same; reads = f.reads }
+from_opening (endings.Closed first last) disk opened disk_after source source_after same f = (f.0 ∙ same, f.1)
+from_opening (endings.Full games bytes) disk opened disk_after source source_after same f = (f.0 ∙ same, f.1)
 from_opening (endings.TooMuch bytes) disk opened disk_after source source_after same f = record { calls = f.calls ∙ same; reads = f.reads }
-from_opening endings.OutOfMemory disk opened disk_after source source_after same f = record { calls = f.calls ∙ same; reads = f.reads }
+from_opening endings.OutOfMemory disk opened disk_after source source_after same f = (f.0 ∙ same, f.1)
 
 -- what the import came to, over the host
 pub imports_into : (store file label : List ℕ) (before after : HostState) (journal : List Batch) (disk opened disk_after : DiskState) (source source_after : Stream) (came : Came)

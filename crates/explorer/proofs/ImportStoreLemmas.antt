@@ -128,9 +128,9 @@ faults_by {J} (ends.DiskFault first last mark) disk disk_after source source_aft
     (subst P d.before_is (subst Q d.after_is d.rises), r)
 faults_by {J} ends.Whole disk disk_after source source_after r d = record { calls = d; reads = r }
 faults_by {J} (ends.TooMuch bytes) disk disk_after source source_after r d = record { calls = d; reads = r }
-faults_by {J} (ends.Closed first last mark) disk disk_after source source_after r d = record { calls = d; reads = r }
-faults_by {J} (ends.Full games bytes note) disk disk_after source source_after r d = record { calls = d; reads = r }
-faults_by {J} ends.OutOfMemory disk disk_after source source_after r d = record { calls = d; reads = r }
+faults_by {J} (ends.Closed first last mark) disk disk_after source source_after r d = (d, r)
+faults_by {J} (ends.Full games bytes note) disk disk_after source source_after r d = (d, r)
+faults_by {J} ends.OutOfMemory disk disk_after source source_after r d = (d, r)
 
 -- ---- an import
 

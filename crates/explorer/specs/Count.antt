@@ -13,7 +13,7 @@ use Rattle.explorer_model.specs.Journal.{IsSound, input_limit}
 use Rattle.explorer_model.specs.Labels.{no_label}
 use Rattle.explorer_model.specs.Openings.{NamedPosition}
 use Rattle.explorer_model.specs.Query.{QueryReads}
-use Rattle.import_run.specs.Ending.{IsCutOff, IsTooMuch}
+use Rattle.import_run.specs.Ending.{IsCutOff, IsTooMuch, MayRise}
 use Rattle.explorer.specs.declared.fault.Fault.{Fault}
 use Rattle.explorer.specs.declared.fault.Fault.TheVariants.{BadParameter, DiskFault, Full, OutOfMemory, ReadFault, TooMuchInput, WriteFault}
 use Rattle.explorer.specs.Answer.{IsAnswer, IsNamingOf, answer_line}
@@ -21,7 +21,7 @@ use Rattle.explorer.specs.Book.{NamedBy}
 use Rattle.explorer.specs.Imported.{IsAllSettled, IsFullAt, new_store}
 use Rattle.explorer.specs.Lines.{Ending, Done, Stopped}
 use Rattle.explorer.specs.Report.{MayReport, report}
-use Rattle.explorer.specs.World.{World, AllReadsCame, IsFaultless, ReadFails, WriteFails}
+use Rattle.explorer.specs.World.{World, AllReadsCame, IsFaultless, ReadFails, ReadMayFail, WriteFails}
 
 -- Bytes of the input were taken, of which an import into a new store stands so. It stored these
 -- batches, which are a sound journal, and refused these cuts.
@@ -63,7 +63,8 @@ pub record BreaksOff (Stands : List ℕ → List Batch → List Refusal → Type
   pub errors : MayReport (report refused) before.errors after.errors
   pub host : after.host ≡ before.host
 
--- a count for a query by a book, by its ending; no other can be
+-- a count for a query by a book, by its ending; no other can be. Behind a group that found no room a
+-- read may have failed.
 abbrev pub CountsBy : Query → List NamedPosition → World → World → Ending → Type 0
 CountsBy query book before after Done = Answers book query before after × IsFaultless before after
 CountsBy query book before after (Stopped WriteFault) =
@@ -74,17 +75,17 @@ CountsBy query book before after (Stopped TooMuchInput) =
     BreaksOff (IsTooMuch no_label new_store) before after × AllReadsCame before after
 CountsBy query book before after (Stopped (Full games bytes)) =
     BreaksOff (λ stream. IsFullAt no_label games bytes new_store stream after.input.left)
-    before after × AllReadsCame before after
+    before after × ReadMayFail before after
 CountsBy query book before after (Stopped _) = ⊥
 
--- Memory was refused, which may come at any moment: some of the input may be read, of which no read
--- failed and which is not up to the bound, and nothing is written.
+-- Memory was refused, which may come at any moment: some of the input may be read, which is not up to
+-- the bound, and the last read may have failed. Nothing is written.
 pub record Starves (before after : World) (ending : Ending) : Type 0 where
   pub ending_is : ending ≡ Stopped OutOfMemory
   pub stream : List ℕ
   pub reads : Reads stream before.input after.input
   pub below : length stream < input_limit
-  pub came : AllReadsCame before after
+  pub came : ReadMayFail before after
   pub rest : after ≡ record before { input = after.input }
 
 -- the input is counted, but for want of memory
@@ -109,12 +110,12 @@ Counts text openings before after ending =
 
 -- ---- bridge: what the code comes to on the way
 
--- some of the input was read, which is not up to the bound, and no read failed
+-- some of the input was read, which is not up to the bound; the last read may have failed
 pub record ReadsBelow (before after : Stream) : Type 0 where
   pub stream : List ℕ
   pub reads : Reads stream before after
   pub below : length stream < input_limit
-  pub came : after.read_faults ≡ before.read_faults
+  pub came : MayRise before.read_faults after.read_faults
 
 -- what an import into a new store came to, and the line that answers the query over it, or why there
 -- is none; with the counts of the disk's faults before and after
@@ -131,7 +132,7 @@ CountedBy book query faults faults_after before after batches refused (Err TooMu
     × (after.read_faults ≡ before.read_faults)
 CountedBy book query faults faults_after before after batches refused (Err (Full games bytes)) =
     ImportsNew (λ stream. IsFullAt no_label games bytes new_store stream after.left)
-    before after batches refused × (after.read_faults ≡ before.read_faults)
+    before after batches refused × MayRise before.read_faults after.read_faults
 CountedBy book query faults faults_after before after batches refused (Err DiskFault) =
     Rises faults faults_after
 CountedBy book query faults faults_after before after batches refused (Err _) = ⊥

@@ -22,15 +22,19 @@ abbrev pub fault_of_query : Stop query_fault.BadParameter → Fault
 fault_of_query (stops.Fault bad) = BadParameter bad.name
 fault_of_query stops.OutOfMemory = OutOfMemory
 
--- an import that ends early; none ends `Closed` whose store was open before it
+-- an import that ends early; an end by a disk fault or by a closed store is told as this fault
+abbrev pub fault_at : Fault → ImportEnding → Option Fault
+fault_at at_store endings.Whole = None
+fault_at at_store (endings.ReadFault before after) = Some ReadFault
+fault_at at_store (endings.DiskFault before after) = Some at_store
+fault_at at_store (endings.Closed before after) = Some at_store
+fault_at at_store (endings.Full games bytes) = Some (Full games bytes)
+fault_at at_store (endings.TooMuch bytes) = Some TooMuchInput
+fault_at at_store endings.OutOfMemory = Some OutOfMemory
+
+-- of a store that nobody else has; none ends `Closed` whose store was open before it
 abbrev pub fault_by : ImportEnding → Option Fault
-fault_by endings.Whole = None
-fault_by (endings.ReadFault before after) = Some ReadFault
-fault_by (endings.DiskFault before after) = Some DiskFault
-fault_by (endings.Closed before after) = Some DiskFault
-fault_by (endings.Full games bytes) = Some (Full games bytes)
-fault_by (endings.TooMuch bytes) = Some TooMuchInput
-fault_by endings.OutOfMemory = Some OutOfMemory
+fault_by ending = fault_at DiskFault ending
 
 -- a store that is not made
 abbrev pub fault_of_creation : CreateFault → Fault

@@ -13,7 +13,7 @@ use Rattle.ingest_desk.specs.Reporting.{FindsNoRoom}
 use Rattle.ingest_desk.specs.declared.report.ImportEnding.{ImportEnding}
 use Rattle.ingest_desk.specs.declared.report.ImportEnding.TheVariants as endings
 use Rattle.import_run.specs.Committing.{Known}
-use Rattle.import_run.specs.Ending.{AreSettled, EndsAt, HasMaybeOneMore, HasRoomFor, IsCutOff, IsTooMuch, Lacks}
+use Rattle.import_run.specs.Ending.{AreSettled, EndsAt, HasMaybeOneMore, HasRoomFor, IsCutOff, IsTooMuch, Lacks, MayRise}
 use Rattle.explorer.specs.declared.importing.Came.{Came}
 
 -- a store without a batch, that is open
@@ -73,14 +73,19 @@ pub record NoFault (disk disk_after : DiskState) (source source_after : Stream) 
   pub calls : disk_after.faults ≡ disk.faults
   pub reads : source_after.read_faults ≡ source.read_faults
 
--- a read or a call of the disk failed exactly where the ending says so
+-- A call of the disk failed exactly where the ending says so. So did a read, but that behind a group at
+-- which the import ended one may have failed.
 abbrev pub FaultsBy : ImportEnding → DiskState → DiskState → Stream → Stream → Type 0
 FaultsBy (endings.ReadFault before after) disk disk_after source source_after =
     (disk_after.faults ≡ disk.faults) × Rises source.read_faults source_after.read_faults
 FaultsBy (endings.DiskFault before after) disk disk_after source source_after =
-    Rises disk.faults disk_after.faults × (source_after.read_faults ≡ source.read_faults)
-FaultsBy _ disk disk_after source source_after =
+    Rises disk.faults disk_after.faults × MayRise source.read_faults source_after.read_faults
+FaultsBy endings.Whole disk disk_after source source_after =
     NoFault disk disk_after source source_after
+FaultsBy (endings.TooMuch bytes) disk disk_after source source_after =
+    NoFault disk disk_after source source_after
+FaultsBy _ disk disk_after source source_after =
+    (disk_after.faults ≡ disk.faults) × MayRise source.read_faults source_after.read_faults
 
 -- an import under a label into an open store of this journal came to this, and left that one
 pub record ImportedIn (label : List ℕ) (journal stored : List Batch) (disk disk_after : DiskState)

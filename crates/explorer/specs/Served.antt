@@ -23,6 +23,7 @@ use Rattle.ingest_desk.specs.Lives.{StandFrom}
 use Rattle.ingest_desk.specs.Reporting.{BreaksAt, FindsNoRoom}
 use Rattle.ingest_desk.specs.declared.report.ImportEnding.{ImportEnding}
 use Rattle.ingest_desk.specs.declared.report.ImportEnding.TheVariants as endings
+use Rattle.import_run.specs.Ending.{MayRise}
 use Rattle.import_run.specs.EndingBeside.{BreaksBeside, IsCutBeside, IsTooMuchBeside, LacksBeside}
 use Rattle.session.specs.declared.doors.DoorEnd.{DoorEnd}
 use Rattle.session.specs.declared.doors.DoorEnd.TheVariants as ends
@@ -31,7 +32,8 @@ use Rattle.session.specs.Exchanges.{Backend, backend}
 use Rattle.session.specs.Imports.{DrewPlacesOf, HasNoRoom, HasStoredBody, IsRepeatOf}
 use Rattle.session.specs.Replies.{with_players}
 use Rattle.explorer.specs.declared.fault.Fault.{Fault}
-use Rattle.explorer.specs.declared.fault.Fault.TheVariants.{CannotAccept, Full, OutOfMemory, ReadFault, TooMuchInput}
+use Rattle.explorer.specs.declared.fault.Fault.TheVariants.{CannotAccept, OutOfMemory}
+use Rattle.explorer.specs.Faults.{fault_at}
 use Rattle.explorer.specs.Report.{report_line}
 
 -- ---- what is asked for
@@ -78,7 +80,8 @@ AccountsSo (endings.Full games bytes) stream left_over batches refused =
 AccountsSo endings.OutOfMemory stream left_over batches refused =
     LacksBeside no_label stream left_over batches refused
 
--- how far the file was read, and whether a read failed
+-- How far the file was read, and whether a read failed. Behind a group at which the import ended one
+-- may have failed.
 abbrev pub ReadsSo : ImportEnding → List ℕ → Stream → Stream → Type 0
 ReadsSo endings.Whole stream before after =
     IsAtEnd after.left × (length stream < input_limit)
@@ -89,7 +92,7 @@ ReadsSo (endings.TooMuch bytes) stream before after =
     (bytes ≡ length stream) × (length stream ≡ input_limit)
     × (after.read_faults ≡ before.read_faults)
 ReadsSo _ stream before after =
-    (length stream < input_limit) × (after.read_faults ≡ before.read_faults)
+    (length stream < input_limit) × MayRise before.read_faults after.read_faults
 
 -- a file was imported, and that ended so
 pub record IsImported (file : Stream) (run : FileRun) : Type 0 where
@@ -269,13 +272,7 @@ pub record IsWorked (service : Service) (before after : HostState) : Type 0 wher
 
 -- why the import of a file did not come to its end; a fault of the disk is told by the disk
 abbrev pub fault_of_import : ImportEnding → Option Fault
-fault_of_import endings.Whole = None
-fault_of_import (endings.ReadFault before after) = Some ReadFault
-fault_of_import (endings.DiskFault before after) = Some OutOfMemory
-fault_of_import (endings.Closed before after) = Some OutOfMemory
-fault_of_import (endings.Full games bytes) = Some (Full games bytes)
-fault_of_import (endings.TooMuch bytes) = Some TooMuchInput
-fault_of_import endings.OutOfMemory = Some OutOfMemory
+fault_of_import ending = fault_at OutOfMemory ending
 
 abbrev pub fault_of_door : DoorEnd → Option Fault
 fault_of_door ends.Whole = None

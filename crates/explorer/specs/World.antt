@@ -2,6 +2,7 @@
 use Rattle.std.specs.Prelude.{◌≡◌, ◌⊎◌}
 use Rattle.outside.specs.Stream.{Stream, Rises}
 use Rattle.host.specs.Hosts.{HostState}
+use Rattle.import_run.specs.Ending.{MayRise}
 
 -- The input is read, the output and the errors are written, and the host hands out the rest.
 pub record World : Type 0 where
@@ -17,6 +18,10 @@ world input output errors host =
 -- no read failed
 abbrev pub AllReadsCame : World → World → Type 0
 AllReadsCame before after = after.input.read_faults ≡ before.input.read_faults
+
+-- a read may have failed
+abbrev pub ReadMayFail : World → World → Type 0
+ReadMayFail before after = MayRise before.input.read_faults after.input.read_faults
 
 -- no read and no write failed
 pub record IsFaultless (before after : World) : Type 0 where

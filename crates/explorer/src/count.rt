@@ -26,6 +26,7 @@ use outside::{Sink, Source};
 use published_index::{Drawer, Index};
 use query_params::laws::queries_play_legal_moves;
 use query_params::query;
+use side_by_side::Workers;
 use std::alloc::AllocError;
 use std::marker::Brand;
 use std::sync::Wait;
@@ -37,14 +38,12 @@ pub fn count<R: AllocGlobal + Wait + Threads + Sync, I: Source, O: Sink, E: Sink
     rt: &R,
     query_text: &[u8],
     openings: Option<String>,
-    workers: usize,
+    workers: Workers,
     input: &mut I,
     output: &mut O,
     errors: &mut E,
     host: &mut H,
 ) -> Result<(), Fault>
-    requires some_workers { 1 ≤ workers }
-    requires few_workers { workers ≤ 16 }
     ensures { let before = world (I.source input.old) (O.sink output.old) (E.sink errors.old)
         (H.host host.old) in
         let after = world (I.source input.new) (O.sink output.new) (E.sink errors.new)
@@ -71,13 +70,11 @@ fn count_by<R: AllocGlobal + Wait + Threads + Sync, I: Source, O: Sink, E: Sink>
     rt: &R,
     query: &Query,
     book: &Book,
-    workers: usize,
+    workers: Workers,
     input: &mut I,
     output: &mut O,
     errors: &mut E,
 ) -> Result<(), Fault>
-    requires some_workers { 1 ≤ workers }
-    requires few_workers { workers ≤ 16 }
     requires played { IsPlayed query.now }
     requires valid { IsValid query.now.at }
     requires top { query.now.top ≤ 4 }
@@ -119,11 +116,9 @@ fn count_input<R: AllocGlobal + Wait + Threads + Sync, I: Source>(
     rt: &R,
     query: &Query,
     book: &Book,
-    workers: usize,
+    workers: Workers,
     input: &mut I,
 ) -> Result<Counted, AllocError>
-    requires some_workers { 1 ≤ workers }
-    requires few_workers { workers ≤ 16 }
     requires played { IsPlayed query.now }
     requires valid { IsValid query.now.at }
     requires top { query.now.top ≤ 4 }
@@ -143,14 +138,12 @@ fn count_unnamed<J: Index, R: AllocGlobal + Wait + Threads + Sync, I: Source>(
     unnamed: Unnamed<Unkept>,
     query: &Query,
     book: &Book,
-    workers: usize,
+    workers: Workers,
     input: &mut I,
 ) -> Result<Counted, AllocError>
     requires name { unnamed.index.name ≡ J.name }
     requires sound { unnamed.manifest.fault ≡ None }
     requires empty { unnamed.index.list ≡ [] }
-    requires some_workers { 1 ≤ workers }
-    requires few_workers { workers ≤ 16 }
     requires played { IsPlayed query.now }
     requires valid { IsValid query.now.at }
     requires top { query.now.top ≤ 4 }
@@ -180,13 +173,11 @@ fn count_in<J: Index, R: AllocGlobal + Wait + Threads + Sync, I: Source, D: Disk
     drawer: &mut Drawer<J>,
     query: &Query,
     book: &Book,
-    workers: usize,
+    workers: Workers,
     input: &mut I,
 ) -> Result<Counted, AllocError>
     requires sound { ingest.old.manifest.fault ≡ None }
     requires empty { journal ingest.old ≡ [] }
-    requires some_workers { 1 ≤ workers }
-    requires few_workers { workers ≤ 16 }
     requires played { IsPlayed query.now }
     requires valid { IsValid query.now.at }
     requires top { query.now.top ≤ 4 }

@@ -1,5 +1,5 @@
 //! The command `import`: stores the games of a file.
-ghost use Rattle.std.specs.Prelude.{◌≡◌, ◌≤◌, None, MatchOption, string_bytes};
+ghost use Rattle.std.specs.Prelude.{◌≡◌, None, MatchOption, string_bytes};
 ghost use Rattle.outside.specs.Stream.{Stream};
 ghost use Rattle.published_index.specs.Cover.{journal_of};
 ghost use Rattle.explorer.specs.Imported.{ImportedTo};
@@ -22,6 +22,7 @@ use itoa::Buffer;
 use outside::{Sink, Source};
 use published_index::Index;
 use record_log::Back;
+use side_by_side::Workers;
 use std::alloc::Global;
 use std::marker::Brand;
 use std::sync::Wait;
@@ -109,11 +110,9 @@ fn import_in<J: Index, R: AllocGlobal + Wait + Threads + Sync, S: Source, D: Dis
     unnamed: Unnamed<D>,
     source: &mut S,
     label: Label,
-    workers: usize,
+    workers: Workers,
 ) -> Imported<D>
     requires name { unnamed.index.name ≡ J.name }
-    requires some_workers { 1 ≤ workers }
-    requires few_workers { workers ≤ 16 }
     requires sound { unnamed.manifest.fault ≡ None }
     ensures { MatchOption result.came
         ((result.disk ≡ unnamed.manifest.disk) × (S.source source.new ≡ S.source source.old))

@@ -1,8 +1,8 @@
 //! An import into a store that is open.
-ghost use Rattle.std.specs.Prelude.{◌≡◌, ◌<◌, ◌≤◌, ◌^◌, None};
+ghost use Rattle.std.specs.Prelude.{◌≡◌, ◌<◌, ◌^◌, None};
 ghost use Rattle.ingest_desk.specs.Reporting.{games_of};
 ghost use Rattle.ingest_desk.specs.Stored.{journal};
-ghost use Rattle.explorer.specs.Faults.{fault_by};
+ghost use Rattle.explorer.specs.Faults.{fault_at, fault_by};
 ghost use Rattle.explorer.specs.Imported.{ImportedIn};
 
 use crate::fault::Fault;
@@ -13,6 +13,7 @@ use import_run::{ending_of, import_alone};
 use ingest_desk::{ImportEnding, Ingest, Receipt};
 use outside::{FreeGate, Source};
 use published_index::{Drawer, Index};
+use side_by_side::Workers;
 use std::sync::Wait;
 use std::thread::Threads;
 
@@ -31,15 +32,23 @@ impl Came {
     pub fn fault(&self) -> Option<Fault>
         ensures { result ≡ fault_by self.now.ending }
     {
-        match self.ending {
-            ImportEnding::Whole => None,
-            ImportEnding::ReadFault { .. } => Some(Fault::ReadFault),
-            // No import ends `Closed` whose store was open before it.
-            ImportEnding::DiskFault { .. } | ImportEnding::Closed { .. } => Some(Fault::DiskFault),
-            ImportEnding::Full { games, bytes } => Some(Fault::Full { games, bytes }),
-            ImportEnding::TooMuch { .. } => Some(Fault::TooMuchInput),
-            ImportEnding::OutOfMemory => Some(Fault::OutOfMemory),
-        }
+        // No import ends `Closed` whose store was open before it.
+        import_fault(self.ending, Fault::DiskFault)
+    }
+}
+
+/// The fault of a run whose import ended early. An end by a disk fault or by a closed store is told as
+/// `at_store`.
+pub fn import_fault(ending: ImportEnding, at_store: Fault) -> Option<Fault>
+    ensures { result ≡ fault_at at_store ending }
+{
+    match ending {
+        ImportEnding::Whole => None,
+        ImportEnding::ReadFault { .. } => Some(Fault::ReadFault),
+        ImportEnding::DiskFault { .. } | ImportEnding::Closed { .. } => Some(at_store),
+        ImportEnding::Full { games, bytes } => Some(Fault::Full { games, bytes }),
+        ImportEnding::TooMuch { .. } => Some(Fault::TooMuchInput),
+        ImportEnding::OutOfMemory => Some(Fault::OutOfMemory),
     }
 }
 
@@ -51,10 +60,8 @@ pub fn import_into<J: Index, R: AllocGlobal + Wait + Threads + Sync, S: Source, 
     drawer: &mut Drawer<J>,
     source: &mut S,
     label: Label,
-    workers: usize,
+    workers: Workers,
 ) -> Came
-    requires some_workers { 1 ≤ workers }
-    requires few_workers { workers ≤ 16 }
     requires sound { ingest.old.manifest.fault ≡ None }
     ensures { ImportedIn label (journal ingest.old) (journal ingest.new)
         (D.disk ingest.old.manifest.disk) (D.disk ingest.new.manifest.disk)
@@ -67,7 +74,7 @@ pub fn import_into<J: Index, R: AllocGlobal + Wait + Threads + Sync, S: Source, 
         ingest,
         drawer,
         label,
-        workers,
+        workers.count,
         &FreeGate,
     );
     Came {

@@ -1,5 +1,5 @@
 //! The command `batches`: lists the batches of a store.
-ghost use Rattle.std.specs.Prelude.{◌≡◌, ◌+◌, ◌++◌, ◌<◌, ◌≤◌, IfOk, OnOk, string_bytes};
+ghost use Rattle.std.specs.Prelude.{◌≡◌, ◌+◌, ◌++◌, ◌<◌, IfOk, OnOk, string_bytes};
 ghost use Rattle.outside.specs.Stream.{Stream};
 ghost use Rattle.published_index.specs.Cover.{journal_of};
 ghost use Rattle.explorer.specs.Lines.{ending_of};
@@ -20,6 +20,7 @@ use outside::Sink;
 use published_index::{Index, Publisher, Snapshot};
 use record_log::{Back, OpenFault};
 use segment_blocks::{Segment, Steps};
+use side_by_side::Workers;
 use std::alloc::{AllocError, Global};
 use std::marker::Brand;
 use std::sync::Wait;
@@ -31,12 +32,10 @@ use std::thread::Threads;
 pub fn list_batches<R: AllocGlobal + Wait + Threads + Sync, O: Sink, H: Host>(
     rt: &R,
     store: String,
-    workers: usize,
+    workers: Workers,
     output: &mut O,
     host: &mut H,
 ) -> Result<(), Fault>
-    requires some_workers { 1 ≤ workers }
-    requires few_workers { workers ≤ 16 }
     ensures { (input errors : Stream) →
         let before = world input (O.sink output.old) errors (H.host host.old) in
         let after = world input (O.sink output.new) errors (H.host host.new) in
@@ -68,10 +67,8 @@ struct Listed<D> {
 fn list_at<R: AllocGlobal + Wait + Threads + Sync, D: Disk>(
     rt: &R,
     disk: D,
-    workers: usize,
+    workers: Workers,
 ) -> Listed<D>
-    requires some_workers { 1 ≤ workers }
-    requires few_workers { workers ≤ 16 }
     ensures sized { IsSized (D.disk disk) }
     ensures lists { ListsAt (D.disk disk) (D.disk result.disk) result.lines }
 {

@@ -1,5 +1,5 @@
 //! Stores that are opened, and a new one.
-ghost use Rattle.std.specs.Prelude.{◌≡◌, ◌≤◌, [], None, IfErr, IfOk};
+ghost use Rattle.std.specs.Prelude.{◌≡◌, [], None, IfErr, IfOk};
 ghost use Rattle.published_index.specs.Cover.{journal_of};
 ghost use Rattle.explorer.specs.Faults.{FirstCause, fault_of_opening};
 ghost use Rattle.explorer.specs.Opened.{NotOpened, OpensTo};
@@ -11,6 +11,7 @@ use explorer_model::store::LogFault;
 use ingest_desk::{Unnamed, fresh, open};
 use manifest::create;
 use record_log::{Back, OpenFault};
+use side_by_side::Workers;
 use std::alloc::AllocError;
 use std::sync::Wait;
 use std::thread::Threads;
@@ -19,10 +20,8 @@ use std::thread::Threads;
 pub fn open_store<R: AllocGlobal + Wait + Threads + Sync, D: Disk>(
     rt: &R,
     disk: D,
-    workers: usize,
+    workers: Workers,
 ) -> Result<Unnamed<D>, Back<D, OpenFault>>
-    requires some_workers { 1 ≤ workers }
-    requires few_workers { workers ≤ 16 }
     ensures sized { IsSized (D.disk disk) }
     ensures sound { IfOk result (λ unnamed. unnamed.manifest.fault ≡ None) }
     ensures opened { IfOk result (λ unnamed. OpensTo (journal_of unnamed.index.list)
@@ -31,7 +30,7 @@ pub fn open_store<R: AllocGlobal + Wait + Threads + Sync, D: Disk>(
         NotOpened back.fault (D.disk disk) (D.disk back.disk)) }
 {
     let before = disk.faults();
-    match open(rt, rt.alloc(), disk, workers, 1) {
+    match open(rt, rt.alloc(), disk, workers.count, 1) {
         Ok(unnamed) => Ok(unnamed),
         Err(back) => Err(first_cause(before, back)),
     }

@@ -25,6 +25,7 @@ use command_line::{Command, UsageError, parse_words};
 use explorer_model::fault::Stop;
 use host::Host;
 use outside::{Sink, Source};
+use side_by_side::Workers;
 use std::process::ExitCode;
 use std::sync::Wait;
 use std::thread::Threads;
@@ -98,7 +99,10 @@ fn run_command<R: AllocGlobal + Wait + Threads + Sync, I: Source, O: Sink, E: Si
 {
     match command {
         Command::Batches { store, workers } => {
-            list_batches(rt, store, usize::from(workers), output, host)
+            let workers = Workers {
+                count: usize::from(workers),
+            };
+            list_batches(rt, store, workers, output, host)
         }
         Command::Count {
             query,
@@ -108,7 +112,9 @@ fn run_command<R: AllocGlobal + Wait + Threads + Sync, I: Source, O: Sink, E: Si
             rt,
             query.as_bytes(),
             openings,
-            usize::from(workers),
+            Workers {
+                count: usize::from(workers),
+            },
             input,
             output,
             errors,
@@ -126,7 +132,9 @@ fn run_command<R: AllocGlobal + Wait + Threads + Sync, I: Source, O: Sink, E: Si
                 store,
                 file,
                 label,
-                workers: usize::from(workers),
+                workers: Workers {
+                    count: usize::from(workers),
+                },
             },
             output,
             errors,
@@ -145,7 +153,9 @@ fn run_command<R: AllocGlobal + Wait + Threads + Sync, I: Source, O: Sink, E: Si
                 store,
                 query.as_bytes(),
                 openings,
-                usize::from(workers),
+                Workers {
+                    count: usize::from(workers),
+                },
                 output,
                 host,
             ),
@@ -154,7 +164,9 @@ fn run_command<R: AllocGlobal + Wait + Threads + Sync, I: Source, O: Sink, E: Si
                 SpillOrder {
                     store,
                     spill,
-                    workers: usize::from(workers),
+                    workers: Workers {
+                        count: usize::from(workers),
+                    },
                 },
                 query.as_bytes(),
                 openings,
@@ -179,7 +191,9 @@ fn run_command<R: AllocGlobal + Wait + Threads + Sync, I: Source, O: Sink, E: Si
                 store,
                 address,
                 files,
-                workers: usize::from(workers),
+                workers: Workers {
+                    count: usize::from(workers),
+                },
                 readers: usize::from(readers),
                 connections,
                 book,
@@ -190,7 +204,15 @@ fn run_command<R: AllocGlobal + Wait + Threads + Sync, I: Source, O: Sink, E: Si
             games,
             seed,
             workers,
-        } => trial(rt, games, seed, usize::from(workers), output),
+        } => trial(
+            rt,
+            games,
+            seed,
+            Workers {
+                count: usize::from(workers),
+            },
+            output,
+        ),
     }
 }
 

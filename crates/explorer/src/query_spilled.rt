@@ -29,6 +29,7 @@ use outside::{Port, Sink};
 use query_params::laws::queries_play_legal_moves;
 use record_log::{Back, OpenFault};
 use segment_blocks::Steps;
+use side_by_side::Workers;
 use spill_blobs::{PortFault, SpillSet};
 use std::alloc::{AllocError, Global};
 use std::marker::Brand;
@@ -116,13 +117,11 @@ struct Spilled<D> {
 fn spill_at<R: AllocGlobal + Wait + Threads + Sync, D: Disk, P: Port>(
     rt: &R,
     disk: D,
-    workers: usize,
+    workers: Workers,
     query: &Query,
     book: &Book,
     port: &mut P,
 ) -> Spilled<D>
-    requires some_workers { 1 ≤ workers }
-    requires few_workers { workers ≤ 16 }
     requires played { IsPlayed query.now }
     requires valid { IsValid query.now.at }
     requires top { query.now.top ≤ 4 }
@@ -133,7 +132,7 @@ fn spill_at<R: AllocGlobal + Wait + Threads + Sync, D: Disk, P: Port>(
         (P.port port.old) (P.port port.new) result.line }
 {
     let before = disk.faults();
-    match open_spilled(rt, rt.alloc(), disk, workers, port) {
+    match open_spilled(rt, rt.alloc(), disk, workers.count, port) {
         Ok((disk, set)) => Spilled {
             disk,
             line: line_by::<Brand, P>(rt.alloc(), &set, query, book, port, Blank::new(1)),

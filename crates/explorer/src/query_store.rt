@@ -23,6 +23,7 @@ use outside::Sink;
 use published_index::{Index, Publisher};
 use query_params::laws::queries_play_legal_moves;
 use record_log::{Back, OpenFault};
+use side_by_side::Workers;
 use std::alloc::Global;
 use std::marker::Brand;
 use std::sync::Wait;
@@ -35,12 +36,10 @@ pub fn query_store<R: AllocGlobal + Wait + Threads + Sync, O: Sink, H: Host>(
     store: String,
     query_text: &[u8],
     openings: Option<String>,
-    workers: usize,
+    workers: Workers,
     output: &mut O,
     host: &mut H,
 ) -> Result<(), Fault>
-    requires some_workers { 1 ≤ workers }
-    requires few_workers { workers ≤ 16 }
     ensures { (input errors : Stream) →
         let before = world input (O.sink output.old) errors (H.host host.old) in
         let after = world input (O.sink output.new) errors (H.host host.new) in
@@ -66,12 +65,10 @@ fn query_by<R: AllocGlobal + Wait + Threads + Sync, O: Sink, H: Host>(
     store: String,
     query: &Query,
     book: &Book,
-    workers: usize,
+    workers: Workers,
     output: &mut O,
     host: &mut H,
 ) -> Result<(), Fault>
-    requires some_workers { 1 ≤ workers }
-    requires few_workers { workers ≤ 16 }
     requires played { IsPlayed query.now }
     requires valid { IsValid query.now.at }
     requires top { query.now.top ≤ 4 }
@@ -107,12 +104,10 @@ struct Looked<D> {
 fn look_at<R: AllocGlobal + Wait + Threads + Sync, D: Disk>(
     rt: &R,
     disk: D,
-    workers: usize,
+    workers: Workers,
     query: &Query,
     book: &Book,
 ) -> Looked<D>
-    requires some_workers { 1 ≤ workers }
-    requires few_workers { workers ≤ 16 }
     requires played { IsPlayed query.now }
     requires valid { IsValid query.now.at }
     requires top { query.now.top ≤ 4 }

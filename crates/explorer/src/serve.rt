@@ -58,7 +58,7 @@ pub fn serve<R: Wait + Threads + Sync, O: Sink, E: Sink, H: Host>(
     let Ok(disk) = host.disk(name) else {
         return Err(Fault::CannotOpen { name: order.store });
     };
-    match open(rt, alloc, disk, order.workers, order.readers) {
+    match open(rt, alloc, disk, order.workers.count, order.readers) {
         Ok(store) => serve_store::<R, O, E, H, Brand>(
             rt, alloc, order, output, errors, host, store,
         ),

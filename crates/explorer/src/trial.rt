@@ -45,6 +45,7 @@ use query_params::query;
 use rand_pcg::Lcg64Xsh32;
 use sample_games::laws::{ids_differ, samples_have_games, streams_are_cut_into_samples};
 use sample_games::sample;
+use side_by_side::Workers;
 use std::alloc::{AllocError, Global};
 use std::marker::Brand;
 use std::sync::Wait;
@@ -56,13 +57,11 @@ pub fn trial<R: AllocGlobal + Wait + Threads + Sync, O: Sink>(
     rt: &R,
     games: u32,
     seed: u64,
-    workers: usize,
+    workers: Workers,
     output: &mut O,
 ) -> Result<(), Fault>
     requires some_games { 1 ≤ games }
     requires few_games { games ≤ 131072 }
-    requires some_workers { 1 ≤ workers }
-    requires few_workers { workers ≤ 16 }
     ensures { (input errors : Stream) (host : HostState) →
         let before = world input (O.sink output.old) errors host in
         let after = world input (O.sink output.new) errors host in
@@ -82,12 +81,10 @@ fn trial_lines<R: AllocGlobal + Wait + Threads + Sync>(
     rt: &R,
     games: u32,
     seed: u64,
-    workers: usize,
+    workers: Workers,
 ) -> Result<Vec<u8>, AllocError>
     requires some_games { 1 ≤ games }
     requires few_games { games ≤ 131072 }
-    requires some_workers { 1 ≤ workers }
-    requires few_workers { workers ≤ 16 }
     ensures { IfOk result (λ lines. TellsTrial games seed lines.items) }
 {
     // law: each sample has a game
@@ -173,10 +170,8 @@ struct Tried {
 fn try_stream<R: AllocGlobal + Wait + Threads + Sync>(
     rt: &R,
     stream: Vec<u8>,
-    workers: usize,
+    workers: Workers,
 ) -> Result<Tried, AllocError>
-    requires some_workers { 1 ≤ workers }
-    requires few_workers { workers ≤ 16 }
     requires samples { IsOfSamples stream.items }
     ensures { IfOk result (λ tried.
         (texts : List (List ℕ)) → IsStreamOf texts stream.items → IsTriedOf texts tried) }
@@ -190,13 +185,11 @@ fn try_unnamed<J: Index, R: AllocGlobal + Wait + Threads + Sync>(
     rt: &R,
     unnamed: Unnamed<Unkept>,
     stream: Vec<u8>,
-    workers: usize,
+    workers: Workers,
 ) -> Result<Tried, AllocError>
     requires name { unnamed.index.name ≡ J.name }
     requires sound { unnamed.manifest.fault ≡ None }
     requires empty { unnamed.index.list ≡ [] }
-    requires some_workers { 1 ≤ workers }
-    requires few_workers { workers ≤ 16 }
     requires samples { IsOfSamples stream.items }
     ensures { IfOk result (λ tried.
         (texts : List (List ℕ)) → IsStreamOf texts stream.items → IsTriedOf texts tried) }
@@ -219,13 +212,11 @@ fn try_in<J: Index, R: AllocGlobal + Wait + Threads + Sync>(
     ingest: &mut Ingest<Unkept, J>,
     drawer: &mut Drawer<J>,
     stream: Vec<u8>,
-    workers: usize,
+    workers: Workers,
 ) -> Result<Tried, AllocError>
     requires sound { ingest.old.manifest.fault ≡ None }
     requires empty { journal ingest.old ≡ [] }
     requires unlisted { list_by ingest.old.index ≡ [] }
-    requires some_workers { 1 ≤ workers }
-    requires few_workers { workers ≤ 16 }
     requires samples { IsOfSamples stream.items }
     ensures { IfOk result (λ tried.
         (texts : List (List ℕ)) → IsStreamOf texts stream.items → IsTriedOf texts tried) }
@@ -240,12 +231,10 @@ fn store_samples<J: Index, R: AllocGlobal + Wait + Threads + Sync>(
     ingest: &mut Ingest<Unkept, J>,
     drawer: &mut Drawer<J>,
     stream: Vec<u8>,
-    workers: usize,
+    workers: Workers,
 ) -> Result<(), AllocError>
     requires sound { ingest.old.manifest.fault ≡ None }
     requires empty { journal ingest.old ≡ [] }
-    requires some_workers { 1 ≤ workers }
-    requires few_workers { workers ≤ 16 }
     requires samples { IsOfSamples stream.items }
     ensures stored { OnOk result ((texts : List (List ℕ)) → IsStreamOf texts stream.items
         → StoresTexts texts (journal ingest.new)) }
@@ -284,10 +273,8 @@ fn store_samples<J: Index, R: AllocGlobal + Wait + Threads + Sync>(
 fn count_stored<J: Index, R: AllocGlobal + Wait + Threads + Sync>(
     rt: &R,
     ingest: &mut Ingest<Unkept, J>,
-    workers: usize,
+    workers: Workers,
 ) -> Result<Tried, AllocError>
-    requires some_workers { 1 ≤ workers }
-    requires few_workers { workers ≤ 16 }
     requires behind { GoAllBehind (batch_sizes (journal ingest.old)) []
         (segment_sizes (list_by ingest.old.index)) }
     ensures { IfOk result (IsTriedOver (journal ingest.old)) }
@@ -306,10 +293,8 @@ fn count_stored<J: Index, R: AllocGlobal + Wait + Threads + Sync>(
 fn merge_all<J: Index, R: AllocGlobal + Wait + Threads + Sync>(
     rt: &R,
     ingest: &mut Ingest<Unkept, J>,
-    workers: usize,
+    workers: Workers,
 ) -> Result<(), AllocError>
-    requires some_workers { 1 ≤ workers }
-    requires few_workers { workers ≤ 16 }
     ensures same { StoresSame ingest.old ingest.new }
     ensures drained { OnOk result
         ((ingest.new.index.held ≡ None) × HasNoneDue ingest.new.index.list) }

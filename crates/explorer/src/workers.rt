@@ -2,18 +2,17 @@
 //! and what is published is merged.
 ghost use Rattle.std.specs.Prelude.{◌≡◌, ◌≤◌, ◌+◌, ◌++◌, [], length, map, string_bytes, IfOk, OnOk};
 ghost use Rattle.std.specs.List.{All, AllZip};
-ghost use Rattle.explorer.specs.Served.{fault_of_import};
 ghost use Rattle.explorer.specs.Workers.{HasDrawer, Works, fault_in, fault_of, lines_in, lines_of};
-ghost use Rattle.ingest_desk.specs.Importers.{ending_of};
 
 use crate::fault::Fault;
+use crate::importing::import_fault;
 use crate::listening::Told;
 use crate::order::Order;
 use crate::report::push_file_lines;
 use disk_model::Disk;
 use explorer_model::label::Label;
-use import_run::{DeskHandle, drain, import};
-use ingest_desk::{Desk, End, Ingest, MergeDesk, Report};
+use import_run::{DeskHandle, drain, ending_of, import};
+use ingest_desk::{Desk, Ingest, MergeDesk, Report};
 use outside::{Door, FreeGate, Source};
 use player_index::PlayerIndex;
 use published_index::{Drawer, Index, Pass};
@@ -71,7 +70,7 @@ impl<F: Source, G: Door, J: Index> Worker<F, G, J> {
                     desk,
                     &mut file.drawer,
                     Label::none(),
-                    order.workers,
+                    order.workers.count,
                     &FreeGate,
                 );
                 file.report = Some(report);
@@ -87,7 +86,7 @@ impl<F: Source, G: Door, J: Index> Worker<F, G, J> {
                 let Some(mine) = drawer.take() else {
                     unreachable!()
                 };
-                let mut importer = DeskHandle::new(desk, mine, order.workers);
+                let mut importer = DeskHandle::new(desk, mine, order.workers.count);
                 let mut players = PlayerIndex::new(alloc);
                 *end = serve_door(
                     rt,
@@ -101,7 +100,7 @@ impl<F: Source, G: Door, J: Index> Worker<F, G, J> {
                 *drawer = Some(importer.into_drawer());
             }
             Worker::Merger => {
-                let _ = drain(rt, alloc, &MergeDesk::of(desk), order.workers);
+                let _ = drain(rt, alloc, &MergeDesk::of(desk), order.workers.count);
             }
         }
     }
@@ -114,7 +113,8 @@ impl<F, G, J: Index> Worker<F, G, J> {
     {
         match self {
             Worker::File(file) => match &file.report {
-                Some(report) => import_fault(&report.end),
+                // That the disk failed is told by the disk, and goes before this.
+                Some(report) => import_fault(ending_of(&report.end), Fault::OutOfMemory),
                 None => Some(Fault::OutOfMemory),
             },
             Worker::Reader(reader) => match reader.end {
@@ -123,23 +123,6 @@ impl<F, G, J: Index> Worker<F, G, J> {
             },
             Worker::Merger => None,
         }
-    }
-}
-
-/// Why an import did not come to its end. That the disk failed is told by the disk, and goes before
-/// this.
-fn import_fault<J: Index>(end: &End<J>) -> Option<Fault>
-    ensures { result ≡ fault_of_import (ending_of end.now) }
-{
-    match end {
-        End::Whole => None,
-        End::ReadFault { .. } => Some(Fault::ReadFault),
-        End::Full { games, bytes, .. } => Some(Fault::Full {
-            games: *games,
-            bytes: *bytes,
-        }),
-        End::TooMuch { .. } => Some(Fault::TooMuchInput),
-        End::DiskFault { .. } | End::Closed { .. } | End::OutOfMemory => Some(Fault::OutOfMemory),
     }
 }
 

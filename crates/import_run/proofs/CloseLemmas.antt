@@ -1,25 +1,24 @@
 -- A group in hand is closed, and what was settled before stays.
-use Rattle.std.proofs.Common.{◌≡◌, ◌∙◌, ◌+◌, ◌-◌, ◌<◌, ◌≤◌, ℕ, List, [], ◌∷◌, ◌++◌, length, map, filter_map, Option, None, Some, refl, sym, ap, subst, arith, zero, suc}
+use Rattle.std.proofs.Common.{◌≡◌, ◌∙◌, ◌+◌, ◌-◌, ◌<◌, ◌≤◌, ℕ, List, [], ◌∷◌, ◌++◌, length, map, Option, None, Some, refl, sym, ap, subst, arith, zero, suc}
 use Rattle.std.specs.Prelude.{slice_get, vec_capacity, vec_len}
 use Rattle.std.specs.List.{AllZip, Contains}
-use Rattle.std.proofs.lemmas.List.{append-nil}
+use Rattle.std.proofs.lemmas.List.{append-nil, length-map}
 use Rattle.std.proofs.lemmas.List.Elements.{Contains-append_right}
 use Rattle.explorer_model.specs.declared.archive.Batch.{Batch}
 use Rattle.explorer_model.specs.declared.archive.Game.{Game}
-use Rattle.explorer_model.specs.declared.archive.Placed.{Placed}
 use Rattle.explorer_model.specs.declared.fault.Refusal.{Refusal}
-use Rattle.explorer_model.specs.Cuts.{Cut, Text, TooLong, Preamble}
-use Rattle.explorer_model.specs.Imports.{AccountedBeside, Accepted, Candidate, Examination, IsExaminationOf, Numbering, Refused, Verdict, and_candidate, numbers_of, refusals, verdict_behind, verdict_if_stored, verdict_of, verdicts, verdicts_from}
+use Rattle.explorer_model.specs.Cuts.{Cut}
+use Rattle.explorer_model.specs.Imports.{AccountedBeside, Accepted, Candidate, Examination, IsExaminationOf, Numbering, Refused, Verdict, and_candidate, candidates, numbers_of, refusals, verdict_behind, verdict_if_stored, verdict_of, verdicts, verdicts_from}
 use Rattle.explorer_model.specs.Timeline.{IsPrefix}
 use Rattle.explorer_model.specs.Visits.{AreGamesOf}
 use Rattle.ingest_desk.specs.Reporting.{AreReceipts}
 use Rattle.ingest_desk.specs.declared.receipt.Receipt.{Receipt}
 use Rattle.import_run.specs.declared.open_import.OpenImport.{OpenImport}
 use Rattle.import_run.specs.declared.open_import.Stopped.{Stopped}
-use Rattle.import_run.specs.declared.text_group.TextGroup.{TextGroup}
+use Rattle.import_run.specs.declared.text_group.TalliedGroup.{TalliedGroup}
 use Rattle.import_run.specs.Beside.{AreNamed, AreRepeats, ProgressBeside, StopsBeside, last_batches}
 use Rattle.import_run.specs.Committing.{Known, Store, store_of}
-use Rattle.import_run.specs.Grouping.{IsGroupOf, text_of, unread_of}
+use Rattle.import_run.specs.Grouping.{IsTallied}
 use Rattle.import_run.specs.Importing.{StopsAt}
 use Rattle.import_run.specs.Progress.{Progress}
 use Rattle.import_run.specs.Rounds.{MayHaveMore}
@@ -145,17 +144,18 @@ examined_length [] (e ∷ examinations) each = absurd each
 examined_length (cut ∷ cuts) [] each = absurd each
 examined_length (cut ∷ cuts) (e ∷ examinations) each = ap suc (examined_length cuts examinations each.1)
 
-parts : (cuts : List Cut) → length (filter_map text_of cuts) + length (filter_map unread_of cuts) ≡ length cuts
+parts : (vs : List Verdict) → length (candidates vs) + length (refusals vs) ≡ length vs
 parts [] = refl
-parts (Text text ∷ cuts) = let rest = parts cuts in omega (arith, rest)
-parts (TooLong place long ∷ cuts) = let rest = parts cuts in omega (arith, rest)
-parts (Preamble place ∷ cuts) = let rest = parts cuts in omega (arith, rest)
+parts (Refused refusal ∷ vs) = let rest = parts vs in omega (arith, rest)
+parts (Accepted c ∷ vs) = let rest = parts vs in omega (arith, rest)
 
--- a group has at most as many refusals as it has cuts
-pub few_refused : (cuts : List Cut) (group : TextGroup) (examinations : List Examination) (stored : Numbering) → IsGroupOf cuts group → AllZip IsExaminationOf cuts examinations
-    → length (lost stored (verdicts examinations)) ≤ length group.texts.items + length group.unread.items
-few_refused cuts group examinations stored is each =
-    let all = parts cuts in
-    let texts = ap (λ (l : List Placed). length l) is.texts in
-    let unread = ap (λ (l : List Refusal). length l) is.unread in
-    omega (arith, all, texts, unread, refusals_le stored (verdicts examinations), verdicts_length [] examinations, examined_length cuts examinations each)
+-- a group has at most as many refusals as it has cuts, of which each is a candidate or refused first
+pub few_left : (label : List ℕ) (cuts : List Cut) (tallied : TalliedGroup) (examinations : List Examination) (stored : Numbering) → IsTallied label cuts tallied → AllZip IsExaminationOf cuts examinations
+    → length (lost stored (verdicts examinations)) ≤ length tallied.places.items + length tallied.refused.items
+few_left label cuts tallied examinations stored is each =
+    let all = parts (verdicts is.examinations) in
+    let places = ap (λ (l : List ℕ). length l) is.places ∙ length-map (candidates (verdicts is.examinations)) (λ (c : Candidate). c.place) in
+    let refused = ap (λ (l : List Refusal). length l) is.refused in
+    let same = examined_length cuts is.examinations is.are_examinations in
+    let others = examined_length cuts examinations each in
+    omega (arith, all, places, refused, same, others, refusals_le stored (verdicts examinations), verdicts_length [] examinations, verdicts_length [] is.examinations)

@@ -4,7 +4,7 @@ use Rattle.std.specs.Io.KnownBytes.{IsAtEnd}
 use Rattle.std.specs.List.{AllByRecursion, Contains}
 use Rattle.std.proofs.lemmas.List.{append-nil}
 use Rattle.std.proofs.lemmas.List.Elements.{All-append, Contains-append_left, Contains-append_right}
-use Rattle.outside.specs.Stream.{FailsToGive, Gives, Reads, Rises, Stream, source_alone}
+use Rattle.outside.specs.Stream.{Gives, Reads, Rises, Stream, source_alone}
 use Rattle.explorer_model.specs.declared.archive.Batch.{Batch}
 use Rattle.explorer_model.specs.declared.fault.Refusal.{Refusal}
 use Rattle.explorer_model.specs.Cuts.{Cut, cuts}
@@ -23,13 +23,14 @@ use Rattle.ingest_desk.specs.Importers.{EndsInMemory, ending_of}
 use Rattle.import_run.specs.Counting.{IsMarkedSo}
 use Rattle.import_run.specs.Beside.{AreRepeats, EndsBeside, ProgressBeside, StopsBeside}
 use Rattle.import_run.specs.Committing.{Store}
-use Rattle.import_run.specs.Ending.{ReadFaultsAre}
+use Rattle.import_run.specs.Ending.{MayRise, ReadFaultsAre}
+use Rattle.import_run.specs.Importing.{EndsEarly}
 use Rattle.import_run.specs.EndingBeside.{BreaksBeside, ComesBeside, ImportsBeside, IsCutBeside, LacksBeside, StandsBeside}
 use Rattle.import_run.specs.SoFar.{AreGroupsSoFar, IsWhole}
 use Rattle.import_run.specs.Taking.{ComesQuietlyBeside, CutSoFar, IsReady, IsWholeBeside, LacksAtEnd, LacksWithin, StopsAtEnd, StopsWithin, TakenAll}
 use Rattle.import_run.proofs.GroupLemmas.{all_cuts, texts_in}
 use Rattle.import_run.proofs.HoldLemmas.{holds_texts}
-use Rattle.import_run.proofs.ReadLemmas.{longer, no_fault, one_byte, read_failed, read_more}
+use Rattle.import_run.proofs.ReadLemmas.{early_faults, longer, no_fault, one_byte, read_more}
 use Rattle.import_run.proofs.RepeatLemmas.{all-repeats-grow}
 use Rattle.import_run.proofs.ReportLemmas.{AccountedFront, NotPreamble, accounted_front, accounted_whole, all_cuts-last, breaks_last, breaks_within, front_of_all, games_within, some_whole}
 use Rattle.import_run.proofs.SoFarLemmas.{BeginSoFar, ended_taken, lacking_so_far, stopped_so_far}
@@ -123,9 +124,9 @@ module _ {J : Type 0} (stream : List ℕ) (left_over : Option (List ℕ)) where
       → EndsSo label end batches refused
   ends_stopped {label} ends.Whole batches refused left so breaks beside = absurd so
   ends_stopped {label} (ends.ReadFault before after) batches refused left so breaks beside = absurd so
-  ends_stopped {label} (ends.DiskFault before after mark) batches refused left so breaks beside = record { accounts = (left, breaks, so); stands = (left, beside, so.failed_is); quiet = λ old new same. same }
-  ends_stopped {label} (ends.Closed before after mark) batches refused left so breaks beside = record { accounts = (left, breaks, so); stands = (left, beside); quiet = λ old new same. same }
-  ends_stopped {label} (ends.Full games bytes note) batches refused left so breaks beside = record { accounts = (left, breaks, so); stands = (left, beside, so); quiet = λ old new same. same }
+  ends_stopped {label} (ends.DiskFault before after mark) batches refused left so breaks beside = record { accounts = (left, breaks, so); stands = (left, beside, so.failed_is); quiet = λ old new same. inl same }
+  ends_stopped {label} (ends.Closed before after mark) batches refused left so breaks beside = record { accounts = (left, breaks, so); stands = (left, beside); quiet = λ old new same. inl same }
+  ends_stopped {label} (ends.Full games bytes note) batches refused left so breaks beside = record { accounts = (left, breaks, so); stands = (left, beside, so); quiet = λ old new same. inl same }
   ends_stopped {label} (ends.TooMuch bytes) batches refused left so breaks beside = absurd so
   ends_stopped {label} ends.OutOfMemory batches refused left so breaks beside = absurd so
 
@@ -241,7 +242,7 @@ module _ {J : Type 0} (stream : List ℕ) (left_over : Option (List ℕ)) where
           let lacks : LacksBeside import.group.label stream left_over p.batches import.refused.items =
           record { below = below; so_far = gs ++ so_far.0; are_so_far = so_far.1; done = gs; rest = so_far.0; so_far_is = refl; accounted = p.accounted } in
           comes report ends.OutOfMemory p.batches end
-          (subst P (sym refused) (record { accounts = (front.finished, (front.unread, front.left_unread, front.accounts)); stands = lacks; quiet = λ old new same. same }))
+          (subst P (sym refused) (record { accounts = (front.finished, (front.unread, front.left_unread, front.accounts)); stands = lacks; quiet = λ old new same. inl same }))
           (front_receipts gs p) (settled_repeats gs rest p is) (front_few gs rest p is)
 
       lacks_front : (gs : List (List Cut)) (rest : List Cut) (p : ProgressBeside gs import) → report.end ≡ ends.OutOfMemory → BeginSoFar stream left_over gs [] → AllByRecursion IsWhole gs → cuts stream ≡ all_cuts gs ++ rest
@@ -372,19 +373,18 @@ module _ {J : Type 0} where
   pub imports_quietly_beside : {label : List ℕ} (old new : Stream) (report : Report J) (stream : List ℕ) → Reads stream old new → new.read_faults ≡ old.read_faults → ComesQuietlyBeside label stream new.left report → ImportsBeside label old new report
   imports_quietly_beside {label} old new report stream reads same c = record { stream = stream; reads = reads; faults = c.quiet old new same; comes = c.comes }
 
-  -- a read failed
-  pub imports_failed_beside : {label : List ℕ} (old mid new : Stream) (report : Report J) (stream : List ℕ) (before after : ℕ) → report.end ≡ ends.ReadFault before after → before ≡ mid.read_faults → after ≡ new.read_faults
-      → mid.read_faults ≡ old.read_faults → Reads stream old mid → FailsToGive mid new → length stream < input_limit → IsWholeBeside label stream report → ImportsBeside label old new report
-  imports_failed_beside {label} old mid new report stream before after is first last same reads fails below w =
+  -- a read failed: what was read before is settled before it is told
+  pub imports_fault_beside : {label : List ℕ} (old new : Stream) (report : Report J) (stream : List ℕ) (before after : ℕ) → report.end ≡ ends.ReadFault before after → before ≡ old.read_faults → after ≡ new.read_faults
+      → Rises before after → Reads stream old new → length stream < input_limit → IsWholeBeside label stream report → ImportsBeside label old new report
+  imports_fault_beside {label} old new report stream before after is first last rises reads below w =
       let P : End J → Type 0 = λ e. ReadFaultsAre e old new in
-      let R : ℕ → Type 0 = λ n. Rises n new.read_faults in
-      let S : ℕ → Type 0 = λ n. Rises before n in
-      record {
-        stream = stream;
-        reads = read_failed stream old mid new reads fails;
-        faults = subst P (sym is) (first ∙ same, last, subst S (sym last) (subst R (sym first) fails.rises));
-        comes = comes_failed stream new.left report before after is below w;
-      }
+      record { stream = stream; reads = reads; faults = subst P (sym is) (first, last, rises); comes = comes_failed stream new.left report before after is below w }
+
+  -- behind a group at which an import ended a read may have failed
+  pub imports_early_beside : {label : List ℕ} (old new : Stream) (report : Report J) (stream : List ℕ) → Reads stream old new → MayRise old.read_faults new.read_faults → EndsEarly report.end
+      → ComesQuietlyBeside label stream new.left report → ImportsBeside label old new report
+  imports_early_beside {label} old new report stream reads may early c =
+      record { stream = stream; reads = reads; faults = early_faults report.end old new early may; comes = c.comes }
 
   -- the last byte that an import takes was read
   pub imports_bound_beside : {label : List ℕ} (old mid new : Stream) (report : Report J) (front : List ℕ) (n bytes : ℕ) (buffer : List ℕ) → report.end ≡ ends.TooMuch bytes → Reads front old mid → mid.read_faults ≡ old.read_faults

@@ -110,7 +110,7 @@ module _ {J : Type 0} (start : Known) (report : Report J) (stream : List ℕ) (l
         let R : List (Receipt J) → Type 0 = λ l. AreReceiptsOf start.journal l p.batches in
         let S : List Refusal → Type 0 = λ l. AreSettled import.group.label start done p.batches l in
         let M : List Batch → Type 0 = λ j. HasMaybeOneMore j m.new.journal in
-        quietly ends.OutOfMemory is (λ old new same. same)
+        quietly ends.OutOfMemory is (λ old new same. inl same)
         (comes_by ends.OutOfMemory is p.batches (subst R (sym receipts) p.receipts_are) m.new m.still
         (record {
           below = below;

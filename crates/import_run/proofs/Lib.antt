@@ -1,9 +1,13 @@
 pub mod AccountLemmas
+mod AheadLemmas
 pub mod AloneLemmas
 mod AnswerLemmas
+mod ApartLemmas
 mod BesideLemmas
 mod BodyLemmas
+mod ChunkLemmas
 mod CloseLemmas
+mod ClosingLemmas
 mod ComeBesideLemmas
 mod ComeLemmas
 mod CompleteLemmas
@@ -17,6 +21,7 @@ mod EarlyLemmas
 mod EndedLemmas
 mod FollowLemmas
 mod FollowedLists
+mod FrontLemmas
 pub mod GroupLemmas
 mod HandLemmas
 mod HoldLemmas
@@ -25,13 +30,17 @@ pub mod LawLemmas
 mod MergeLemmas
 mod NewGameLemmas
 pub mod NextLemmas
+mod OverLemmas
 mod PairLemmas
 mod PlaceLemmas
 mod ReachLemmas
 mod ReadLemmas
 mod RepeatLemmas
 mod ReportLemmas
+mod ReportOverLemmas
+mod RoundLemmas
 pub mod SameGroups
+mod SendLemmas
 mod ShortLemmas
 mod SinceLemmas
 pub mod SoFarLemmas
@@ -39,6 +48,7 @@ mod StopLemmas
 mod StreamCutLemmas
 mod TakingLemmas
 pub mod TurnLemmas
+mod UnderwayLemmas
 mod UnendedLemmas
 mod UpkeepLemmas
 pub mod VerdictLemmas

@@ -1,28 +1,19 @@
 -- A stream that is read chunk by chunk.
-use Rattle.std.proofs.Common.{◌≡◌, ℕ, ◌+◌, ◌<◌, ◌≤◌, Bool, true, false, nat_lt, List, [], ◌∷◌, ◌++◌, Option, length, take, refl, sym, ap, subst, ◌∙◌, length-append, arith}
-use Rattle.std.proofs.lemmas.Bool.{ltb-true, ltb-false}
+use Rattle.std.proofs.Common.{◌≡◌, ℕ, ◌+◌, ◌<◌, ◌≤◌, List, [], ◌∷◌, ◌++◌, Option, length, take, refl, sym, ap, subst, ◌∙◌, length-append, arith}
 use Rattle.std.proofs.lemmas.List.{append-nil, length-take-le}
 use Rattle.outside.specs.Stream.{Stream, Gives, FailsToGive, Reads, Rises}
-use Rattle.outside.proofs.StreamLemmas.{reads-none, reads-gives, reads-fails, reads-trans}
-use Rattle.explorer_model.specs.Cuts.{Cut, cuts}
+use Rattle.outside.proofs.StreamLemmas.{reads-gives, reads-fails, reads-trans}
+use Rattle.explorer_model.specs.Cuts.{cuts}
 use Rattle.explorer_model.specs.Journal.{input_limit}
 use Rattle.ingest_desk.specs.declared.report.End.{End}
 use Rattle.ingest_desk.specs.declared.report.End.TheVariants as ends
 use Rattle.ingest_desk.specs.declared.report.Report.{Report}
-use Rattle.import_run.specs.declared.open_import.OpenImport.{OpenImport}
 use Rattle.import_run.specs.Beside.{AreRepeats}
 use Rattle.import_run.specs.Committing.{Known, Store}
-use Rattle.import_run.specs.Ending.{ReadFaultsAre}
-use Rattle.import_run.specs.Taking.{ComesQuietly, ComesTo, CutSoFar, Imports, IsWholeSettled}
+use Rattle.import_run.specs.Ending.{MayRise, ReadFaultsAre}
+use Rattle.import_run.specs.Importing.{EndsEarly}
+use Rattle.import_run.specs.Taking.{ComesQuietly, ComesTo, Imports, IsWholeSettled}
 use Rattle.import_run.proofs.ComeLemmas.{comes_too_much}
-
--- so many bytes of a stream were read, and what has ended in them was taken
-pub record HasRead {J : Type 0} (start : Option Store) (taken : ℕ) (old now : Stream) (after : List ℕ → List Cut) (import : OpenImport J) (told : Option Store) : Type 0 where
-  pub stream : List ℕ
-  pub long : length stream ≡ taken
-  pub reads : Reads stream old now
-  pub faults : now.read_faults ≡ old.read_faults
-  pub cut : CutSoFar start stream after import told
 
 pub longer : (taken n : ℕ) (buffer stream : List ℕ) → length stream ≡ taken → n ≤ length buffer → length (stream ++ take n buffer) ≡ taken + n
 longer taken n buffer stream long within = omega (arith, length-append stream (take n buffer), length-take-le n buffer within, long)
@@ -42,60 +33,39 @@ read_failed stream old mid new reads fails =
 pub no_fault : (n : ℕ) (buffer : List ℕ) (old mid new : Stream) → mid.read_faults ≡ old.read_faults → Gives n buffer mid new → new.read_faults ≡ old.read_faults
 no_fault n buffer old mid new before gives = ap (λ (s : Stream). s.read_faults) gives.rest ∙ before
 
--- the last byte is read alone
-pub one_read : (taken room n : ℕ) → taken < input_limit → (taken + 1 < input_limit → taken + room < input_limit) → n ≤ room → taken + n ≡ input_limit → n ≡ 1
-one_read taken room n below last within is = by_test (nat_lt (taken + 1) input_limit) refl
-  where
-    by_test : (b : Bool) → nat_lt (taken + 1) input_limit ≡ b → n ≡ 1
-    by_test true more =
-        let less : taken + 1 < input_limit = ltb-true (taken + 1) input_limit more in
-        let fewer : taken + room < input_limit = last less in
-        absurd (omega (arith, fewer, within, is))
-    by_test false no_more =
-        let least : input_limit ≤ taken + 1 = ltb-false (taken + 1) input_limit no_more in
-        omega (arith, least, below, is)
-
 -- the one byte that was read
 pub one_byte : (buffer : List ℕ) → 0 < length buffer → (last : ℕ) × (take 1 buffer ≡ last ∷ [])
 one_byte [] some = absurd (omega (arith, some))
 one_byte (last ∷ rest) some = (last, refl)
 
 module _ {J : Type 0} where
-  pub read_nothing : (start : Option Store) (old : Stream) (after : List ℕ → List Cut) (import : OpenImport J) (told : Option Store) → CutSoFar start [] after import told → HasRead start 0 old old after import told
-  read_nothing start old after import told cut = record { stream = []; long = refl; reads = reads-none old; faults = refl; cut = cut }
-
-  -- one chunk more was read, and taken
-  pub read_on : (start : Option Store) (taken n : ℕ) (buffer : List ℕ) (old mid new : Stream) (before after : List ℕ → List Cut) (import next : OpenImport J) (told told' : Option Store)
-      → (read : HasRead start taken old mid before import told) → Gives n buffer mid new
-      → (CutSoFar start read.stream before import told → CutSoFar start (read.stream ++ take n buffer) after next told') → HasRead start (taken + n) old new after next told'
-  read_on start taken n buffer old mid new before after import next told told' read gives step = record {
-    stream = read.stream ++ take n buffer;
-    long = longer taken n buffer read.stream read.long gives.within;
-    reads = read_more read.stream n buffer old mid new read.reads gives;
-    faults = no_fault n buffer old mid new read.faults gives;
-    cut = step read.cut;
-  }
-
   -- an import without a fault of a read
   pub imports_quietly : {label : List ℕ} (start : Known) (old new : Stream) (report : Report J) (told : Option Store) (stream : List ℕ) → Reads stream old new → new.read_faults ≡ old.read_faults
       → ComesQuietly label start stream new.left report told → AreRepeats (cuts stream) report.clashes.items report.refused.items → Imports label start old new report told
   imports_quietly {label} start old new report told stream reads same c repeats = record { stream = stream; reads = reads; faults = c.quiet old new same; comes = c.comes; repeats = repeats }
 
-  -- a read failed
-  pub imports_failed : {label : List ℕ} (start : Known) (old mid new : Stream) (report : Report J) (told : Option Store) (stream : List ℕ) (before after : ℕ) → report.end ≡ ends.ReadFault before after
-      → before ≡ mid.read_faults → after ≡ new.read_faults → mid.read_faults ≡ old.read_faults → Reads stream old mid → FailsToGive mid new → ComesTo label start stream new.left report told
+  -- a read failed, and what was read before is settled
+  pub imports_fault : {label : List ℕ} (start : Known) (old new : Stream) (report : Report J) (told : Option Store) (stream : List ℕ) (before after : ℕ) → report.end ≡ ends.ReadFault before after
+      → before ≡ old.read_faults → after ≡ new.read_faults → Rises before after → Reads stream old new → ComesTo label start stream new.left report told
       → AreRepeats (cuts stream) report.clashes.items report.refused.items → Imports label start old new report told
-  imports_failed {label} start old mid new report told stream before after is first last same reads fails comes repeats =
+  imports_fault {label} start old new report told stream before after is first last rises reads comes repeats =
       let P : End J → Type 0 = λ e. ReadFaultsAre e old new in
-      let R : ℕ → Type 0 = λ n. Rises n new.read_faults in
-      let S : ℕ → Type 0 = λ n. Rises before n in
-      record {
-        stream = stream;
-        reads = read_failed stream old mid new reads fails;
-        faults = subst P (sym is) (first ∙ same, last, subst S (sym last) (subst R (sym first) fails.rises));
-        comes = comes;
-        repeats = repeats;
-      }
+      record { stream = stream; reads = reads; faults = subst P (sym is) (first, last, rises); comes = comes; repeats = repeats }
+
+  -- behind a group at which an import ended a read may have failed
+  pub early_faults : (end : End J) (old new : Stream) → EndsEarly end → MayRise old.read_faults new.read_faults → ReadFaultsAre end old new
+  early_faults ends.Whole old new early may = absurd early
+  early_faults (ends.ReadFault before after) old new early may = absurd early
+  early_faults (ends.TooMuch bytes) old new early may = absurd early
+  early_faults (ends.DiskFault before after mark) old new early may = may
+  early_faults (ends.Closed before after mark) old new early may = may
+  early_faults (ends.Full games bytes note) old new early may = may
+  early_faults ends.OutOfMemory old new early may = may
+
+  pub imports_early : {label : List ℕ} (start : Known) (old new : Stream) (report : Report J) (told : Option Store) (stream : List ℕ) → Reads stream old new → MayRise old.read_faults new.read_faults → EndsEarly report.end
+      → ComesQuietly label start stream new.left report told → AreRepeats (cuts stream) report.clashes.items report.refused.items → Imports label start old new report told
+  imports_early {label} start old new report told stream reads may early c repeats =
+      record { stream = stream; reads = reads; faults = early_faults report.end old new early may; comes = c.comes; repeats = repeats }
 
   -- the bound was reached, by one byte that was read alone
   pub imports_bound : {label : List ℕ} (start : Known) (old mid new : Stream) (report : Report J) (told : Option Store) (front : List ℕ) (n bytes : ℕ) (buffer : List ℕ) → report.end ≡ ends.TooMuch bytes

@@ -1,5 +1,5 @@
 -- A commit ended an import into a store that is known.
-use Rattle.std.proofs.Common.{◌≡◌, ℕ, ◌+◌, ◌<◌, Bool, true, false, ◌||◌, nat_lt, if◌then◌else◌, List, [], ◌∷◌, ◌++◌, Option, None, Some, Err, length, map, sum_by, refl, sym, ap, subst, ◌∙◌, length-append, arith}
+use Rattle.std.proofs.Common.{◌≡◌, inl, ℕ, ◌+◌, ◌<◌, Bool, true, false, ◌||◌, nat_lt, if◌then◌else◌, List, [], ◌∷◌, ◌++◌, Option, None, Some, Err, length, map, sum_by, refl, sym, ap, subst, ◌∙◌, length-append, arith}
 use Rattle.std.specs.List.{All, AllByRecursion}
 use Rattle.std.proofs.lemmas.Bool.{ltb-true, ltb-false}
 use Rattle.std.proofs.lemmas.List.{length-map}
@@ -191,7 +191,7 @@ module _ {J : Type 0} {label : List ℕ} (start : Known) (stream : List ℕ) (le
       let P : End J → Type 0 = λ e. EndsSo label start stream left_over p.batches (refused ++ stopped.refused.items) told e in
       subst P (sym is) (record {
         stands = (commits.by.1, sym p.fault ∙ closed_cause p.known.fault p.known.games p.known.journal s.answer.0 before' after commits.by.0.refused, ends_at (faults.Closed before' after mark) s);
-        quiet = λ old new same. same;
+        quiet = λ old new same. inl same;
         new = commits.new;
         still = commits.still;
         stores = same_store commits.new commits.by.0.stores commits.by.0.fault;
@@ -213,7 +213,7 @@ module _ {J : Type 0} {label : List ℕ} (start : Known) (stream : List ℕ) (le
           sym p.fault ∙ opens,
           (ends_at (faults.DiskFault before' after mark) s, subst H p.journal within, commits.by.0.fails ∙ sym s.answer.1.batch),
         );
-        quiet = λ old new same. same;
+        quiet = λ old new same. inl same;
         new = commits.new;
         still = commits.still;
         stores = (commits.by.0.stores ∙ p.journal, commits.by.0.fault);
@@ -241,7 +241,7 @@ module _ {J : Type 0} {label : List ℕ} (start : Known) (stream : List ℕ) (le
       } in
       subst P (sym is) (record {
         stands = (sym p.fault ∙ full.0, told_is ∙ p.journal, (ends_at (faults.Full games bytes note) s, subst F (sym told_is) no_room));
-        quiet = λ old new same. same;
+        quiet = λ old new same. inl same;
         new = commits.new;
         still = commits.still;
         stores = same_store commits.new commits.by.0.stores commits.by.0.fault;

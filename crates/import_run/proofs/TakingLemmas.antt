@@ -1,17 +1,16 @@
 -- Cuts that are taken one after another, and what becomes of their groups.
 use Rattle.std.proofs.Common.{◌≡◌, ◌<◌, ◌≤◌, List, [], ◌∷◌, ◌++◌, ℕ, Option, Some, Result, Ok, Err, length, refl, sym, ap, subst, ◌∙◌, append_assoc, arith}
 use Rattle.std.specs.Prelude.{IfErr, OnOk}
-use Rattle.std.specs.List.{All, AllByRecursion}
+use Rattle.std.specs.List.{AllByRecursion}
 use Rattle.std.proofs.lemmas.List.{append-nil}
 use Rattle.std.proofs.lemmas.List.Elements.{All-nil}
 use Rattle.std.proofs.lemmas.Grind.{flat_map-append}
 use Rattle.explorer_model.specs.declared.archive.Batch.{Batch}
 use Rattle.explorer_model.specs.declared.archive.Game.{Game}
-use Rattle.explorer_model.specs.declared.archive.Placed.{Placed}
 use Rattle.explorer_model.specs.declared.fault.Refusal.{Refusal}
 use Rattle.explorer_model.specs.declared.fault.Stop.{Stop}
 use Rattle.explorer_model.specs.declared.fault.Stop.TheVariants as stops
-use Rattle.explorer_model.specs.Cuts.{Cut, text_limit}
+use Rattle.explorer_model.specs.Cuts.{Cut}
 use Rattle.explorer_model.specs.Imports.{Accounted, AccountedBeside, verdicts_in_turn}
 use Rattle.ingest_desk.specs.Reporting.{AreReceipts}
 use Rattle.ingest_desk.specs.declared.receipt.Receipt.{Receipt}
@@ -23,7 +22,7 @@ use Rattle.import_run.specs.Grouping.{Ascend, IsGroupOf}
 use Rattle.import_run.specs.Importing.{WhereLacking, WhereStopped}
 use Rattle.import_run.specs.Progress.{Progress}
 use Rattle.import_run.specs.SoFar.{IsWhole}
-use Rattle.import_run.specs.Taking.{IsReady, IsSettledSo, LacksAtEnd, LacksBehind, LacksSoFar, StopsAtEnd, StopsBehind, StopsSoFar, TakenAll, TakenSoFar}
+use Rattle.import_run.specs.Taking.{IsSettledSo, LacksAtEnd, LacksBehind, LacksSoFar, StopsAtEnd, StopsBehind, StopsSoFar, TakenAll, TakenSoFar}
 use Rattle.import_run.proofs.GroupLemmas.{all_cuts}
 use Rattle.import_run.proofs.HandLemmas.{lacks_still, stores_more}
 use Rattle.import_run.proofs.HoldLemmas.{holds_texts, is_whole}
@@ -64,17 +63,17 @@ module _ {J : Type 0} where
 
 -- ---- groups
 
-more_cuts : (taken : List Cut) (cut : Cut) (closed : List (List Cut)) (hand : List Cut) → taken ≡ all_cuts closed ++ hand → taken ++ cut ∷ [] ≡ all_cuts closed ++ (hand ++ cut ∷ [])
+pub more_cuts : (taken : List Cut) (cut : Cut) (closed : List (List Cut)) (hand : List Cut) → taken ≡ all_cuts closed ++ hand → taken ++ cut ∷ [] ≡ all_cuts closed ++ (hand ++ cut ∷ [])
 more_cuts taken cut closed hand all = ap (λ (l : List Cut). l ++ cut ∷ []) all ∙ append_assoc (all_cuts closed) hand (cut ∷ [])
 
-hand_ascends : (taken : List Cut) (closed : List (List Cut)) (hand : List Cut) → taken ≡ all_cuts closed ++ hand → Ascend taken → Ascend hand
+pub hand_ascends : (taken : List Cut) (closed : List (List Cut)) (hand : List Cut) → taken ≡ all_cuts closed ++ hand → Ascend taken → Ascend hand
 hand_ascends taken closed hand is ascend = ascend_back 0 (all_cuts closed) hand (subst Ascend is ascend)
 
-all_whole : (closed : List (List Cut)) (hand : List Cut) → AllByRecursion IsWhole closed → IsWhole hand → AllByRecursion IsWhole (closed ++ hand ∷ [])
+pub all_whole : (closed : List (List Cut)) (hand : List Cut) → AllByRecursion IsWhole closed → IsWhole hand → AllByRecursion IsWhole (closed ++ hand ∷ [])
 all_whole [] hand whole last = (last, tt)
 all_whole (group ∷ closed) hand whole last = (whole.0, all_whole closed hand whole.1 last)
 
-all_cuts-more : (closed : List (List Cut)) (hand : List Cut) → all_cuts (closed ++ hand ∷ []) ++ [] ≡ all_cuts closed ++ hand
+pub all_cuts-more : (closed : List (List Cut)) (hand : List Cut) → all_cuts (closed ++ hand ∷ []) ++ [] ≡ all_cuts closed ++ hand
 all_cuts-more closed hand =
     append-nil (all_cuts (closed ++ hand ∷ [])) ∙ flat_map-append (λ (group : List Cut). group) closed (hand ∷ []) ∙ ap (λ (l : List Cut). all_cuts closed ++ l) (append-nil hand)
 
@@ -84,11 +83,6 @@ accounted_none label stored = record { examinations = []; are_examinations = tt;
 
 module _ {J : Type 0} (start : Option Store) where
   -- ---- what is settled
-
-  pub ready_none : (import : OpenImport J) → import.group.texts.items ≡ [] → IsReady import
-  ready_none import none =
-      let P : List Placed → Type 0 = λ l. All (λ text. length text.bytes ≤ text_limit) l in
-      record { few = omega (arith, ap length none); short = subst P (sym none) (All-nil _) }
 
   progress_none : (label : List ℕ) (known : Known) (told : Option Store) → told ≡ Some (store_of known) → Progress {J = J} label known [] [] [] told
   unfolding accounted_none
@@ -140,7 +134,7 @@ module _ {J : Type 0} (start : Option Store) where
       }
 
   -- what is settled stays where a cut is put into the group in hand
-  same_settled : (groups : List (List Cut)) (old new : OpenImport J) (told : Option Store) → new.group.label ≡ old.group.label → new.receipts.items ≡ old.receipts.items → new.refused.items ≡ old.refused.items → new.clashes.items ≡ old.clashes.items
+  pub same_settled : (groups : List (List Cut)) (old new : OpenImport J) (told : Option Store) → new.group.label ≡ old.group.label → new.receipts.items ≡ old.receipts.items → new.refused.items ≡ old.refused.items → new.clashes.items ≡ old.clashes.items
       → IsSettledSo start groups old told → IsSettledSo start groups new told
   same_settled groups old new told label_is receipts refused clashes s = record {
     beside = same_beside groups old new label_is receipts refused clashes s.beside;
@@ -150,7 +144,7 @@ module _ {J : Type 0} (start : Option Store) where
   }
 
   -- memory was wanting, and nothing was done
-  lacks_nothing : (groups : List (List Cut)) (import : OpenImport J) (told : Option Store) → IsSettledSo start groups import told → LacksBehind start groups [] import told
+  pub lacks_nothing : (groups : List (List Cut)) (import : OpenImport J) (told : Option Store) → IsSettledSo start groups import told → LacksBehind start groups [] import told
   lacks_nothing groups import told s = record {
     before = told;
     settled = s;
@@ -169,18 +163,15 @@ module _ {J : Type 0} (start : Option Store) where
 
   -- ---- steps
 
-  pub taken_none : (import : OpenImport J) → IsGroupOf [] import.group → import.receipts.items ≡ [] → import.refused.items ≡ [] → TakenSoFar start [] import start
-  taken_none import group receipts refused = record {
-    closed = [];
-    hand = [];
-    all = refl;
-    each = tt;
-    group = group;
-    settled = record {
-      beside = beside_none import receipts refused;
-      alone = λ known is. same_progress import.group.label known [] [] import.receipts.items [] import.refused.items start receipts refused (progress_none import.group.label known start is);
-    };
+  pub settled_none : (import : OpenImport J) → import.receipts.items ≡ [] → import.refused.items ≡ [] → IsSettledSo start [] import start
+  settled_none import receipts refused = record {
+    beside = beside_none import receipts refused;
+    alone = λ known is. same_progress import.group.label known [] [] import.receipts.items [] import.refused.items start receipts refused (progress_none import.group.label known start is);
   }
+
+  pub taken_none : (import : OpenImport J) → IsGroupOf [] import.group → import.receipts.items ≡ [] → import.refused.items ≡ [] → TakenSoFar start [] import start
+  taken_none import group receipts refused =
+      record { closed = []; hand = []; all = refl; each = tt; group = group; settled = settled_none import receipts refused }
 
   -- a cut was put into the group in hand
   pub taken_open : (taken : List Cut) (cut : Cut) (old new : OpenImport J) (told : Option Store) → ((hand : List Cut) → IsGroupOf hand old.group → IsGroupOf (hand ++ cut ∷ []) new.group)

@@ -134,11 +134,18 @@ StandsAt label (ends.Full games bytes note) start stream left_over batches refus
 StandsAt label ends.OutOfMemory start stream left_over batches refused new =
     Lacks label start stream left_over batches refused new.journal
 
--- a read failed exactly where the end says so
+-- a count is as before, or it rose
+abbrev pub MayRise : ℕ → ℕ → Type 0
+MayRise before after = (after ≡ before) ⊎ Rises before after
+
+-- No read failed before an import that is whole, or took all that it may; a read fault is one of the
+-- source. Behind a group at which an import ends a read may have failed.
 abbrev pub ReadFaultsAre : {J : Type 0} → End J → Stream → Stream → Type 0
+ReadFaultsAre ends.Whole old new = new.read_faults ≡ old.read_faults
 ReadFaultsAre (ends.ReadFault before after) old new =
     (before ≡ old.read_faults) × (after ≡ new.read_faults) × Rises before after
-ReadFaultsAre _ old new = new.read_faults ≡ old.read_faults
+ReadFaultsAre (ends.TooMuch bytes) old new = new.read_faults ≡ old.read_faults
+ReadFaultsAre _ old new = MayRise old.read_faults new.read_faults
 
 -- the stored journal, with one batch more or without it
 abbrev pub HasMaybeOneMore : List Batch → List Batch → Type 0

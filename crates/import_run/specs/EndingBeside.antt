@@ -96,7 +96,7 @@ pub record ComesBeside {J : Type 0} (label : List ℕ) (stream : List ℕ) (left
   pub few : games_of report.receipts.items ≤ length (cuts stream)
 
 -- What an import under a label comes to by its report, from the bytes that it took of its source: to a
--- read fault only where a read failed, and to no other end where one did.
+-- read fault only where a read failed, and to its end or to the bound only where none did.
 pub record ImportsBeside {J : Type 0} (label : List ℕ) (before after : Stream) (report : Report J)
     : Type 0 where
   pub stream : List ℕ

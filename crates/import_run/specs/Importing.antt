@@ -37,3 +37,10 @@ pub record StopsAt {J : Type 0} (label : List ℕ) (known : Known) (hand : List 
   pub decided : IsDecided {J = J} (Err fault)
   pub settled : Settles label known hand
       (record { answer = Some (Err fault); refused = stopped.refused }) told
+
+-- the import ended at a group, whatever stands behind it
+abbrev pub EndsEarly : {J : Type 0} → End J → Type 0
+EndsEarly ends.Whole = ⊥
+EndsEarly (ends.ReadFault before after) = ⊥
+EndsEarly (ends.TooMuch bytes) = ⊥
+EndsEarly _ = Unit {0}

@@ -3,6 +3,7 @@ pub mod Grouping
 pub mod SoFar
 pub mod Settling
 pub mod Hand
+pub mod Apart
 pub mod Committing
 pub mod Rounds
 pub mod Draws
@@ -16,6 +17,8 @@ pub mod SinceLaws
 pub mod Upkeep
 pub mod UpkeepLaws
 pub mod Taking
+pub mod Ahead
+pub mod Underway
 pub mod Alone
 pub mod Faultless
 pub mod Determined

@@ -57,6 +57,23 @@ pub record LacksBehind {J : Type 0} (start : Option Store) (done others : List (
   pub alone : (known : Known) → (is : start ≡ Some (store_of known))
       → MayHaveMore import.group.label (settled.alone known is).known others told
 
+-- one of these groups, which follow those that are settled, ended the import
+pub record StopsAmong {J : Type 0} (start : Option Store) (closed groups : List (List Cut))
+    (import : OpenImport J) (stopped : Stopped J) (told : Option Store) : Type 0 where
+  pub done : List (List Cut)
+  pub next : List Cut
+  pub rest : List (List Cut)
+  pub groups_are : groups ≡ done ++ next ∷ rest
+  pub behind : StopsBehind start (closed ++ done) next import stopped told
+
+-- some of these groups are settled too, and memory was wanting
+pub record LacksAmong {J : Type 0} (start : Option Store) (closed groups : List (List Cut))
+    (import : OpenImport J) (told : Option Store) : Type 0 where
+  pub done : List (List Cut)
+  pub rest : List (List Cut)
+  pub groups_are : groups ≡ done ++ rest
+  pub behind : LacksBehind start (closed ++ done) rest import told
+
 -- ---- cuts that were taken
 
 -- Cuts were taken: whole groups, which are settled, and the cuts in hand.

@@ -12,13 +12,13 @@ use crate::stream::import_stream;
 use disk_model::Disk;
 use explorer_model::label::Label;
 use game_replay::laws::game_is_determined;
-use ingest_desk::{CommitFault, Ingest, Receipt, Report};
+use ingest_desk::{CommitFault, Handed, Ingest, Receipt, Report};
 use outside::{Gate, Source};
 use published_index::{Drawer, Index};
+use side_by_side::Workers;
 use std::alloc::Global;
 use std::sync::Wait;
 use std::thread::Threads;
-use tally_rows::Tally;
 
 /// Imports the texts of a source under the label, where nobody else stores anything meanwhile.
 pub fn import_alone<S: Source, D: Disk, J: Index, G: Gate, R: Wait + Threads + Sync>(
@@ -38,6 +38,7 @@ pub fn import_alone<S: Source, D: Disk, J: Index, G: Gate, R: Wait + Threads + S
     ensures drawn { DrawsFor (most_untold (ending_of result.end)) result.receipts.items
         mine.old mine.new }
 {
+    let workers = Workers { count: workers };
     let LoneImport {
         report,
         lacked: _lacked,
@@ -61,11 +62,9 @@ pub fn import_and_tell<S: Source, D: Disk, J: Index, G: Gate, R: Wait + Threads 
     ingest: &mut Ingest<D, J>,
     mine: &mut Drawer<J>,
     label: Label,
-    workers: usize,
+    workers: Workers,
     gate: &G,
 ) -> LoneImport<J>
-    requires some_workers { 1 ≤ workers }
-    requires few_workers { workers ≤ 16 }
     ensures alone { ImportsAlone label D.disk D.left_since (S.source source.old) ingest.old
         (S.source source.new) ingest.new result.report }
     ensures follows { result.lacked ≡ false → ingest.new.manifest.fault ≡ None
@@ -112,12 +111,12 @@ impl<'a, D: Disk, J: Index> Committer<J> for LoneSeat<'a, D, J> {
         &mut self,
         rt: &R,
         alloc: Global,
-        tally: Tally,
-        workers: usize,
+        handed: Handed,
+        workers: Workers,
     ) -> Result<Receipt<J>, CommitFault<J>> {
         game_is_determined();
         let _before = self.ingest.batches();
-        let answer = self.ingest.commit(rt, alloc, tally, self.drawer);
+        let answer = self.ingest.commit_handed(rt, alloc, handed, self.drawer);
         let _after = self.ingest.batches();
         let lacks = merge_behind(rt, alloc, self.ingest, &answer, workers);
         self.lacked = either(self.lacked, lacks);
@@ -141,10 +140,8 @@ fn merge_behind<D: Disk, J: Index, R: Wait + Threads + Sync>(
     alloc: Global,
     ingest: &mut Ingest<D, J>,
     answer: &Result<Receipt<J>, CommitFault<J>>,
-    workers: usize,
+    workers: Workers,
 ) -> bool
-    requires some_workers { 1 ≤ workers }
-    requires few_workers { workers ≤ 16 }
     ensures merges { result ≡ false
         → MergesBehind answer.now ingest.old.index ingest.new.index }
     ensures same { StoresSame ingest.old ingest.new }

@@ -1,17 +1,17 @@
 //! Who stores batches: one who stores alone, or one at a desk that others use too.
-ghost use Rattle.std.specs.Prelude.{◌≡◌, ◌≤◌, Option, Some};
+ghost use Rattle.std.specs.Prelude.{◌≡◌, Option, Some};
 ghost use Rattle.std.specs.Thread.{IsSync};
 ghost use Rattle.import_run.specs.Beside.{AnswersTo};
 ghost use Rattle.published_index.specs.Places.{Drawing};
 ghost use Rattle.import_run.specs.Committing.{Commits, IsClash, Known, Store, store_of};
 ghost use Rattle.import_run.specs.Draws.{DrawsPlace};
 
-use ingest_desk::{CommitFault, Receipt};
+use ingest_desk::{CommitFault, Handed, Receipt};
 use published_index::Index;
+use side_by_side::Workers;
 use std::alloc::Global;
 use std::sync::Wait;
 use std::thread::Threads;
-use tally_rows::Tally;
 
 /// Stores batches, and merges what is published.
 pub trait Committer<J: Index> {
@@ -24,22 +24,20 @@ pub trait Committer<J: Index> {
     // What its calls have done together, from an earlier moment to a later one.
     ghost since: { Self → Self → Type 0 };
 
-    /// Stores a batch and publishes it. Then the last neighbours of the published list that are due
-    /// become one.
+    /// Stores a batch, packed or not, and publishes it. Then the last neighbours of the published list
+    /// that are due become one.
     fn commit<R: Wait + Threads + Sync>(
         &mut self,
         rt: &R,
         alloc: Global,
-        tally: Tally,
-        workers: usize,
+        handed: Handed,
+        workers: Workers,
     ) -> Result<Receipt<J>, CommitFault<J>>
         requires shares { IsSync R.row }
-        requires some_workers { 1 ≤ workers }
-        requires few_workers { workers ≤ 16 }
         ensures told { (known : Known) → told self.old ≡ Some (store_of known)
-            → Commits result known tally (told self.new) }
-        ensures clash { IsClash result tally (told self.old) }
-        ensures answers { AnswersTo result tally }
+            → Commits result known handed (told self.new) }
+        ensures clash { IsClash result handed (told self.old) }
+        ensures answers { AnswersTo result handed }
         ensures drawn { DrawsPlace result (drawing self.old) (drawing self.new) }
         ensures since { since self.old self.new };
 

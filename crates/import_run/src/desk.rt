@@ -8,8 +8,9 @@ ghost use Rattle.import_run.specs.Draws.{DrawsPlace};
 use crate::committer::Committer;
 use crate::merging::merge_due_beside;
 use disk_model::Disk;
-use ingest_desk::{CommitFault, Desk, Ingest, MergeDesk, Receipt};
+use ingest_desk::{CommitFault, Desk, Handed, Ingest, MergeDesk, Receipt};
 use published_index::{Drawer, Index};
+use side_by_side::Workers;
 use std::alloc::Global;
 use std::sync::{MutexGuard, Wait};
 use std::thread::Threads;
@@ -27,7 +28,22 @@ pub fn store_beside<D: Disk, J: Index, R: Wait + Threads + Sync>(
     ensures answers { AnswersTo result tally }
     ensures drawn { DrawsPlace result mine.old mine.new }
 {
-    ingest.commit(rt, alloc, tally, mine)
+    store_handed(rt, alloc, ingest, Handed::unpacked(tally), mine)
+}
+
+/// The same of a batch that is packed or not.
+fn store_handed<D: Disk, J: Index, R: Wait + Threads + Sync>(
+    rt: &R,
+    alloc: Global,
+    ingest: &mut Ingest<D, J>,
+    handed: Handed,
+    mine: &mut Drawer<J>,
+) -> Result<Receipt<J>, CommitFault<J>>
+    ensures clash { IsClash result handed None }
+    ensures answers { AnswersTo result handed }
+    ensures drawn { DrawsPlace result mine.old mine.new }
+{
+    ingest.commit_handed(rt, alloc, handed, mine)
 }
 
 /// A seat at a desk: it takes the lock for each of its steps, and waits for it.
@@ -42,15 +58,15 @@ fn store_at<D: Disk, J: Index, R: Wait + Threads + Sync>(
     rt: &R,
     alloc: Global,
     desk: &Desk<D, J>,
-    tally: Tally,
+    handed: Handed,
     mine: &mut Drawer<J>,
 ) -> Result<Receipt<J>, CommitFault<J>>
-    ensures clash { IsClash result tally None }
-    ensures answers { AnswersTo result tally }
+    ensures clash { IsClash result handed None }
+    ensures answers { AnswersTo result handed }
     ensures drawn { DrawsPlace result mine.old mine.new }
 {
     let mut ingest = desk.lock(rt);
-    let answer = store_beside(rt, alloc, &mut ingest, tally, mine);
+    let answer = store_handed(rt, alloc, &mut ingest, handed, mine);
     MutexGuard::unlock(ingest);
     answer
 }
@@ -69,10 +85,10 @@ impl<'a, D: Disk, J: Index> Committer<J> for Seat<'a, D, J> {
         &mut self,
         rt: &R,
         alloc: Global,
-        tally: Tally,
-        workers: usize,
+        handed: Handed,
+        workers: Workers,
     ) -> Result<Receipt<J>, CommitFault<J>> {
-        let answer = store_at(rt, alloc, self.desk, tally, self.drawer);
+        let answer = store_at(rt, alloc, self.desk, handed, self.drawer);
         if answer.is_ok() {
             let _merging = merge_due_beside(rt, alloc, &MergeDesk::of(self.desk), workers);
         }

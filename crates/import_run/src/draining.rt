@@ -6,6 +6,7 @@ use crate::merging::{Merging, merge_due, merge_due_beside};
 use disk_model::Disk;
 use ingest_desk::{Ingest, MergeDesk};
 use published_index::Index;
+use side_by_side::Workers;
 use std::alloc::Global;
 use std::sync::Wait;
 use std::thread::Threads;
@@ -40,6 +41,7 @@ pub fn drain_alone<D: Disk, J: Index, R: Wait + Threads + Sync>(
     requires few_workers { workers ≤ 16 }
     ensures { DrainsAlone ingest.old ingest.new result }
 {
+    let workers = Workers { count: workers };
     // The list of an ingest is short, so that the jobs can be counted.
     let _before = ingest.batches();
     let mut jobs = 0;
@@ -63,6 +65,7 @@ pub fn drain<D: Disk, J: Index, R: Wait + Threads + Sync>(
     requires some_workers { 1 ≤ workers }
     requires few_workers { workers ≤ 16 }
 {
+    let workers = Workers { count: workers };
     let mut jobs = 0u64;
     for _ in rt.forever() {
         match merge_due_beside(rt, alloc, desk, workers) {

@@ -20,6 +20,7 @@ use explorer_model::archive::Bytes;
 use ingest_desk::{Desk, ImportCall, Importer, Ingest, Receipt, Report};
 use outside::FreeGate;
 use published_index::{Drawer, Index};
+use side_by_side::Workers;
 use std::alloc::Global;
 use std::sync::Wait;
 use std::thread::Threads;
@@ -29,10 +30,8 @@ use std::thread::Threads;
 pub struct DeskHandle<'a, D: Disk, J: Index> {
     desk: &'a Desk<D, J>,
     drawer: Drawer<J>,
-    workers: usize,
+    workers: Workers,
     counts: EndCounts,
-    ghost some_workers: { 1 ≤ workers },
-    ghost few_workers: { workers ≤ 16 },
 }
 
 impl<'a, D: Disk, J: Index> DeskHandle<'a, D, J> {
@@ -47,7 +46,7 @@ impl<'a, D: Disk, J: Index> DeskHandle<'a, D, J> {
         DeskHandle {
             desk,
             drawer,
-            workers,
+            workers: Workers { count: workers },
             counts: EndCounts::new(),
         }
     }
@@ -94,12 +93,10 @@ impl<'a, D: Disk, J: Index> Importer<J> for DeskHandle<'a, D, J> {
 pub struct OwnIngest<D: Disk, J: Index> {
     ingest: Ingest<D, J>,
     drawer: Drawer<J>,
-    workers: usize,
+    workers: Workers,
     counts: EndCounts,
     calls: Option<Vec<ImportCall>>,
     lacked: bool,
-    ghost some_workers: { 1 ≤ workers },
-    ghost few_workers: { workers ≤ 16 },
 }
 
 impl<D: Disk, J: Index> OwnIngest<D, J> {
@@ -117,7 +114,7 @@ impl<D: Disk, J: Index> OwnIngest<D, J> {
         OwnIngest {
             ingest,
             drawer,
-            workers,
+            workers: Workers { count: workers },
             counts: EndCounts::new(),
             calls: Some(Vec::new(alloc)),
             lacked: false,

@@ -11,6 +11,7 @@ use explorer_model::label::Label;
 use ingest_desk::{Desk, Report};
 use outside::{Gate, Source};
 use published_index::{Drawer, Index};
+use side_by_side::Workers;
 use std::alloc::Global;
 use std::sync::Wait;
 use std::thread::Threads;
@@ -34,6 +35,7 @@ pub fn import<S: Source, D: Disk, J: Index, G: Gate, R: Wait + Threads + Sync>(
     ensures drawn { DrawsFor (most_untold (ending_of result.end)) result.receipts.items
         mine.old mine.new }
 {
+    let workers = Workers { count: workers };
     let mut seat = Seat {
         desk,
         drawer: &mut *mine,

@@ -2,7 +2,9 @@
 //! refused, each with its cause.
 #![tactic(auto)]
 
+mod ahead;
 mod alone;
+mod apart;
 mod committer;
 mod desk;
 mod draining;
@@ -16,7 +18,9 @@ mod open_import;
 mod settle;
 mod stream;
 mod text_group;
+mod underway;
 
+pub use ahead::{Ahead, INPUT_LIMIT, ReadEnd};
 pub use alone::{LoneImport, import_alone, import_and_tell};
 pub use committer::Committer;
 pub use desk::store_beside;
@@ -26,5 +30,6 @@ pub use handles::{DeskHandle, OwnIngest};
 pub use importing::import;
 pub use merging::{Merging, merge_due};
 pub use open_import::{OpenImport, Stopped};
-pub use stream::{INPUT_LIMIT, import_bytes, import_stream};
-pub use text_group::TextGroup;
+pub use stream::{import_bytes, import_stream};
+pub use text_group::{TalliedGroup, TextGroup};
+pub use underway::Underway;

@@ -1,5 +1,5 @@
 //! Neighbours of a published list that are due become one.
-ghost use Rattle.std.specs.Prelude.{◌≡◌, ◌≤◌, IfOk, IfSome};
+ghost use Rattle.std.specs.Prelude.{◌≡◌, IfOk, IfSome};
 ghost use Rattle.segment_blocks.specs.Segment.{CanJoin, IsSegment};
 ghost use Rattle.segment_merge.specs.Merging.{IsMergeOf};
 ghost use Rattle.import_run.specs.Upkeep.{Finds, Merges, StoresSame, merging_by};
@@ -11,6 +11,7 @@ use outside::FreeGate;
 use published_index::{Index, Note};
 use segment_blocks::Segment;
 use segment_merge::merge;
+use side_by_side::Workers;
 use std::alloc::{AllocError, Global};
 use std::sync::Wait;
 use std::thread::Threads;
@@ -30,10 +31,8 @@ pub fn merge_due<D: Disk, J: Index, R: Wait + Threads + Sync>(
     rt: &R,
     alloc: Global,
     ingest: &mut Ingest<D, J>,
-    workers: usize,
+    workers: Workers,
 ) -> Merging
-    requires some_workers { 1 ≤ workers }
-    requires few_workers { workers ≤ 16 }
     ensures merges { Merges result ingest.old.index ingest.new.index }
     ensures same { StoresSame ingest.old ingest.new }
 {
@@ -55,11 +54,8 @@ pub(crate) fn merge_due_beside<D: Disk, J: Index, R: Wait + Threads + Sync>(
     rt: &R,
     alloc: Global,
     desk: &MergeDesk<D, J>,
-    workers: usize,
-) -> Merging
-    requires some_workers { 1 ≤ workers }
-    requires few_workers { workers ≤ 16 }
-{
+    workers: Workers,
+) -> Merging {
     let Ok(found) = desk.next_job(rt) else {
         return Merging::Left(DrainEnd::OutOfMemory);
     };
@@ -91,18 +87,16 @@ fn merged<J: Index, R: Threads + Sync>(
     rt: &R,
     alloc: Global,
     job: &Job<J>,
-    workers: usize,
+    workers: Workers,
 ) -> Result<Segment, AllocError>
     requires join { CanJoin job.now.left job.now.right }
-    requires some_workers { 1 ≤ workers }
-    requires few_workers { workers ≤ 16 }
     ensures merges { IfOk result (λ segment. IsMergeOf job.now.left job.now.right segment) }
     ensures left { IsSegment job.now.left }
 {
     let (left, right) = (job.left(), job.right());
     // That the left one is a segment, its span tells.
     let _left = left.span();
-    merge(rt, alloc, left, right, workers, &FreeGate)
+    merge(rt, alloc, left, right, workers.count, &FreeGate)
 }
 
 /// What a step came to, by whether the segment that it merged was installed.

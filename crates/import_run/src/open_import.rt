@@ -1,16 +1,17 @@
 //! An import in its stream: cuts are taken into groups, and each group is settled once it is whole.
 ghost use Rattle.std.specs.Prelude.{◌≡◌, ◌≤◌, ◌++◌, ◌∷◌, [], List, Option, length, IfErr, OnOk, ◌+◌, ◌<◌, ◌^◌, ℕ, Some, IfSome};
-ghost use Rattle.std.specs.List.{All};
+ghost use Rattle.std.specs.List.{All, AllByRecursion, AllZip};
 ghost use Rattle.explorer_model.specs.Cuts.{Cut as ACut, text_limit, cuts};
 ghost use Rattle.explorer_model.specs.Imports.{group_limit};
 ghost use Rattle.published_index.specs.Places.{Drawing};
 ghost use Rattle.ingest_desk.specs.Drawn.{DrawsFor, most_untold};
+ghost use Rattle.import_run.specs.Apart.{IsInHand};
 ghost use Rattle.import_run.specs.Beside.{last_batches};
 ghost use Rattle.import_run.specs.Committing.{Store, Known, store_of};
 ghost use Rattle.import_run.specs.Draws.{most_untold_by};
-ghost use Rattle.import_run.specs.Grouping.{Ascend, IsGroupOf, IsShort};
-ghost use Rattle.import_run.specs.Importing.{IsEndOf, WhereLacking, WhereStopped};
-ghost use Rattle.import_run.specs.Taking.{IsSettledSo, LacksBehind, StopsBehind, ComesQuietly, ComesQuietlyBeside, CutSoFar, IsReady, IsWholeBeside, IsWholeSettled, LacksAtEnd, LacksSoFar, LacksWithin, StopsAtEnd, StopsSoFar, StopsWithin, TakenAll, TakenSoFar};
+ghost use Rattle.import_run.specs.Grouping.{Ascend, IsGroupOf, IsShort, IsTallied};
+ghost use Rattle.import_run.specs.Importing.{EndsEarly, IsEndOf, WhereLacking, WhereStopped};
+ghost use Rattle.import_run.specs.Taking.{IsSettledSo, LacksAmong, LacksBehind, StopsAmong, StopsBehind, ComesQuietly, ComesQuietlyBeside, CutSoFar, IsReady, IsWholeBeside, IsWholeSettled, LacksAtEnd, LacksSoFar, LacksWithin, StopsAtEnd, StopsSoFar, StopsWithin, TakenAll, TakenSoFar};
 ghost use Rattle.std.specs.Io.KnownBytes.{IsAtEnd};
 ghost use Rattle.explorer_model.specs.Journal.{input_limit};
 ghost use Rattle.pgn_cut.specs.Cut.{meaning, cuts_in};
@@ -19,7 +20,7 @@ ghost use Rattle.ingest_desk.specs.Importers.{ending_of};
 
 use crate::committer::Committer;
 use crate::settle::{Done, settle};
-use crate::text_group::{GROUP_LIMIT, TextGroup};
+use crate::text_group::{GROUP_LIMIT, TalliedGroup, TextGroup, copy_of};
 use explorer_model::fault::{Refusal, Stop};
 use explorer_model::label::Label;
 use ingest_desk::{CommitFault, End, Receipt, Report};
@@ -27,6 +28,7 @@ use outside::Gate;
 use pgn_cut::cut::Cut;
 use pgn_cut::cutter::Cutter;
 use published_index::{Index, Note};
+use side_by_side::Workers;
 use std::alloc::Global;
 use std::mem;
 use std::sync::Wait;
@@ -76,11 +78,9 @@ impl<J: Index> OpenImport<J> {
         committer: &mut C,
         cutter: &mut Cutter,
         bytes: &[u8],
-        workers: usize,
+        workers: Workers,
         gate: &G,
     ) -> Result<(), Stop<Stopped<J>>>
-        requires some_workers { 1 ≤ workers }
-        requires few_workers { workers ≤ 16 }
         requires room { came cutter.old + length bytes.now < 2 ^ 62 }
         requires ready { IsReady self.old }
         ensures came { OnOk result (came cutter.new ≡ came cutter.old + length bytes.now) }
@@ -123,11 +123,9 @@ impl<J: Index> OpenImport<J> {
         alloc: Global,
         committer: &mut C,
         cut: Option<Cut>,
-        workers: usize,
+        workers: Workers,
         gate: &G,
     ) -> Result<(), Stop<Stopped<J>>>
-        requires some_workers { 1 ≤ workers }
-        requires few_workers { workers ≤ 16 }
         requires short { IfSome cut (λ cut. IsShort (meaning cut)) }
         requires ready { IsReady self.old }
         ensures ready { OnOk result (IsReady self.new) }
@@ -162,11 +160,9 @@ impl<J: Index> OpenImport<J> {
         alloc: Global,
         committer: &mut C,
         cut: Cut,
-        workers: usize,
+        workers: Workers,
         gate: &G,
     ) -> Result<(), Stop<Stopped<J>>>
-        requires some_workers { 1 ≤ workers }
-        requires few_workers { workers ≤ 16 }
         requires short { IsShort (meaning cut) }
         requires ready { IsReady self.old }
         ensures ready { OnOk result (IsReady self.new) }
@@ -203,11 +199,9 @@ impl<J: Index> OpenImport<J> {
         rt: &R,
         alloc: Global,
         committer: &mut C,
-        workers: usize,
+        workers: Workers,
         gate: &G,
     ) -> Result<(), Stop<Stopped<J>>>
-        requires some_workers { 1 ≤ workers }
-        requires few_workers { workers ≤ 16 }
         requires few { length self.old.group.texts.items ≤ group_limit }
         requires short { All (λ text. length text.bytes ≤ text_limit) self.old.group.texts.items }
         ensures label { self.new.group.label ≡ self.old.group.label }
@@ -235,14 +229,50 @@ impl<J: Index> OpenImport<J> {
     {
         let next = TextGroup::new(alloc, copy_of(&self.group.label));
         let group = mem::replace(&mut self.group, next);
+        let tallied = group.tally(rt, alloc, workers, gate)?;
+        self.settle_tallied(rt, alloc, committer, tallied, workers, gate)
+    }
+
+    /// Settles a group that is tallied, whatever is in hand.
+    pub(crate) fn settle_tallied<C: Committer<J>, R: Wait + Threads + Sync, G: Gate>(
+        &mut self,
+        rt: &R,
+        alloc: Global,
+        committer: &mut C,
+        tallied: TalliedGroup,
+        workers: Workers,
+        gate: &G,
+    ) -> Result<(), Stop<Stopped<J>>>
+        requires hand { IsInHand tallied }
+        ensures group { self.new.group ≡ self.old.group }
+        ensures closes { OnOk result ((start : Option Store) (closed : List (List ACut))
+            (next : List ACut) → Ascend next → IsTallied self.old.group.label next tallied
+            → IsSettledSo start closed self.old (C.told committer.old)
+            → IsSettledSo start (closed ++ next ∷ []) self.new (C.told committer.new)) }
+        ensures stops { IfErr result (λ stop. WhereStopped stop (λ stopped.
+            (start : Option Store) (closed : List (List ACut)) (next : List ACut) → Ascend next
+            → IsTallied self.old.group.label next tallied
+            → IsSettledSo start closed self.old (C.told committer.old)
+            → StopsBehind start closed next self.new stopped (C.told committer.new))) }
+        ensures lacks { IfErr result (λ stop. WhereLacking stop ((start : Option Store)
+            (closed : List (List ACut)) (next : List ACut) → Ascend next
+            → IsTallied self.old.group.label next tallied
+            → IsSettledSo start closed self.old (C.told committer.old)
+            → LacksBehind start closed (next ∷ []) self.new (C.told committer.new))) }
+        ensures drawn { (before : Drawing)
+            → DrawsFor 0 self.old.receipts.items before (C.drawing committer.old)
+            → DrawsFor (most_untold_by result) self.new.receipts.items before
+            (C.drawing committer.new) }
+        ensures since { C.since committer.old committer.new }
+    {
         self.receipts.reserve(1)?;
         self.refused
-            .reserve(group.texts.len() + group.unread.len())?;
+            .reserve(tallied.places.len() + tallied.refused.len())?;
         let Done { answer, refused } = settle(
             rt,
             alloc,
             committer,
-            group,
+            tallied,
             &mut self.clashes,
             workers,
             gate,
@@ -277,11 +307,9 @@ impl<J: Index> OpenImport<J> {
         alloc: Global,
         committer: &mut C,
         cutter: Cutter,
-        workers: usize,
+        workers: Workers,
         gate: &G,
     ) -> Report<J>
-        requires some_workers { 1 ≤ workers }
-        requires few_workers { workers ≤ 16 }
         requires ready { IsReady self }
         ensures comes { (start : Known) (stream : List ℕ) (left : Option (List ℕ)) → IsAtEnd left
             → length stream < input_limit
@@ -313,11 +341,9 @@ impl<J: Index> OpenImport<J> {
         alloc: Global,
         committer: &mut C,
         cut: Option<Cut>,
-        workers: usize,
+        workers: Workers,
         gate: &G,
     ) -> Result<(), Stop<Stopped<J>>>
-        requires some_workers { 1 ≤ workers }
-        requires few_workers { workers ≤ 16 }
         requires short { IfSome cut (λ cut. IsShort (meaning cut)) }
         requires ready { IsReady self.old }
         ensures label { self.new.group.label ≡ self.old.group.label }
@@ -343,6 +369,49 @@ impl<J: Index> OpenImport<J> {
             Ok(()) => self.close(rt, alloc, committer, workers, gate),
             Err(stop) => Err(stop),
         }
+    }
+
+    /// Settles groups that are tallied, one after another.
+    pub(crate) fn settle_each<C: Committer<J>, R: Wait + Threads + Sync, G: Gate>(
+        &mut self,
+        rt: &R,
+        alloc: Global,
+        committer: &mut C,
+        counted: Vec<TalliedGroup>,
+        workers: Workers,
+        gate: &G,
+    ) -> Result<(), Stop<Stopped<J>>>
+        requires hand { All IsInHand counted.items }
+        ensures group { self.new.group ≡ self.old.group }
+        ensures closes { OnOk result ((start : Option Store) (closed groups : List (List ACut))
+            → AllByRecursion Ascend groups
+            → AllZip (IsTallied self.old.group.label) groups counted.items
+            → IsSettledSo start closed self.old (C.told committer.old)
+            → IsSettledSo start (closed ++ groups) self.new (C.told committer.new)) }
+        ensures stops { IfErr result (λ stop. WhereStopped stop (λ stopped.
+            (start : Option Store) (closed groups : List (List ACut))
+            → AllByRecursion Ascend groups
+            → AllZip (IsTallied self.old.group.label) groups counted.items
+            → IsSettledSo start closed self.old (C.told committer.old)
+            → StopsAmong start closed groups self.new stopped (C.told committer.new))) }
+        ensures lacks { IfErr result (λ stop. WhereLacking stop ((start : Option Store)
+            (closed groups : List (List ACut)) → AllByRecursion Ascend groups
+            → AllZip (IsTallied self.old.group.label) groups counted.items
+            → IsSettledSo start closed self.old (C.told committer.old)
+            → LacksAmong start closed groups self.new (C.told committer.new))) }
+        ensures drawn { (before : Drawing)
+            → DrawsFor 0 self.old.receipts.items before (C.drawing committer.old)
+            → DrawsFor (most_untold_by result) self.new.receipts.items before
+            (C.drawing committer.new) }
+        ensures since { C.since committer.old committer.new }
+    {
+        'settling: for tallied in counted {
+            match self.settle_tallied(rt, alloc, committer, tallied, workers, gate) {
+                Ok(()) => {}
+                Err(stop) => return Err(stop),
+            }
+        }
+        Ok(())
     }
 
     /// The report of a stream that is cut off, of which whole groups alone are settled.
@@ -381,6 +450,7 @@ impl<J: Index> OpenImport<J> {
             (left : Option (List ℕ)) (told : Option Store) → IsAtEnd left
             → length stream < input_limit → StopsAtEnd start (cuts stream) self stopped told
             → ComesQuietlyBeside self.group.label stream left result }
+        ensures early { EndsEarly stopped.end → EndsEarly result.end }
         ensures drawn { (before after : Drawing) → DrawsFor 0 self.receipts.items before after
             → DrawsFor (most_untold (ending_of result.end)) result.receipts.items before after }
     {
@@ -405,16 +475,6 @@ impl<J: Index> OpenImport<J> {
             end,
         }
     }
-}
-
-/// The same label again, which takes no memory.
-fn copy_of(label: &Label) -> Label
-    ensures { result ≡ label.now }
-{
-    let Some(copy) = Label::of(label.as_str().as_bytes()) else {
-        unreachable!()
-    };
-    copy
 }
 
 /// How many batches the journal of the last receipt has; none where there is no receipt.

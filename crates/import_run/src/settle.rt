@@ -1,29 +1,27 @@
 //! A group is settled: its new texts are stored as one batch.
-ghost use Rattle.std.specs.Prelude.{◌≡◌, ◌<◌, ◌≤◌, ℕ, List, [], ◌∷◌, Option, Some, length, IfOk, IfSome, OnErr};
-ghost use Rattle.std.specs.List.{All};
-ghost use Rattle.explorer_model.specs.Cuts.{Cut as ACut, text_limit};
-ghost use Rattle.explorer_model.specs.Imports.{group_limit};
+ghost use Rattle.std.specs.Prelude.{◌≡◌, ◌<◌, ℕ, List, [], ◌∷◌, Option, Some, IfOk, IfSome, OnErr};
+ghost use Rattle.explorer_model.specs.Cuts.{Cut as ACut};
 ghost use Rattle.explorer_model.specs.Timeline.{IsPrefix};
 ghost use Rattle.import_run.specs.Beside.{RoundsBeside, SettlesBeside};
 ghost use Rattle.import_run.specs.Committing.{Known, Store, store_of};
 ghost use Rattle.import_run.specs.Draws.{DrawsAsAnswered, DrawsFew, DrawsInRound};
-ghost use Rattle.import_run.specs.Grouping.{Ascend, IsGroupOf};
+ghost use Rattle.import_run.specs.Grouping.{Ascend, IsTallied};
 ghost use Rattle.import_run.specs.Hand.{InHand};
 ghost use Rattle.import_run.specs.Rounds.{AnswerDecided, IsAgain, IsEnded, MayHaveMore, Rounds, Settles, size_of};
 
 use crate::committer::Committer;
 use crate::naming::name;
-use crate::text_group::{TalliedGroup, TextGroup, labelled, merge};
+use crate::text_group::{TalliedGroup, labelled, merge};
 use explorer_model::archive::Batch;
 use explorer_model::fault::Refusal;
 use game_replay::laws::game_is_determined;
-use ingest_desk::{CommitFault, Receipt};
+use ingest_desk::{CommitFault, Handed, Receipt};
 use outside::Gate;
 use published_index::{Index, Note};
+use side_by_side::Workers;
 use std::alloc::{AllocError, Global};
 use std::sync::Wait;
 use std::thread::Threads;
-use tally_rows::Tally;
 
 /// What became of a group: what was answered to its commit, if it has a batch, and what is refused.
 #[derive(Drop)]
@@ -40,29 +38,26 @@ pub enum Round<J: Index> {
     Again(TalliedGroup),
 }
 
-/// Settles a group of texts that stand in a stream in this order. The notes are those of the clashes.
+/// Settles a group that is tallied. The notes are those of the clashes.
 pub fn settle<C: Committer<J>, J: Index, R: Wait + Threads + Sync, G: Gate>(
     rt: &R,
     alloc: Global,
     committer: &mut C,
-    group: TextGroup,
+    tallied: TalliedGroup,
     clashes: &mut Vec<Note<J>>,
-    workers: usize,
+    workers: Workers,
     gate: &G,
 ) -> Result<Done<J>, AllocError>
-    requires some_workers { 1 ≤ workers }
-    requires few_workers { workers ≤ 16 }
-    requires few { length group.texts.items ≤ group_limit }
-    requires short { All (λ text. length text.bytes ≤ text_limit) group.texts.items }
-    ensures settles { IfOk result (λ done. (known : Known) (cuts : List ACut) → Ascend cuts
-        → IsGroupOf cuts group → C.told committer.old ≡ Some (store_of known)
-        → Settles group.label known cuts done (C.told committer.new)) }
+    requires hand { IfSome tallied.tally (λ counted. InHand counted tallied.places.items) }
+    ensures settles { IfOk result (λ done. (label : List ℕ) (known : Known) (cuts : List ACut)
+        → Ascend cuts → IsTallied label cuts tallied → C.told committer.old ≡ Some (store_of known)
+        → Settles label known cuts done (C.told committer.new)) }
     ensures decided { IfOk result (λ done. AnswerDecided done.answer) }
-    ensures memory { OnErr result ((known : Known) (cuts : List ACut) → Ascend cuts
-        → IsGroupOf cuts group → C.told committer.old ≡ Some (store_of known)
-        → MayHaveMore group.label known (cuts ∷ []) (C.told committer.new)) }
-    ensures beside { IfOk result (λ done. (cuts : List ACut) → Ascend cuts → IsGroupOf cuts group
-        → SettlesBeside group.label cuts done clashes.new.items) }
+    ensures memory { OnErr result ((label : List ℕ) (known : Known) (cuts : List ACut)
+        → Ascend cuts → IsTallied label cuts tallied → C.told committer.old ≡ Some (store_of known)
+        → MayHaveMore label known (cuts ∷ []) (C.told committer.new)) }
+    ensures beside { IfOk result (λ done. (label : List ℕ) (cuts : List ACut) → Ascend cuts
+        → IsTallied label cuts tallied → SettlesBeside label cuts done clashes.new.items) }
     ensures drawn { IfOk result (λ done. DrawsAsAnswered done.answer
         (C.drawing committer.old) (C.drawing committer.new)) }
     ensures drawn_few { OnErr result
@@ -71,7 +66,7 @@ pub fn settle<C: Committer<J>, J: Index, R: Wait + Threads + Sync, G: Gate>(
     ensures since { C.since committer.old committer.new }
 {
     game_is_determined();
-    let mut state = group.tally(rt, alloc, workers, gate)?;
+    let mut state = tallied;
     'settling: loop {
         let TalliedGroup {
             tally,
@@ -99,15 +94,13 @@ fn commit_once<C: Committer<J>, J: Index, R: Wait + Threads + Sync, G: Gate>(
     rt: &R,
     alloc: Global,
     committer: &mut C,
-    counted: Tally,
+    counted: Handed,
     places: Vec<u64>,
     refused: Vec<Refusal>,
     clashes: &mut Vec<Note<J>>,
-    workers: usize,
+    workers: Workers,
     gate: &G,
 ) -> Result<Round<J>, AllocError>
-    requires some_workers { 1 ≤ workers }
-    requires few_workers { workers ≤ 16 }
     requires hand { InHand counted places.items }
     ensures again { IfOk result (λ round. IsAgain round (λ state. (told : Option Store)
         (label : List ℕ) (cuts : List ACut)
@@ -166,7 +159,7 @@ fn commit_once<C: Committer<J>, J: Index, R: Wait + Threads + Sync, G: Gate>(
             let Batch { label, texts } = batch;
             let named = name(alloc, texts, places.as_slice(), pairs.as_slice())?;
             let refused = merge(alloc, refused.as_slice(), named.refused.as_slice())?;
-            let again = batch_tally::tally(rt, alloc, named.rest, workers, gate)?;
+            let again = batch_tally::tally(rt, alloc, named.rest, workers.count, gate)?;
             Ok(Round::Again(TalliedGroup {
                 tally: labelled(again.tally, label),
                 places: again.places,

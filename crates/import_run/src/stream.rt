@@ -1,6 +1,5 @@
 //! A stream on its way into a store.
-ghost use Rattle.std.specs.Prelude.{◌≡◌, ◌+◌, ◌<◌, ◌≤◌, Some, [], length};
-ghost use Rattle.explorer_model.specs.Journal.{input_limit};
+ghost use Rattle.std.specs.Prelude.{◌≡◌, ◌≤◌, Some, [], length};
 ghost use Rattle.explorer_model.specs.Labels.{no_label};
 ghost use Rattle.explorer_model.specs.Wire.{body_limit};
 ghost use Rattle.ingest_desk.specs.Drawn.{DrawsFor, most_untold};
@@ -11,21 +10,17 @@ ghost use Rattle.import_run.specs.Taking.{ComesQuietly, ComesQuietlyBeside, Impo
 
 use crate::committer::Committer;
 use crate::open_import::OpenImport;
+use crate::underway::Underway;
 use explorer_model::fault::Stop;
 use explorer_model::label::Label;
 use ingest_desk::{End, Report};
 use outside::{Gate, Source};
 use pgn_cut::cutter::Cutter;
 use published_index::Index;
+use side_by_side::Workers;
 use std::alloc::Global;
 use std::sync::Wait;
 use std::thread::Threads;
-
-/// How many bytes one import takes.
-pub const INPUT_LIMIT: u64 = 1 << 40;
-
-/// How many bytes one read asks for.
-const BUFFER: usize = 4096;
 
 /// Reads the stream, and stores or refuses each cut of its groups. What is stored has the label.
 pub fn import_stream<S: Source, C: Committer<J>, J: Index, G: Gate, R: Wait + Threads + Sync>(
@@ -34,11 +29,9 @@ pub fn import_stream<S: Source, C: Committer<J>, J: Index, G: Gate, R: Wait + Th
     source: &mut S,
     committer: &mut C,
     label: Label,
-    workers: usize,
+    workers: Workers,
     gate: &G,
 ) -> Report<J>
-    requires some_workers { 1 ≤ workers }
-    requires few_workers { workers ≤ 16 }
     ensures told { (start : Known) → C.told committer.old ≡ Some (store_of start)
         → Imports label start (S.source source.old) (S.source source.new) result
         (C.told committer.new) }
@@ -47,29 +40,17 @@ pub fn import_stream<S: Source, C: Committer<J>, J: Index, G: Gate, R: Wait + Th
         (C.drawing committer.old) (C.drawing committer.new) }
     ensures since { C.since committer.old committer.new }
 {
-    let mut cutter = Cutter::new();
-    let mut import = OpenImport::new(alloc, label);
-    let mut buffer = [0; BUFFER];
-    let mut taken = 0;
-    'reading: loop {
-        let chunk = &mut buffer[..room_behind(taken)];
-        let before = source.read_faults();
-        let Ok(count) = source.read(chunk) else {
-            let after = source.read_faults();
-            return import.cut_off(cutter, End::ReadFault { before, after });
-        };
-        if count == 0 {
-            return import.end(rt, alloc, committer, cutter, workers, gate);
+    let mut state = Underway::new(alloc, label);
+    'rounds: loop {
+        match state.end(alloc, source) {
+            Ok(None) => {}
+            Ok(Some(over)) => return state.report(over),
+            Err(_) => return state.import.report(End::OutOfMemory),
         }
-        taken += count as u64;
-        if taken == INPUT_LIMIT {
-            return import.cut_off(cutter, End::TooMuch { bytes: taken });
-        }
-        let read = &chunk[..count];
-        match import.feed(rt, alloc, committer, &mut cutter, read, workers, gate) {
+        match state.round(rt, alloc, source, committer, workers, gate) {
             Ok(()) => {}
-            Err(Stop::Fault(stopped)) => return import.stopped(stopped),
-            Err(Stop::OutOfMemory) => return import.report(End::OutOfMemory),
+            Err(Stop::Fault(stopped)) => return state.import.stopped(stopped),
+            Err(Stop::OutOfMemory) => return state.import.report(End::OutOfMemory),
         }
     }
 }
@@ -80,11 +61,9 @@ pub fn import_bytes<C: Committer<J>, J: Index, G: Gate, R: Wait + Threads + Sync
     alloc: Global,
     bytes: &[u8],
     committer: &mut C,
-    workers: usize,
+    workers: Workers,
     gate: &G,
 ) -> Report<J>
-    requires some_workers { 1 ≤ workers }
-    requires few_workers { workers ≤ 16 }
     requires few { length bytes.now ≤ body_limit }
     ensures told { (start : Known) → C.told committer.old ≡ Some (store_of start)
         → ComesQuietly no_label start bytes.now (Some []) result (C.told committer.new) }
@@ -100,20 +79,4 @@ pub fn import_bytes<C: Committer<J>, J: Index, G: Gate, R: Wait + Threads + Sync
         Err(Stop::Fault(stopped)) => import.stopped(stopped),
         Err(Stop::OutOfMemory) => import.report(End::OutOfMemory),
     }
-}
-
-/// How many bytes are read next. The last byte that an import takes is read alone: whether it comes
-/// is known before a group is settled that it may end.
-fn room_behind(taken: u64) -> usize
-    requires { taken < input_limit }
-    ensures some { 0 < result }
-    ensures few { result ≤ 4096 }
-    ensures within { taken + result ≤ input_limit }
-    ensures last { taken + 1 < input_limit → taken + result < input_limit }
-{
-    let before_last = INPUT_LIMIT - 1 - taken;
-    if before_last == 0 {
-        return 1;
-    }
-    before_last.min(BUFFER as u64) as usize
 }

@@ -4,6 +4,7 @@ ghost use Rattle.std.specs.List.{All};
 ghost use Rattle.explorer_model.specs.Cuts.{Cut as ACut, text_limit};
 ghost use Rattle.explorer_model.specs.Imports.{group_limit};
 ghost use Rattle.pgn_cut.specs.Cut.{meaning};
+ghost use Rattle.import_run.specs.Apart.{CanTally, IsTalliedGroup};
 ghost use Rattle.import_run.specs.Grouping.{Ascend, IsGroupOf, IsShort, IsTallied, merged};
 ghost use Rattle.import_run.specs.Hand.{InHand};
 ghost use Rattle.import_run.specs.Labelling.{under};
@@ -12,8 +13,10 @@ use batch_tally::tally;
 use explorer_model::archive::Placed;
 use explorer_model::fault::{Refusal, Why};
 use explorer_model::label::Label;
-use outside::Gate;
+use ingest_desk::Handed;
+use outside::{FreeGate, Gate};
 use pgn_cut::cut::Cut;
+use side_by_side::Workers;
 use std::alloc::{AllocError, Global};
 use std::thread::Threads;
 use tally_rows::Tally;
@@ -31,10 +34,10 @@ pub struct TextGroup {
 }
 
 /// A group of which each text was replayed.
-#[derive(Debug, Drop)]
+#[derive(Drop)]
 pub struct TalliedGroup {
     /// The texts that are accepted, under the label of the group; none where no text is.
-    pub tally: Option<Tally>,
+    pub tally: Option<Handed>,
     /// The place of each accepted text, in order.
     pub places: Vec<u64>,
     /// Why each other cut is refused, in the order of the stream.
@@ -84,11 +87,9 @@ impl TextGroup {
         self,
         rt: &R,
         alloc: Global,
-        workers: usize,
+        workers: Workers,
         gate: &G,
     ) -> Result<TalliedGroup, AllocError>
-        requires some_workers { 1 ≤ workers }
-        requires few_workers { workers ≤ 16 }
         requires few { length self.texts.items ≤ group_limit }
         requires short { All (λ text. length text.bytes ≤ text_limit) self.texts.items }
         ensures tallied { IfOk result (λ tallied. (cuts : List ACut)
@@ -101,7 +102,7 @@ impl TextGroup {
             texts,
             unread,
         } = self;
-        let tallying = tally(rt, alloc, texts, workers, gate)?;
+        let tallying = tally(rt, alloc, texts, workers.count, gate)?;
         let refused = merge(alloc, tallying.refused.as_slice(), unread.as_slice())?;
         Ok(TalliedGroup {
             tally: labelled(tallying.tally, label),
@@ -109,13 +110,48 @@ impl TextGroup {
             refused,
         })
     }
+
+    /// The same by the calling thread alone, and the batch is packed.
+    pub(crate) fn pack<R: Threads + Sync>(
+        self,
+        rt: &R,
+        alloc: Global,
+    ) -> Result<TalliedGroup, AllocError>
+        requires { CanTally self }
+        ensures { IfOk result (IsTalliedGroup self) }
+    {
+        self.tally(rt, alloc, Workers { count: 1 }, &FreeGate)?
+            .packed(alloc)
+    }
 }
 
-/// The tally under the label.
-pub fn labelled(tally: Option<Tally>, label: Label) -> Option<Tally>
+impl TalliedGroup {
+    /// The same with its batch packed, which contracts don't see.
+    fn packed(self, alloc: Global) -> Result<TalliedGroup, AllocError>
+        ensures { IfOk result (λ same. same ≡ self) }
+    {
+        let TalliedGroup {
+            tally,
+            places,
+            refused,
+        } = self;
+        let tally = match tally {
+            Some(handed) => Some(Handed::packed(handed.into_ready(alloc)?)),
+            None => None,
+        };
+        Ok(TalliedGroup {
+            tally,
+            places,
+            refused,
+        })
+    }
+}
+
+/// The tally under the label, to be handed to a commit.
+pub fn labelled(tally: Option<Tally>, label: Label) -> Option<Handed>
     ensures { result ≡ option_map (under label) tally }
 {
-    Some(tally?.labelled(label))
+    Some(Handed::unpacked(tally?.labelled(label)))
 }
 
 /// Two lists of refusals in one, where each has them by their places.
@@ -141,4 +177,14 @@ pub fn merge(
     all.extend_from_slice(&texts[at..])?;
     all.extend_from_slice(&unread[next..])?;
     Ok(all)
+}
+
+/// The same label again, which takes no memory.
+pub fn copy_of(label: &Label) -> Label
+    ensures { result ≡ label.now }
+{
+    let Some(copy) = Label::of(label.as_str().as_bytes()) else {
+        unreachable!()
+    };
+    copy
 }

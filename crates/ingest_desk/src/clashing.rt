@@ -1,3 +1,4 @@
+//! Texts whose ids are stored.
 /// A text of a batch whose id a stored game has.
 #[derive(Clone, Copy, Debug, Default, PartialEq, Eq)]
 pub struct Clashing {

@@ -85,8 +85,8 @@ impl<D: Disk, J: Index> Ingest<D, J> {
         self.commit_handed(rt, alloc, Handed::packed(ready), mine)
     }
 
-    /// Stores and publishes a batch, packed or not.
-    fn commit_handed<R: Wait + Threads + Sync>(
+    /// Stores and publishes a batch, packed or not. It packs one only if it is not packed yet.
+    pub fn commit_handed<R: Wait + Threads + Sync>(
         &mut self,
         rt: &R,
         alloc: Global,

@@ -1,5 +1,5 @@
 //! The batches of a journal, each counted by itself, side by side.
-ghost use Rattle.std.specs.Prelude.{◌≡◌, ◌<◌, ◌≤◌, ◌+◌, ◌^◌, IfOk, MatchOption, Ok, length, map};
+ghost use Rattle.std.specs.Prelude.{◌≡◌, ◌<◌, ◌+◌, ◌^◌, IfOk, MatchOption, Ok, length, map};
 ghost use Rattle.std.specs.List.{All};
 ghost use Rattle.explorer_model.specs.declared.archive.Batch.{Batch as StoredBatch};
 ghost use Rattle.explorer_model.specs.StoreFile.{IsStorable, payload_of};
@@ -12,7 +12,7 @@ use game_replay::laws::game_is_determined;
 use outside::FreeGate;
 use published_index::SharedSegment;
 use segment_blocks::Segment;
-use side_by_side::map_each;
+use side_by_side::{Workers, map_each};
 use std::alloc::{AllocError, Global};
 use std::sync::{Arc, Wait};
 use std::thread::Threads;
@@ -44,7 +44,7 @@ pub(crate) fn count_each<R: Threads + Wait + Sync>(
     rt: &R,
     alloc: Global,
     journal: Vec<Batch>,
-    workers: usize,
+    workers: Workers,
 ) -> Result<Vec<CountedBatch>, AllocError>
     requires storable { All IsStorable journal.items }
     ensures { IfOk result (λ counted. AllFrom IsCountedAt 0 journal.items counted.items) }
@@ -55,7 +55,7 @@ pub(crate) fn count_each<R: Threads + Wait + Sync>(
         requires { IsStorable at.batch × (at.place + 1 < 2 ^ 32) }
         ensures { IfOk result (IsCountedAt at.place at.batch) }
     { count_alone(rt, alloc, at) };
-    let results = map_each(rt, alloc, workers, batches, &enter, &count)?;
+    let results = map_each(rt, alloc, workers.count, batches, &enter, &count)?;
     all_counted(alloc, results)
 }
 
@@ -96,7 +96,7 @@ fn count_alone<R: Threads + Sync>(
     ensures { IfOk result (IsCountedAt at.place at.batch) }
 {
     let size = payload_size(&at.batch);
-    let segment = match segment_at(rt, alloc, at, 1)? {
+    let segment = match segment_at(rt, alloc, at, Workers { count: 1 })? {
         Some(segment) => Some(Arc::new(alloc, segment)?),
         None => None,
     };
@@ -109,10 +109,8 @@ pub(crate) fn segment_at<R: Threads + Sync>(
     rt: &R,
     alloc: Global,
     at: BatchAt,
-    workers: usize,
+    workers: Workers,
 ) -> Result<Option<Segment>, AllocError>
-    requires some_workers { 1 ≤ workers }
-    requires few_workers { workers ≤ 16 }
     requires storable { IsStorable at.batch }
     requires place { at.place + 1 < 2 ^ 32 }
     ensures { IfOk result (λ found. MatchOption found (IsNeverSound at.batch)
@@ -123,7 +121,7 @@ pub(crate) fn segment_at<R: Threads + Sync>(
         batch: Batch { label, texts },
     } = at;
     let texts = placed_texts(alloc, texts)?;
-    let tallying = tally(rt, alloc, texts, workers, &FreeGate)?;
+    let tallying = tally(rt, alloc, texts, workers.count, &FreeGate)?;
     segment_of(alloc, place, label, tallying)
 }
 

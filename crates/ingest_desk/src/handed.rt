@@ -31,7 +31,8 @@ impl Model for Handed {
 }
 
 impl Handed {
-    pub(crate) fn unpacked(tally: Tally) -> Handed
+    /// A tally, which is packed at its commit.
+    pub fn unpacked(tally: Tally) -> Handed
         ensures { result ≡ tally }
     {
         Handed {
@@ -39,7 +40,8 @@ impl Handed {
         }
     }
 
-    pub(crate) fn packed(ready: Ready) -> Handed
+    /// A batch that is packed.
+    pub fn packed(ready: Ready) -> Handed
         ensures { result ≡ ready }
     {
         Handed {
@@ -80,7 +82,7 @@ impl Handed {
     }
 
     /// The batch, packed.
-    pub(crate) fn into_ready(self, alloc: Global) -> Result<Ready, AllocError>
+    pub fn into_ready(self, alloc: Global) -> Result<Ready, AllocError>
         ensures { IfOk result (λ ready. ready ≡ self) }
     {
         match self.batch {

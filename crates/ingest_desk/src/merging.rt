@@ -18,6 +18,7 @@ use outside::FreeGate;
 use published_index::{Index, Note, SharedSegment};
 use segment_blocks::Segment;
 use segment_merge::merge;
+use side_by_side::Workers;
 use std::alloc::{AllocError, Global};
 use std::sync::{Arc, Wait};
 use std::thread::Threads;
@@ -145,10 +146,8 @@ pub(crate) fn join_due<R: Threads + Sync>(
     rt: &R,
     alloc: Global,
     segments: &mut Vec<SharedSegment>,
-    workers: usize,
+    workers: Workers,
 ) -> Result<(), AllocError>
-    requires some_workers { 1 ≤ workers }
-    requires few_workers { workers ≤ 16 }
     requires list { IsList (map arc_value segments.old.items) }
     requires few { length segments.old.items ≤ rest_limit + 1 }
     requires within { game_count (journal_of (map arc_value segments.old.items)) ≤ game_limit }
@@ -163,7 +162,7 @@ pub(crate) fn join_due<R: Threads + Sync>(
     let left = &segments[at];
     let right = &segments[at + 1];
     let (_left, _right) = (left.span(), right.span());
-    let merged = merge(rt, alloc, left, right, workers, &FreeGate)?;
+    let merged = merge(rt, alloc, left, right, workers.count, &FreeGate)?;
     let shared = Arc::new(alloc, merged)?;
     segments.remove(at);
     segments[at] = shared;

@@ -10,6 +10,7 @@ use explorer_model::store::LogFault;
 use manifest::Manifest;
 use published_index::{List, open_list};
 use record_log::{Back, OpenFault};
+use side_by_side::Workers;
 use std::alloc::Global;
 use std::sync::Wait;
 use std::thread::Threads;
@@ -32,6 +33,7 @@ pub fn open<R: Wait + Threads + Sync, D: Disk>(
     ensures { MatchResult result (IsOpened D.disk D.left_since disk readers)
         (IsHandedBack D.disk D.left_since disk) }
 {
+    let workers = Workers { count: workers };
     let opened = manifest::open(alloc, disk)?;
     let manifest::Opened { manifest, journal } = opened;
     let recounted = match recount(rt, alloc, journal, workers) {

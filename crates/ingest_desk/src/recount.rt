@@ -16,6 +16,7 @@ use explorer_model::fault::Stop;
 use game_replay::laws::game_is_determined;
 use published_index::SharedSegment;
 use segment_blocks::Segment;
+use side_by_side::Workers;
 use std::alloc::{AllocError, Global};
 use std::sync::Wait;
 use std::thread::Threads;
@@ -33,10 +34,8 @@ pub(crate) fn recount<R: Threads + Wait + Sync>(
     rt: &R,
     alloc: Global,
     journal: Vec<Batch>,
-    workers: usize,
+    workers: Workers,
 ) -> Result<Recounted, Stop<u64>>
-    requires some_workers { 1 ≤ workers }
-    requires few_workers { workers ≤ 16 }
     requires storable { All IsStorable journal.items }
     requires low { length (store_of journal.items) ≤ gate_limit }
     ensures { MatchResult result (IsRecountOf journal.items) (Stops journal.items) }

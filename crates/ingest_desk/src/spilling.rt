@@ -21,6 +21,7 @@ use explorer_model::store::LogFault;
 use outside::Port;
 use record_log::{Back, OpenFault};
 use segment_blocks::Segment;
+use side_by_side::Workers;
 use spill_blobs::SpillSet;
 use std::alloc::{AllocError, Global};
 use std::sync::Wait;
@@ -56,6 +57,7 @@ pub fn open_spilled<R: Wait + Threads + Sync, D: Disk, P: Port>(
     ensures no_fault { IfOk result (λ opened. (D.disk opened.0).faults ≡ (D.disk disk).faults) }
     ensures quiet_refused { IfErr result (λ back. IsQuiet D.disk D.left_since disk back.disk) }
 {
+    let workers = Workers { count: workers };
     let opened = match manifest::open(alloc, disk) {
         Ok(opened) => opened,
         Err(Back { disk, fault }) => {
@@ -77,11 +79,9 @@ fn spill_journal<R: Threads + Sync, P: Port>(
     rt: &R,
     alloc: Global,
     journal: Vec<Batch>,
-    workers: usize,
+    workers: Workers,
     port: &mut P,
 ) -> Result<SpillSet, SpillOpenFault>
-    requires some_workers { 1 ≤ workers }
-    requires few_workers { workers ≤ 16 }
     requires storable { All IsStorable journal.items }
     requires low { length (store_of journal.items) ≤ gate_limit }
     requires empty { HasJust (P.port port.old) [] }
@@ -114,10 +114,8 @@ fn next_segment<R: Threads + Sync>(
     alloc: Global,
     register: &mut Register,
     batch: Batch,
-    workers: usize,
+    workers: Workers,
 ) -> Result<Option<Segment>, AllocError>
-    requires some_workers { 1 ≤ workers }
-    requires few_workers { workers ≤ 16 }
     requires storable { IsStorable batch }
     requires knows { (journal : List StoredBatch) × IsRegisterOf journal register.old }
     ensures { IfOk result (λ found. (journal : List StoredBatch)

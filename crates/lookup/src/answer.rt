@@ -25,7 +25,7 @@ use explorer_model::list::Items;
 use explorer_model::query::Query;
 use legal_moves::board::Board;
 use legal_moves::laws::tidy_is_determined;
-use packed_keys::pack;
+use packed_keys::{PositionKey, pack};
 use row_sums::{
     Games, Hit, best_of, first_moves, history_of, listed_by_month, listed_by_rating, totals_of,
 };
@@ -61,7 +61,7 @@ pub fn look_segments<L: Ledger>(
 }
 
 /// The position that is asked for, and the key of its rows.
-pub fn board_and_key(query: &Query) -> (Board, [u8; 34])
+pub fn board_and_key(query: &Query) -> (Board, PositionKey)
     requires { IsValid query.now.at }
     ensures board { result.0 ≡ query.now.at }
     ensures key { IsTidyKey query.now.at result.1 }
@@ -77,7 +77,7 @@ pub fn board_and_key(query: &Query) -> (Board, [u8; 34])
 fn found_of(
     alloc: Global,
     board: &Board,
-    key: &[u8; 34],
+    key: &PositionKey,
     segments: &[Arc<Segment>],
     query: &Query,
     hits: &[Hit],

@@ -13,6 +13,7 @@ ghost use Rattle.tally_rows.specs.Cover.{passes_row_key};
 ghost use Rattle.tally_rows.specs.Row.{row_key_of};
 
 use explorer_model::query::Filter;
+use packed_keys::PositionKey;
 use row_sums::{Hit, takes};
 use segment_blocks::{HeldRow, Segment, Steps};
 use std::alloc::{AllocError, Global};
@@ -23,7 +24,7 @@ use std::sync::ledger::Ledger;
 pub fn rows_of_segments<'a, L: Ledger>(
     alloc: Global,
     segments: &'a [Arc<Segment>],
-    key: &[u8; 34],
+    key: &PositionKey,
     wanted: &Filter,
     steps: &mut Steps<L>,
 ) -> Result<Vec<Hit<'a>>, AllocError>
@@ -52,7 +53,7 @@ fn add_rows<'a, L: Ledger>(
     hits: &mut Vec<Hit<'a>>,
     segment: &'a Segment,
     first: u32,
-    key: &[u8; 34],
+    key: &PositionKey,
     wanted: &Filter,
     steps: &mut Steps<L>,
 ) -> Result<(), AllocError>

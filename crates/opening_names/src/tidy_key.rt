@@ -9,14 +9,14 @@ ghost use Rattle.opening_names.specs.Hashed.{ArePacked, alike, as_one, equal_byt
 use explorer_model::chess::{Move, Position, arriving};
 use legal_moves::board::Board;
 use packed_keys::laws::equal_keys_mean_equal_positions;
-use packed_keys::{key_of, pack, pack_squares, write_square};
+use packed_keys::{PositionKey, key_of, pack, pack_squares, write_square};
 use std::hash::{Hash, Hasher};
 use std::marker::Model;
 
 /// The key of a position's tidy form. It is hashed as a whole, not byte by byte.
 #[derive(Clone, Copy)]
 pub struct TidyKey {
-    bytes: [u8; 34],
+    bytes: PositionKey,
 }
 
 impl Model for TidyKey {
@@ -125,7 +125,7 @@ pub fn board_of(position: &Position) -> Board
 }
 
 /// Whether all bytes are equal. It looks at all of them, many at a time.
-fn are_equal(one: &[u8; 34], other: &[u8; 34]) -> bool
+fn are_equal(one: &PositionKey, other: &PositionKey) -> bool
     ensures { result ≡ bytes_eq one.now other.now }
 {
     let mut are_equal = true;

@@ -21,8 +21,11 @@ pub use crate::squares::{pack_squares, write_square};
 use explorer_model::chess::{Color, Position, Rights};
 use explorer_model::square::Square;
 
+/// The key of a position, as the head of this file tells its bytes.
+pub type PositionKey = [u8; 34];
+
 /// The key of a position, valid or not.
-pub fn pack(position: &Position) -> [u8; 34]
+pub fn pack(position: &Position) -> PositionKey
     ensures key { result ≡ key position.now }
     ensures board { length position.now.squares ≡ 64 }
 {
@@ -41,7 +44,7 @@ pub fn key_of(
     turn: Color,
     rights: Rights,
     en_passant: Option<Square>,
-) -> [u8; 34]
+) -> PositionKey
     ensures { result
         ≡ squares.now ++ state_code turn rights ∷ en_passant_code en_passant ∷ [] }
 {
@@ -53,7 +56,7 @@ pub fn key_of(
 }
 
 /// The position that has this key, valid or not.
-pub fn unpack(bytes: &[u8; 34]) -> Option<Position>
+pub fn unpack(bytes: &PositionKey) -> Option<Position>
     ensures some { IfSome result (λ p. HasKey p bytes.now) }
     ensures none { IfNone result (¬ IsKey bytes.now) }
 {

@@ -15,7 +15,7 @@ use explorer_model::chess::Position;
 use explorer_model::player::{PlayerFound, PlayerQuery};
 use legal_moves::board::Board;
 use lookup::laws::tracks_see_what_games_see;
-use packed_keys::pack;
+use packed_keys::{PositionKey, pack};
 use player_index::PlayerIndex;
 use published_index::Snapshot;
 use row_sums::count_games;
@@ -67,7 +67,7 @@ fn board_of(at: &Position) -> Board
 }
 
 /// The tidy form of a board, and its key.
-fn tidy_and_key(board: &Board) -> (Position, [u8; 34])
+fn tidy_and_key(board: &Board) -> (Position, PositionKey)
     ensures tidied { IsTidied board.now result.0 }
     ensures key { IsTidyKey board.now result.1 }
 {

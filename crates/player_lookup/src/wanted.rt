@@ -8,6 +8,7 @@ ghost use Rattle.player_lookup.specs.Kept.{is_taken, single_kept};
 use explorer_model::archive::{Classes, Mode};
 use explorer_model::chess::{Color, Move};
 use explorer_model::player::PlayerQuery;
+use packed_keys::PositionKey;
 use row_sums::passes;
 use tally_rows::{RowKey, Single};
 
@@ -33,7 +34,7 @@ fn mode_index(mode: Mode) -> usize
 /// What a game counts for in the position of the key, where `next` follows. Its rating is that of
 /// the player who has not the colour.
 pub fn single_of(
-    key: &[u8; 34],
+    key: &PositionKey,
     color: Color,
     number: u32,
     classes: &Classes,

@@ -15,6 +15,10 @@ pub row_of-key : (s : Single) → (row_of s).key ≡ s.row_key.key
 unfolding row_of
 row_of-key s = refl
 
+pub key-game : (key : List ℕ) (mark : Mark) (outcome : Outcome) → (row_of (single_of key mark outcome)).key ≡ key
+unfolding row_of
+key-game key mark outcome = refl
+
 pub rows_behind-nil : (marks : List Mark) (before tails : List ℕ) (whole : List Row) → length marks ≡ 0 → rows_behind marks before tails whole ≡ []
 unfolding rows_behind
 rows_behind-nil [] before tails whole e = refl
@@ -55,19 +59,35 @@ module _ (key : List ℕ) (mark : Mark) (tails : List ℕ) where
   pub key_behind-again : length key ≡ 34 → mark.shared ≤ 34 → key_behind (key_behind key mark tails) mark tails ≡ key_behind key mark tails
   key_behind-again long within = ap (λ l. l ++ take (own_len mark) tails) (own-first mark.shared (omega (arith, long, within)) (take (own_len mark) tails))
 
-  module _ (marks rest : List Mark) (is : marks ≡ mark ∷ rest) where
-    pub own-known : HasOwnKey key marks tails → key_behind key mark tails ≡ key
-    own-known h = subst (λ m. HasOwnKey key m tails) is h
+  module _ (marks rest : List Mark) (is : marks ≡ mark ∷ rest) (whole : List Row) where
+    module _ (outcome : Outcome) (e : mark.outcome ≡ Some outcome) where
+      pub own-known : HasOwnKey key (rows_behind marks key tails whole) → key_behind key mark tails ≡ key
+      own-known h =
+          sym (key-game (key_behind key mark tails) mark outcome)
+          ∙ subst (λ r. HasOwnKey key r) (rows_behind-game mark marks rest key tails whole is outcome e) h
 
-    pub own-behind : length key ≡ 34 → mark.shared ≤ 34 → HasOwnKey (key_behind key mark tails) marks tails
-    own-behind long within = subst (λ m. HasOwnKey (key_behind key mark tails) m tails) (sym is) (key_behind-again long within)
+      module _ (long : length key ≡ 34) (within : mark.shared ≤ 34) where
+        pub rows_behind-own : rows_behind marks (key_behind key mark tails) tails whole ≡ rows_behind marks key tails whole
+        rows_behind-own =
+            rows_behind-game mark marks rest (key_behind key mark tails) tails whole is outcome e
+            ∙ ap (λ k. row_of (single_of k mark outcome) ∷ rows_behind rest k (drop (own_len mark) tails) whole) (key_behind-again long within)
+            ∙ sym (rows_behind-game mark marks rest key tails whole is outcome e)
 
-    pub rows_behind-own : (whole : List Row) (outcome : Outcome) → mark.outcome ≡ Some outcome → length key ≡ 34 → mark.shared ≤ 34
-        → rows_behind marks (key_behind key mark tails) tails whole ≡ rows_behind marks key tails whole
-    rows_behind-own whole outcome e long within =
-        rows_behind-game mark marks rest (key_behind key mark tails) tails whole is outcome e
-        ∙ ap (λ k. row_of (single_of k mark outcome) ∷ rows_behind rest k (drop (own_len mark) tails) whole) (key_behind-again long within)
-        ∙ sym (rows_behind-game mark marks rest key tails whole is outcome e)
+        pub own-behind : HasOwnKey (key_behind key mark tails) (rows_behind marks (key_behind key mark tails) tails whole)
+        own-behind =
+            subst (λ r. HasOwnKey (key_behind key mark tails) r) (sym (rows_behind-own ∙ rows_behind-game mark marks rest key tails whole is outcome e))
+            (key-game (key_behind key mark tails) mark outcome)
+
+    module _ (row : Row) (others : List Row) (e : mark.outcome ≡ None) (whole_is : whole ≡ row ∷ others) where
+      pub whole-known : HasOwnKey key (rows_behind marks key tails whole) → row.key ≡ key
+      whole-known h = subst (λ r. HasOwnKey key r) (rows_behind-whole mark marks rest key tails whole is row others e whole_is) h
+
+      pub rows_behind-taken : rows_behind marks row.key tails whole ≡ rows_behind marks key tails whole
+      rows_behind-taken =
+          rows_behind-whole mark marks rest row.key tails whole is row others e whole_is ∙ sym (rows_behind-whole mark marks rest key tails whole is row others e whole_is)
+
+      pub own-taken : HasOwnKey row.key (rows_behind marks row.key tails whole)
+      own-taken = subst (λ r. HasOwnKey row.key r) (sym (rows_behind-whole mark marks rest row.key tails whole is row others e whole_is)) refl
 
 -- ---- what is filled
 
@@ -109,10 +129,6 @@ IsFilled-missing mark marks tails e h =
 pub key_after-cons : (before : List ℕ) (row : Row) (rows : List Row) → key_after before (row ∷ rows) ≡ key_after row.key rows
 unfolding key_after
 key_after-cons before row rows = refl
-
-pub key-game : (key : List ℕ) (mark : Mark) (outcome : Outcome) → (row_of (single_of key mark outcome)).key ≡ key
-unfolding row_of
-key-game key mark outcome = refl
 
 pub rows_behind-append : (marks more : List Mark) (before tails own : List ℕ) (whole others : List Row) → IsFilled marks tails whole
     → rows_behind (marks ++ more) before (tails ++ own) (whole ++ others)

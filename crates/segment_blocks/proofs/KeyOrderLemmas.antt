@@ -35,6 +35,31 @@ unfolding row_order
 row_order-at-a-key a b e =
     ap (λ o. ordering_then o (rest_order a b)) (ap (slice_cmp nat_cmp a.key) (sym e) ∙ tied_itself nat_list_cmp_total a.key)
 
+-- what rows of one key and one move are ordered by behind the month
+abbrev class_order : RowKey → RowKey → Ordering
+class_order a b = ordering_then (nat_cmp (speed_index a.speed) (speed_index b.speed)) (nat_cmp a.group.value b.group.value)
+
+module _ (a b : RowKey) (same : a.key ≡ b.key) where
+  -- the moves decide where they differ
+  pub row_order-by-move : (o : Ordering) → o ≡ option_cmp move_order a.next b.next → (o ≡ Equal → ⊥) → o ≡ row_order a b
+  row_order-by-move o is h =
+      sym (row_order-at-a-key a b same ∙ ap (λ p. ordering_then p (ordering_then (month_order a.month b.month) (class_order a b))) (sym is)
+      ∙ then-unequal o (ordering_then (month_order a.month b.month) (class_order a b)) h)
+
+  -- and the months where the moves are the same
+  module _ (o : Ordering) (moves : option_cmp move_order a.next b.next ≡ Equal) (is : o ≡ month_order a.month b.month) where
+    at-a-move : row_order a b ≡ ordering_then o (class_order a b)
+    at-a-move =
+        row_order-at-a-key a b same ∙ ap (λ p. ordering_then p (ordering_then (month_order a.month b.month) (class_order a b))) moves
+        ∙ ap (λ p. ordering_then p (class_order a b)) (sym is)
+
+    pub row_order-by-month : (o ≡ Equal → ⊥) → o ≡ row_order a b
+    row_order-by-month h = sym (at-a-move ∙ then-unequal o (class_order a b) h)
+
+    pub row_order-by-class : o ≡ Equal → row_order a b
+        ≡ ordering_then (nat_cmp (speed_index a.speed) (speed_index b.speed)) (nat_cmp a.group.value b.group.value)
+    row_order-by-class e = at-a-move ∙ ap (λ p. ordering_then p (class_order a b)) e
+
 -- the first of two numbers decides where they differ
 pub first-decides : (m n : ℕ) (q : Ordering) → (m ≡ n → ⊥) → ordering_then (nat_cmp m n) q ≡ nat_cmp m n
 first-decides m n q h = then-unequal (nat_cmp m n) q (λ e. h (nat_cmp-IsAntisymmetric m n e))

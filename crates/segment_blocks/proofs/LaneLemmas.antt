@@ -1,5 +1,5 @@
 -- The next rows of two places, and which of them moves.
-use Rattle.std.proofs.Common.{◌≡◌, ℕ, ◌+◌, ◌<◌, ◌≤◌, Bool, true, false, not, IsTrue, get_or, Some, Ok, true≢false, unwrap_or, List, [], ◌∷◌, take, drop, length, refl, sym, ap, subst, ◌∙◌, arith}
+use Rattle.std.proofs.Common.{◌≡◌, ℕ, ◌+◌, ◌<◌, ◌≤◌, Bool, true, false, not, IsTrue, get_or, Some, Ok, true≢false, unwrap_or, List, [], ◌∷◌, take, length, refl, sym, ap, subst, ◌∙◌, arith}
 use Rattle.std.specs.declared.cmp.Ordering.{Ordering}
 use Rattle.std.specs.declared.cmp.Ordering.TheVariants.{Less, Equal, Greater}
 use Rattle.std.specs.Ordering.{is_lt, is_gt, ordering_reverse}
@@ -7,57 +7,75 @@ use Rattle.std.proofs.lemmas.List.{length-append}
 use Rattle.tally_rows.specs.declared.row.Row.{Row}
 use Rattle.tally_rows.specs.declared.row_key.RowKey.{RowKey}
 use Rattle.tally_rows.specs.RowKey.{row_order, row_order-total}
-use Rattle.tally_rows.specs.Row.{row_of, row_key_of, shifted_row}
+use Rattle.explorer_model.specs.declared.archive.Outcome.{Outcome}
+use Rattle.tally_rows.specs.Row.{row_key_of, row_of, shifted_row}
 use Rattle.segment_blocks.specs.declared.block_cursor.Place.{Place}
 use Rattle.segment_blocks.specs.declared.lane.Lanes.{Lanes}
 use Rattle.segment_blocks.specs.declared.until.Until.{Until}
 use Rattle.segment_blocks.specs.declared.until.Until.TheVariants.{End, Key, Below, Done}
 use Rattle.segment_blocks.specs.Block.{IsBlock}
-use Rattle.segment_blocks.specs.Both.{MoveBoth, HasMovedFirst, IfOn}
-use Rattle.segment_blocks.specs.Encoded.{Encoded, own_len, key_behind, row_key_at, single_of, rows_behind, rows_of}
-use Rattle.segment_blocks.specs.Moving.{next_row_key, IsReady, IsMet, IsLeast, HasMovedBehind}
-use Rattle.segment_blocks.specs.Place.{rows_left, IsPlace}
+use Rattle.segment_blocks.specs.Both.{MoveBoth, HasMovedFirst}
+use Rattle.segment_blocks.specs.Encoded.{Encoded, HasOwnKey, key_behind, row_key_at, rows_of, single_of}
+use Rattle.segment_blocks.specs.Moving.{next_row_key, IfOn, IsMet, IsLeast, HasMovedBehind}
+use Rattle.segment_blocks.specs.Place.{rows_left, IsPlace, IsNextShared}
 use Rattle.segment_blocks.specs.declared.mark.Mark.{Mark}
 use Rattle.segment_blocks.specs.Prefix.{common_len, TellShared}
 use Rattle.segment_blocks.specs.Walk.{rows_until}
 use Rattle.segment_blocks.proofs.AppendLemmas.{IsBlock-push}
 use Rattle.segment_blocks.proofs.BothLemmas.{MoveBoth-more, MoveBoth-left, MoveBoth-right}
-use Rattle.segment_blocks.proofs.EncodedLemmas.{rows_behind-game, own-known}
 use Rattle.segment_blocks.proofs.KeyLemmas.{key_order, first-less, until_key-below}
 use Rattle.segment_blocks.proofs.KeyOrderLemmas.{row_order-by-key}
+use Rattle.segment_blocks.proofs.EncodedLemmas.{own-known, rows_behind-game}
 use Rattle.segment_blocks.proofs.MovingLemmas.{row_key-game, shifted-key}
-use Rattle.segment_blocks.proofs.PlaceLemmas.{told-first}
 use Rattle.segment_blocks.proofs.PrefixLemmas.{longer-first, shorter-stays, common-both}
 
--- ---- a row that is ready
+-- ---- a row whose key is known
 
-module _ (by : ℕ) (place : Place) (filled : IsPlace place) (ready : IsReady by place) where
-  abbrev pub ready_row : Row
-  ready_row = row_of (single_of place.before ready.mark ready.outcome)
+-- the first of some rows, which has the key
+pub record FirstRow (key : List ℕ) (rows : List Row) : Type 0 where
+  pub row : Row
+  pub rest : List Row
+  pub is : rows ≡ row ∷ rest
+  pub own : row.key ≡ key
 
-  abbrev pub ready_rest : List Row
-  ready_rest = rows_behind ready.marks place.before (drop (own_len ready.mark) place.tails.now) place.whole.now
+first-own : (key : List ℕ) (rows : List Row) → HasOwnKey key rows → FirstRow key rows
+first-own key [] h = absurd h
+first-own key (row ∷ rows) h = record { row = row; rest = rows; is = refl; own = h }
 
-  pub ready-own : key_behind place.before ready.mark place.tails.now ≡ place.before
-  ready-own = own-known place.before ready.mark place.tails.now place.marks.now ready.marks ready.is (filled.own ready.own)
+module _ (place : Place) (filled : IsPlace place) (known : IsTrue place.is_own) where
+  pub own_first : FirstRow place.before (rows_left place)
+  own_first = first-own place.before (rows_left place) (filled.own known)
 
-  pub ready-first : rows_left place ≡ ready_row ∷ ready_rest
-  ready-first =
-      rows_behind-game ready.mark place.marks.now ready.marks place.before place.tails.now place.whole.now ready.is ready.outcome ready.told
-      ∙ ap (λ k. row_of (single_of k ready.mark ready.outcome) ∷ rows_behind ready.marks k (drop (own_len ready.mark) place.tails.now) place.whole.now) ready-own
+  pub next-key : (a : RowKey) → next_row_key (rows_left place) ≡ Some a → a.key ≡ place.before
+  next-key a e =
+      let same : row_key_of own_first.row ≡ a = ap (λ o. unwrap_or o a) (sym (ap next_row_key own_first.is) ∙ e) in
+      sym (ap (λ (k : RowKey). k.key) same) ∙ own_first.own
 
-  pub ready-key : (a : RowKey) → next_row_key (rows_left place) ≡ Some a → row_key_at place.before ready.mark ≡ a
-  ready-key a e =
-      sym (row_key-game place.before ready.mark ready.outcome) ∙ ap (λ o. unwrap_or o a) (sym (ap next_row_key ready-first) ∙ e)
-
-  pub ready-next : next_row_key (rows_left place) ≡ Some (row_key_at place.before ready.mark)
-  ready-next = ap next_row_key ready-first ∙ ap Some (row_key-game place.before ready.mark ready.outcome)
+  pub next-of-mark : (mark : Mark) (marks : List Mark) → place.marks.now ≡ mark ∷ marks → (outcome : Outcome) → mark.outcome ≡ Some outcome
+      → (a : RowKey) → next_row_key (rows_left place) ≡ Some a → row_key_at place.before mark ≡ a
+  next-of-mark mark marks is outcome e a next =
+      let key = key_behind place.before mark place.tails.now in
+      let own : key ≡ place.before = own-known place.before mark place.tails.now place.marks.now marks is place.whole.now outcome e (filled.own known) in
+      let row : Some (row_key_of (row_of (single_of key mark outcome))) ≡ Some a =
+      ap next_row_key (sym (rows_behind-game mark place.marks.now marks place.before place.tails.now place.whole.now is outcome e)) ∙ next in
+      sym (ap (λ k. row_key_at k mark) own) ∙ sym (row_key-game key mark outcome) ∙ ap (λ o. unwrap_or o a) row
 
   -- its mark tells how many bytes its key has in common with the one before it
-  pub ready-shared : (last : List ℕ) → TellShared last place.marks.now (rows_left place) → ready.mark.shared ≡ common_len last place.before
-  ready-shared last h =
-      told-first ready.mark place.marks.now ready.marks ready.is place.before place.tails.now place.whole.now ready.outcome ready.told last h
-      ∙ ap (common_len last) ready-own
+  pub own-shared : (last : List ℕ) (mark : Mark) (marks : List Mark) → place.marks.now ≡ mark ∷ marks → TellShared last place.marks.now (rows_left place)
+      → mark.shared ≡ common_len last place.before
+  own-shared last mark marks is h =
+      let row = own_first.row in
+      let rest = own_first.rest in
+      let here : TellShared last (mark ∷ marks) (row ∷ rest) =
+      subst (λ m. TellShared last m (row ∷ rest)) is (subst (λ r. TellShared last place.marks.now r) own_first.is h) in
+      here.0 ∙ ap (common_len last) own_first.own
+
+-- so it does after the key was made, which leaves the marks and the rows as they were
+pub next-shared : {shared : ℕ} (last : List ℕ) (new : Place) (filled : IsPlace new) (own : IsTrue new.is_own) (old : Place) → TellShared last old.marks.now (rows_left old)
+    → new.marks ≡ old.marks → rows_left new ≡ rows_left old → (next : IsNextShared shared old.marks.now) → next.mark.shared ≡ common_len last new.before
+next-shared last new filled own old told marks rows next =
+    own-shared new filled own last next.mark next.rest (ap (λ m. m.now) marks ∙ next.is)
+    (subst (λ r. TellShared last new.marks.now r) (sym rows) (subst (λ m. TellShared last m.now (rows_left old)) (sym marks) told))
 
 pub same-first : (all : List Mark) (m : Mark) (ms : List Mark) (n : Mark) (ns : List Mark) → all ≡ m ∷ ms → all ≡ n ∷ ns → m ≡ n
 same-first all m ms n ns e d = ap (λ l. get_or l 0 m) (sym e ∙ d)
@@ -86,27 +104,17 @@ module _ (last a b : List ℕ) (m n : ℕ) (left : IsMet last a m) (right : IsMe
   pub met-same : m ≡ n → take m a ≡ take m b
   met-same e = common-both m last a b left.is (e ∙ right.is)
 
--- the next row of the first place stands before that of the second one
-module _ (first_by second_by : ℕ) (first second : Place) (first_filled : IsPlace first) (second_filled : IsPlace second)
-    (first_ready : IsReady first_by first) (second_ready : IsReady second_by second) (last : List ℕ) (shared : ℕ) (key : last ≡ first.before)
-    (is : shared ≡ common_len first.before second.before)
-    (lesser : row_order (row_key_at first.before first_ready.mark) (row_key_at second.before second_ready.mark) ≡ Less) where
-  pub met-after : IsMet last second.before shared
-  met-after = record {
-    is = is ∙ ap (λ k. common_len k second.before) (sym key);
-    not_before = ap (λ k. is_gt (key_order k second.before)) key ∙ first-less (row_key_at first.before first_ready.mark) (row_key_at second.before second_ready.mark) lesser;
+-- the keys of two rows
+module _ (left right : List ℕ) (a b : RowKey) (left_is : a.key ≡ left) (right_is : b.key ≡ right) where
+  -- the first row is the last one, and stands before the second
+  pub met-after : (last : List ℕ) (shared : ℕ) → last ≡ left → shared ≡ common_len left right → row_order a b ≡ Less → IsMet last right shared
+  met-after last shared key is lesser = record {
+    is = is ∙ ap (λ k. common_len k right) (sym key);
+    not_before = (λ i. is_gt (key_order ((key ∙ sym left_is) i) (sym right_is i))) ∙ first-less a b lesser;
   }
 
-module _ (left_by right_by : ℕ) (left right : Place) (left_filled : IsPlace left) (right_filled : IsPlace right)
-    (left_ready : IsReady left_by left) (right_ready : IsReady right_by right) (a b : RowKey)
-    (left_is : next_row_key (rows_left left) ≡ Some a) (right_is : next_row_key (rows_left right) ≡ Some b) where
-  pub order-by-keys : (o : Ordering) → (o ≡ Equal → ⊥) → key_order left.before right.before ≡ o → o ≡ row_order a b
-  order-by-keys o other e =
-      sym (row_order-by-key (row_key_at left.before left_ready.mark) (row_key_at right.before right_ready.mark) o e other)
-      ∙ (λ i. row_order (ready-key left_by left left_filled left_ready a left_is i) (ready-key right_by right right_filled right_ready b right_is i))
-
-  pub order-at-a-key : row_order (row_key_at left.before left_ready.mark) (row_key_at right.before right_ready.mark) ≡ row_order a b
-  order-at-a-key = λ i. row_order (ready-key left_by left left_filled left_ready a left_is i) (ready-key right_by right right_filled right_ready b right_is i)
+  pub order-by-keys : (o : Ordering) → (o ≡ Equal → ⊥) → key_order left right ≡ o → o ≡ row_order a b
+  order-by-keys o other e = sym (row_order-by-key a b o ((λ i. key_order (left_is i) (right_is i)) ∙ e) other)
 
 -- ---- where a walk ends
 

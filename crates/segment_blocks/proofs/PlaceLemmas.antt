@@ -1,13 +1,12 @@
 -- What marks tell at a place and behind it.
-use Rattle.std.proofs.Common.{◌≡◌, ℕ, List, ◌∷◌, Some, None, drop, ap, subst, ◌∙◌}
+use Rattle.std.proofs.Common.{◌≡◌, ℕ, List, ◌∷◌, Some, None, drop, subst}
 use Rattle.explorer_model.specs.declared.archive.Outcome.{Outcome}
 use Rattle.tally_rows.specs.declared.row.Row.{Row}
 use Rattle.tally_rows.specs.Row.{row_of}
 use Rattle.segment_blocks.specs.declared.mark.Mark.{Mark}
 use Rattle.segment_blocks.specs.Encoded.{own_len, key_behind, single_of, rows_behind, IsFilled}
-use Rattle.segment_blocks.specs.Prefix.{common_len, TellShared, TellSharedBehind}
+use Rattle.segment_blocks.specs.Prefix.{TellShared, TellSharedBehind}
 use Rattle.segment_blocks.proofs.EncodedLemmas.{rows_behind-game, rows_behind-whole, key-game, IsFilled-game, IsFilled-whole}
-use Rattle.segment_blocks.proofs.PrefixLemmas.{TellShared-behind}
 
 module _ (mark : Mark) (all marks : List Mark) (is : all ≡ mark ∷ marks) (before tails : List ℕ) (whole : List Row) where
   module _ (outcome : Outcome) (e : mark.outcome ≡ Some outcome) where
@@ -35,19 +34,14 @@ module _ (mark : Mark) (all marks : List Mark) (is : all ≡ mark ∷ marks) (be
           subst (λ t. TellShared new marks (rows_behind marks new t whole)) ends_are
           (subst (λ k. TellShared k marks (rows_behind marks k (drop (own_len mark) tails) whole)) key_is own)
 
-    pub told-first : (last : List ℕ) → TellShared last all (rows_behind all before tails whole) → mark.shared ≡ common_len last own_key
-    told-first last h =
-        let here : TellShared last (mark ∷ marks) (own_row ∷ own_rest) = subst (λ m. TellShared last m (own_row ∷ own_rest)) is (subst (λ r. TellShared last all r) split h) in
-        here.0 ∙ ap (common_len last) (key-game own_key mark outcome)
-
   module _ (row : Row) (others : List Row) (e : mark.outcome ≡ None) (whole_is : whole ≡ row ∷ others) where
     pub filled-whole : IsFilled all tails whole → IsFilled marks tails others
     filled-whole h =
         IsFilled-whole mark marks tails row others e (subst (λ w. IsFilled (mark ∷ marks) tails w) whole_is (subst (λ m. IsFilled m tails whole) is h))
 
-    pub told-whole : TellSharedBehind all (rows_behind all before tails whole) → TellSharedBehind marks (rows_behind marks row.key tails others)
+    pub told-whole : TellSharedBehind all (rows_behind all before tails whole) → TellShared row.key marks (rows_behind marks row.key tails others)
     told-whole h =
         let rest : List Row = rows_behind marks row.key tails others in
         let cut = rows_behind-whole mark all marks before tails whole is row others e whole_is in
         let here : TellSharedBehind (mark ∷ marks) (row ∷ rest) = subst (λ m. TellSharedBehind m (row ∷ rest)) is (subst (λ r. TellSharedBehind all r) cut h) in
-        TellShared-behind row.key marks rest here
+        here

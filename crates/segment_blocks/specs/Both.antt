@@ -1,7 +1,6 @@
 -- Rows of two walks that move behind others, the lesser one first.
-use Rattle.std.specs.Prelude.{◌≡◌, ⊤, ℕ, ◌+◌, ◌≤◌, Bool, true, false, Result, Ok, Err, List, [], ◌∷◌, ◌++◌, length}
+use Rattle.std.specs.Prelude.{◌≡◌, ⊤, ℕ, ◌+◌, ◌≤◌, true, List, [], ◌∷◌, ◌++◌, length}
 use Rattle.std.specs.Ordering.{is_lt}
-use Rattle.std.specs.declared.alloc.AllocError.{AllocError}
 use Rattle.tally_rows.specs.declared.row.Row.{Row}
 use Rattle.tally_rows.specs.RowKey.{row_order}
 use Rattle.tally_rows.specs.Row.{row_key_of, shifted_row}
@@ -77,12 +76,6 @@ pub record HaveSameTerms (lanes new : Lanes) : Type 0 where
   pub left_by : new.left.by ≡ lanes.left.by
   pub right_by : new.right.by ≡ lanes.right.by
   pub least : new.least ≡ lanes.least
-
--- what holds where a call says that another row can move
-abbrev pub IfOn : Result Bool AllocError → Type 0 → Type 0
-IfOn (Ok true) on = on
-IfOn (Ok false) on = ⊤
-IfOn (Err e) on = ⊤
 
 -- at most the first row of both places has moved behind the rows of a block
 pub record HasMovedFirst (first : List ℕ) (left_until right_until : Until) (lanes : Lanes)

@@ -71,10 +71,10 @@ pub record IsFilled (marks : List Mark) (tails : List ℕ) (whole : List Row) : 
   pub ends : length tails ≡ sum_by kept_len marks
   pub rows : length whole ≡ count_by (λ mark. is_none mark.outcome) marks
 
--- the key before the first mark is the key of its row already
-abbrev pub HasOwnKey : List ℕ → List Mark → List ℕ → Type 0
-HasOwnKey key [] tails = ⊥
-HasOwnKey key (mark ∷ marks) tails = key_behind key mark tails ≡ key
+-- there is a first row, and the key is its own
+abbrev pub HasOwnKey : List ℕ → List Row → Type 0
+HasOwnKey key [] = ⊥
+HasOwnKey key (row ∷ rows) = row.key ≡ key
 
 -- the key of the last row, or the one before where there is none
 unfoldable pub key_after : List ℕ → List Row → List ℕ

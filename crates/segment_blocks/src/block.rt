@@ -15,7 +15,7 @@ use crate::steps::Steps;
 use std::alloc::{AllocError, Global};
 use std::marker::Model;
 use std::sync::ledger::Ledger;
-use tally_rows::{Row, Single};
+use tally_rows::{PositionKey, Row, Single};
 
 /// The most rows of a block.
 pub const BLOCK_LIMIT: usize = 128;
@@ -24,9 +24,9 @@ pub const BLOCK_LIMIT: usize = 128;
 #[derive(Drop)]
 pub struct Block {
     /// The key of the first row.
-    first: [u8; 34],
+    first: PositionKey,
     /// The key of the last row.
-    last: [u8; 34],
+    last: PositionKey,
     rows: EncodedRows,
 }
 
@@ -69,7 +69,7 @@ impl Block {
     }
 
     /// The key of the first row.
-    pub fn first(&self) -> &[u8; 34]
+    pub fn first(&self) -> &PositionKey
         ensures { (key : List ℕ) → result.now ≡ key_first key self.now }
     {
         &self.first
@@ -109,9 +109,9 @@ impl Block {
         Ok(())
     }
 
-    /// Moves rows of one game from two places behind the others, the lesser of both next rows
-    /// first, so as the terms of their walks say. It may stop early. Each row moved is a step, also
-    /// where memory is then refused.
+    /// Moves rows of two places behind the others, the lesser of both next rows first, so as the
+    /// terms of their walks say. It may stop early. Each row moved is a step, also where memory is
+    /// then refused.
     pub fn take_both<L: Ledger>(
         &mut self,
         left: &mut BlockCursor<'_>,

@@ -1,5 +1,5 @@
 //! Rows in few bytes.
-ghost use Rattle.std.specs.Prelude.{◌≡◌, ◌≢◌, ◌≤◌, ◌<◌, ◌-◌, ◌*◌, ◌/◌, ◌^◌, [], ℕ, List, false, is_none, Some, IfOk, IfSome, OnOk, OnErr, length, take};
+ghost use Rattle.std.specs.Prelude.{◌≡◌, ◌≢◌, ◌≤◌, ◌<◌, ◌-◌, ◌*◌, ◌/◌, ◌^◌, ◌++◌, [], ℕ, List, false, is_none, Some, IfOk, IfSome, OnOk, OnErr, length, take, drop};
 ghost use Rattle.explorer_model.specs.declared.archive.Outcome.{Outcome};
 ghost use Rattle.segment_blocks.specs.Encoded.{IsMarkOf, IsAppended, IsRenumbered, rows_of, single_of};
 ghost use Rattle.segment_blocks.specs.Prefix.{common_len, TellShared};
@@ -15,7 +15,7 @@ use explorer_model::archive::{Group, Month, Speed};
 use std::alloc::{AllocError, Global};
 use std::marker::Model;
 use std::mem::replace;
-use tally_rows::{Row, Single, word_at};
+use tally_rows::{PositionKey, Row, Single, word_at};
 
 /// How many marks a block has at most.
 const MARKS: usize = 128;
@@ -69,7 +69,7 @@ impl EncodedRows {
 
     /// Puts the row of one game behind the others, the last of which has the key `before`. After a
     /// refusal they are as before.
-    pub fn push_one(&mut self, before: &[u8; 34], game: &Single) -> Result<(), AllocError>
+    pub fn push_one(&mut self, before: &PositionKey, game: &Single) -> Result<(), AllocError>
         ensures ok { OnOk result (IsAppended before.now (row_of game.now) self.old self.new) }
         ensures err { OnErr result (self.new ≡ self.old) }
     {
@@ -79,14 +79,14 @@ impl EncodedRows {
             return self.push(before, &HeldRow::Game(*game));
         };
         self.marks.reserve(1)?;
-        self.tails.extend_from_slice(&key[usize::from(shared)..])?;
+        push_end(&mut self.tails, &KeyRoom::of(key), shared)?;
         self.marks.push_reserved(mark);
         Ok(())
     }
 
     /// Puts a row behind the others, the last of which has the key `before`. After a refusal they
     /// are as before.
-    pub fn push(&mut self, before: &[u8; 34], held: &HeldRow<'_>) -> Result<(), AllocError>
+    pub fn push(&mut self, before: &PositionKey, held: &HeldRow<'_>) -> Result<(), AllocError>
         ensures ok { OnOk result (IsAppended before.now (row_in held.now) self.old self.new) }
         ensures err { OnErr result (self.new ≡ self.old) }
     {
@@ -105,12 +105,23 @@ impl EncodedRows {
 
     /// Puts a row that stands whole behind the others, the last of which has the key `before`. After
     /// a refusal they are as before.
-    pub fn push_whole(&mut self, before: &[u8; 34], row: Row) -> Result<(), AllocError>
+    pub fn push_whole(&mut self, before: &PositionKey, row: Row) -> Result<(), AllocError>
         ensures ok { OnOk result (IsAppended before.now row self.old self.new) }
         ensures err { OnErr result (self.new ≡ self.old) }
     {
-        self.marks.reserve(1)?;
         let shared = shared_len(before, &row.key, 0);
+        self.push_row(row, shared)
+    }
+
+    /// Puts a row that stands whole behind the others, whose key has so many bytes in common with
+    /// the last one. After a refusal they are as before.
+    pub fn push_row(&mut self, row: Row, shared: u8) -> Result<(), AllocError>
+        requires { shared ≤ 34 }
+        ensures ok { OnOk result ((before : List ℕ) → shared ≡ common_len before row.key
+            → IsAppended before row self.old self.new) }
+        ensures err { OnErr result (self.new ≡ self.old) }
+    {
+        self.marks.reserve(1)?;
         self.whole.push(row)?;
         self.marks.push_reserved(whole_mark(shared));
         Ok(())
@@ -136,11 +147,7 @@ impl EncodedRows {
         ensures err { OnErr result (self.new ≡ self.old) }
     {
         self.marks.reserve(1)?;
-        let own = 34 - usize::from(shared);
-        let len = self.tails.len();
-        // Each end of a key is copied as 34 bytes, and then cut.
-        self.tails.extend_from_slice(key.end(shared))?;
-        self.tails.truncate(len + own);
+        push_end(&mut self.tails, key, shared)?;
         // Changed where it stands: a mark made of its parts would take far more time.
         self.marks.push_reserved(*mark);
         let at = self.marks.len() - 1;
@@ -178,7 +185,7 @@ impl EncodedRows {
     }
 
     /// The place before the first row, which stands behind the key `before`.
-    pub fn cursor(&self, before: [u8; 34]) -> BlockCursor<'_>
+    pub fn cursor(&self, before: PositionKey) -> BlockCursor<'_>
         requires { TellShared before self.now.marks (rows_of self.now before) }
         ensures { result ≡ rows_of self.now before }
     {
@@ -194,9 +201,25 @@ impl EncodedRows {
     }
 }
 
+/// Puts the bytes of a key from the one of this number on behind others. They are copied as 34 bytes,
+/// and then cut.
+#[inline(always)]
+fn push_end(tails: &mut Vec<u8>, key: &KeyRoom, from: u8) -> Result<(), AllocError>
+    requires { from ≤ 34 }
+    ensures items { OnOk result (tails.new.items ≡ tails.old.items ++ drop from key.now) }
+    ensures long { OnOk result (length key.now ≡ 34) }
+    ensures err { OnErr result (tails.new.items ≡ tails.old.items) }
+{
+    let own = 34 - usize::from(from);
+    let len = tails.len();
+    tails.extend_from_slice(key.end(from))?;
+    tails.truncate(len + own);
+    Ok(())
+}
+
 /// How many bytes both keys begin with alike, where it is known of so many. Machine words tell it far
 /// faster than bytes do.
-pub fn shared_len(a: &[u8; 34], b: &[u8; 34], known: u8) -> u8
+pub fn shared_len(a: &PositionKey, b: &PositionKey, known: u8) -> u8
     requires { take known a.now ≡ take known b.now }
     ensures within { result ≤ 34 }
     ensures is { result ≡ common_len a.now b.now }
@@ -224,7 +247,7 @@ fn shared_bytes(first: u64, second: u64) -> u8
 }
 
 /// How many bytes two keys begin with alike that have their first 32 bytes in common.
-fn shared_end(a: &[u8; 34], b: &[u8; 34]) -> u8
+fn shared_end(a: &PositionKey, b: &PositionKey) -> u8
     requires { take 32 a.now ≡ take 32 b.now }
     ensures { result ≡ common_len a.now b.now }
 {

@@ -5,7 +5,7 @@ ghost use Rattle.tally_rows.specs.declared.single.Single.{Single};
 ghost use Rattle.tally_rows.specs.Row.{row_of, row_key_of};
 
 use crate::single_game::single_in;
-use tally_rows::{Row, RowKey, Single};
+use tally_rows::{PositionKey, Row, RowKey, Single};
 
 /// A row as a block holds it, which is cheap to pass on.
 #[derive(Clone, Copy, Debug)]
@@ -19,7 +19,7 @@ pub enum HeldRow<'a> {
 impl<'a> HeldRow<'a> {
     /// The key of the row's position.
     #[tactic(auto, unfolding(tally_rows::specs::Row::row_of))]
-    pub fn key(&self) -> &[u8; 34]
+    pub fn key(&self) -> &PositionKey
         ensures { result.now ≡ (row_in self.now).key }
     {
         match self {

@@ -6,7 +6,7 @@ ghost use Rattle.segment_blocks.specs.Prefix.{common_len};
 ghost use Rattle.tally_rows.specs.RowKey.{row_order};
 
 use std::cmp::Ordering;
-use tally_rows::{RowKey, word_at};
+use tally_rows::{PositionKey, RowKey, word_at};
 
 /// How rows stand whose games have so much in common.
 #[tactic(auto, unfolding(tally_rows::specs::RowKey::row_order))]
@@ -20,19 +20,25 @@ pub fn order_of_row_keys(a: &RowKey, b: &RowKey) -> Ordering
 }
 
 /// How rows of one key stand.
+#[inline(always)]
 #[tactic(auto, unfolding(tally_rows::specs::RowKey::row_order))]
 pub fn order_at_a_key(a: &RowKey, b: &RowKey) -> Ordering
     requires { a.now.key ≡ b.now.key }
     ensures { result ≡ row_order a.now b.now }
 {
-    let by_move = a.next.cmp(&b.next);
-    let by_month = a.month.cmp(&b.month);
-    let by_class = a.speed.cmp(&b.speed).then(a.group.cmp(&b.group));
-    by_move.then(by_month.then(by_class))
+    match a.next.cmp(&b.next) {
+        Ordering::Equal => {}
+        order => return order,
+    }
+    match a.month.cmp(&b.month) {
+        Ordering::Equal => {}
+        order => return order,
+    }
+    a.speed.cmp(&b.speed).then(a.group.cmp(&b.group))
 }
 
 /// How two keys stand. Machine words compare far faster than the bytes of a key.
-pub fn order_of_keys(a: &[u8; 34], b: &[u8; 34]) -> Ordering
+pub fn order_of_keys(a: &PositionKey, b: &PositionKey) -> Ordering
     ensures { result ≡ slice_cmp nat_cmp a.now b.now }
 {
     for word in 0..4usize {
@@ -46,7 +52,7 @@ pub fn order_of_keys(a: &[u8; 34], b: &[u8; 34]) -> Ordering
 }
 
 /// How two keys stand that begin alike in just so many bytes.
-pub fn order_behind(a: &[u8; 34], b: &[u8; 34], shared: u8) -> Ordering
+pub fn order_behind(a: &PositionKey, b: &PositionKey, shared: u8) -> Ordering
     requires within { shared ≤ 34 }
     requires shared { shared ≡ common_len a.now b.now }
     ensures { result ≡ slice_cmp nat_cmp a.now b.now }
@@ -59,7 +65,7 @@ pub fn order_behind(a: &[u8; 34], b: &[u8; 34], shared: u8) -> Ordering
 }
 
 /// How two keys stand that have their first 32 bytes in common.
-fn order_of_ends(a: &[u8; 34], b: &[u8; 34]) -> Ordering
+fn order_of_ends(a: &PositionKey, b: &PositionKey) -> Ordering
     ensures { result ≡ slice_cmp nat_cmp (drop 32 a.now) (drop 32 b.now) }
 {
     if a[32] != b[32] {

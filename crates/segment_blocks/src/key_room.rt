@@ -4,6 +4,7 @@ ghost use Rattle.segment_blocks.specs.Encoded.{own_len, key_behind};
 
 use crate::mark::Mark;
 use std::marker::Model;
+use tally_rows::PositionKey;
 
 /// How many bytes a key has.
 const KEY: usize = 34;
@@ -25,7 +26,7 @@ impl Model for KeyRoom {
 
 impl KeyRoom {
     /// The key with room behind it.
-    pub fn of(key: &[u8; 34]) -> KeyRoom
+    pub fn of(key: &PositionKey) -> KeyRoom
         ensures { result ≡ key.now }
     {
         KeyRoom {
@@ -34,7 +35,7 @@ impl KeyRoom {
     }
 
     /// The key.
-    pub fn key(&self) -> &[u8; 34]
+    pub fn key(&self) -> &PositionKey
         ensures key { result.now ≡ self.now }
         ensures long { length self.now ≡ 34 }
     {
@@ -62,7 +63,7 @@ impl KeyRoom {
 }
 
 /// The key and room behind it.
-fn widened(key: &[u8; 34]) -> [u8; 68]
+fn widened(key: &PositionKey) -> [u8; 68]
     ensures { take 34 result ≡ key.now }
 {
     let mut bytes = [0u8; 68];
@@ -71,7 +72,7 @@ fn widened(key: &[u8; 34]) -> [u8; 68]
 }
 
 /// The first 34 bytes.
-fn front_of(bytes: &[u8; 68]) -> &[u8; 34]
+fn front_of(bytes: &[u8; 68]) -> &PositionKey
     ensures key { result.now ≡ take 34 bytes.now }
     ensures long { length (take 34 bytes.now) ≡ 34 }
 {

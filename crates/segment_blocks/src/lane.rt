@@ -8,6 +8,7 @@ use crate::block_cursor::Place;
 use crate::encoded_rows::shared_len;
 use crate::key_order::order_behind;
 use crate::until::Until;
+use tally_rows::PositionKey;
 
 /// With which numbers rows of a walk move behind others, and where the walk ends.
 #[derive(Clone, Copy, Debug)]
@@ -39,7 +40,7 @@ pub struct Lanes {
 /// their keys are made, or None where none moves.
 #[inline(always)]
 pub fn lanes_of(
-    last: &[u8; 34],
+    last: &PositionKey,
     left: &mut Place<'_>,
     right: &mut Place<'_>,
     terms: (Terms<'_>, Terms<'_>),
@@ -66,16 +67,14 @@ pub fn lanes_of(
 
 /// The same of one place.
 #[inline(always)]
-fn lane_of(last: &[u8; 34], place: &mut Place<'_>, by: u32) -> Option<Lane>
+fn lane_of(last: &PositionKey, place: &mut Place<'_>, by: u32) -> Option<Lane>
     requires { IsPlace place.old }
     ensures filled { IsPlace place.new }
     ensures rows { rows_left place.new ≡ rows_left place.old }
     ensures by { IfSome result (λ lane. lane.by ≡ by) }
     ensures lane { IfSome result (λ lane. IsLane last.now lane place.new) }
 {
-    if !place.make_ready(by) {
-        return None;
-    }
+    let _told = place.make_ready(place.is_own)?;
     let shared = shared_len(last, place.before.key(), 0);
     if order_behind(last, place.before.key(), shared).is_gt() {
         return None;

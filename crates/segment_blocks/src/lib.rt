@@ -21,6 +21,7 @@ mod key_room;
 mod lane;
 pub mod laws;
 mod mark;
+mod moved_row;
 mod packed_rows;
 mod row_walk;
 mod rows_cursor;

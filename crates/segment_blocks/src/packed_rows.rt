@@ -19,7 +19,7 @@ use crate::until::Until;
 use std::alloc::{AllocError, Global};
 use std::marker::Model;
 use std::sync::ledger::Ledger;
-use tally_rows::{CountedAs, CountedRow, Row, Single};
+use tally_rows::{CountedAs, CountedRow, PositionKey, Row, Single};
 
 /// For how many blocks room is prepared at once.
 const BLOCKS_AT_ONCE: usize = 16;
@@ -164,9 +164,9 @@ impl PackedRows {
         self.push_held(alloc, &HeldRow::Whole(&row))
     }
 
-    /// Moves rows of one game from two walks behind the others, the lesser of both next rows first,
-    /// as they are packed and with numbers that are greater by so much. It may stop early. Each row
-    /// moved is a step, also where memory is then refused.
+    /// Moves rows of two walks behind the others, the lesser of both next rows first, as they are
+    /// packed and with numbers that are greater by so much. It may stop early. Each row moved is a
+    /// step, also where memory is then refused.
     pub fn take_both<L: Ledger>(
         &mut self,
         left: &mut RowWalk<'_>,
@@ -189,7 +189,7 @@ impl PackedRows {
 
     /// A walk over the rows of the key, in their order. A step is a first key compared or a row
     /// passed.
-    pub fn rows_at<L: Ledger>(&self, key: &[u8; 34], steps: &mut Steps<L>) -> RowWalk<'_>
+    pub fn rows_at<L: Ledger>(&self, key: &PositionKey, steps: &mut Steps<L>) -> RowWalk<'_>
         ensures rows { result ≡ filter (has_key key.now) self.now.rows }
         ensures cost { (digits : ℕ) → self.now.blocks < 2 ^ digits
             → steps.new ≤ steps.old + block_limit + digits }
@@ -202,7 +202,7 @@ impl PackedRows {
 
     /// A walk over the rows whose key is not below the key, in their order. It takes the steps of
     /// `rows_at`.
-    pub fn rows_from<L: Ledger>(&self, key: &[u8; 34], steps: &mut Steps<L>) -> RowWalk<'_>
+    pub fn rows_from<L: Ledger>(&self, key: &PositionKey, steps: &mut Steps<L>) -> RowWalk<'_>
         ensures rows { result ≡ filter (λ row. not (is_below key.now row)) self.now.rows }
         ensures cost { (digits : ℕ) → self.now.blocks < 2 ^ digits
             → steps.new ≤ steps.old + block_limit + digits }
@@ -217,8 +217,8 @@ impl PackedRows {
     /// absent bound is none. It takes the steps of `rows_at`.
     pub fn rows_within<L: Ledger>(
         &self,
-        from: Option<[u8; 34]>,
-        below: Option<[u8; 34]>,
+        from: Option<PositionKey>,
+        below: Option<PositionKey>,
         steps: &mut Steps<L>,
     ) -> RowWalk<'_>
         ensures rows { result ≡ filter (is_within from below) self.now.rows }
@@ -241,7 +241,7 @@ impl PackedRows {
 
     /// The key of the first row of block `n`, from 0, or None where there are not so many blocks.
     /// Either is one step.
-    pub fn first_key<L: Ledger>(&self, n: usize, steps: &mut Steps<L>) -> Option<[u8; 34]>
+    pub fn first_key<L: Ledger>(&self, n: usize, steps: &mut Steps<L>) -> Option<PositionKey>
         ensures key { MatchOption result (self.now.blocks ≤ n)
             (IsFirstKey self.now.rows self.now.blocks n) }
         ensures cost { steps.new ≡ steps.old + 1 }
@@ -279,7 +279,11 @@ impl PackedRows {
 }
 
 /// The rows from the first one on whose key is not below the key.
-fn seek<'a, L: Ledger>(blocks: &'a [Block], key: &[u8; 34], steps: &mut Steps<L>) -> RowsCursor<'a>
+fn seek<'a, L: Ledger>(
+    blocks: &'a [Block],
+    key: &PositionKey,
+    steps: &mut Steps<L>,
+) -> RowsCursor<'a>
     requires { ArePacked blocks.now }
     ensures rows { result ≡ from_key key.now (rows_in blocks.now) }
     ensures cost { (digits : ℕ) → length blocks.now < 2 ^ digits
@@ -300,7 +304,7 @@ fn seek<'a, L: Ledger>(blocks: &'a [Block], key: &[u8; 34], steps: &mut Steps<L>
 /// The rows from a bound on, or all.
 fn rows_behind<'a, L: Ledger>(
     blocks: &'a [Block],
-    from: Option<[u8; 34]>,
+    from: Option<PositionKey>,
     steps: &mut Steps<L>,
 ) -> RowsCursor<'a>
     requires { ArePacked blocks.now }
@@ -315,7 +319,7 @@ fn rows_behind<'a, L: Ledger>(
 }
 
 /// Where a walk ends that goes to the rows below a bound, or over all.
-fn until_bound(below: Option<[u8; 34]>) -> Until
+fn until_bound(below: Option<PositionKey>) -> Until
     ensures { (rows : List Row) → rows_until result rows ≡ until_bound below rows }
 {
     match below {
@@ -354,7 +358,7 @@ fn all_of(blocks: &[Block]) -> RowsCursor<'_>
 }
 
 /// How many blocks begin with a lesser key.
-fn count_below<L: Ledger>(blocks: &[Block], key: &[u8; 34], steps: &mut Steps<L>) -> usize
+fn count_below<L: Ledger>(blocks: &[Block], key: &PositionKey, steps: &mut Steps<L>) -> usize
     requires { ArePacked blocks.now }
     ensures within { result ≤ length blocks.now }
     ensures below { (k : ℕ) → k < result
@@ -379,7 +383,7 @@ fn count_below<L: Ledger>(blocks: &[Block], key: &[u8; 34], steps: &mut Steps<L>
 }
 
 /// Whether the block begins with a lesser key.
-fn begins_below(block: &Block, key: &[u8; 34]) -> bool
+fn begins_below(block: &Block, key: &PositionKey) -> bool
     ensures { result ≡ is_first_below key.now block.now }
 {
     block.first().cmp(key).is_lt()
@@ -388,7 +392,7 @@ fn begins_below(block: &Block, key: &[u8; 34]) -> bool
 /// The first row whose key is not below the key, and what stands behind it.
 fn pass_below<'a, L: Ledger>(
     place: BlockCursor<'a>,
-    key: &[u8; 34],
+    key: &PositionKey,
     steps: &mut Steps<L>,
 ) -> (Option<HeldRow<'a>>, BlockCursor<'a>)
     ensures rows { front_rows result.0 ++ result.1 ≡ from_key key.now place.entry }

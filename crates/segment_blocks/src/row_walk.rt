@@ -89,7 +89,7 @@ impl<'a> RowWalk<'a> {
         }
     }
 
-    /// Moves rows of one game of this and another walk to the end of a block, as `Block::take_both`
+    /// Moves rows of this and another walk to the end of a block, as `Block::take_both`
     /// does, with numbers that are greater by so much.
     pub(crate) fn move_both<L: Ledger>(
         &mut self,

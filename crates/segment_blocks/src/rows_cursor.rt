@@ -86,7 +86,7 @@ impl<'a> RowsCursor<'a> {
         }
     }
 
-    /// Moves rows of one game of this and another cursor to the end of a block, as
+    /// Moves rows of this and another cursor to the end of a block, as
     /// `Block::take_both` does.
     pub fn move_both<L: Ledger>(
         &mut self,

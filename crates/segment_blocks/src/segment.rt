@@ -18,7 +18,7 @@ use std::alloc::{AllocError, Global};
 use std::marker::Model;
 use std::sync::Arc;
 use std::sync::ledger::Ledger;
-use tally_rows::Tally;
+use tally_rows::{PositionKey, Tally};
 
 /// Batches that stand one after another in the journal, with what their tags say and the rows that
 /// count their games. The batches are shared by all segments that have them.
@@ -155,7 +155,7 @@ impl Segment {
 
     /// A walk over the rows of the key, in their order. A step is a first key compared or a row
     /// passed.
-    pub fn rows_at<L: Ledger>(&self, key: &[u8; 34], steps: &mut Steps<L>) -> RowWalk<'_>
+    pub fn rows_at<L: Ledger>(&self, key: &PositionKey, steps: &mut Steps<L>) -> RowWalk<'_>
         ensures rows { result ≡ filter (has_key key.now) self.now.rows }
         ensures cost { (digits : ℕ) → self.now.blocks < 2 ^ digits
             → steps.new ≤ steps.old + block_limit + digits }
@@ -165,7 +165,7 @@ impl Segment {
 
     /// A walk over the rows whose key is not below the key, in their order. It takes the steps of
     /// `rows_at`.
-    pub fn rows_from<L: Ledger>(&self, key: &[u8; 34], steps: &mut Steps<L>) -> RowWalk<'_>
+    pub fn rows_from<L: Ledger>(&self, key: &PositionKey, steps: &mut Steps<L>) -> RowWalk<'_>
         ensures rows { result ≡ filter (λ row. not (is_below key.now row)) self.now.rows }
         ensures cost { (digits : ℕ) → self.now.blocks < 2 ^ digits
             → steps.new ≤ steps.old + block_limit + digits }
@@ -177,8 +177,8 @@ impl Segment {
     /// absent bound is none. It takes the steps of `rows_at`.
     pub fn rows_within<L: Ledger>(
         &self,
-        from: Option<[u8; 34]>,
-        below: Option<[u8; 34]>,
+        from: Option<PositionKey>,
+        below: Option<PositionKey>,
         steps: &mut Steps<L>,
     ) -> RowWalk<'_>
         ensures rows { result ≡ filter (is_within from below) self.now.rows }
@@ -197,7 +197,7 @@ impl Segment {
 
     /// The key of the first row of block `n`, from 0, or None where there are not so many blocks.
     /// Either is one step.
-    pub fn first_key<L: Ledger>(&self, n: usize, steps: &mut Steps<L>) -> Option<[u8; 34]>
+    pub fn first_key<L: Ledger>(&self, n: usize, steps: &mut Steps<L>) -> Option<PositionKey>
         ensures key { MatchOption result (self.now.blocks ≤ n)
             (IsFirstKey self.now.rows self.now.blocks n) }
         ensures cost { steps.new ≡ steps.old + 1 }

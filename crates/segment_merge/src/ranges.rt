@@ -10,11 +10,12 @@ use crate::merging::merge_rows;
 use crate::side::Side;
 use outside::Gate;
 use segment_blocks::{PackedRows, Segment, Steps};
-use side_by_side::map_taken;
+use side_by_side::{Workers, map_taken};
 use std::alloc::{AllocError, Global};
 use std::marker::Brand;
 use std::sync::ledger::{Blank, Ledger};
 use std::thread::Threads;
+use tally_rows::PositionKey;
 
 /// How many ranges there are at most for each of several workers. Equal ranges take different times; a
 /// leaf that is done with one takes the next, so that at the end none waits long for another.
@@ -39,6 +40,7 @@ pub fn merge<R: Threads + Sync, G: Gate>(
     requires few_workers { workers ≤ 16 }
     ensures { IfOk result (λ segment. IsMergeOf left.now right.now segment) }
 {
+    let workers = Workers { count: workers };
     // That each side is a segment, its span tells.
     let _left = left.span();
     let _right = right.span();
@@ -55,7 +57,7 @@ pub fn merge<R: Threads + Sync, G: Gate>(
         ensures { IfOk result (λ packed. packed.rows
             ≡ merged_in_range keys.entry.now n left.entry.now right.entry.now) }
     { merge_range(alloc, left, right, keys, n) };
-    let results = map_taken(rt, alloc, workers, keys.len() + 1, &enter, &range)?;
+    let results = map_taken(rt, alloc, workers.count, keys.len() + 1, &enter, &range)?;
     let parts = all_made(alloc, results)?;
     Segment::of_both(alloc, left, right, parts)
 }
@@ -71,21 +73,19 @@ fn larger_of<'a>(left: &'a Segment, right: &'a Segment) -> &'a Segment {
 
 /// In how many ranges so many workers merge, where the larger side has so many blocks. One worker
 /// merges all rows in one.
-fn count_ranges(workers: usize, blocks: usize) -> usize
-    requires some_workers { 1 ≤ workers }
-    requires few_workers { workers ≤ 16 }
+fn count_ranges(workers: Workers, blocks: usize) -> usize
     ensures { 1 ≤ result }
 {
-    if workers == 1 {
+    if workers.count == 1 {
         1
     } else {
-        (workers * RANGES_OF_WORKER).min(1 + blocks / BLOCKS_OF_RANGE)
+        (workers.count * RANGES_OF_WORKER).min(1 + blocks / BLOCKS_OF_RANGE)
     }
 }
 
 /// Keys that part the blocks of a segment in so many ranges, of which the first are the longest. Any
 /// rising keys serve.
-fn cut_keys(alloc: Global, segment: &Segment, ranges: usize) -> Result<Vec<[u8; 34]>, AllocError>
+fn cut_keys(alloc: Global, segment: &Segment, ranges: usize) -> Result<Vec<PositionKey>, AllocError>
     requires { 1 ≤ ranges }
     ensures count { IfOk result (λ keys. length keys.items + 1 ≡ ranges) }
     ensures rising { IfOk result (λ keys. AreRising keys.items) }
@@ -99,7 +99,7 @@ fn cut_keys_in<L: Ledger>(
     segment: &Segment,
     ranges: usize,
     blank: Blank,
-) -> Result<Vec<[u8; 34]>, AllocError>
+) -> Result<Vec<PositionKey>, AllocError>
     requires ranges { 1 ≤ ranges }
     requires name { blank.name ≡ L.name }
     requires parts { blank.parts ≡ L.parts }
@@ -132,7 +132,7 @@ fn left_from(blocks: usize, range: usize, count: usize) -> usize
 }
 
 /// The key, where it is not below the one before it.
-fn later_key(before: [u8; 34], key: [u8; 34]) -> [u8; 34]
+fn later_key(before: PositionKey, key: PositionKey) -> PositionKey
     ensures { IsNotAbove before result }
 {
     if key.cmp(&before).is_gt() {
@@ -147,7 +147,7 @@ fn merge_range(
     alloc: Global,
     left: &Segment,
     right: &Segment,
-    keys: &[[u8; 34]],
+    keys: &[PositionKey],
     n: usize,
 ) -> Result<PackedRows, AllocError>
     requires { CanJoin left.now right.now }
@@ -161,7 +161,7 @@ fn merge_range_in<L: Ledger>(
     alloc: Global,
     left: &Segment,
     right: &Segment,
-    keys: &[[u8; 34]],
+    keys: &[PositionKey],
     n: usize,
     blank: Blank,
 ) -> Result<PackedRows, AllocError>
@@ -181,7 +181,7 @@ fn merge_range_in<L: Ledger>(
 /// `by`.
 fn side_within<'a, L: Ledger>(
     segment: &'a Segment,
-    keys: &[[u8; 34]],
+    keys: &[PositionKey],
     n: usize,
     by: u32,
     steps: &mut Steps<L>,
@@ -197,7 +197,7 @@ fn side_within<'a, L: Ledger>(
 }
 
 /// The key at which range `n` begins.
-fn begin_of(keys: &[[u8; 34]], n: usize) -> Option<[u8; 34]>
+fn begin_of(keys: &[PositionKey], n: usize) -> Option<PositionKey>
     ensures { result ≡ begin_of keys.now n }
 {
     if n > 0 {
@@ -208,7 +208,7 @@ fn begin_of(keys: &[[u8; 34]], n: usize) -> Option<[u8; 34]>
 }
 
 /// The key before which range `n` ends.
-fn end_of(keys: &[[u8; 34]], n: usize) -> Option<[u8; 34]>
+fn end_of(keys: &[PositionKey], n: usize) -> Option<PositionKey>
     ensures { result ≡ slice_get keys.now n }
 {
     keys.get(n).copied()

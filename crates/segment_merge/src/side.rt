@@ -57,7 +57,7 @@ impl<'a> Side<'a> {
     }
 
     /// Moves rows of this and the right side to the rows of a merge, the lesser of both next rows
-    /// first, as long as they are of one game. It may stop early.
+    /// first, as long as they have not the same five parts. It may stop early.
     pub fn push_both<L: Ledger>(
         &mut self,
         right: &mut Side<'_>,

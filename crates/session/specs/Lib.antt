@@ -1,3 +1,4 @@
+pub mod Backends
 pub mod Naming
 pub mod Replies
 pub mod Imports

@@ -1,13 +1,11 @@
 //! Answers to queries.
-ghost use Rattle.std.specs.Prelude.{◌≡◌, ◌<◌, ◌≤◌, [], IfOk, Ok};
+ghost use Rattle.std.specs.Prelude.{◌≡◌, ◌<◌, ◌≤◌, [], IfOk, length};
 ghost use Rattle.explorer_model.specs.Chess.{IsValid};
-ghost use Rattle.explorer_model.specs.Query.{QueryReads};
+ghost use Rattle.explorer_model.specs.declared.wire.Reply.TheVariants.{Found};
 ghost use Rattle.explorer_model.specs.Timeline.{IsPrefix};
 ghost use Rattle.published_index.specs.Cover.{journal_of};
-ghost use Rattle.session.specs.KeptAnswers.{IsBodyFor};
 ghost use Rattle.session.specs.Naming.{IsNamedBody, IsPlayed};
 ghost use Rattle.session.specs.Replies.{AnswersQuery, readings_of};
-ghost use Rattle.session.specs.declared.kept_answers.Asking.TheVariants.{Games};
 
 use crate::kept_answers::{Answers, Asking};
 use answer_json::answer::{body, lent_body};
@@ -67,41 +65,24 @@ pub fn answer_by<J: Index>(
         Err(EnterFault::Unread { .. }) => return Reply::Unread,
         Err(EnterFault::OutOfMemory) => return Reply::NoMemory,
     };
-    match body_by(alloc, pass, kept, &snapshot, &query, text) {
-        Ok(body) => Reply::Found {
-            batches: snapshot.batches(),
-            body: Bytes::from_vec(body),
-        },
-        Err(AllocError) => Reply::NoMemory,
+    if let Some(body) = kept.find(alloc, pass, Asking::Games, text) {
+        return found_reply(&snapshot, body);
     }
+    let Ok(body) = body_for(alloc, kept.book(), &snapshot, &query) else {
+        return Reply::NoMemory;
+    };
+    kept.keep(alloc, pass, Asking::Games, text, body.as_slice());
+    found_reply(&snapshot, body)
 }
 
-/// The body that answers the query string, which reads as the query, over the snapshot, which has
-/// all that the pass has seen: one that is kept, or a new one, which is then kept.
-fn body_by<J: Index>(
-    alloc: Global,
-    pass: &Pass<J>,
-    kept: &mut Answers<'_, J>,
-    snapshot: &Snapshot,
-    query: &Query,
-    text: &[u8],
-) -> Result<Vec<u8>, AllocError>
-    requires reads { QueryReads text.now (Ok query.now) }
-    requires seen { pass.now.seen ≡ journal_of snapshot.now }
-    requires played { IsPlayed query.now }
-    requires valid { IsValid query.now.at }
-    requires top { query.now.top ≤ 4 }
-    requires recent { query.now.recent ≤ 4 }
-    ensures found { IfOk result (λ body.
-        IsBodyFor Games kept.old text.now pass.now.seen body.items) }
-    ensures book { kept.new ≡ kept.old }
+/// The reply that this body is found over the snapshot.
+pub(crate) fn found_reply(snapshot: &Snapshot, body: Vec<u8>) -> Reply
+    ensures { result ≡ Found (length (journal_of snapshot.now)) body.items }
 {
-    if let Some(body) = kept.find(alloc, pass, Asking::Games, text) {
-        return Ok(body);
+    Reply::Found {
+        batches: snapshot.batches(),
+        body: Bytes::from_vec(body),
     }
-    let body = body_for(alloc, kept.book(), snapshot, query)?;
-    kept.keep(alloc, pass, Asking::Games, text, body.as_slice());
-    Ok(body)
 }
 
 /// The body that answers the query over the snapshot, with the openings that the book names.

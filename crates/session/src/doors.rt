@@ -1,11 +1,13 @@
 //! Doors.
 ghost use Rattle.std.specs.Prelude.{◌≡◌};
 ghost use Rattle.explorer_model.specs.Timeline.{IsPrefix};
+ghost use Rattle.session.specs.Backends.{StaysLent, state_of};
 ghost use Rattle.session.specs.Doors.{DoorServed, EndsDoor};
 ghost use Rattle.session.specs.Exchanges.{backend};
 ghost use Rattle.session.specs.Readers.{IsCovered, offer_of};
 ghost use Rattle.session.specs.Replies.{with_players};
 
+use crate::backend::Backend;
 use crate::kept_answers::Answers;
 use crate::reader::Reader;
 use crate::serving::serve_by;
@@ -45,7 +47,11 @@ pub fn serve_door<J: Index, D: Door, I: Importer<J>, R: Wait + Threads + Sync>(
     ensures covered { IsPrefix players.new.batches pass.new.seen }
 {
     let mut reader = Reader::with_players(alloc, Answers::new(alloc, book), players);
-    let end = serve_door_by(rt, alloc, door, pass, importer, &mut reader);
+    let mut backend = Backend {
+        pass: &mut *pass,
+        importer: &mut *importer,
+    };
+    let end = serve_door_by(rt, alloc, door, &mut backend, &mut reader);
     reader.give_back(players);
     end
 }
@@ -55,23 +61,23 @@ fn serve_door_by<J: Index, D: Door, I: Importer<J>, R: Wait + Threads + Sync>(
     rt: &R,
     alloc: Global,
     door: &mut D,
-    pass: &mut Pass<J>,
-    importer: &mut I,
+    backend: &mut Backend<'_, J, I>,
     reader: &mut Reader<'_, J>,
 ) -> DoorEnd
-    requires { IsCovered reader.old.players pass.old.seen }
+    requires { IsCovered reader.old.players backend.old.pass.now.seen }
     ensures served { DoorServed (offer_of reader.old) (D.door door.old)
-        (backend pass.old (I.importer importer.old))
-        (D.door door.new) (backend pass.new (I.importer importer.new)) }
+        (state_of I.importer backend.old)
+        (D.door door.new) (state_of I.importer backend.new) }
     ensures ends { EndsDoor result (D.door door.old) (D.door door.new) }
-    ensures covered { IsCovered reader.new.players pass.new.seen }
+    ensures covered { IsCovered reader.new.players backend.new.pass.now.seen }
     ensures offer { offer_of reader.new ≡ offer_of reader.old }
+    ensures lent { StaysLent backend.old backend.new }
 {
     'accepting: loop {
         match door.accept() {
             Ok(Some(link)) => {
                 let mut link = link;
-                let _ = serve_by(rt, alloc, &mut link, pass, importer, reader);
+                let _ = serve_by(rt, alloc, &mut link, backend, reader);
                 door.finish(link);
             }
             Ok(None) => return DoorEnd::Whole,

@@ -2,6 +2,7 @@
 #![tactic(auto)]
 
 mod answering;
+mod backend;
 mod doors;
 mod importing;
 mod kept_answers;

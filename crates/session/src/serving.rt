@@ -2,12 +2,14 @@
 ghost use Rattle.std.specs.Prelude.{◌≡◌, ◌<◌, IfNone, IfSome};
 ghost use Rattle.explorer_model.specs.Timeline.{IsPrefix};
 ghost use Rattle.outside.specs.Stream.{Stream};
-ghost use Rattle.session.specs.Exchanges.{Backend, backend};
+ghost use Rattle.session.specs.Backends.{StaysLent, state_of};
+ghost use Rattle.session.specs.Exchanges.{Backend as State, backend};
 ghost use Rattle.session.specs.Readers.{IsCovered, offer_of};
 ghost use Rattle.session.specs.Replies.{by_book, no_offer, with_players};
 ghost use Rattle.session.specs.Serving.{Served};
 ghost use Rattle.session.specs.Steps.{IsServing};
 
+use crate::backend::Backend;
 use crate::kept_answers::Answers;
 use crate::reader::Reader;
 use crate::replying::{closes, reply_to};
@@ -63,7 +65,11 @@ pub fn serve_named<J: Index, L: Link, I: Importer<J>, R: Wait + Threads + Sync>(
         (L.source link.new) (backend pass.new (I.importer importer.new)) }
 {
     let mut reader = Reader::new(Answers::none(book));
-    serve_by(rt, alloc, link, pass, importer, &mut reader)
+    let mut backend = Backend {
+        pass: &mut *pass,
+        importer: &mut *importer,
+    };
+    serve_by(rt, alloc, link, &mut backend, &mut reader)
 }
 
 /// The same, where a player's games are answered for too. The index covers more of what the pass has
@@ -84,7 +90,11 @@ pub fn serve_all<J: Index, L: Link, I: Importer<J>, R: Wait + Threads + Sync>(
     ensures covered { IsPrefix players.new.batches pass.new.seen }
 {
     let mut reader = Reader::with_players(alloc, Answers::none(book), players);
-    let ended = serve_by(rt, alloc, link, pass, importer, &mut reader);
+    let mut backend = Backend {
+        pass: &mut *pass,
+        importer: &mut *importer,
+    };
+    let ended = serve_by(rt, alloc, link, &mut backend, &mut reader);
     reader.give_back(players);
     ended
 }
@@ -94,20 +104,20 @@ pub fn serve_by<J: Index, L: Link, I: Importer<J>, R: Wait + Threads + Sync>(
     rt: &R,
     alloc: Global,
     link: &mut L,
-    pass: &mut Pass<J>,
-    importer: &mut I,
+    backend: &mut Backend<'_, J, I>,
     reader: &mut Reader<'_, J>,
 ) -> Ended
-    requires { IsCovered reader.old.players pass.old.seen }
+    requires { IsCovered reader.old.players backend.old.pass.now.seen }
     ensures served { Served (offer_of reader.old) (L.source link.old)
-        (backend pass.old (I.importer importer.old)) result
-        (L.source link.new) (backend pass.new (I.importer importer.new)) }
-    ensures covered { IsCovered reader.new.players pass.new.seen }
+        (state_of I.importer backend.old) result
+        (L.source link.new) (state_of I.importer backend.new) }
+    ensures covered { IsCovered reader.new.players backend.new.pass.now.seen }
     ensures offer { offer_of reader.new ≡ offer_of reader.old }
+    ensures lent { StaysLent backend.old backend.new }
 {
     let mut wire = Wire::new();
     'serving: loop {
-        if let Some(ended) = serve_one(rt, alloc, &mut wire, link, pass, importer, reader) {
+        if let Some(ended) = serve_one(rt, alloc, &mut wire, link, backend, reader) {
             return ended;
         }
     }
@@ -119,26 +129,26 @@ fn serve_one<J: Index, L: Link, I: Importer<J>, R: Wait + Threads + Sync>(
     alloc: Global,
     wire: &mut Wire,
     link: &mut L,
-    pass: &mut Pass<J>,
-    importer: &mut I,
+    backend: &mut Backend<'_, J, I>,
     reader: &mut Reader<'_, J>,
 ) -> Option<Ended>
     requires more { 0 < wire.old.more }
-    requires covered { IsCovered reader.old.players pass.old.seen }
-    ensures serving { (before : Stream) (start : Backend)
+    requires covered { IsCovered reader.old.players backend.old.pass.now.seen }
+    ensures serving { (before : Stream) (start : State)
         → IsServing (offer_of reader.old) before start wire.old (L.source link.old)
-        (backend pass.old (I.importer importer.old))
+        (state_of I.importer backend.old)
         → IfNone result (IsServing (offer_of reader.old) before start wire.new (L.source link.new)
-        (backend pass.new (I.importer importer.new))) }
-    ensures served { (before : Stream) (start : Backend)
+        (state_of I.importer backend.new)) }
+    ensures served { (before : Stream) (start : State)
         → IsServing (offer_of reader.old) before start wire.old (L.source link.old)
-        (backend pass.old (I.importer importer.old))
+        (state_of I.importer backend.old)
         → IfSome result (λ ended. Served (offer_of reader.old) before start ended (L.source link.new)
-        (backend pass.new (I.importer importer.new))) }
+        (state_of I.importer backend.new)) }
     ensures more { IfNone result (0 < wire.new.more) }
     ensures fewer { IfNone result (wire.new.more < wire.old.more) }
-    ensures covered { IsCovered reader.new.players pass.new.seen }
+    ensures covered { IsCovered reader.new.players backend.new.pass.now.seen }
     ensures offer { offer_of reader.new ≡ offer_of reader.old }
+    ensures lent { StaysLent backend.old backend.new }
 {
     let asked = wire.next(alloc, link);
     match asked {
@@ -147,7 +157,7 @@ fn serve_one<J: Index, L: Link, I: Importer<J>, R: Wait + Threads + Sync>(
         Asked::ReadFault => return Some(Ended::ReadFault),
         _ => {}
     }
-    let reply = reply_to(rt, alloc, &asked, pass, importer, reader);
+    let reply = reply_to(rt, alloc, &asked, backend, reader);
     let last = closes(&asked);
     let Ok(()) = wire.reply(link, &reply, last) else {
         return Some(Ended::WriteFault);

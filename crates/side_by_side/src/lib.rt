@@ -12,12 +12,14 @@ ghost use denote.Param.Send.{IsSend, IsSync};
 
 mod each;
 mod taking;
+mod workers;
 
 pub use each::map_each;
 use std::alloc::{AllocError, Global};
 use std::marker::{Send, Sync};
 use std::thread::{Threads, join};
 pub use taking::map_taken;
+pub use workers::Workers;
 
 /// What `f` gives for each leaf below `count`, in order, each in a thread of its own where one can be
 /// made. The calling thread is the last one.

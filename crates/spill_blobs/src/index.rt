@@ -3,11 +3,12 @@ ghost use Rattle.std.specs.Prelude.{◌≡◌, ℕ, ◌+◌, ◌≤◌, ◌<◌,
 ghost use Rattle.spill_blobs.specs.Index.{AreRising};
 ghost use Rattle.spill_blobs.specs.Marks.{is_less, count_of_less};
 
+use packed_keys::PositionKey;
 use segment_blocks::Steps;
 use std::sync::ledger::Ledger;
 
 /// How many of the keys, which rise, are less than the key. A step is a key that is compared.
-pub fn count_less<L: Ledger>(keys: &[[u8; 34]], key: &[u8; 34], steps: &mut Steps<L>) -> usize
+pub fn count_less<L: Ledger>(keys: &[PositionKey], key: &PositionKey, steps: &mut Steps<L>) -> usize
     requires { AreRising keys.now }
     ensures within { result ≤ length keys.now }
     ensures less { (k : ℕ) → k < result → is_less key.now (slice_index_or keys.now k []) ≡ true }
@@ -32,7 +33,7 @@ pub fn count_less<L: Ledger>(keys: &[[u8; 34]], key: &[u8; 34], steps: &mut Step
 }
 
 /// Whether one key is less than another.
-fn stands_before(one: &[u8; 34], key: &[u8; 34]) -> bool
+fn stands_before(one: &PositionKey, key: &PositionKey) -> bool
     ensures { result ≡ is_less key.now one.now }
 {
     one.cmp(key).is_lt()

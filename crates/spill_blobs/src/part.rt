@@ -27,7 +27,7 @@ use explorer_model::fault::Stop;
 use legal_moves::board::Board;
 use legal_moves::laws::tidy_is_determined;
 use outside::Port;
-use packed_keys::pack;
+use packed_keys::{PositionKey, pack};
 use segment_blocks::{Kept, Segment, Steps};
 use std::alloc::Global;
 use std::marker::Model;
@@ -44,7 +44,7 @@ pub struct Part {
     /// How many rows there are.
     pub count: u64,
     /// The keys of rows 0, 128, 256 and so on.
-    pub keys: Vec<[u8; 34]>,
+    pub keys: Vec<PositionKey>,
     pub kept: Kept,
     pub was: Snapshot<Segment>,
 }
@@ -105,7 +105,7 @@ impl Part {
     fn rows_of<P: Port, L: Ledger>(
         &self,
         alloc: Global,
-        key: &[u8; 34],
+        key: &PositionKey,
         port: &mut P,
         steps: &mut Steps<L>,
     ) -> Result<Vec<Row>, WalkFault>
@@ -177,7 +177,7 @@ impl Part {
     }
 
     /// How many rows a walk to a key may leave out.
-    fn place_of<L: Ledger>(&self, key: &[u8; 34], steps: &mut Steps<L>) -> u64
+    fn place_of<L: Ledger>(&self, key: &PositionKey, steps: &mut Steps<L>) -> u64
         ensures place { result ≡ place_in key.now self.now.segment.rows }
         ensures begins { Begins key.now self.now.segment.rows result }
         ensures within { result ≤ self.now.count }
@@ -190,7 +190,7 @@ impl Part {
 }
 
 /// The key that games are counted under in a position.
-fn tidy_key(at: &Position) -> [u8; 34]
+fn tidy_key(at: &Position) -> PositionKey
     requires { IsValid at.now }
     ensures { IsTidyKey at.now result }
 {

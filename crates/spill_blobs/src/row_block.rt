@@ -12,7 +12,7 @@ use best_lists::{Best4, ByMonth, ByRating};
 use explorer_model::archive::{Group, Month};
 use legal_moves::valid::is_valid;
 use packed_keys::laws::unpacked_is_determined;
-use packed_keys::unpack;
+use packed_keys::{PositionKey, unpack};
 use tally_rows::{Row, RowKey};
 
 /// How many bytes a row has.
@@ -92,7 +92,7 @@ fn lists_of(bytes: &[u8]) -> Option<(Best4<ByRating>, Best4<ByMonth>)>
     Some((top, recent))
 }
 
-fn take_key(bytes: &[u8]) -> ([u8; 34], &[u8])
+fn take_key(bytes: &[u8]) -> (PositionKey, &[u8])
     requires { 34 ≤ length bytes.now }
     ensures is { bytes.now ≡ result.0 ++ result.1.now }
     ensures left { length result.1.now + 34 ≡ length bytes.now }
@@ -104,7 +104,7 @@ fn take_key(bytes: &[u8]) -> ([u8; 34], &[u8])
 }
 
 /// Whether the bytes are the key of a valid position.
-fn is_key_of_valid(key: &[u8; 34]) -> bool
+fn is_key_of_valid(key: &PositionKey) -> bool
     ensures { IsTrue result ↔ IsKeyOfValid key.now }
 {
     // law: bytes are the key of one position, or of none.

@@ -5,6 +5,7 @@ ghost use Rattle.spill_blobs.specs.Sheets.{IsSheet};
 ghost use Rattle.tally_rows.specs.declared.row.Row.{Row as Counted};
 
 use crate::row_bytes::put_row;
+use packed_keys::PositionKey;
 use segment_blocks::{Segment, Steps};
 use std::alloc::{AllocError, Global};
 use std::marker::Brand;
@@ -21,7 +22,7 @@ pub struct Sheet {
     /// How many rows there are.
     pub count: u64,
     /// The keys of rows 0, 128, 256 and so on.
-    pub keys: Vec<[u8; 34]>,
+    pub keys: Vec<PositionKey>,
     /// How many rows stand before the next of these.
     skip: u64,
 }
@@ -73,7 +74,7 @@ impl Sheet {
     }
 
     /// Puts the key of a row into the index, where it has its turn.
-    fn mark(&mut self, key: &[u8; 34]) -> Result<(), AllocError>
+    fn mark(&mut self, key: &PositionKey) -> Result<(), AllocError>
         ensures keys { OnOk result
             (self.new.keys.items ≡ self.old.keys.items ++ marked self.old.skip key.now) }
         ensures skip { OnOk result (self.new.skip ≡ skipped self.old.skip) }

@@ -8,6 +8,7 @@ ghost use Rattle.spill_blobs.specs.Ends.{ComesTo, Puts, Reads, ReadsRow};
 use crate::row_block::row_of;
 use crate::walk_fault::WalkFault;
 use outside::{Failed, Port};
+use packed_keys::PositionKey;
 use segment_blocks::Steps;
 use std::alloc::Global;
 use std::cmp::Ordering;
@@ -24,7 +25,7 @@ pub fn walk<P: Port, L: Ledger>(
     port: &mut P,
     start: u64,
     count: u64,
-    key: &[u8; 34],
+    key: &PositionKey,
     steps: &mut Steps<L>,
 ) -> Result<Vec<Row>, WalkFault>
     requires inside { start + block_size * count ≤ (P.port port.old).size }

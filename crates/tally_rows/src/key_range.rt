@@ -3,6 +3,7 @@ ghost use Rattle.std.specs.Prelude.{◌≡◌, ◌≤◌};
 ghost use Rattle.tally_rows.specs.Within.{first_word, is_word_in};
 
 use crate::sort_entry::word_at;
+use packed_keys::PositionKey;
 
 /// Keys whose first eight bytes spell a number from one on, and below another where there is one.
 #[derive(Clone, Copy, Debug)]
@@ -24,7 +25,7 @@ impl KeyRange {
 }
 
 /// The number that the first eight bytes of a key spell, the first of them worth the most.
-pub fn first_word(key: &[u8; 34]) -> u64
+pub fn first_word(key: &PositionKey) -> u64
     ensures { result ≡ first_word key.now }
 {
     word_at(key, 0)

@@ -15,6 +15,7 @@ mod tally;
 pub use counted_row::{CountedAs, CountedRow};
 pub use grid::{Cell, Grid};
 pub use key_range::{KeyRange, first_word};
+pub use packed_keys::PositionKey;
 pub use row::Row;
 pub use row_key::RowKey;
 pub use rows::rows_of;

@@ -7,12 +7,13 @@ use crate::{RowKey, Single};
 use best_lists::{Best4, ByMonth, ByRating};
 use explorer_model::archive::{Group, Month, Outcome, Speed};
 use explorer_model::chess::Move;
+use packed_keys::PositionKey;
 
 /// The games that visit a position and have there the same next move, month, speed and group.
 #[derive(Clone, Debug, PartialEq, Eq, Drop)]
 pub struct Row {
     /// The position's key.
-    pub key: [u8; 34],
+    pub key: PositionKey,
     /// The move that was played there, or None where the games end there.
     pub next: Option<Move>,
     pub month: Month,

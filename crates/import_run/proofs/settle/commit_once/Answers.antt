@@ -232,3 +232,8 @@ returns-in-Clash-clause-drawn g c = let x = c.in-Clash in rw x.is at c.in-Err.en
 
 pub returns-in-OutOfMemory-clause-drawn_few : goal.returns-in-OutOfMemory-clause-drawn_few
 returns-in-OutOfMemory-clause-drawn_few g c = few-answered (Err c.in-Err.fault) _ _ c.in-Err.ensures.drawn
+
+-- ---- where nothing was noted
+
+pub returns-in_err-reserve-clause-notes : goal.returns-in_err-reserve-clause-notes
+returns-in_err-reserve-clause-notes g c = notes_same c.args.clashes.now.items c.reserve.new.self.items c.reserve.ensures.items

@@ -2,7 +2,7 @@ use Rattle.std.proofs.Common.{ap, ◌∙◌, arith}
 use Rattle.std.specs.declared.cmp.Ordering.TheVariants.{Less, Greater}
 use Rattle.std.specs.Ordering.{ordering_reverse}
 use Rattle.std.specs.Cmp.Lexicographic.{nat_list_cmp_total}
-use Rattle.segment_blocks.proofs.LaneLemmas.{met-less, met-stays, met-same, order-by-keys}
+use Rattle.segment_blocks.proofs.LaneLemmas.{met-less, met-stays, met-same, next-key, order-by-keys}
 use Rattle.segment_blocks.proofs.PrefixLemmas.{common-turned}
 use Rattle.segment_blocks.proofs.both.order_of_places.Goals as goal
 
@@ -13,7 +13,8 @@ returns-then-lanes-clause-order c a b left_is right_is =
     let lanes = c.args.lanes.now in
     let last = c.requires.lanes.0 in
     let are = c.requires.lanes.1 in
-    order-by-keys lanes.left.by lanes.right.by left right c.requires.left_filled c.requires.right_filled are.first.ready are.second.ready a b left_is right_is
+    order-by-keys left.before right.before a b (next-key left c.requires.left_filled are.first.own a left_is)
+    (next-key right c.requires.right_filled are.second.own b right_is)
     Less (λ d. cc) (met-less last left.before right.before lanes.left.shared lanes.right.shared are.first.met are.second.met c.if-lanes.true)
 
 pub returns-then-lanes-clause-shared : goal.returns-then-lanes-clause-shared
@@ -29,7 +30,8 @@ returns-then-lanes-2-clause-order c a b left_is right_is =
     let lanes = c.args.lanes.now in
     let last = c.requires.lanes.0 in
     let are = c.requires.lanes.1 in
-    order-by-keys lanes.left.by lanes.right.by left right c.requires.left_filled c.requires.right_filled are.first.ready are.second.ready a b left_is right_is
+    order-by-keys left.before right.before a b (next-key left c.requires.left_filled are.first.own a left_is)
+    (next-key right c.requires.right_filled are.second.own b right_is)
     Greater (λ d. cc)
     (nat_list_cmp_total.antisymm left.before right.before
     ∙ ap ordering_reverse (met-less last right.before left.before lanes.right.shared lanes.left.shared are.second.met are.first.met c.if-lanes-2.true))

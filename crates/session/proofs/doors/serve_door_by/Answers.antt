@@ -1,5 +1,5 @@
 use Rattle.std.proofs.Common.{refl, subst, ◌∙◌}
-use Rattle.session.specs.Exchanges.{backend}
+use Rattle.session.specs.Backends.{state_of}
 use Rattle.session.specs.Readers.{offer_of}
 use Rattle.session.specs.Replies.{Offer}
 use Rattle.session.specs.Serving.{Served}
@@ -7,14 +7,14 @@ use Rattle.session.proofs.DoorLemmas.{faults-stay, served-more, served-none}
 use Rattle.session.proofs.doors.serve_door_by.Goals as goal
 
 pub accepting-init : goal.accepting-init
-accepting-init g c = record { served = served-none _ _ _; faults = refl; covered = c.requires; offer = refl }
+accepting-init g c = record { served = served-none _ _ _; faults = refl; covered = c.requires; offer = refl; lent = record { pass = refl; importer = refl } }
 
 pub accepting-preserved : goal.accepting-preserved
 accepting-preserved g c =
     let accepts = rw c.in-Ok-Some.field-0-is at c.in-Ok-Some.ensures.next in
-    let before = backend c.args.pass.now (g.I.Importer.importer c.args.importer.now) in
-    let middle = backend c.accepting.pass (g.I.Importer.importer c.accepting.importer) in
-    let after = backend c.serve_by.new.pass (g.I.Importer.importer c.serve_by.new.importer) in
+    let before = state_of g.I.Importer.importer c.args.backend.now in
+    let middle = state_of g.I.Importer.importer c.accepting.backend in
+    let after = state_of g.I.Importer.importer c.serve_by.new.backend in
     let came = g.D.Link.Source.source c.in-Ok-Some.link in
     let went = g.D.Link.Source.source c.serve_by.new.link in
     let served = subst (λ (offer : Offer). Served offer came middle c.serve_by.result went after)
@@ -28,4 +28,8 @@ accepting-preserved g c =
       faults = stay ∙ c.accepting.invariant.faults;
       covered = c.serve_by.ensures.covered;
       offer = c.serve_by.ensures.offer ∙ c.accepting.invariant.offer;
+      lent = record {
+        pass = c.serve_by.ensures.lent.pass ∙ c.accepting.invariant.lent.pass;
+        importer = c.serve_by.ensures.lent.importer ∙ c.accepting.invariant.lent.importer;
+      };
     }

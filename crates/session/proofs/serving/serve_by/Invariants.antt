@@ -1,5 +1,5 @@
 use Rattle.std.proofs.Common.{◌≡◌, ◌<◌}
-use Rattle.session.specs.Exchanges.{backend}
+use Rattle.session.specs.Backends.{StaysLent, state_of}
 use Rattle.session.specs.Readers.{IsCovered, offer_of}
 use Rattle.session.specs.Steps.{IsServing}
 use Rattle.session.proofs.serving.serve_by.Given as goal
@@ -7,11 +7,12 @@ use Rattle.session.proofs.serving.serve_by.Given as goal
 abbrev pub invariant-serving : goal.invariant-serving
 invariant-serving g l = record {
   serving : IsServing (offer_of l.fn.reader) (g.L.Source.source l.fn.link)
-      (backend l.fn.pass (g.I.Importer.importer l.fn.importer))
-      l.wire (g.L.Source.source l.link) (backend l.pass (g.I.Importer.importer l.importer));
+      (state_of g.I.Importer.importer l.fn.backend)
+      l.wire (g.L.Source.source l.link) (state_of g.I.Importer.importer l.backend);
   more : 0 < l.wire.more;
-  covered : IsCovered l.reader.players l.pass.seen;
+  covered : IsCovered l.reader.players l.backend.pass.now.seen;
   offer : offer_of l.reader ≡ offer_of l.fn.reader;
+  lent : StaysLent l.fn.backend l.backend;
 }
 
 abbrev pub decreases-serving : goal.decreases-serving

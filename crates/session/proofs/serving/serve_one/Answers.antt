@@ -4,7 +4,7 @@ use Rattle.explorer_model.specs.declared.wire.Asked.TheVariants.{Done, Cut, Read
 use Rattle.explorer_model.specs.Replies.{reply_text}
 use Rattle.http_wire.specs.Asking.{Buffer}
 use Rattle.session.specs.declared.serving.Ended.TheVariants as ends
-use Rattle.session.specs.Exchanges.{backend}
+use Rattle.session.specs.Backends.{state_of}
 use Rattle.session.specs.Readers.{offer_of}
 use Rattle.session.proofs.ConnectionLemmas.{comes-next, exchanged, reads-keep, served-idle, served-last, served-unwritten, serving-on}
 use Rattle.session.proofs.ExchangeLemmas.{more-left}
@@ -15,7 +15,7 @@ returns-in-Done-clause-served g c link before i =
     let a = c.in-Done.ensures.asks c.requires.more in
     let write_faults = reads-keep a.got (g.L.Source.source c.args.link.now) (g.L.Source.source c.next-asked.new.link) a.reads in
     served-idle (offer_of c.args.reader.now) link before c.args.wire.now (g.L.Source.source c.args.link.now)
-    (backend c.args.pass.now (g.I.Importer.importer c.args.importer.now)) (g.L.Source.source c.next-asked.new.link)
+    (state_of g.I.Importer.importer c.args.backend.now) (g.L.Source.source c.next-asked.new.link)
     ends.Done a.got i a.reads (λ text wrote. wrote)
     (λ xs open_still count. inr (comes-next Done xs _ _ count open_still a.first, a.ended))
     (a.faults ∙ i.read_faults, write_faults ∙ i.write_faults)
@@ -25,7 +25,7 @@ returns-in-Cut-clause-served g c link before i =
     let a = c.in-Cut.ensures.asks c.requires.more in
     let write_faults = reads-keep a.got (g.L.Source.source c.args.link.now) (g.L.Source.source c.next-asked.new.link) a.reads in
     served-idle (offer_of c.args.reader.now) link before c.args.wire.now (g.L.Source.source c.args.link.now)
-    (backend c.args.pass.now (g.I.Importer.importer c.args.importer.now)) (g.L.Source.source c.next-asked.new.link)
+    (state_of g.I.Importer.importer c.args.backend.now) (g.L.Source.source c.next-asked.new.link)
     ends.Cut a.got i a.reads (λ text wrote. wrote)
     (λ xs open_still count. (comes-next Cut xs _ _ count open_still a.first, a.ended))
     (a.faults ∙ i.read_faults, write_faults ∙ i.write_faults)
@@ -36,7 +36,7 @@ returns-in-ReadFault-clause-served g c link before i =
     let write_faults = reads-keep a.got (g.L.Source.source c.args.link.now) (g.L.Source.source c.next-asked.new.link) a.reads in
     let rises = subst (λ (n : ℕ). Rises n (g.L.Source.source c.next-asked.new.link).read_faults) i.read_faults a.faults in
     served-idle (offer_of c.args.reader.now) link before c.args.wire.now (g.L.Source.source c.args.link.now)
-    (backend c.args.pass.now (g.I.Importer.importer c.args.importer.now)) (g.L.Source.source c.next-asked.new.link)
+    (state_of g.I.Importer.importer c.args.backend.now) (g.L.Source.source c.next-asked.new.link)
     ends.ReadFault a.got i a.reads (λ text wrote. wrote)
     (λ xs open_still count. comes-next ReadFault xs _ _ count open_still a.first)
     (rises, write_faults ∙ i.write_faults)
@@ -47,8 +47,8 @@ returns-in_default-reply-clause-served g c link before i =
     let l1 = g.L.Source.source c.args.link.now in
     let l2 = g.L.Source.source c.next-asked.new.link in
     let l3 = g.L.Source.source c.reply.new.link in
-    let b1 = backend c.args.pass.now (g.I.Importer.importer c.args.importer.now) in
-    let b2 = backend c.reply_to-reply.new.pass (g.I.Importer.importer c.reply_to-reply.new.importer) in
+    let b1 = state_of g.I.Importer.importer c.args.backend.now in
+    let b2 = state_of g.I.Importer.importer c.reply_to-reply.new.backend in
     let asked = c.next-asked.result in
     let reply = c.reply_to-reply.result in
     let e = exchanged (offer_of c.args.reader.now) link before c.args.wire.now c.next-asked.new.self l1 l2 b1 b2 asked reply c.requires.more i a c.reply_to-reply.ensures.replied in
@@ -61,8 +61,8 @@ returns-then-last-clause-served g c link before i =
     let l1 = g.L.Source.source c.args.link.now in
     let l2 = g.L.Source.source c.next-asked.new.link in
     let l3 = g.L.Source.source c.reply.new.link in
-    let b1 = backend c.args.pass.now (g.I.Importer.importer c.args.importer.now) in
-    let b2 = backend c.reply_to-reply.new.pass (g.I.Importer.importer c.reply_to-reply.new.importer) in
+    let b1 = state_of g.I.Importer.importer c.args.backend.now in
+    let b2 = state_of g.I.Importer.importer c.reply_to-reply.new.backend in
     let asked = c.next-asked.result in
     let reply = c.reply_to-reply.result in
     let e = exchanged (offer_of c.args.reader.now) link before c.args.wire.now c.next-asked.new.self l1 l2 b1 b2 asked reply c.requires.more i a c.reply_to-reply.ensures.replied in
@@ -75,8 +75,8 @@ returns-clause-serving g c link before i =
     let l1 = g.L.Source.source c.args.link.now in
     let l2 = g.L.Source.source c.next-asked.new.link in
     let l3 = g.L.Source.source c.reply.new.link in
-    let b1 = backend c.args.pass.now (g.I.Importer.importer c.args.importer.now) in
-    let b2 = backend c.reply_to-reply.new.pass (g.I.Importer.importer c.reply_to-reply.new.importer) in
+    let b1 = state_of g.I.Importer.importer c.args.backend.now in
+    let b2 = state_of g.I.Importer.importer c.reply_to-reply.new.backend in
     let asked = c.next-asked.result in
     let reply = c.reply_to-reply.result in
     let e = exchanged (offer_of c.args.reader.now) link before c.args.wire.now c.next-asked.new.self l1 l2 b1 b2 asked reply c.requires.more i a c.reply_to-reply.ensures.replied in

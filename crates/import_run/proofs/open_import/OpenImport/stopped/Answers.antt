@@ -1,11 +1,11 @@
-use Rattle.std.proofs.Common.{◌++◌, List, ap, ◌∙◌, length, arith}
+use Rattle.std.proofs.Common.{◌++◌, List, ap, ◌∙◌, length, arith, refl, subst, sym}
 use Rattle.explorer_model.specs.declared.fault.Refusal.{Refusal}
 use Rattle.explorer_model.specs.Cuts.{cuts}
+use Rattle.import_run.specs.Importing.{EndsEarly}
 use Rattle.import_run.proofs.ComeBesideLemmas.{stopped_at_end_beside, stopped_within_beside}
 use Rattle.import_run.proofs.ComeLemmas.{stopped_at_end, stopped_within}
 use Rattle.import_run.proofs.DrawLemmas.{draws-same}
 use Rattle.import_run.proofs.open_import.OpenImport.stopped.Goals as goal
-use Rattle.std.proofs.Common.{refl}
 
 pub returns-in-Ok-clause-within : goal.returns-in-Ok-clause-within
 returns-in-Ok-clause-within g c = λ start stream left told below stops.
@@ -48,3 +48,9 @@ returns-in-Ok-clause-drawn g c = λ before after h. draws-same _ c.args.self.rec
 
 pub returns-in-Err-clause-drawn : goal.returns-in-Err-clause-drawn
 returns-in-Err-clause-drawn g c = λ before after h. draws-same _ c.args.self.receipts.items _ before after c.report-in-Err.ensures.receipts h
+
+pub returns-in-Ok-clause-early : goal.returns-in-Ok-clause-early
+returns-in-Ok-clause-early g c = λ early. subst (λ e. EndsEarly e) (sym c.report.ensures.end) early
+
+pub returns-in-Err-clause-early : goal.returns-in-Err-clause-early
+returns-in-Err-clause-early g c = λ early. subst (λ e. EndsEarly e) (sym c.report-in-Err.ensures.end) tt

@@ -2,7 +2,7 @@ use Rattle.std.proofs.Common.{◌≡◌, [], ◌∷◌, ◌-◌, drop, sym, ap, 
 use Rattle.tally_rows.specs.Row.{row_of}
 use Rattle.segment_blocks.specs.Encoded.{own_len, key_behind, single_of, rows_behind}
 use Rattle.segment_blocks.specs.Prefix.{TellSharedBehind}
-use Rattle.segment_blocks.proofs.EncodedLemmas.{rows_behind-nil, rows_behind-game, rows_behind-whole}
+use Rattle.segment_blocks.proofs.EncodedLemmas.{rows_behind-nil, rows_behind-game, rows_behind-whole, own-known}
 use Rattle.segment_blocks.proofs.PlaceLemmas.{filled-game, filled-whole, told-game, told-whole}
 use Rattle.segment_blocks.proofs.PrefixLemmas.{TellShared-behind}
 use Rattle.segment_blocks.proofs.block_cursor.BlockCursor.next.Goals as goal
@@ -11,6 +11,12 @@ pub returns-in_err-mark : goal.returns-in_err-mark
 returns-in_err-mark c =
     let none : c.args.self.now ≡ [] = sym c.self.view_is ∙ rows_behind-nil _ _ _ _ c.in_err-mark.ensures.cases in
     rw c.from_residual.ensures (none, none)
+
+pub complete-requires-clause-is_own : goal.complete-requires-clause-is_own
+complete-requires-clause-is_own c h =
+    let p = c.self.inside.place in
+    own-known p.before c.in_ok-mark.mark.now p.tails.now p.marks.now c.in_ok-mark.marks.now c.in_ok-mark.ensures.cases.0 p.whole.now c.in-Some.outcome c.in-Some.is
+    (c.self.invariant.own h)
 
 pub returns-in-Some : goal.returns-in-Some
 returns-in-Some c =
@@ -64,6 +70,7 @@ invariant_of-self-in_default c =
           c.in_ok-row.ensures.cases.0 c.self.invariant.filled;
       own = λ h. absurd (true≢false (sym h));
       told = subst (λ k. TellSharedBehind marks (rows_behind marks k p.tails.now others)) (sym c.of-self-inside.ensures)
+          (TellShared-behind row.key marks (rows_behind marks row.key p.tails.now others)
           (told-whole mark p.marks.now marks c.in_ok-mark.ensures.cases.0 p.before p.tails.now p.whole.now row others c.in_default.is
-          c.in_ok-row.ensures.cases.0 c.self.invariant.told);
+          c.in_ok-row.ensures.cases.0 c.self.invariant.told));
     }

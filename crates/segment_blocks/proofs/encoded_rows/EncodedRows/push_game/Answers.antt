@@ -1,16 +1,11 @@
-use Rattle.std.proofs.Common.{◌≡◌, ℕ, ◌+◌, ◌-◌, ◌++◌, ◌∷◌, [], List, take, drop, set, get_or, length, sym, ap, subst, ◌∙◌, arith}
+use Rattle.std.proofs.Common.{◌≡◌, ◌-◌, ◌++◌, ◌∷◌, [], drop, set, get_or, length, sym, ap, subst, ◌∙◌, arith}
 use Rattle.std.proofs.lemmas.List.{length-append}
-use Rattle.std.proofs.Math.Seq.{take-append-add}
 use Rattle.tally_rows.specs.Row.{row_of}
 use Rattle.segment_blocks.specs.declared.mark.Mark.{Mark}
 use Rattle.segment_blocks.specs.Encoded.{Encoded, IsAppended, IsMarkOf, single_of}
 use Rattle.segment_blocks.specs.Prefix.{common_len}
 use Rattle.segment_blocks.proofs.AppendLemmas.{encoded, set-last, get-last, Added-game}
 use Rattle.segment_blocks.proofs.encoded_rows.EncodedRows.push_game.Goals as goal
-
--- of bytes behind others the first ones are kept
-kept : (tails more : List ℕ) (n own len : ℕ) → own ≡ n → len ≡ length tails → take (len + own) (tails ++ more) ≡ tails ++ take n more
-kept tails more n own len e l = (λ i. take (l i + e i) (tails ++ more)) ∙ take-append-add tails more n
 
 pub returns-clause-ok : goal.returns-clause-ok
 returns-clause-ok c before row outcome key_is same told is =
@@ -20,7 +15,7 @@ returns-clause-ok c before row outcome key_is same told is =
     let mark = c.renumber.new.mark in
     let shared = c.args.shared in
     let key : c.args.key.now ≡ row.key = sym key_is in
-    let long : length row.key ≡ 34 = subst (λ k. length k ≡ 34) key c.end.ensures.long in
+    let long : length row.key ≡ 34 = subst (λ k. length k ≡ 34) key c.in_ok-push_end.ensures.long in
     let pushed : c.push_reserved.new.self.items ≡ e.marks.items ++ given ∷ [] =
     c.push_reserved.ensures.items ∙ ap (λ l. l ++ given ∷ []) c.reserve.ensures.items in
     let at : c.len-at.result - 1 ≡ length e.marks.items =
@@ -29,10 +24,8 @@ returns-clause-ok c before row outcome key_is same told is =
     c.index_mut.ensures.value ∙ (λ i. get_or (pushed i) (at i) c.index_mut.result.now) ∙ get-last e.marks.items given c.index_mut.result.now in
     let marks : set c.push_reserved.new.self.items (c.len-at.result - 1) mark ≡ e.marks.items ++ mark ∷ [] =
     (λ i. set (pushed i) (at i) mark) ∙ set-last e.marks.items given mark in
-    let tails : c.truncate.new.self.items ≡ e.tails.items ++ drop shared row.key =
-    c.truncate.ensures.items ∙ ap (take (c.len-len.result + (34 - c.from-own.result))) c.in_ok-extend_from_slice.ensures.items
-    ∙ kept e.tails.items c.end.result.now (34 - shared) (34 - c.from-own.result) c.len-len.result (ap (λ n. 34 - n) c.from-own.ensures) (omega (arith, c.len-len.ensures, e.tails.ok))
-    ∙ ap (λ l. e.tails.items ++ l) (c.end.ensures.end ∙ ap (drop shared) key) in
+    let tails : c.push_end.new.tails.items ≡ e.tails.items ++ drop shared row.key =
+    c.in_ok-push_end.ensures.items ∙ ap (λ k. e.tails.items ++ drop shared k) key in
     let is_mark : IsMarkOf row shared mark = record {
       at = c.renumber.ensures.shared;
       outcome = outcome;
@@ -41,6 +34,6 @@ returns-clause-ok c before row outcome key_is same told is =
     } in
     let old = encoded e.marks.items e.tails.items e.whole.items in
     let added = Added-game before row e.marks.items mark e.tails.items e.whole.items c.self.invariant shared long c.requires.shared (same ∙ ap (common_len before) key) is_mark in
-    let here : IsAppended before row old (encoded (set c.push_reserved.new.self.items (c.len-at.result - 1) mark) c.truncate.new.self.items e.whole.items) =
+    let here : IsAppended before row old (encoded (set c.push_reserved.new.self.items (c.len-at.result - 1) mark) c.push_end.new.tails.items e.whole.items) =
     subst (λ (new : Encoded). IsAppended before row old new) (λ i. encoded (sym marks i) (sym tails i) e.whole.items) added.rows in
-    subst (λ (old : Encoded). IsAppended before row old (encoded (set c.push_reserved.new.self.items (c.len-at.result - 1) mark) c.truncate.new.self.items e.whole.items)) c.self.view_is here
+    subst (λ (old : Encoded). IsAppended before row old (encoded (set c.push_reserved.new.self.items (c.len-at.result - 1) mark) c.push_end.new.tails.items e.whole.items)) c.self.view_is here

@@ -1,5 +1,4 @@
-use Rattle.std.proofs.Common.{◌≡◌, ◌-◌, ◌++◌, ◌∷◌, [], take, drop, length, sym, ap, subst, ◌∙◌, arith}
-use Rattle.std.proofs.lemmas.List.{take_all, length-drop}
+use Rattle.std.proofs.Common.{◌≡◌, ◌++◌, ◌∷◌, [], drop, length, sym, ap, subst, ◌∙◌}
 use Rattle.tally_rows.specs.Row.{row_of}
 use Rattle.segment_blocks.specs.Encoded.{Encoded, IsAppended}
 use Rattle.segment_blocks.specs.Prefix.{common_len}
@@ -18,15 +17,12 @@ returns-clause-ok c =
     let s = c.shared_len-shared.ensures in
     let key : game.row_key.key ≡ row.key = sym (row_of-key game) in
     let long = subst (λ k. length k ≡ 34) key s.long in
-    let own : take (34 - shared) (drop shared row.key) ≡ drop shared row.key =
-    take_all (34 - shared) (drop shared row.key) (omega (arith, length-drop shared row.key, long)) in
-    let tails : c.extend_from_slice.new.self.items ≡ e.tails.items ++ drop shared row.key =
-    c.in_ok-extend_from_slice.ensures.items ∙ (λ i. e.tails.items ++ take (34 - c.from.ensures i) (drop (c.from.ensures i) (key i)))
-    ∙ ap (λ l. e.tails.items ++ l) own in
+    let tails : c.push_end.new.tails.items ≡ e.tails.items ++ drop shared row.key =
+    c.in_ok-push_end.ensures.items ∙ ap (λ k. e.tails.items ++ drop shared k) (c.of.ensures ∙ key) in
     let marks : c.push_reserved.new.self.items ≡ e.marks.items ++ mark ∷ [] =
     c.push_reserved.ensures.items ∙ ap (λ l. l ++ mark ∷ []) c.reserve.ensures.items in
     let old = encoded e.marks.items e.tails.items e.whole.items in
-    let new = encoded c.push_reserved.new.self.items c.extend_from_slice.new.self.items e.whole.items in
+    let new = encoded c.push_reserved.new.self.items c.push_end.new.tails.items e.whole.items in
     let added = Added-game before row e.marks.items mark e.tails.items e.whole.items c.self.invariant shared long s.within (s.is ∙ ap (common_len before) key) c.in-Some.ensures in
     let here : IsAppended before row old new = rw (marks, tails) added.rows in
     subst (λ (old : Encoded). IsAppended before row old new) c.self.view_is here
