@@ -6,6 +6,7 @@ mod imports;
 mod kept;
 mod labels;
 mod players;
+mod rounds;
 
 ghost use Rattle.std.specs.Prelude.{◌≡◌, IfOk};
 ghost use Rattle.published_index.specs.Places.{HasAllParts};

@@ -18,7 +18,7 @@ use std::thread::Threads;
 
 /// A part of a stream.
 #[derive(Clone, Copy, Debug)]
-enum Part {
+pub(super) enum Part {
     /// Games without a move: the number of the first one, and how many there are.
     Games(usize, usize),
     Bytes(&'static str),
@@ -26,23 +26,26 @@ enum Part {
     LongText,
 }
 
-/// One import into a store: its stream, how many bytes a read gives at most, and which read fails.
+/// One import into a store: its stream, how many bytes a read gives at most, which read fails, and on
+/// how many workers.
 #[derive(Clone, Copy, Debug)]
-struct Stream<'a> {
-    parts: &'a [Part],
-    most: usize,
-    failing: u64,
+pub(super) struct Stream<'a> {
+    pub parts: &'a [Part],
+    pub most: usize,
+    pub failing: u64,
+    pub workers: usize,
 }
 
 /// A read that no stream comes to.
 const NEVER: u64 = u64::MAX;
 
 /// A stream that each read gives as much of as is asked for.
-fn whole(parts: &[Part]) -> Stream<'_> {
+pub(super) fn whole(parts: &[Part]) -> Stream<'_> {
     Stream {
         parts,
         most: 4096,
         failing: NEVER,
+        workers: 2,
     }
 }
 
@@ -88,7 +91,7 @@ fn reports<R: Threads + Wait + Abort + Sync>(
     import_all::<Brand, _>(rt, alloc, unnamed, streams)
 }
 
-fn import_all<J: Index, R: Threads + Wait + Abort + Sync>(
+pub(super) fn import_all<J: Index, R: Threads + Wait + Abort + Sync>(
     rt: &R,
     alloc: Global,
     unnamed: Unnamed<MemDisk>,
@@ -126,6 +129,9 @@ fn import_one<J: Index, R: Threads + Wait + Abort + Sync>(
     stream: &Stream,
 ) -> Result<Told, Fail> {
     let mut source = source_of(alloc, stream)?;
+    if stream.workers == 0 || stream.workers > 16 {
+        return Err(Fail::from("so many workers are not allowed"));
+    }
     let report = import_alone(
         rt,
         alloc,
@@ -133,17 +139,17 @@ fn import_one<J: Index, R: Threads + Wait + Abort + Sync>(
         ingest,
         drawer,
         Label::none(),
-        2,
+        stream.workers,
         &FreeGate,
     );
     Ok(summary_of(alloc, report)?)
 }
 
 /// What a report is to say: how the import ended, its batches, and what was refused.
-type Wanted<'a> = (ImportEnding, &'a [(u32, u32, u32)], &'a [Refusal]);
+pub(super) type Wanted<'a> = (ImportEnding, &'a [(u32, u32, u32)], &'a [Refusal]);
 
 /// Whether the imports of the streams into a new store, of whose disk's calls these fail, report so.
-fn reports_say<R: Threads + Wait + Abort + Sync>(
+pub(super) fn reports_say<R: Threads + Wait + Abort + Sync>(
     rt: &R,
     alloc: Global,
     failing: &[u64],
@@ -154,7 +160,52 @@ fn reports_say<R: Threads + Wait + Abort + Sync>(
     Ok(are_told(told.as_slice(), wanted))
 }
 
-fn are_told(told: &[Told], wanted: &[Wanted]) -> bool {
+/// How many workers import, and how many bytes a read gives at most, in the tables of streams.
+const WORKERS: [usize; 4] = [1, 2, 4, 16];
+
+const PIECES: [usize; 3] = [1, 7, 4096];
+
+/// The imports of the streams into a new store, of whose disk's calls these fail, report so with each
+/// number of workers and in pieces of each length.
+fn assert_reports<R: Threads + Wait + Abort + Sync>(
+    rt: &R,
+    alloc: Global,
+    failing: &[u64],
+    streams: &[&[Part]],
+    wanted: &[Wanted],
+) -> Result<(), Fail> {
+    for workers in WORKERS {
+        for most in PIECES {
+            let streams = streams_of(alloc, streams, workers, most)?;
+            assert!(rt;
+                reports_say(rt, alloc, failing, streams.as_slice(), wanted)?,
+                "{workers} workers, {most} bytes a read"
+            );
+        }
+    }
+    Ok(())
+}
+
+/// Streams none of whose reads fails.
+fn streams_of<'a>(
+    alloc: Global,
+    streams: &[&'a [Part]],
+    workers: usize,
+    most: usize,
+) -> Result<Vec<Stream<'a>>, AllocError> {
+    let mut all = Vec::new(alloc);
+    for parts in streams {
+        all.push(Stream {
+            parts: *parts,
+            most,
+            failing: NEVER,
+            workers,
+        })?;
+    }
+    Ok(all)
+}
+
+pub(super) fn are_told(told: &[Told], wanted: &[Wanted]) -> bool {
     told.len() == wanted.len()
         && told
             .iter()
@@ -162,13 +213,13 @@ fn are_told(told: &[Told], wanted: &[Wanted]) -> bool {
             .all(|(told, wanted)| is_told(told, *wanted))
 }
 
-fn is_told(told: &Told, (ending, batches, refused): Wanted) -> bool {
+pub(super) fn is_told(told: &Told, (ending, batches, refused): Wanted) -> bool {
     told.ending == ending
         && told.batches.as_slice() == batches
         && told.refused.as_slice() == refused
 }
 
-const fn refusal(place: u64, why: Why) -> Refusal {
+pub(super) const fn refusal(place: u64, why: Why) -> Refusal {
     Refusal { place, why }
 }
 
@@ -185,22 +236,21 @@ fn repeated(alloc: Global, count: u32) -> Result<Vec<Refusal>, AllocError> {
 
 #[test]
 fn a_stream_of_1500_games_is_stored_once(rt: HostRuntime) -> Result<(), Fail> {
-    let streams = [whole(&[Part::Games(0, 1500)]); 2];
+    let streams = [[Part::Games(0, 1500)].as_slice(); 2];
     let batches = [(1, 0, 512), (2, 512, 512), (3, 1024, 476)];
     let repeated = repeated(rt.alloc(), 1500)?;
     let wanted = [
         (ImportEnding::Whole, batches.as_slice(), [].as_slice()),
         (ImportEnding::Whole, [].as_slice(), repeated.as_slice()),
     ];
-    assert!(rt; reports_say(&rt, rt.alloc(), &[], &streams, &wanted)?);
-    Ok(())
+    assert_reports(&rt, rt.alloc(), &[], &streams, &wanted)
 }
 
 #[test]
 fn stored_text_is_refused_with_its_number_and_the_other_stays(rt: HostRuntime) -> Result<(), Fail> {
     let streams = [
-        whole(&[Part::Games(0, 701)]),
-        whole(&[Part::Games(900, 1), Part::Games(700, 1)]),
+        [Part::Games(0, 701)].as_slice(),
+        [Part::Games(900, 1), Part::Games(700, 1)].as_slice(),
     ];
     let stored = [(1, 0, 512), (2, 512, 189)];
     let refused = [refusal(194, Why::Repeated { number: 700 })];
@@ -212,8 +262,7 @@ fn stored_text_is_refused_with_its_number_and_the_other_stays(rt: HostRuntime) -
             refused.as_slice(),
         ),
     ];
-    assert!(rt; reports_say(&rt, rt.alloc(), &[], &streams, &wanted)?);
-    Ok(())
+    assert_reports(&rt, rt.alloc(), &[], &streams, &wanted)
 }
 
 #[test]
@@ -236,8 +285,7 @@ fn refusals_stand_in_the_order_of_their_places(rt: HostRuntime) -> Result<(), Fa
         ),
         (ImportEnding::Whole, [].as_slice(), second.as_slice()),
     ];
-    assert!(rt; reports_say(&rt, rt.alloc(), &[], &[whole(&parts); 2], &wanted)?);
-    Ok(())
+    assert_reports(&rt, rt.alloc(), &[], &[parts.as_slice(); 2], &wanted)
 }
 
 #[test]
@@ -247,15 +295,6 @@ fn equal_streams_in_other_pieces_have_equal_reports(rt: HostRuntime) -> Result<(
         Part::Games(1, 2),
         Part::Bytes("[Event \"?\"]\n1. e4"),
     ];
-    let by_bytes = Stream {
-        most: 1,
-        ..whole(&parts)
-    };
-    let by_sevens = Stream {
-        most: 7,
-        ..whole(&parts)
-    };
-    let streams = [by_bytes, by_sevens, whole(&parts)];
     let no_site = TagFault::Missing {
         name: TagName::Site,
     };
@@ -275,10 +314,28 @@ fn equal_streams_in_other_pieces_have_equal_reports(rt: HostRuntime) -> Result<(
             first.as_slice(),
         ),
         (ImportEnding::Whole, [].as_slice(), others.as_slice()),
-        (ImportEnding::Whole, [].as_slice(), others.as_slice()),
     ];
-    assert!(rt; reports_say(&rt, rt.alloc(), &[], &streams, &wanted)?);
-    Ok(())
+    assert_reports(&rt, rt.alloc(), &[], &[parts.as_slice(); 2], &wanted)
+}
+
+#[test]
+fn texts_that_come_twice_are_refused_over_groups(rt: HostRuntime) -> Result<(), Fail> {
+    // The texts from 1100 to 1699 come twice: they are the games from 500 on.
+    let parts = [Part::Games(0, 1100), Part::Games(500, 700)];
+    let batches = [(1, 0, 512), (2, 512, 512), (3, 1024, 76), (4, 1100, 100)];
+    let repeated = repeated_behind(rt.alloc(), 1100, 1700)?;
+    let wanted = (ImportEnding::Whole, batches.as_slice(), repeated.as_slice());
+    assert_reports(&rt, rt.alloc(), &[], &[parts.as_slice()], &[wanted])
+}
+
+/// The refusals of texts from this one on, each with the number of the game 600 texts before it.
+fn repeated_behind(alloc: Global, from: u32, to: u32) -> Result<Vec<Refusal>, AllocError> {
+    let mut refused = Vec::new(alloc);
+    for n in from..to {
+        let number = n.saturating_sub(600);
+        refused.push(refusal(194 * u64::from(n), Why::Repeated { number }))?;
+    }
+    Ok(refused)
 }
 
 // ---- faults
@@ -302,9 +359,9 @@ fn a_failed_read_leaves_the_whole_groups(rt: HostRuntime) -> Result<(), Fail> {
 #[test]
 fn a_disk_fault_closes_the_store(rt: HostRuntime) -> Result<(), Fail> {
     let streams = [
-        whole(&[Part::Games(0, 1)]),
-        whole(&[Part::Games(0, 2)]),
-        whole(&[Part::Games(2, 1)]),
+        [Part::Games(0, 1)].as_slice(),
+        [Part::Games(0, 2)].as_slice(),
+        [Part::Games(2, 1)].as_slice(),
     ];
     let fault = ImportEnding::DiskFault {
         before: 0,
@@ -321,6 +378,5 @@ fn a_disk_fault_closes_the_store(rt: HostRuntime) -> Result<(), Fail> {
         (closed, [].as_slice(), [].as_slice()),
     ];
     // Making the store calls the disk three times, and storing a batch four times.
-    assert!(rt; reports_say(&rt, rt.alloc(), &[8], &streams, &wanted)?);
-    Ok(())
+    assert_reports(&rt, rt.alloc(), &[8], &streams, &wanted)
 }

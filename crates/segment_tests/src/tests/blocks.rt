@@ -6,6 +6,7 @@ use super::rows::to_rows;
 use explorer_model::archive::{Group, Month, Outcome, Speed};
 use explorer_model::chess::Move;
 use explorer_model::square::Square;
+use packed_keys::PositionKey;
 use segment_blocks::{PackedRows, RowWalk, Segment, Steps};
 use std::alloc::{AllocError, Global};
 use std::marker::Brand;
@@ -14,7 +15,7 @@ use std::test::Fail;
 use tally_rows::{Row, RowKey, Single, rows_of};
 
 /// The key of some position, told by its first two bytes.
-fn key(first: u8, second: u8) -> [u8; 34] {
+fn key(first: u8, second: u8) -> PositionKey {
     let mut key = [0; 34];
     key[0] = first;
     key[1] = second;
@@ -22,7 +23,7 @@ fn key(first: u8, second: u8) -> [u8; 34] {
 }
 
 /// One game of a month, 1 to 150, in the position of a key. With a move it is e2 to e4.
-fn game(key: [u8; 34], month: u32, number: u32, goes_on: bool) -> Single {
+fn game(key: PositionKey, month: u32, number: u32, goes_on: bool) -> Single {
     let king_pawn = Move {
         from: Square { index: 12 },
         to: Square { index: 28 },
@@ -89,7 +90,7 @@ fn are_in_order(rows: &[Row]) -> bool
 }
 
 /// Whether a walk at the key gives the rows that have it, and then none.
-fn walks_at<L: Ledger>(packed: &PackedRows, rows: &[Row], key: &[u8; 34], blank: Blank) -> bool
+fn walks_at<L: Ledger>(packed: &PackedRows, rows: &[Row], key: &PositionKey, blank: Blank) -> bool
     requires name { blank.name ≡ L.name }
     requires parts { blank.parts ≡ L.parts }
     requires some { 0 < L.parts }
@@ -105,7 +106,7 @@ fn walks_at<L: Ledger>(packed: &PackedRows, rows: &[Row], key: &[u8; 34], blank:
 }
 
 /// Whether a walk from the key on gives the rows whose key is not below it, and then none.
-fn walks_from<L: Ledger>(packed: &PackedRows, rows: &[Row], key: &[u8; 34], blank: Blank) -> bool
+fn walks_from<L: Ledger>(packed: &PackedRows, rows: &[Row], key: &PositionKey, blank: Blank) -> bool
     requires name { blank.name ≡ L.name }
     requires parts { blank.parts ≡ L.parts }
     requires some { 0 < L.parts }
@@ -129,7 +130,7 @@ fn gives<L: Ledger>(walk: &mut RowWalk<'_>, row: &Row, steps: &mut Steps<L>) -> 
 }
 
 /// Whether walks at the key and from it give what a plain filter of the rows gives.
-fn are_walked(packed: &PackedRows, rows: &[Row], key: &[u8; 34]) -> bool {
+fn are_walked(packed: &PackedRows, rows: &[Row], key: &PositionKey) -> bool {
     walks_at::<Brand>(packed, rows, key, Blank::new(1))
         && walks_from::<Brand>(packed, rows, key, Blank::new(1))
 }
@@ -164,8 +165,8 @@ fn a_walk_gives_what_a_plain_filter_gives(rt: HostRuntime) -> Result<(), Fail> {
 fn walks_within<L: Ledger>(
     packed: &PackedRows,
     rows: &[Row],
-    from: &[u8; 34],
-    below: &[u8; 34],
+    from: &PositionKey,
+    below: &PositionKey,
     blank: Blank,
 ) -> bool
     requires name { blank.name ≡ L.name }
@@ -186,7 +187,7 @@ fn walks_within<L: Ledger>(
 }
 
 /// The same, where nobody counts the steps.
-fn are_within(packed: &PackedRows, rows: &[Row], from: &[u8; 34], below: &[u8; 34]) -> bool {
+fn are_within(packed: &PackedRows, rows: &[Row], from: &PositionKey, below: &PositionKey) -> bool {
     walks_within::<Brand>(packed, rows, from, below, Blank::new(1))
 }
 
@@ -195,7 +196,7 @@ fn first_keys<L: Ledger>(
     alloc: Global,
     packed: &PackedRows,
     blank: Blank,
-) -> Result<Vec<Option<[u8; 34]>>, AllocError>
+) -> Result<Vec<Option<PositionKey>>, AllocError>
     requires name { blank.name ≡ L.name }
     requires parts { blank.parts ≡ L.parts }
     requires some { 0 < L.parts }
@@ -236,7 +237,7 @@ fn a_walk_within_keys_gives_what_a_plain_filter_gives(rt: HostRuntime) -> Result
 /// 1,024 has eleven binary digits.
 fn rows_at_in_1024_blocks<'a, L: Ledger>(
     packed: &'a PackedRows,
-    key: &[u8; 34],
+    key: &PositionKey,
     steps: &mut Steps<L>,
 ) -> RowWalk<'a>
     requires { packed.now.blocks ≤ 1024 }

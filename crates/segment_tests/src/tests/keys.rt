@@ -1,7 +1,7 @@
 //! Keys whose bytes are known from the layout, and bytes that are no key.
 use explorer_model::chess::{Color, Piece, Position, Rights, Role};
 use explorer_model::square::Square;
-use packed_keys::{pack, unpack};
+use packed_keys::{PositionKey, pack, unpack};
 
 const NO_RIGHTS: Rights = Rights {
     white_short: false,
@@ -10,13 +10,13 @@ const NO_RIGHTS: Rights = Rights {
     black_long: false,
 };
 
-const START_KEY: [u8; 34] = [
+const START_KEY: PositionKey = [
     0x24, 0x53, 0x36, 0x42, 0x11, 0x11, 0x11, 0x11, 0, 0, 0, 0, 0, 0, 0, 0, 0, 0, 0, 0, 0, 0, 0, 0,
     0x77, 0x77, 0x77, 0x77, 0x8a, 0xb9, 0x9c, 0xa8, 0x1e, 0x00,
 ];
 
 /// The key is read as this position.
-fn is_read_as(key: &[u8; 34], position: &Position) -> bool {
+fn is_read_as(key: &PositionKey, position: &Position) -> bool {
     match unpack(key) {
         None => false,
         Some(read) => {

@@ -6,12 +6,13 @@ use explorer_model::answer::Totals;
 use explorer_model::archive::{Group, Month, Outcome, Speed};
 use explorer_model::chess::{Move, Role};
 use explorer_model::square::Square;
+use packed_keys::PositionKey;
 use std::alloc::{AllocError, Global};
 use std::test::Fail;
 use tally_rows::{Cell, CountedAs, CountedRow, Grid, Row, RowKey, Single, rows_of};
 
 /// The key of some position, told by its first byte.
-fn key(first: u8) -> [u8; 34] {
+fn key(first: u8) -> PositionKey {
     let mut key = [0; 34];
     key[0] = first;
     key

@@ -11,10 +11,10 @@ use std::sync::Arc;
 use std::sync::ledger::{Blank, Ledger};
 use std::test::Fail;
 use std::thread::join;
-use tally_rows::{Row, Tally};
+use tally_rows::{PositionKey, Row, Tally};
 
 /// Whether a walk at the key gives the rows that have it, and then none.
-fn is_filtered<L: Ledger>(segment: &Segment, rows: &[Row], key: &[u8; 34], blank: Blank) -> bool
+fn is_filtered<L: Ledger>(segment: &Segment, rows: &[Row], key: &PositionKey, blank: Blank) -> bool
     requires name { blank.name ≡ L.name }
     requires parts { blank.parts ≡ L.parts }
     requires some { 0 < L.parts }
@@ -39,14 +39,14 @@ fn gives<L: Ledger>(walk: &mut RowWalk<'_>, row: &Row, steps: &mut Steps<L>) -> 
 
 /// Whether no row has the key. Three digits are enough for fewer than eight blocks, and the answer
 /// is one step more.
-fn has_no_row<L: Ledger>(segment: &Segment, key: &[u8; 34], steps: &mut Steps<L>) -> bool
+fn has_no_row<L: Ledger>(segment: &Segment, key: &PositionKey, steps: &mut Steps<L>) -> bool
     requires { segment.now.blocks < 8 }
     ensures { steps.new ≤ steps.old + 132 }
 {
     segment.rows_at(key, steps).next(steps).is_none()
 }
 
-fn is_absent_by<L: Ledger>(segment: &Segment, key: &[u8; 34], blank: Blank) -> bool
+fn is_absent_by<L: Ledger>(segment: &Segment, key: &PositionKey, blank: Blank) -> bool
     requires blocks { segment.now.blocks < 8 }
     requires name { blank.name ≡ L.name }
     requires parts { blank.parts ≡ L.parts }
@@ -57,12 +57,12 @@ fn is_absent_by<L: Ledger>(segment: &Segment, key: &[u8; 34], blank: Blank) -> b
 }
 
 /// Whether a walk at the key gives what a plain filter of the rows gives.
-pub(super) fn is_walked(segment: &Segment, rows: &[Row], key: &[u8; 34]) -> bool {
+pub(super) fn is_walked(segment: &Segment, rows: &[Row], key: &PositionKey) -> bool {
     is_filtered::<Brand>(segment, rows, key, Blank::new(1))
 }
 
 /// Whether no row of a segment of few blocks has the key.
-fn is_absent(segment: &Segment, key: &[u8; 34]) -> bool {
+fn is_absent(segment: &Segment, key: &PositionKey) -> bool {
     segment.block_count() < 8 && is_absent_by::<Brand>(segment, key, Blank::new(1))
 }
 

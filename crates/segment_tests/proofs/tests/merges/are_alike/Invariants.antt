@@ -1,4 +1,4 @@
-use Rattle.segment_tests.proofs.tests.merges.rows_in_ranges_are_those_packed_at_once.Given as goal
+use Rattle.segment_tests.proofs.tests.merges.are_alike.Given as goal
 
 abbrev pub ghosts-all_rows : goal.ghosts-all_rows
 ghosts-all_rows g a = record { name = a.blank.name; parts = a.blank.parts }
