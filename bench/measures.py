@@ -152,23 +152,39 @@ SHARES = {
     "merging": "import_run::merging::merge_due",
     "answering": "lookup::answer::look_segments",
 }
+# What the calling thread of an import does by itself.
+IMPORT_SHARES = {
+    "reading and cutting": "import_run::ahead::Ahead::read_on",
+}
 
 
-def shares(options):
-    """The shares of `explorer count` that go to some functions and all that they call, by valgrind."""
-    measuring.need("valgrind", "valgrind")
-    pgn = measuring.games(options.archive, options.few)
-    noted = measuring.work_folder() / "callgrind.out"
-    instructed("count", "", "--workers", "1", stdin=pgn, noted=noted)
+def shares_table(what, noted, games, functions):
+    """The shares of a run that callgrind noted which go to some functions and all that they call."""
     listed = Ran(["callgrind_annotate", "--inclusive=yes", "--threshold=100", noted]).output
     found = re.findall(r"^ *([\d,]+) \(.*?\)  [^:\s]*:(\S+)", listed, re.MULTILINE)
     # A function that is generic has a name for each of its forms; one that calls itself, a second one with a mark.
     counts = {name: sum(int(count.replace(",", "")) for count, at in found if re.fullmatch(rf"{name}(::<[^>]*>)?", at))
-              for name in SHARES.values()}
+              for name in functions.values()}
     whole = int(re.search(r"([\d,]+) .*PROGRAM TOTALS", listed)[1].replace(",", ""))
-    rows = [[what, f"{counts[name] / whole:.1%}", f"`{name}`"] for what, name in SHARES.items() if counts[name]]
-    title = f"Shares of the {whole / options.few:,.0f} instructions a game of `explorer count`, {options.few:,} games, 1 worker"
-    return [table(title, ["", "share", "the function, with all that it calls"], rows)]
+    rows = [[told, f"{counts[name] / whole:.1%}", f"{counts[name] / games:,.0f}", f"`{name}`"]
+            for told, name in functions.items() if counts[name]]
+    title = f"Shares of the {whole / games:,.0f} instructions a game of `explorer {what}`, {games:,} games, 1 worker"
+    return table(title, ["", "share", "a game", "the function, with all that it calls"], rows)
+
+
+def shares(options):
+    """The shares of `explorer count` and of `explorer import` that go to some functions, by valgrind."""
+    measuring.need("valgrind", "valgrind")
+    pgn = measuring.games(options.archive, options.few)
+    noted = measuring.work_folder() / "callgrind.out"
+    instructed("count", "", "--workers", "1", stdin=pgn, noted=noted)
+    tables = [shares_table("count", noted, options.few, SHARES)]
+    store = measuring.work_folder() / "shares.store"
+    store.unlink(missing_ok=True)
+    Ran([measuring.explorer(), "create", store])
+    instructed("import", store, pgn, "--workers", "1", noted=noted)
+    store.unlink()
+    return [*tables, shares_table("import", noted, options.few, {**SHARES, **IMPORT_SHARES})]
 
 
 def query(options):

@@ -45,7 +45,8 @@ def explorer():
 def environment(words):
     """What a program runs in. For the explorer malloc is set as its launcher sets it, where nobody has set it otherwise."""
     starting = (TOP / "tools/starting.sh").read_text(encoding="utf-8")
-    settings = {"GLIBC_TUNABLES": re.search(r"GLIBC_TUNABLES-([^}]*)}", starting)[1]}
+    settings = re.search(r"GLIBC_TUNABLES-([^}]*)}", starting)[1]
+    settings = {"GLIBC_TUNABLES": settings.replace("$(nproc)", str(len(os.sched_getaffinity(0))))}
     return {**settings, **os.environ} if str(words[0]) == str(program()) else None
 
 

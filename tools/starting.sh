@@ -30,9 +30,10 @@ USES
 
 # What threads let go is kept for what they ask for next. By glibc's own settings they give it back to the system, and have it cleared
 # and handed out anew, for which all threads of a process wait. The most that is held at once is the same. What takes 4 MiB or more at
-# once, as the reply to a large request, goes back to the system all the same.
+# once, as the reply to a large request, goes back to the system all the same. Threads share as many heaps as there are processors: more
+# would each keep what its threads let go.
 set_malloc() {
-  export GLIBC_TUNABLES=${GLIBC_TUNABLES-glibc.malloc.mmap_threshold=4194304:glibc.malloc.trim_threshold=1073741824:glibc.malloc.top_pad=4194304}
+  export GLIBC_TUNABLES=${GLIBC_TUNABLES-glibc.malloc.mmap_threshold=4194304:glibc.malloc.trim_threshold=1073741824:glibc.malloc.top_pad=4194304:glibc.malloc.arena_max=$(nproc)}
 }
 
 # Becomes the program; without words it says what can be done, and ends with status 2.

@@ -72,7 +72,8 @@ class Run(unittest.TestCase):
             self.assertIn("bench/run: error:", errors)
 
     def test_each_script_tells_its_usage(self):
-        for name in ("cuts", "kill", "legal", "lookup", "memory", "perft", "segments", "steps", "store", "tally", "too-long", "wire"):
+        names = "cuts kill legal long-texts lookup memory perft segments steps store tally too-long wire"
+        for name in names.split():
             status, output, _ = support.run_tool(str(support.TOP / "bench" / name), "--help")
             self.assertEqual(status, 0)
             self.assertIn(f"usage: bench/{name}", output)
