@@ -148,8 +148,8 @@ SHARES = {
     "cutting the stream into texts": "pgn_cut::cutter::Cutter::feed",
     "tallying groups of texts": "batch_tally::tallying::tally",
     "of that, replaying": "game_replay::replaying::replay",
-    "packing the rows of batches": "ingest_desk::commit::share_of",
-    "merging": "import_run::merging::merge_due",
+    "packing the rows of batches": "segment_blocks::segment::Segment::of",
+    "merging": "segment_merge::ranges::merge",
     "answering": "lookup::answer::look_segments",
 }
 # What the calling thread of an import does by itself.
