@@ -1,10 +1,6 @@
 -- What is left of a list.
-use Rattle.std.proofs.Common.{◌≡◌, suc, length, arith, List, [], ◌∷◌, subst}
-use Rattle.std.proofs.lemmas.List.{nil_from_length}
+use Rattle.std.proofs.Common.{◌≡◌, suc, arith, List, ◌∷◌, subst}
 use Rattle.std.specs.List.{All}
-
-pub nothing-left : {A : Type 0} (left : List A) → length left ≡ 0 → left ≡ []
-nothing-left left none = nil_from_length left none
 
 -- what holds of all items that are left holds of those behind the first
 pub short-rest : {A : Type 0} (P : A → Type 0) (left more : List A) (x : A) → left ≡ x ∷ more → All P left → All P more

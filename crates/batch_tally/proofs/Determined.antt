@@ -1,7 +1,8 @@
 -- Texts have one tallying.
-use Rattle.std.proofs.Common.{◌≡◌, ◌↔◌, ℕ, List, [], ◌∷◌, map, Option, Some, None, Result, Ok, refl, sym, ap, ◌∙◌, subst, arith}
+use Rattle.std.proofs.Common.{◌≡◌, ◌↔◌, ℕ, List, [], ◌∷◌, map, Option, Some, None, Result, Ok, refl, sym, ap, ◌∙◌, subst}
 use Rattle.std.proofs.lemmas.Option.{none-some, same_Some}
 use Rattle.std.specs.List.{AllZip}
+use Rattle.plain_laws.specs.Lists.{cons-nil}
 use Rattle.explorer_model.specs.declared.archive.Classes.{Classes}
 use Rattle.explorer_model.specs.declared.archive.Game.{Game}
 use Rattle.explorer_model.specs.declared.archive.Placed.{Placed}
@@ -68,9 +69,6 @@ one-count single accepted counted other first second =
     let R : List Track → Type 0 = λ tracks. Tallied tracks counted.rows in
     let rows = single.rows second.tracks counted.rows other.rows (subst R tracks first.tallied) second.tallied in
     λ i. record { batch = batch i; classes = classes i; rows = rows i }
-
-cons-nil : {A : Type 0} (x : A) (xs : List A) → x ∷ xs ≡ [] → ⊥
-cons-nil x xs e = grind (arith, e)
 
 some-candidate : (accepted : List Candidate) (counted : Counted) → Counts accepted counted → accepted ≡ [] → ⊥
 some-candidate [] counted counts e = none-some counted.batch counts.batch

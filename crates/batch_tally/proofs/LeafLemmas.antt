@@ -1,5 +1,5 @@
 -- What leaves make, and what a call answers.
-use Rattle.std.proofs.Common.{◌≡◌, ◌<◌, ℕ, suc, Ok, Err, Result, IfOk, List, [], ◌∷◌, map, length, get_or, sym, ap, ◌∙◌, subst, arith}
+use Rattle.std.proofs.Common.{◌≡◌, ◌<◌, ℕ, suc, Ok, Result, IfOk, List, [], ◌∷◌, map, length, get_or, sym, ap, ◌∙◌, subst, arith}
 use Rattle.std.specs.declared.alloc.AllocError.{AllocError}
 use Rattle.std.specs.List.{AllZip}
 use Rattle.std.proofs.lemmas.List.{length-map}
@@ -30,7 +30,3 @@ made-each {L} {V} P leaves results made ok count each =
     subst (λ (rs : List (Result V AllocError)). IfOk (get_or rs n d) (P (get_or leaves n l))) (sym ok) (each n d l below))
 
 -- ---- a call's answer
-
-pub if-ok : {V E : Type 0} (P Q : V → Type 0) (result : Result V E) → ((v : V) → P v → Q v) → IfOk result P → IfOk result Q
-if-ok P Q (Ok v) more is = more v is
-if-ok P Q (Err e) more is = tt

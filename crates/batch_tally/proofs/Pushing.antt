@@ -4,13 +4,13 @@ use Rattle.std.specs.List.{list_any}
 use Rattle.std.proofs.lemmas.List.{append_assoc, append-nil, map_push}
 use Rattle.std.proofs.Math.Seq.{drop-cons, take-suc}
 use Rattle.std.proofs.Math.ListN.{drop_of_length-le}
+use Rattle.std.proofs.Math.Numerals.{suc-eq-add-one}
 use Rattle.explorer_model.specs.declared.archive.Classes.{Classes}
 use Rattle.tally_rows.specs.declared.single.Single.{Single}
 use Rattle.tally_rows.specs.Games.{has_key, first_steps, single_at}
 use Rattle.tally_rows.specs.Track as tracks
 use Rattle.batch_tally.specs.declared.step.Step.{Step}
 use Rattle.batch_tally.specs.Steps.{step_as}
-use Rattle.batch_tally.proofs.Stages.{next-place}
 
 -- what the steps from a place on give behind those before it
 abbrev pub left_from : Classes → ℕ → List Step → ℕ → List Single
@@ -24,12 +24,12 @@ pub record Pushing (classes : Classes) (number : ℕ) (steps : List Step) (befor
 place-of : (steps : List Step) (place : ℕ) (step : Step) → place < length steps → get_or steps place step ≡ step
     → drop place steps ≡ step ∷ drop (place + 1) steps
 place-of steps place step below is =
-    drop-cons steps place step below ∙ ap (λ s. s ∷ drop (suc place) steps) is ∙ ap (λ n. step ∷ drop n steps) (next-place place)
+    drop-cons steps place step below ∙ ap (λ s. s ∷ drop (suc place) steps) is ∙ ap (λ n. step ∷ drop n steps) (suc-eq-add-one place)
 
 pub before-of : (steps : List Step) (place : ℕ) (step : Step) → place < length steps → get_or steps place step ≡ step
     → take (place + 1) steps ≡ take place steps ++ step ∷ []
 before-of steps place step below is =
-    ap (λ n. take n steps) (sym (next-place place)) ∙ take-suc steps place step below ∙ ap (λ s. take place steps ++ s ∷ []) is
+    ap (λ n. take n steps) (sym (suc-eq-add-one place)) ∙ take-suc steps place step below ∙ ap (λ s. take place steps ++ s ∷ []) is
 
 -- what is left at a step, by whether an earlier one has its key
 abbrev pub left_at : Classes → ℕ → List tracks.Step → tracks.Step → List tracks.Step → Bool → List Single

@@ -4,6 +4,7 @@ use Rattle.std.specs.List.{All, AllByRecursion, AllZip, filter, flat_map}
 use Rattle.std.proofs.lemmas.List.{append_assoc, append-nil, length-append, get_or-map, length-map, length-take-le, map_more}
 use Rattle.std.proofs.lemmas.List.Elements.{filter-append, recursion_from_All}
 use Rattle.std.proofs.Math.Seq.{take-suc}
+use Rattle.std.proofs.Math.Numerals.{suc-eq-add-one}
 use Rattle.tally_rows.specs.declared.key_range.KeyRange.{KeyRange}
 use Rattle.tally_rows.specs.declared.row.Row.{Row}
 use Rattle.tally_rows.specs.declared.single.Single.{Single}
@@ -16,7 +17,6 @@ use Rattle.tally_rows.specs.Within.{TalliedWithin, is_in_range, is_word_in, Foll
 use Rattle.batch_tally.specs.declared.accepting.Accepted.{Accepted}
 use Rattle.batch_tally.specs.Accepting.{IsCounted}
 use Rattle.batch_tally.specs.Singles.{AreTracksOf, AreRowsIn, AreRowsOf, numbered, is_kept, singles_in, singles_of, word_of}
-use Rattle.batch_tally.proofs.Stages.{next-place}
 
 -- ---- the singles in a range are those of the games' tracks
 
@@ -126,7 +126,7 @@ one-game range games counted singles more number next index a below is pushed gr
     let short : length (singles_of a.count) ≤ 51 = subst (λ (x : Accepted). length (singles_of x.count) ≤ 51) is (counted index a below).singles.few in
     let new = filter (is_kept range) (map (numbered number) (singles_of a.count)) in
     let taken : take (index + 1) games ≡ take index games ++ a ∷ [] =
-    ap (λ n. take n games) (sym (next-place index)) ∙ take-suc games index a below ∙ ap (λ x. take index games ++ x ∷ []) is in
+    ap (λ n. take n games) (sym (suc-eq-add-one index)) ∙ take-suc games index a below ∙ ap (λ x. take index games ++ x ∷ []) is in
     let long : length (take index games) ≡ index = length-take-le index games (omega (arith, below)) in
     let by : number ≡ 0 + length (take index games) = (let n = keeping.numbered_by in omega (arith, n, long)) in
     record {

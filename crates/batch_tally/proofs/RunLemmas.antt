@@ -7,6 +7,7 @@ use Rattle.std.proofs.lemmas.List.{append_assoc, append-nil, drop-append-le, dro
 use Rattle.std.proofs.lemmas.List.Elements.{All-push, recursion_from_All}
 use Rattle.std.proofs.Math.ListN.{drop_of_length-le}
 use Rattle.std.proofs.Math.Seq.{drop-append_seam}
+use Rattle.std.proofs.lemmas.Result.{IfOk-weaker}
 use Rattle.explorer_model.specs.declared.archive.Game.{Game}
 use Rattle.explorer_model.specs.declared.archive.Placed.{Placed}
 use Rattle.explorer_model.specs.declared.fault.GameFault.{GameFault}
@@ -21,7 +22,7 @@ use Rattle.batch_tally.specs.declared.singles.Count.{Count}
 use Rattle.batch_tally.specs.declared.singles.RunCount.{RunCount}
 use Rattle.batch_tally.specs.Reading.{AreContentsOf, AreRunsFrom, IsPartOf, IsReadBehind, IsReadingOf, readings_of, run_of}
 use Rattle.batch_tally.specs.Singles.{ArePushed, AreSinglesOf, IsCountOf, part_of, word_of}
-use Rattle.batch_tally.proofs.LeafLemmas.{if-ok, made-each, ok_part}
+use Rattle.batch_tally.proofs.LeafLemmas.{made-each, ok_part}
 
 -- ---- the texts of all runs are all texts
 
@@ -75,8 +76,7 @@ more-part before own text part is =
     record {
       game = is.game;
       within = (let within = is.within in let long = length-append before own in omega (arith, within, long));
-      counted = if-ok (λ game. AreSinglesOf game (part_of before part.from part.number))
-          (λ game. AreSinglesOf game (part_of (before ++ own) part.from part.number)) part.game
+      counted = IfOk-weaker part.game (λ game. AreSinglesOf game (part_of before part.from part.number)) (λ game. AreSinglesOf game (part_of (before ++ own) part.from part.number))
           (λ game are. subst (AreSinglesOf game) (sym kept) are) is.counted;
     }
 
@@ -158,8 +158,7 @@ contents-each run words (text ∷ texts) [] of each = absurd each
 contents-each run words (text ∷ texts) (one ∷ made) of each = (
   record {
     game = each.0.game;
-    counted = if-ok (λ game. AreSinglesOf game (part_of run.singles.items one.count.from one.count.number)) (λ game. IsCountOf game one.count)
-        one.game (counted-by run words one.count of.0) each.0.counted;
+    counted = IfOk-weaker one.game (λ game. AreSinglesOf game (part_of run.singles.items one.count.from one.count.number)) (λ game. IsCountOf game one.count) (counted-by run words one.count of.0) each.0.counted;
   },
   contents-each run words texts made of.1 each.1,
 )

@@ -1,12 +1,9 @@
 -- The steps of a game, one after another.
-use Rattle.std.proofs.Common.{◌≡◌, ◌++◌, ◌+◌, ◌-◌, ◌<◌, ◌≤◌, ℕ, zero, suc, List, [], ◌∷◌, take, drop, length, get_or, inl, inr, Option, Some, None, sym, ap, ◌∙◌, subst, refl, arith}
+use Rattle.std.proofs.Common.{◌≡◌, ◌++◌, ◌+◌, ◌-◌, ◌<◌, ◌≤◌, ℕ, zero, suc, List, [], ◌∷◌, take, drop, Option, Some, None, sym, ap, ◌∙◌, subst, refl, arith}
 use Rattle.std.specs.Prelude.{slice_get}
 use Rattle.std.specs.List.{AllZip}
-use Rattle.std.proofs.lemmas.Bool.{cases_lt}
 use Rattle.std.proofs.lemmas.List.{append_assoc, append-nil}
-use Rattle.std.proofs.lemmas.Option.{none-some, slice_get_within, get_or_from_slice_get, slice_get-get_or}
-use Rattle.std.proofs.Math.ListN.{drop_of_length-le}
-use Rattle.std.proofs.Math.Seq.{drop-cons}
+use Rattle.plain_laws.specs.Lists.{drop-get, drop-none}
 use Rattle.explorer_model.specs.declared.chess.Move.{Move}
 use Rattle.explorer_model.specs.declared.chess.Position.{Position}
 use Rattle.explorer_model.specs.Chess.{after, Legal}
@@ -16,24 +13,8 @@ use Rattle.explorer_model.specs.Visits.{AreLegalFrom, Stage, stages, stage_limit
 use Rattle.batch_tally.specs.declared.step.Step.{Step}
 use Rattle.batch_tally.specs.Steps.{IsStepAt, stages_within, Stepping}
 
-pub next-place : (i : ℕ) → suc i ≡ i + 1
-next-place i = omega arith
-
-pub get-some : {X : Type 0} (xs : List X) (i : ℕ) (x : X) → slice_get xs i ≡ Some x → drop i xs ≡ x ∷ drop (i + 1) xs
-get-some xs i x is =
-    drop-cons xs i x (slice_get_within xs i x is)
-    ∙ ap (λ y. y ∷ drop (suc i) xs) (get_or_from_slice_get xs i x x is)
-    ∙ ap (λ n. x ∷ drop n xs) (next-place i)
-
-pub get-none : {X : Type 0} (xs : List X) (i : ℕ) → slice_get xs i ≡ None → drop i xs ≡ []
-get-none [] i is = drop_of_length-le [] {i = i} (omega arith)
-get-none (x ∷ xs) i is = elim (cases_lt i (length (x ∷ xs))) [
-  | inl below ↦ absurd (none-some (get_or (x ∷ xs) i x) (sym is ∙ slice_get-get_or (x ∷ xs) i x below))
-  | inr past ↦ drop_of_length-le (x ∷ xs) past
-]
-
 pub legal-next : (p : Position) (moves : List Move) (ply : ℕ) (m : Move) → slice_get moves ply ≡ Some m → AreLegalFrom p (drop ply moves) → Legal p m
-legal-next p moves ply m is legal = let P : List Move → Type 0 = λ ms. AreLegalFrom p ms in (subst P (get-some moves ply m is) legal).0
+legal-next p moves ply m is legal = let P : List Move → Type 0 = λ ms. AreLegalFrom p ms in (subst P (drop-get moves ply m is) legal).0
 
 -- the step at the board
 pub step-at : (p tidy : Position) (next : Option Move) (step : Step) → IsTidied p tidy → step.key ≡ key tidy → step.next ≡ next
@@ -60,7 +41,7 @@ pub one-step : (root : Position) (moves : List Move) (board next : Position) (st
     → IsStepAt (record { position = board; next = Some m }) step
     → Stepping root moves board steps ply → Stepping root moves next more (ply + 1)
 one-step root moves board next steps more ply m step below is plays pushed at stepping =
-    let left : drop ply moves ≡ m ∷ drop (ply + 1) moves = get-some moves ply m is in
+    let left : drop ply moves ≡ m ∷ drop (ply + 1) moves = drop-get moves ply m is in
     let L : List Move → Type 0 = λ ms. AreLegalFrom board ms in
     let B : Position → Type 0 = λ p. AreLegalFrom p (drop (ply + 1) moves) in
     let Whole : List Step → Type 0 = λ s. AllZip IsStepAt (stages_within stage_limit root moves) s in
@@ -87,7 +68,7 @@ last-step root moves board steps more ply step below is pushed at stepping =
     let Whole : List Step → Type 0 = λ s. AllZip IsStepAt (stages_within stage_limit root moves) s in
     let Z : List Stage → Type 0 = λ ss. AllZip IsStepAt ss (step ∷ []) in
     let stages_are : stages_within (stage_limit - ply) board (drop ply moves) ≡ record { position = board; next = None } ∷ [] =
-    ap (λ ms. stages_within (stage_limit - ply) board ms) (get-none moves ply is)
+    ap (λ ms. stages_within (stage_limit - ply) board ms) (drop-none moves ply is)
     ∙ take-last (stage_limit - ply) board (omega (arith, below)) in
     subst Whole (sym pushed) (stepping.completes (step ∷ []) (subst Z (sym stages_are) (at, tt)))
 

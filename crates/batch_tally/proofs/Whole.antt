@@ -1,9 +1,10 @@
 -- What tallying answers, put together.
-use Rattle.std.proofs.Common.{◌≡◌, ◌≢◌, ◌≤◌, ℕ, zero, suc, List, [], ◌∷◌, map, length, Result, sym, ap, ◌∙◌, subst, refl, arith}
+use Rattle.std.proofs.Common.{◌≡◌, ◌≢◌, ◌≤◌, ℕ, zero, suc, List, [], ◌∷◌, map, length, Result, sym, ap, ◌∙◌, subst, arith}
 use Rattle.std.specs.List.{All, AllByRecursion, AllPairs, AllZip}
 use Rattle.std.proofs.lemmas.List.{length-map}
 use Rattle.std.proofs.lemmas.List.Elements.{All-from_recursion, recursion_from_All, All-map}
 use Rattle.std.proofs.lemmas.List.Kept.{AllPairs-cons}
+use Rattle.std.proofs.lemmas.Slice.Zip.{AllZip-long}
 use Rattle.explorer_model.specs.declared.archive.Classes.{Classes}
 use Rattle.explorer_model.specs.declared.archive.Game.{Game}
 use Rattle.explorer_model.specs.declared.archive.Placed.{Placed}
@@ -59,12 +60,6 @@ second-of : (accepted : List Accepted) → AllByRecursion (λ a. IsShortGame a.t
 second-of [] each = tt
 second-of (a ∷ accepted) each = (each.0.1, second-of accepted each.1)
 
-zip-length : {A B : Type 0} (R : A → B → Type 0) (xs : List A) (ys : List B) → AllZip R xs ys → length ys ≡ length xs
-zip-length R [] [] each = refl
-zip-length R [] (y ∷ ys) each = absurd each
-zip-length R (x ∷ xs) [] each = absurd each
-zip-length R (x ∷ xs) (y ∷ ys) each = ap suc (zip-length R xs ys each.1)
-
 pub are-candidates : (texts : List Placed) (readings : List Reading) (accepted : List Accepted)
     → length texts ≤ 512 → All (λ text. length text.bytes ≤ 65536) texts → AllZip IsReadingOf texts readings
     → map candidate_as accepted ≡ candidates (verdicts (map examination_as readings)) → AreCandidates accepted
@@ -78,7 +73,7 @@ are-candidates texts readings accepted few short each are =
     let many = ap (λ cs. length cs) are in
     let mapped = length-map accepted candidate_as in
     let fewer = no-more-candidates [] readings in
-    let read = zip-length IsReadingOf texts readings each in
+    let read = AllZip-long IsReadingOf texts readings each in
     record {
       few = omega (arith, many, mapped, fewer, read, few);
       games = All-from_recursion (λ a. IsTextOf a.text a.game) accepted (first-of accepted games);

@@ -5,7 +5,6 @@ mod accepting;
 mod kept_game;
 mod keyed_board;
 pub mod laws;
-mod leaves;
 mod ranges;
 mod reading;
 mod singles;

@@ -11,9 +11,8 @@ ghost use Rattle.std.specs.declared.alloc.AllocError.{AllocError};
 ghost use Rattle.std.specs.declared.alloc.Global.{Global};
 
 use crate::accepting::Accepted;
-use crate::leaves::all_made;
 use crate::singles::Count;
-use side_by_side::{Workers, map_taken};
+use side_by_side::{Workers, all_made, map_taken};
 use std::alloc::{AllocError, Global};
 use std::thread::Threads;
 use tally_rows::{CountedRow, KeyRange, Single, rows_of};

@@ -8,7 +8,6 @@ ghost use Rattle.batch_tally.specs.declared.reading.Contents.{Contents};
 ghost use Rattle.batch_tally.specs.declared.reading.Run.{Run};
 
 use crate::kept_game::KeptGame;
-use crate::leaves::all_made;
 use crate::singles::{Count, part_of, push_singles, run_count};
 use crate::steps::STAGE_LIMIT;
 use explorer_model::archive::{Bytes, Placed};
@@ -16,7 +15,7 @@ use explorer_model::fault::{GameFault, Stop};
 use game_replay::laws::games_begin_validly;
 use game_replay::replay;
 use outside::Gate;
-use side_by_side::{Workers, map_taken};
+use side_by_side::{Workers, all_made, map_taken};
 use std::alloc::{AllocError, Global};
 use std::sync::Arc;
 use std::thread::Threads;

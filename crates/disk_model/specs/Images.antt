@@ -2,6 +2,7 @@
 use Rattle.std.proofs.Common.{◌≡◌, inl, inr, ℕ, ◌+◌, ◌≤◌, nat_le, max, Bool, true, false, if◌then◌else◌, List, [], ◌∷◌, ◌++◌, length, take, drop, Some, refl, sym, ap, ◌∙◌, subst, arith, append_assoc, length-append, length-drop}
 use Rattle.std.proofs.lemmas.Bool.Decides.{nat_tests}
 use Rattle.std.proofs.lemmas.List.{take_at, drop_at, length-take-le}
+use Rattle.std.proofs.lemmas.Option.{same_Some}
 use Rattle.disk_model.specs.Disk.{written, Torn}
 use Rattle.disk_model.specs.Memory.{MemoryDisk, after_write, content_of, IsImage, WasImage, state_of, left_since}
 use Rattle.disk_model.specs.declared.call.DiskCall.{DiskCall}
@@ -79,17 +80,14 @@ only_now (call ∷ calls) image (inr past) = absurd (omega (arith, past.0))
 
 -- ---- the laws
 
-from_some : (file other : List ℕ) → Some file ≡ Some other → file ≡ other
-from_some file other is = cc
-
 pub told_size : (it : MemoryDisk) (file : List ℕ) → (state_of it).content ≡ Some file
     → length file ≡ (state_of it).size
-told_size it file is = ap length (sym (from_some (content_of it.calls) file is))
+told_size it file is = ap length (sym (same_Some (content_of it.calls) file is))
 
 pub told_left : (it : MemoryDisk) (file : List ℕ) → (state_of it).content ≡ Some file
     → left_since it (state_of it).moment file
 told_left it file is =
-    subst (WasImage it.calls (length it.calls)) (from_some (content_of it.calls) file is)
+    subst (WasImage it.calls (length it.calls)) (same_Some (content_of it.calls) file is)
     (since it.calls (length it.calls) _ (content-left it.calls))
 
 pub counts_now : (it : MemoryDisk) (t : ℕ) (image : List ℕ) → t ≤ (state_of it).moment

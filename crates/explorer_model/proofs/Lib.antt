@@ -19,3 +19,4 @@ pub mod LegalGames
 mod StoreExamples
 mod WireExamples
 mod TimelineExamples
+pub mod NameLemmas

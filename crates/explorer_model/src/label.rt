@@ -55,6 +55,15 @@ impl Label {
         Some(Label { text })
     }
 
+    /// The same label again, which takes no memory.
+    pub fn copy(&self) -> Label
+        ensures { result ≡ self.now }
+    {
+        let mut text = ArrayString::new();
+        text.push_str(self.as_str());
+        Label { text }
+    }
+
     pub fn as_str(&self) -> &str
         ensures text { result.now ≡ self.now }
         ensures label { is_label self.now ≡ true }

@@ -11,10 +11,12 @@
 
 pub mod answer;
 pub mod archive;
+pub mod bytes;
 pub mod chess;
 pub mod fault;
 pub mod label;
 pub mod laws;
+pub mod letters;
 pub mod list;
 pub mod notation;
 pub mod opening;

@@ -2,7 +2,7 @@
 use Rattle.std.proofs.Common.{◌≡◌, ℕ, zero, suc, ◌+◌, ◌-◌, ◌*◌, ◌<◌, ◌≤◌, ◌==◌, ◌&&◌, ◌||◌, Bool, true, false, not, List, [], ◌∷◌, ◌++◌, length, take, drop, replicate, slice_index_or, Option, Some, None, option_map, option_and_then, Ok, refl, sym, ap, ◌∙◌, append_assoc, arith, lit<, if◌then◌else◌, nat_le}
 use Rattle.std.specs.List.{slice_split, list_all, All}
 use Rattle.std.proofs.Math.Seq.{take-add}
-use Rattle.std.proofs.lemmas.Bool.{and_parts}
+use Rattle.std.proofs.lemmas.Bool.{and_parts, eq-eqb}
 use Rattle.std.proofs.lemmas.Bool.Decides.{nat_tests}
 use Rattle.std.proofs.lemmas.List.{append-nil, length-take-le, length-drop, take_all}
 use Rattle.std.proofs.lemmas.List.Elements.{All-nil, All-cons, All-append, All-weaker}
@@ -241,14 +241,11 @@ crossed_rank : (squares : List (Option Piece)) (turn : Color) (s : ℕ) → HasC
 crossed_rank squares White s crossed = omega (arith, crossed.0)
 crossed_rank squares Black s crossed = omega (arith, crossed.0)
 
-equal_test : (a b : ℕ) → a ≡ b → (a == b) ≡ true
-equal_test a b e = grind (arith, nat_tests)
-
 en_passant_read : (squares : List (Option Piece)) (turn : Color) (en_passant : Option Square) → ((s : ℕ) → IsSquare en_passant s → HasCrossed squares turn s)
     → en_passant_named turn (en_passant_text en_passant) ≡ Some (index_of en_passant)
 en_passant_read squares turn None stands = refl
 en_passant_read squares turn (Some square) stands =
-    let same : (rank_digit square.index == en_passant_digit turn) ≡ true = equal_test _ _ (crossed_rank squares turn square.index (stands square.index refl)) in
+    let same : (rank_digit square.index == en_passant_digit turn) ≡ true = eq-eqb _ _ (crossed_rank squares turn square.index (stands square.index refl)) in
     ap (λ (fits : Bool). if fits then option_map (λ s. Some s) (square_named (file_letter square.index) (rank_digit square.index)) else None) same
     ∙ ap (λ (o : Option ℕ). option_map (λ s. Some s) o) (square_read square.index square.on_board)
 

@@ -1,25 +1,13 @@
 //! The letters and digits of pieces and squares, read and written.
 ghost use Rattle.std.specs.Prelude.{◌≡◌, ◌+◌, ◌<◌, ◌≤◌, ◌++◌};
 ghost use Rattle.arrayvec.specs.ArrayVec.{array_vec_len};
-ghost use Rattle.explorer_model.specs.Letters.{letter_of, small_letter, role_of, file_named, rank_named, square_named, square_text};
+ghost use Rattle.explorer_model.specs.Letters.{small_letter, role_of, square_named, square_text};
 ghost use Rattle.explorer_model.specs.Fen.{all_roles};
 
 use arrayvec::ArrayVec;
 use explorer_model::chess::Role;
+use explorer_model::letters::{file_named, rank_named};
 use explorer_model::square::{file_of, rank_of};
-
-pub fn letter_of(role: Role) -> u8
-    ensures { result ≡ letter_of role }
-{
-    match role {
-        Role::Pawn => b'P',
-        Role::Knight => b'N',
-        Role::Bishop => b'B',
-        Role::Rook => b'R',
-        Role::Queen => b'Q',
-        Role::King => b'K',
-    }
-}
 
 pub fn small_letter(role: Role) -> u8
     ensures { result ≡ small_letter role }
@@ -65,22 +53,4 @@ pub fn push_square<const N: usize>(text: &mut ArrayVec<u8, N>, square: u8)
 {
     text.push(b'a' + file_of(square));
     text.push(b'1' + rank_of(square));
-}
-
-fn rank_named(byte: u8) -> Option<u8>
-    ensures { result ≡ rank_named byte }
-{
-    match byte {
-        b'1'..=b'8' => Some(byte - b'1'),
-        _ => None,
-    }
-}
-
-fn file_named(byte: u8) -> Option<u8>
-    ensures { result ≡ file_named byte }
-{
-    match byte {
-        b'a'..=b'h' => Some(byte - b'a'),
-        _ => None,
-    }
 }

@@ -3,9 +3,10 @@ ghost use Rattle.std.specs.Prelude.{◌≡◌, ◌+◌, ◌≤◌, ◌++◌, cod
 ghost use Rattle.arrayvec.specs.ArrayVec.{array_vec_len};
 ghost use Rattle.explorer_model.specs.Fen.{piece_letter, empty_text, run_text, ranks_text, turn_text, right_text, rights_text, en_passant_text, fen_text};
 
-use crate::letters::{letter_of, push_square, small_letter};
+use crate::letters::{push_square, small_letter};
 use arrayvec::ArrayVec;
 use explorer_model::chess::{Color, Piece, Rights};
+use explorer_model::letters::letter_of;
 use explorer_model::square::Square;
 use legal_moves::board::Board;
 

@@ -12,6 +12,7 @@ use crate::site::id_of;
 use crate::tags::{agrees_on_set_up, is_standard, required, value_of};
 use crate::time::{control_of, month_of};
 use explorer_model::archive::{Classes, GameId, Month, Outcome, Player, Speed, Tag, Tags};
+use explorer_model::bytes::utf8_of;
 use explorer_model::fault::{Stop, TagFault, TagName};
 use explorer_model::text::Name;
 use std::alloc::{AllocError, Global};
@@ -102,17 +103,6 @@ fn player(alloc: Global, name: &str, rating: u16) -> Result<Player, AllocError>
 {
     let name = Name::from_string(String::from_str(alloc, name)?);
     Ok(Player { name, rating })
-}
-
-/// The text that the bytes are, where they are valid UTF-8.
-#[tactic(auto, unfolding(explorer_model::specs::Classes::name_of))]
-fn utf8_of(bytes: &[u8]) -> Option<&str>
-    ensures { option_map (λ text. text.now) result ≡ name_of bytes.now }
-{
-    match str::from_utf8(bytes) {
-        Ok(text) => Some(text),
-        Err(_) => None,
-    }
 }
 
 #[tactic(auto, unfolding(explorer_model::specs::Classes::outcome_of))]

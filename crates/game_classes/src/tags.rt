@@ -7,6 +7,7 @@ ghost use Rattle.explorer_model.specs.Classes.{value_of, required, number_of, is
 ghost use Rattle.explorer_model.specs.Stop.{GivesBy};
 
 use explorer_model::archive::{Tag, Tags};
+use explorer_model::bytes::are_digits;
 use explorer_model::fault::{Stop, TagFault, TagName};
 
 /// The value of the first pair of the name.
@@ -29,18 +30,6 @@ pub fn required(name: TagName, tags: &[Tag]) -> Result<&[u8], Stop<TagFault>>
         Some(value) => Ok(value),
         None => Err(Stop::Fault(TagFault::Missing { name })),
     }
-}
-
-/// Every byte is a decimal digit.
-pub fn are_digits(text: &[u8]) -> bool
-    ensures { result ≡ all_ascii_digits text.now }
-{
-    for byte in text {
-        if !byte.is_ascii_digit() {
-            return false;
-        }
-    }
-    true
 }
 
 /// The number that one to `most` decimal digits write.

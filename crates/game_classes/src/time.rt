@@ -5,8 +5,9 @@ ghost use Rattle.explorer_model.specs.Classes.{clock_of, speed_of, control_of, m
 ghost use Rattle.game_classes.specs.Clocks.{clock, IsShort};
 
 use crate::bytes::split_once;
-use crate::tags::{are_digits, digits_value, number_of};
+use crate::tags::{digits_value, number_of};
 use explorer_model::archive::{Month, Speed};
+use explorer_model::bytes::are_digits;
 
 /// The time that a game gives each player: seconds for the game, and seconds more for each move.
 #[derive(Clone, Copy)]

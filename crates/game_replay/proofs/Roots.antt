@@ -1,6 +1,7 @@
 -- The position that a game begins in: a valid one, and the starting position where none is set up.
 use Rattle.std.proofs.Common.{◌≡◌, ℕ, List, length, nat_le, ok_or, Option, Some, None, Result, Ok, Err, IfOk, refl, sym, ap, ◌∙◌, subst, inl, inr}
 use Rattle.std.specs.Result.{result_map_both}
+use Rattle.std.proofs.lemmas.Result.{IfOk-weaker}
 use Rattle.explorer_model.specs.declared.archive.Game.{Game}
 use Rattle.explorer_model.specs.declared.archive.Parts.{Parts}
 use Rattle.explorer_model.specs.declared.chess.Position.{Position}
@@ -82,10 +83,6 @@ has-parts text found is =
     bind-if-given Same (HasParts found) (result_map_both (λ parts. parts) (λ fault. faults.Lex fault.place) (parts text)) _ (subst P (sym is) refl) (λ p same.
     bind-if (HasParts found) (result_map_both (λ classes. classes) faults.Tag (classes p.tags)) _ (λ _. same))
 
-if-ok : {A F : Type 0} (P Q : A → Type 0) (r : Result A F) → ((x : A) → P x → Q x) → IfOk r P → IfOk r Q
-if-ok P Q (Ok x) each holds = each x holds
-if-ok P Q (Err e) each holds = tt
-
 start-root : (found : Parts) (tagged : Tagged) → start_text found.tags ≡ None → HasParts found tagged → OfRoots IsStart tagged
 start-root found tagged none same = λ root reads.
     let R : Option (List ℕ) → Type 0 = λ text. RootReads text root in
@@ -97,4 +94,4 @@ pub begins-at-start : (text : List ℕ) (found : Parts) (game : Game) → parts 
     → game.root ≡ start
 begins-at-start text found game is none of =
     of-text IsStart text game
-    (if-ok (HasParts found) (OfRoots IsStart) (tagged text) (λ t same. start-root found t none same) (has-parts text found is)) of
+    (IfOk-weaker (tagged text) (HasParts found) (OfRoots IsStart) (λ t same. start-root found t none same) (has-parts text found is)) of

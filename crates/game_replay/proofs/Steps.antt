@@ -1,8 +1,8 @@
 -- One token after another.
-use Rattle.std.proofs.Common.{arith, ◌≡◌, ◌∙◌, sym, ap, subst, refl, inl, inr, ℕ, suc, ◌+◌, ◌<◌, ◌≤◌, List, [], ◌∷◌, ◌++◌, length, map, drop, Result, Ok, Err, Bool, true, if◌then◌else◌}
-use Rattle.std.proofs.Math.Seq.{drop-cons}
+use Rattle.std.proofs.Common.{arith, ◌≡◌, ◌∙◌, sym, ap, subst, refl, inl, inr, ℕ, ◌+◌, ◌<◌, ◌≤◌, List, [], ◌∷◌, ◌++◌, length, map, drop, Result, Ok, Err, Bool, true, if◌then◌else◌}
 use Rattle.std.proofs.lemmas.List.{append_assoc, append-nil, drop_all, length-map, get_or-map}
 use Rattle.std.specs.List.{slice_index_or}
+use Rattle.plain_laws.specs.Lists.{drop-read}
 use Rattle.explorer_model.specs.declared.archive.Token.{Token}
 use Rattle.explorer_model.specs.declared.chess.Move.{Move}
 use Rattle.explorer_model.specs.declared.chess.Position.{Position}
@@ -70,18 +70,11 @@ ends root tokens board moves all ply index playing past is =
     let plays : P (moves ++ []) = playing.completes (Ok []) (subst R (sym (drop_all index tokens past)) none) in
     subst P (append-nil moves ∙ sym is) plays
 
-pub here : (tokens : List Token) (index : ℕ) (token : Token) → index < length tokens → token ≡ slice_index_or tokens index token
-    → drop index tokens ≡ token ∷ drop (index + 1) tokens
-here tokens index token within is =
-    let next : suc index ≡ index + 1 = omega arith in
-    drop-cons tokens index token within
-    ∙ (ap (λ t. t ∷ drop (suc index) tokens) (sym is) ∙ ap (λ n. token ∷ drop n tokens) next)
-
 pub pushed : (moves more : List Move) (m : Move) (ok : Bool) → more ≡ (if ok then moves ++ m ∷ [] else moves) → ok ≡ true → more ≡ moves ++ m ∷ []
 pushed moves more m ok is holds = is ∙ ap (λ (b : Bool). if b then moves ++ m ∷ [] else moves) holds
 
 pub here_at : {X : Type 0} (f : X → Token) (xs : List X) (index : ℕ) (otherwise : X) → index < length xs
     → drop index (map f xs) ≡ f (slice_index_or xs index otherwise) ∷ drop (index + 1) (map f xs)
 here_at f xs index otherwise within =
-    here (map f xs) index (f (slice_index_or xs index otherwise)) (omega (arith, length-map xs f))
+    drop-read (map f xs) index (f (slice_index_or xs index otherwise)) (omega (arith, length-map xs f))
     (sym (get_or-map f xs index otherwise (f (slice_index_or xs index otherwise)) within))

@@ -5,6 +5,7 @@ use Rattle.std.specs.Str.{bytes_eq}
 use Rattle.std.proofs.lemmas.Bool.{cases_Bool}
 use Rattle.std.proofs.lemmas.Grind.{common_steps}
 use Rattle.std.proofs.lemmas.List.{reverse-append}
+use Rattle.plain_laws.specs.Bytes.{bytes_eq-is}
 use Rattle.outside.specs.Doors.{Connections}
 use Rattle.outside.specs.Stream.{Rises, Stream}
 use Rattle.outside.specs.Ports.{MemoryPort}
@@ -16,7 +17,7 @@ use Rattle.host.specs.Hosts.{HostCall, Thing, ADisk, AFile, ADoor, APort, DiskOu
 use Rattle.host.specs.declared.memory.MemAddress.{MemAddress}
 use Rattle.host.specs.Memory.{IsKept, IsRefusalOf, MemoryHost, NotesOrNot, Stock, call_of, calls_of, host_of, names_in, place_in, things_out, without}
 use Rattle.host.proofs.Places.{names-set, place-set}
-use Rattle.host.proofs.Things.{bytes_same, length-without, times-out}
+use Rattle.host.proofs.Things.{length-without, times-out}
 
 -- ---- calls, the newest first
 
@@ -33,7 +34,7 @@ known_more : {T : Type 0} (slots : List (Named T)) (name other : List ℕ) (befo
 known_more slots name other before i known at some = by (cases_Bool (bytes_eq other name))
   where
     by : (bytes_eq other name ≡ true) ⊎ (bytes_eq other name ≡ false) → IsSome (place_in other slots)
-    by (inl same) = subst (λ (n : List ℕ). IsSome (place_in n slots)) (sym (bytes_same other name same)) (rw at refl)
+    by (inl same) = subst (λ (n : List ℕ). IsSome (place_in n slots)) (sym (bytes_eq-is other name same)) (rw at refl)
     by (inr unlike) = known (omega (arith, (rw unlike at some)))
 
 pub kept_disk_out : (stock : Stock) (calls : List HostCall) (out size room size' room' i : ℕ) (name : List ℕ)

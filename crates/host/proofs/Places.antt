@@ -7,20 +7,10 @@ use Rattle.std.proofs.lemmas.List.Quantifiers.{position-Some}
 use Rattle.std.proofs.Math.Seq.{map-set_same}
 use Rattle.std.proofs.lemmas.List.{length-set}
 use Rattle.std.proofs.lemmas.List.Folds.{position_or_len-set}
+use Rattle.plain_laws.specs.Bytes.{bytes_eq-comm, bytes_eq-is}
 use Rattle.host.specs.declared.memory.Named.{Named}
 use Rattle.host.specs.Hosts.{put}
 use Rattle.host.specs.Memory.{is_named, place_in, under, names_of}
-use Rattle.host.proofs.Things.{bytes_same}
-
-bytes_sym : (name other : List ℕ) → bytes_eq name other ≡ bytes_eq other name
-bytes_sym name other = by (cases_Bool (bytes_eq name other)) (cases_Bool (bytes_eq other name))
-  where
-    by : (bytes_eq name other ≡ true) ⊎ (bytes_eq name other ≡ false)
-        → (bytes_eq other name ≡ true) ⊎ (bytes_eq other name ≡ false)
-        → bytes_eq name other ≡ bytes_eq other name
-    by (inl same) _ = rw (bytes_same name other same) refl
-    by (inr one) (inl same) = rw (bytes_same other name same) refl
-    by (inr one) (inr two) = one ∙ sym two
 
 -- what is named otherwise than a slot is none of its name
 unlike : {T : Type 0} (name other : List ℕ) (slot : Named T) → is_named name slot ≡ false
@@ -30,7 +20,7 @@ unlike name other slot differs here = by (cases_Bool (bytes_eq other name))
     by : (bytes_eq other name ≡ true) ⊎ (bytes_eq other name ≡ false) → bytes_eq other name ≡ false
     by (inr is) = is
     by (inl same) =
-        let e : is_named name slot ≡ true = subst (λ (n : List ℕ). is_named n slot ≡ true) (bytes_same other name same) here in
+        let e : is_named name slot ≡ true = subst (λ (n : List ℕ). is_named n slot ≡ true) (bytes_eq-is other name same) here in
         let no : true ≡ false = sym e ∙ differs in
         cc
 
@@ -68,7 +58,7 @@ under-at unknown told name (slot ∷ slots) (suc i) d first = rw first.0 (under-
 pub name-at : {T : Type 0} (name : List ℕ) (slots : List (Named T)) (i : ℕ) → First name slots i
     → get_or (names_of slots) i [] ≡ name
 name-at name [] i first = absurd first
-name-at name (slot ∷ slots) zero first = bytes_same (string_bytes slot.name) name first
+name-at name (slot ∷ slots) zero first = bytes_eq-is (string_bytes slot.name) name first
 name-at name (slot ∷ slots) (suc i) first = name-at name slots i first.1
 
 same_name : {T : Type 0} (slot new : Named T) (name : List ℕ) → new.name ≡ slot.name
@@ -81,7 +71,7 @@ pub under-set : {T A : Type 0} (unknown : A) (told : T → A) (name : List ℕ) 
     → under unknown told (set slots i new) other ≡ put name (told new.it) (under unknown told slots) other
 under-set unknown told name [] i new d first same other = absurd first
 under-set unknown told name (slot ∷ slots) zero new d first same other =
-    by (bytes_same (string_bytes slot.name) name first)
+    by (bytes_eq-is (string_bytes slot.name) name first)
   where
     choose : (b : Bool) → bytes_eq other name ≡ b
         → (if bytes_eq other name then told new.it else under unknown told slots other)
@@ -92,7 +82,7 @@ under-set unknown told name (slot ∷ slots) zero new d first same other =
     by : string_bytes slot.name ≡ name
         → (if is_named other new then told new.it else under unknown told slots other)
         ≡ put name (told new.it) (under unknown told (slot ∷ slots)) other
-    by is = rw (same_name slot new other same, is, bytes_sym name other) (choose (bytes_eq other name) refl)
+    by is = rw (same_name slot new other same, is, bytes_eq-comm name other) (choose (bytes_eq other name) refl)
 under-set unknown told name (slot ∷ slots) (suc i) new d first same other =
     by (under-set unknown told name slots i new d first.1 same other) (cases_Bool (is_named other slot))
   where

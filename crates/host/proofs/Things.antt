@@ -1,24 +1,16 @@
 -- What is out after calls.
 use Rattle.std.proofs.Common.{◌≡◌, ◌<◌, ◌+◌, ◌-◌, ℕ, Bool, true, false, List, [], ◌∷◌, ◌++◌, length, replicate, refl, sym, ap, arith, ◌⊎◌, inl, inr, suc, zero, ◌∙◌}
 use Rattle.std.specs.Prelude.{IfSome, Option, None, Some, if◌then◌else◌}
-use Rattle.std.specs.Str.{bytes_eq}
-use Rattle.std.proofs.lemmas.Slice.Eq.{bytes_eq-Decides}
 use Rattle.std.proofs.lemmas.Bool.{cases_Bool}
-use Rattle.std.proofs.lemmas.Grind.{common_steps}
+use Rattle.plain_laws.specs.Bytes.{bytes_eq-is}
 use Rattle.host.specs.Hosts.{HostCall, Thing, ADisk, AFile, ADoor, APort, DiskOut, DiskRefused, DiskBack, FileOut, FileRefused, FileBack, DoorsOut, DoorsRefused, DoorBack, PortOut, PortRefused, PortBack, handed, noted, out, one_if, returned}
 use Rattle.host.specs.Memory.{is_same, without, things_out}
 
-pub bytes_same : (name other : List ℕ) → bytes_eq name other ≡ true → name ≡ other
-bytes_same name other same = grind (arith, common_steps, bytes_eq-Decides name other)
-
-pub same_bytes : (name : List ℕ) → bytes_eq name name ≡ true
-same_bytes name = grind (arith, common_steps, bytes_eq-Decides name name)
-
 pub same_thing : (thing other : Thing) → is_same thing other ≡ true → thing ≡ other
-same_thing (ADisk name) (ADisk other) same = ap ADisk (bytes_same name other same)
-same_thing (AFile name) (AFile other) same = ap AFile (bytes_same name other same)
+same_thing (ADisk name) (ADisk other) same = ap ADisk (bytes_eq-is name other same)
+same_thing (AFile name) (AFile other) same = ap AFile (bytes_eq-is name other same)
 same_thing ADoor ADoor same = refl
-same_thing (APort name) (APort other) same = ap APort (bytes_same name other same)
+same_thing (APort name) (APort other) same = ap APort (bytes_eq-is name other same)
 same_thing (ADisk name) (AFile other) same = cc
 same_thing (ADisk name) ADoor same = cc
 same_thing (AFile name) (ADisk other) same = cc

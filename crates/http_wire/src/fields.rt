@@ -11,6 +11,7 @@ ghost use Rattle.explorer_model.specs.Wire.{has_close, length_by};
 ghost use Rattle.http_wire.specs.Fields.{values_in};
 
 use arrayvec::ArrayVec;
+use explorer_model::bytes::are_digits;
 use httparse::spans::HeaderSpan;
 
 /// The same letters, in any case.
@@ -89,17 +90,6 @@ fn number_of(text: &[u8]) -> Option<u64>
         return None;
     }
     Some(digits_value(text))
-}
-
-fn are_digits(text: &[u8]) -> bool
-    ensures { result ≡ all_ascii_digits text.now }
-{
-    for byte in text {
-        if !byte.is_ascii_digit() {
-            return false;
-        }
-    }
-    true
 }
 
 fn digits_value(text: &[u8]) -> u64

@@ -3,6 +3,8 @@ use Rattle.std.proofs.Common.{◌≡◌, ◌≤◌, ◌<◌, ◌+◌, ℕ, zero,
 use Rattle.std.proofs.lemmas.Bool.Decides.{nat_tests}
 use Rattle.std.proofs.lemmas.List.Elements.{length_all_zip}
 use Rattle.std.specs.Prelude.{nat_lt, slice_get}
+use Rattle.std.proofs.lemmas.Option.{same_Some}
+use Rattle.plain_laws.specs.Lists.{get-nil}
 use Rattle.explorer_model.specs.declared.archive.Batch.{Batch}
 use Rattle.explorer_model.specs.declared.archive.Classes.{Classes}
 use Rattle.explorer_model.specs.Spans.{Span, batches_of}
@@ -102,23 +104,14 @@ record FindsAlike (other : List CountedSpan) (at : ℕ) (segment : CountedSpan) 
   pub is : slice_get other at ≡ Some there
   pub alike : CountAlike segment there
 
-no_segment : (segment : CountedSpan) (P : Type 0) → slice_get [] zero ≡ Some segment → P
-no_segment segment P e = absurd (no segment e)
-  where
-    no : (s : CountedSpan) → slice_get [] zero ≡ Some s → ⊥
-    no s e = cc
-
-some_same : (a b : CountedSpan) → Some a ≡ Some b → a ≡ b
-some_same a b e = cc
-
 find : (list other : List CountedSpan) (at : ℕ) (segment : CountedSpan) → StandAlike list other
     → slice_get list at ≡ Some segment → FindsAlike other at segment
-find [] other at segment alike is = no_segment segment _ is
+find [] other at segment alike is = get-nil segment _ is
 find (x ∷ list) [] at segment alike is = absurd alike
 find (x ∷ list) (y ∷ other) zero segment alike is = record {
   there = y;
   is = refl;
-  alike = subst (λ (s : CountedSpan). CountAlike s y) (some_same x segment is) alike.0;
+  alike = subst (λ (s : CountedSpan). CountAlike s y) (same_Some x segment is) alike.0;
 }
 find (x ∷ list) (y ∷ other) (suc at) segment alike is =
     let found = find list other at segment alike.1 is in

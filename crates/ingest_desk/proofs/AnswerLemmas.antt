@@ -1,5 +1,6 @@
 -- A commit has one answer.
 use Rattle.std.proofs.Common.{◌≡◌, ℕ, List, Option, Some, None, Result, Ok, Err, true, false, sym, ap, ◌∙◌}
+use Rattle.std.proofs.lemmas.Option.{some_pair_parts}
 use Rattle.arrayvec.specs.ArrayVec.{ArrayVec}
 use Rattle.disk_model.specs.Disk.{DiskState}
 use Rattle.explorer_model.specs.declared.archive.Batch.{Batch}
@@ -35,14 +36,6 @@ closed-counts b a b' a' is = (cc, cc)
 
 room-counts : (g b g' b' : ℕ) → Some (HasNoRoom g b) ≡ Some (HasNoRoom g' b') → (g ≡ g') × (b ≡ b')
 room-counts g b g' b' is = (cc, cc)
-
-one-pair : (x y : ℕ × ℕ) → ◌≡◌ {A = Option (ℕ × ℕ)} (Some x) (Some y) → x ≡ y
-one-pair x y is = cc
-
-fault-counts : (b a b' a' : ℕ) → ◌≡◌ {A = Option (ℕ × ℕ)} (Some (b, a)) (Some (b', a')) → (b ≡ b') × (a ≡ a')
-fault-counts b a b' a' is =
-    let same = one-pair (b, a) (b', a') is in
-    (ap (λ (p : ℕ × ℕ). p.0) same, ap (λ (p : ℕ × ℕ). p.1) same)
 
 same-ids : (pairs others : List Clashing) → Some (HasIds pairs) ≡ Some (HasIds others) → pairs ≡ others
 same-ids pairs others is = cc
@@ -127,7 +120,7 @@ module _ {D J : Type 0} (disk : D → DiskState) (tally : Counted) (games : List
   one-fault before later mark (Err (faults.Clash handed pairs note)) a b had = absurd (cc (clash a.0 b.0))
   one-fault before later mark (Err (faults.Full g bytes note)) a b had = absurd (cc (clash a.0 b.0))
   one-fault before later mark (Err (faults.DiskFault before' later' mark')) a b had =
-      let counts = fault-counts before later before' later'
+      let counts = some_pair_parts before before' later later'
       (sym (broken disk old new before later a.1) ∙ same ∙ broken disk old after before' later' b.1) in
       let marks = one-mark kinds.DiskFault before later before' later' (Some tally.batch) mark mark' counts a.2 b.2 in
       λ i. Err (faults.DiskFault (counts.0 i) (counts.1 i) (marks i))

@@ -1,6 +1,8 @@
 -- A commit by its answer: over a store that has caught up and has room, and where its batch is not
 -- taken.
 use Rattle.std.proofs.Common.{◌≡◌, ◌<◌, ◌+◌, inl, ℕ, true, false, List, [], ◌∷◌, ◌++◌, length, Option, None, Some, Result, Ok, Err, refl, sym, ap, ◌∙◌, subst, arith}
+use Rattle.std.proofs.lemmas.Option.{none-some}
+use Rattle.plain_laws.specs.Options.{some-none}
 use Rattle.disk_model.specs.Disk.{DiskState}
 use Rattle.explorer_model.specs.declared.archive.Batch.{Batch}
 use Rattle.explorer_model.specs.declared.archive.Game.{Game}
@@ -28,10 +30,7 @@ use Rattle.ingest_desk.specs.declared.fault.CommitFault.{CommitFault}
 use Rattle.ingest_desk.specs.declared.fault.CommitFault.TheVariants as faults
 use Rattle.ingest_desk.specs.declared.mark.MarkKind.TheVariants as kinds
 use Rattle.ingest_desk.specs.declared.receipt.Receipt.{Receipt}
-use Rattle.ingest_desk.proofs.KeptLemmas.{fault_none, listed, made, not_behind}
-
-none_some : (why : Cause) → (let none : Option Cause = None in none) ≡ Some why → ⊥
-none_some why is = cc
+use Rattle.ingest_desk.proofs.KeptLemmas.{listed, made, not_behind}
 
 -- ---- what is against a batch
 
@@ -88,7 +87,7 @@ module _ {D : Type 0} (disk : D → DiskState) (left_since : D → ℕ → List 
   never why is =
       let games = up.sound.games in
       let are = up.sound.are_games in
-      none_some why (sym (up.uncaused games are) ∙ is games are)
+      none-some why (sym (up.uncaused games are) ∙ is games are)
 
   adds : AddsBatch disk tally mid new → AddsBatch disk tally old new
   adds is = record {
@@ -240,7 +239,7 @@ module _ {D : Type 0} (disk : D → DiskState) (left_since : D → ℕ → List 
   pub not_taken : {J : Type 0} (fault : AppendFault) (answer : CommitFault J) → IsNotTaken disk tally old new fault
       → IsFaultOf fault tally.batch answer → CommitsBy disk left_since tally old new drawer drawer (Err answer)
   not_taken (appends.Closed b a) answer not is =
-      absurd (fault_none (b, a) (sym not.manifest.was ∙ not.open_is))
+      absurd (some-none (b, a) (sym not.manifest.was ∙ not.open_is))
   not_taken (appends.DiskFault b a) answer not is =
       let answers = answers_fault b a tally.batch answer is in
       subst (λ (f : CommitFault _). CommitsBy disk left_since tally old new drawer drawer (Err f)) (sym answers.is)

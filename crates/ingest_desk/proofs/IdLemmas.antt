@@ -2,10 +2,12 @@
 use Rattle.std.proofs.Common.{◌≡◌, ◌<◌, ◌+◌, ℕ, Bool, true, false, cond, List, [], ◌∷◌, ◌++◌, length, take, get_or, Option, None, Some, refl, sym, ap, ◌∙◌, subst, arith, add-zero, add-one}
 use Rattle.std.proofs.lemmas.List.{map_more, length-map, length-take-le, get_or-take, get_or_default}
 use Rattle.std.proofs.lemmas.Slice.Eq.{bytes_eq-Decides}
-use Rattle.std.specs.Bool.{one_answer}
 use Rattle.std.specs.List.{All}
 use Rattle.std.specs.Option.{option_or}
 use Rattle.std.specs.Prelude.{bytes_eq, Result, Ok, Err, IsOk, OnOk}
+use Rattle.std.proofs.lemmas.Bool.{false_from_ne_true}
+use Rattle.plain_laws.specs.Bytes.{bytes_eq-comm}
+use Rattle.plain_laws.specs.Options.{cond-some, option_or-assoc}
 use Rattle.explorer_model.specs.declared.archive.Classes.{Classes}
 use Rattle.explorer_model.specs.Imports.{Numbering}
 use Rattle.explorer_model.specs.Journal.{HaveDifferentIds}
@@ -63,26 +65,8 @@ length-ids classes i lt =
 
 -- ---- an id that is put in
 
-pub bytes_eq_comm : (a b : List ℕ) → bytes_eq a b ≡ bytes_eq b a
-bytes_eq_comm a b =
-    one_answer {P = a ≡ b} (bytes_eq a b) (bytes_eq b a) (bytes_eq-Decides a b)
-    (λ e. sym ((bytes_eq-Decides b a).0 e), λ e. (bytes_eq-Decides b a).1 (sym e))
-
-option_or_none : (o : Option ℕ) → o ≡ option_or o None
-option_or_none None = refl
-option_or_none (Some x) = refl
-
-option_or-assoc : (a b c : Option ℕ) → option_or (option_or a b) c ≡ option_or a (option_or b c)
-option_or-assoc None b c = refl
-option_or-assoc (Some x) b c = refl
-
 pub false_true : false ≡ true → ⊥
 false_true e = cc
-
-put_case : (b : Bool) (n : ℕ) (o : Option ℕ) → (b ≡ true → o ≡ None)
-    → cond b (Some n) o ≡ option_or o (cond b (Some n) None)
-put_case true n o none = rw (none refl) refl
-put_case false n o none = option_or_none o
 
 -- the numbers once a new id is put in
 pub put_one : (f g : Numbering) (id : List ℕ) (number : ℕ)
@@ -92,8 +76,8 @@ put_one f g id number put none other =
     let is : bytes_eq id other ≡ true → f other ≡ None =
     λ e. ap f (sym ((bytes_eq-Decides id other).0 e)) ∙ none in
     put other
-    ∙ put_case (bytes_eq id other) number (f other) is
-    ∙ ap (λ b. option_or (f other) (cond b (Some number) None)) (bytes_eq_comm id other)
+    ∙ cond-some (bytes_eq id other) number (f other) is
+    ∙ ap (λ b. option_or (f other) (cond b (Some number) None)) (bytes_eq-comm id other)
 
 -- ---- ids that differ
 
@@ -112,12 +96,8 @@ number-none id first (game ∷ classes) apart =
     ap (λ b. cond b (Some first) (number_among (first + 1) (ids_of classes) id)) head
     ∙ number-none id (first + 1) classes rest
 
-other_case : (r : Bool) → (r ≡ true → ⊥) → r ≡ false
-other_case true never = absurd (never refl)
-other_case false never = refl
-
 pub other_bytes : (a b : List ℕ) → (b ≡ a → ⊥) → bytes_eq a b ≡ false
-other_bytes a b ne = other_case (bytes_eq a b) (λ e. ne (sym ((bytes_eq-Decides a b).0 e)))
+other_bytes a b ne = false_from_ne_true (bytes_eq a b) (λ e. ne (sym ((bytes_eq-Decides a b).0 e)))
 
 -- none of the games before one has its id
 pub absent : (classes : List Classes) (i first : ℕ) (d : Classes) → HaveDifferentIds classes

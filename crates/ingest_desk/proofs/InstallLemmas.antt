@@ -1,6 +1,8 @@
 -- Two neighbours stand at one place of a list, and one thing becomes of them.
 use Rattle.std.proofs.Common.{◌≡◌, ◌≤◌, ◌<◌, ◌+◌, ℕ, zero, suc, List, [], ◌∷◌, length, take, drop, Option, None, Some, Result, Ok, Err, refl, sym, ap, ◌∙◌, subst, arith}
 use Rattle.std.specs.Prelude.{IfSome, slice_get}
+use Rattle.std.proofs.lemmas.Option.{same_Some}
+use Rattle.plain_laws.specs.Lists.{get-nil}
 use Rattle.explorer_model.specs.declared.archive.Batch.{Batch}
 use Rattle.explorer_model.specs.Spans.{Adjoin, Span, batches_of}
 use Rattle.explorer_model.proofs.Lists.{zip-append}
@@ -17,41 +19,32 @@ use Rattle.ingest_desk.proofs.AlikeLemmas.{alike_self, spans_alike}
 
 -- ---- one place
 
-pub none_there : (segment : CountedSpan) (P : Type 0) → slice_get [] zero ≡ Some segment → P
-none_there segment P e = absurd (no segment e)
-  where
-    no : (s : CountedSpan) → slice_get [] zero ≡ Some s → ⊥
-    no s e = cc
-
-pub one_there : (a b : CountedSpan) → Some a ≡ Some b → a ≡ b
-one_there a b e = cc
-
 -- a segment begins where its list does, or behind
 pub begins_behind : (list : List CountedSpan) (first at : ℕ) (segment : CountedSpan)
     → Adjoin first (spans_of list) → slice_get list at ≡ Some segment → first ≤ segment.span.first
-begins_behind [] first at segment adjoin is = none_there segment _ is
+begins_behind [] first at segment adjoin is = get-nil segment _ is
 begins_behind (x ∷ list) first zero segment adjoin is =
-    let same = one_there x segment is in
+    let same = same_Some x segment is in
     let begins : x.span.first ≡ segment.span.first = ap (λ (s : CountedSpan). s.span.first) same in
     omega (arith, begins, adjoin.0)
 begins_behind (x ∷ list) first (suc at) segment adjoin is =
     omega (arith, begins_behind list (first + length x.span.batches) at segment adjoin.1 is)
 
 -- so a span that has a batch stands once
-one_span : (list : List CountedSpan) (first at other : ℕ) (x y : CountedSpan)
+pub one_span : (list : List CountedSpan) (first at other : ℕ) (x y : CountedSpan)
     → Adjoin first (spans_of list) → slice_get list at ≡ Some x → slice_get list other ≡ Some y
     → x.span ≡ y.span → 0 < length x.span.batches → at ≡ other
-one_span [] first at other x y adjoin here there same some = none_there x _ here
+one_span [] first at other x y adjoin here there same some = get-nil x _ here
 one_span (z ∷ list) first zero zero x y adjoin here there same some = refl
 one_span (z ∷ list) first zero (suc other) x y adjoin here there same some =
-    let is = one_there z x here in
+    let is = same_Some z x here in
     let begins : z.span.first ≡ x.span.first = ap (λ (s : CountedSpan). s.span.first) is in
     let count : length z.span.batches ≡ length x.span.batches = ap (λ (s : CountedSpan). length s.span.batches) is in
     let also : x.span.first ≡ y.span.first = ap (λ (s : Span). s.first) same in
     let behind = begins_behind list (first + length z.span.batches) other y adjoin.1 there in
     absurd (omega (arith, adjoin.0, begins, count, also, behind, some))
 one_span (z ∷ list) first (suc at) zero x y adjoin here there same some =
-    let is = one_there z y there in
+    let is = same_Some z y there in
     let begins : z.span.first ≡ y.span.first = ap (λ (s : CountedSpan). s.span.first) is in
     let count : length z.span.batches ≡ length y.span.batches = ap (λ (s : CountedSpan). length s.span.batches) is in
     let also : x.span.first ≡ y.span.first = ap (λ (s : Span). s.first) same in

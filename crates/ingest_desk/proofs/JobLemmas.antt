@@ -2,8 +2,9 @@
 use Rattle.std.proofs.Common.{◌≡◌, ◌↔◌, Bool, IsTrue, nat_eq, true, false, true≢false, ◌<◌, ◌≤◌, ◌+◌, ◌-◌, ℕ, zero, suc, List, [], ◌∷◌, ◌++◌, length, take, drop, Option, None, Some, Result, Ok, Err, refl, sym, ap, ◌∙◌, subst, arith}
 use Rattle.std.proofs.lemmas.Bool.Decides.{nat_tests}
 use Rattle.std.proofs.lemmas.List.{length-take-le}
-use Rattle.std.proofs.lemmas.Option.{slice_get_within}
+use Rattle.std.proofs.lemmas.Option.{same_Some, slice_get_within}
 use Rattle.std.specs.Prelude.{IfOk, IfSome, MatchOption, slice_get}
+use Rattle.plain_laws.specs.Lists.{get-behind, get-front, get-nil}
 use Rattle.explorer_model.specs.declared.archive.Batch.{Batch}
 use Rattle.explorer_model.specs.Journal.{IsSound}
 use Rattle.explorer_model.specs.Spans.{Adjoin, Span}
@@ -16,23 +17,11 @@ use Rattle.ingest_desk.specs.Installs.{Installs, IsInstalled, list_by}
 use Rattle.ingest_desk.specs.Jobs.{AreOfOneJournal, AreToJoin, Neighbours, StandsIn}
 use Rattle.ingest_desk.specs.Picking.{AreAt, HasNoneDue, IsPicked}
 use Rattle.ingest_desk.specs.declared.fault.InstallFault.{InstallFault}
-use Rattle.ingest_desk.proofs.InstallLemmas.{begins_behind, none_there, one_there}
+use Rattle.ingest_desk.proofs.InstallLemmas.{begins_behind}
 use Rattle.ingest_desk.proofs.KeptLemmas.{listed}
 use Rattle.ingest_desk.proofs.PickingLemmas.{span_same}
 
 -- ---- items of two lists one behind the other
-
-get_front : {X : Type 0} (xs ys : List X) (k : ℕ) → k < length xs
-    → slice_get (xs ++ ys) k ≡ slice_get xs k
-get_front [] ys k lt = absurd (omega (arith, lt))
-get_front (x ∷ xs) ys zero lt = refl
-get_front (x ∷ xs) ys (suc k) lt = get_front xs ys k (omega (arith, lt))
-
-get_behind : {X : Type 0} (xs ys : List X) (k n : ℕ) → n ≡ length xs + k
-    → slice_get (xs ++ ys) n ≡ slice_get ys k
-get_behind [] ys k n is = ap (slice_get ys) (omega (arith, is))
-get_behind (x ∷ xs) ys k zero is = absurd (omega (arith, is))
-get_behind (x ∷ xs) ys k (suc n) is = get_behind xs ys k n (omega (arith, is))
 
 get_some : {X : Type 0} (xs : List X) (k : ℕ) → k < length xs → (x : X) × (slice_get xs k ≡ Some x)
 get_some [] k lt = absurd (omega (arith, lt))
@@ -46,15 +35,15 @@ stands_from : (list : List CountedSpan) (first at offset : ℕ) (segment : Count
     → Adjoin first (spans_of list) → slice_get list at ≡ Some segment
     → segment.span.first ≡ first + offset → (k : ℕ) → k < length segment.span.batches
     → slice_get segment.span.batches k ≡ slice_get (journal_of list) (offset + k)
-stands_from [] first at offset segment adjoin is place k lt = none_there segment _ is
+stands_from [] first at offset segment adjoin is place k lt = get-nil segment _ is
 stands_from (x ∷ list) first zero offset segment adjoin is place k lt =
-    let same = one_there x segment is in
+    let same = same_Some x segment is in
     let begins : x.span.first ≡ segment.span.first = ap (λ (s : CountedSpan). s.span.first) same in
     let batches : x.span.batches ≡ segment.span.batches = ap (λ (s : CountedSpan). s.span.batches) same in
     let here : k ≡ offset + k = omega (arith, begins, place, adjoin.0) in
     let inside : k < length x.span.batches = omega (arith, lt, ap length batches) in
     sym (ap (λ (l : List Batch). slice_get l k) batches)
-    ∙ sym (get_front x.span.batches (journal_of list) k inside)
+    ∙ sym (get-front x.span.batches (journal_of list) k inside)
     ∙ ap (slice_get (x.span.batches ++ journal_of list)) here
 stands_from (x ∷ list) first (suc at) offset segment adjoin is place k lt =
     let size = length x.span.batches in
@@ -62,7 +51,7 @@ stands_from (x ∷ list) first (suc at) offset segment adjoin is place k lt =
     let rest : segment.span.first ≡ first + size + (offset - size) = omega (arith, behind, place) in
     let next : offset + k ≡ size + (offset - size + k) = omega (arith, behind, place) in
     stands_from list (first + size) at (offset - size) segment adjoin.1 is rest k lt
-    ∙ sym (get_behind x.span.batches (journal_of list) (offset - size + k) (offset + k) next)
+    ∙ sym (get-behind x.span.batches (journal_of list) (offset - size + k) (offset + k) next)
 
 stands_at : (list : List CountedSpan) (at : ℕ) (segment : CountedSpan) → IsList list
     → slice_get list at ≡ Some segment → StandsIn (journal_of list) segment.span
@@ -83,7 +72,7 @@ both_stand list at left right is stand = (
 get_longer : (front whole : List Batch) (k : ℕ) → IsPrefix front whole → k < length front
     → slice_get front k ≡ slice_get whole k
 get_longer front whole k begins lt =
-    sym (get_front front begins.rest k lt) ∙ sym (ap (λ (l : List Batch). slice_get l k) begins.is)
+    sym (get-front front begins.rest k lt) ∙ sym (ap (λ (l : List Batch). slice_get l k) begins.is)
 
 within : (journal : List Batch) (batches : List Batch) (k at : ℕ) → k < length batches
     → slice_get batches k ≡ slice_get journal at → at < length journal
@@ -146,7 +135,7 @@ found_to_join list (Err e) picks = tt
 joined_there : (list : List CountedSpan) (at : ℕ) (segment : CountedSpan) → at ≤ length list
     → slice_get (with_change list (JoinAt at segment)) at ≡ Some segment
 joined_there list at segment inside =
-    get_behind (take at list) (segment ∷ drop (at + 2) list) 0 at
+    get-behind (take at list) (segment ∷ drop (at + 2) list) 0 at
     (omega (arith, length-take-le at list inside))
 
 module _ (left right : Span) (merged : CountedSpan) (old new : Publishing)

@@ -5,6 +5,7 @@ use Rattle.std.proofs.lemmas.List.Elements.{recursion_from_All}
 use Rattle.std.proofs.lemmas.List.Sums.{sum_by-append, sum_by-cons}
 use Rattle.std.specs.List.{AllByRecursion, AllZip}
 use Rattle.std.specs.Prelude.{IsOk, OnOk}
+use Rattle.plain_laws.specs.Options.{some-none}
 use Rattle.disk_model.specs.Disk.{DiskState, LeavesOnly, MayLeave}
 use Rattle.explorer_model.specs.declared.archive.Batch.{Batch}
 use Rattle.explorer_model.specs.declared.archive.Game.{Game}
@@ -37,9 +38,6 @@ use Rattle.ingest_desk.specs.Registers.{IsRegisterOf, IsSame, text_bytes}
 use Rattle.ingest_desk.specs.declared.register.Register.{Register}
 use Rattle.ingest_desk.proofs.IdLemmas.{false_true}
 use Rattle.ingest_desk.proofs.RegisterLemmas.{fewer_batches, register_same}
-
-pub fault_none : (counts : ℕ × ℕ) → Some counts ≡ None → ⊥
-fault_none counts e = cc
 
 -- ---- the index
 
@@ -189,7 +187,7 @@ module _ {D : Type 0} (disk : D → DiskState) (left_since : D → ℕ → List 
       → IsManifestOf disk left_since journal manifest × (failed ≡ None)
   sound_by journal manifest None None keeps none = (keeps, refl)
   sound_by journal manifest None (Some batch) keeps none = absurd keeps
-  sound_by journal manifest (Some counts) failed keeps none = absurd (fault_none counts none)
+  sound_by journal manifest (Some counts) failed keeps none = absurd (some-none counts none)
 
   pub sound_manifest : (failed : Option Batch) (journal : List Batch) (manifest : Log D)
       → Keeps disk left_since journal manifest failed → manifest.fault ≡ None
@@ -205,7 +203,7 @@ module _ {D : Type 0} (disk : D → DiskState) (left_since : D → ℕ → List 
   closed_by : (counts : ℕ × ℕ) (journal : List Batch) (manifest : Log D) (fault : Option (ℕ × ℕ))
       (failed : Option Batch) → KeepsBy disk left_since journal manifest fault failed
       → fault ≡ Some counts → LeftBroken disk left_since journal manifest failed
-  closed_by counts journal manifest None failed keeps is = absurd (fault_none counts (sym is))
+  closed_by counts journal manifest None failed keeps is = absurd (some-none counts (sym is))
   closed_by counts journal manifest (Some others) None keeps is = absurd keeps
   closed_by counts journal manifest (Some others) (Some batch) keeps is =
       record { batch = batch; is_failed = refl; sound = keeps.0; images = keeps.1 }
@@ -221,7 +219,7 @@ module _ {D : Type 0} (disk : D → DiskState) (left_since : D → ℕ → List 
       → IsManifestOf disk left_since journal manifest
       → KeepsBy disk left_since journal manifest fault None
   keeps_by journal manifest None none is = is
-  keeps_by journal manifest (Some counts) none is = absurd (fault_none counts none)
+  keeps_by journal manifest (Some counts) none is = absurd (some-none counts none)
 
   pub keeps_sound : (journal : List Batch) (manifest : Log D)
       → IsManifestOf disk left_since journal manifest → Keeps disk left_since journal manifest None

@@ -1,6 +1,8 @@
 -- A store in its life: which event each answer is.
 use Rattle.std.proofs.Common.{◌≡◌, inl, inr, ⊎_elim, ℕ, Bool, true, false, List, [], ◌∷◌, ◌++◌, length, Option, None, Some, Result, Ok, Err, refl, sym, ap, ◌∙◌, subst, arith, append_assoc}
 use Rattle.std.proofs.lemmas.List.Elements.{All-from_recursion}
+use Rattle.std.proofs.lemmas.Option.{same_Some}
+use Rattle.plain_laws.specs.Options.{some-none}
 use Rattle.disk_model.specs.Disk.{DiskState, IsQuiet, LeavesOnly}
 use Rattle.explorer_model.specs.declared.archive.Batch.{Batch}
 use Rattle.explorer_model.specs.declared.archive.Game.{Game}
@@ -24,7 +26,7 @@ use Rattle.ingest_desk.specs.Stored.{Stored, journal}
 use Rattle.ingest_desk.specs.declared.fault.CommitFault.{CommitFault}
 use Rattle.ingest_desk.specs.declared.fault.CommitFault.TheVariants as faults
 use Rattle.ingest_desk.specs.declared.receipt.Receipt.{Receipt}
-use Rattle.ingest_desk.proofs.KeptLemmas.{fault_none, left_broken, none_failed, sound_manifest}
+use Rattle.ingest_desk.proofs.KeptLemmas.{left_broken, none_failed, sound_manifest}
 use Rattle.ingest_desk.proofs.SoundLemmas.{none_wrong, one_journal}
 
 -- ---- pending batches
@@ -33,10 +35,7 @@ pub none_pends : (pending : Option Batch) (fault : Option (ℕ × ℕ)) → IsPe
     → pending ≡ None
 none_pends None fault pends none = refl
 none_pends (Some batch) None pends none = absurd pends
-none_pends (Some batch) (Some counts) pends none = absurd (fault_none counts none)
-
-same_batch : (batch other : Batch) → Some batch ≡ Some other → batch ≡ other
-same_batch batch other is = cc
+none_pends (Some batch) (Some counts) pends none = absurd (some-none counts none)
 
 without : (pending : Option Batch) (journal : List Batch) → with_pending pending false journal ≡ journal
 without None journal = refl
@@ -130,7 +129,7 @@ module _ {D : Type 0} (disk : D → DiskState) (left_since : D → ℕ → List 
       → HasLived disk left_since (after life (Failed batch)) new
   fails_lives life batch old new counts lived same closed failed keeps =
       let left = left_broken disk left_since new.failed counts (journal new) new.manifest keeps closed in
-      let one = same_batch left.batch batch (sym left.is_failed ∙ failed) in
+      let one = same_Some left.batch batch (sym left.is_failed ∙ failed) in
       let here : journal new ≡ life.journal = same ∙ lived.journal_is in
       let P : Option (ℕ × ℕ) → Type 0 = λ f. IsPending (Some batch) f in
       let S : List Batch → Batch → Type 0 = λ j b. IsSound (j ++ b ∷ []) in

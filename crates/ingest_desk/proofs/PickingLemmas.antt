@@ -7,7 +7,7 @@ use Rattle.std.proofs.lemmas.Grind.{flat_map-append}
 use Rattle.std.proofs.lemmas.List.{length-map, length-take-le}
 use Rattle.std.proofs.lemmas.List.Elements.{recursion_from_All}
 use Rattle.std.proofs.lemmas.Slice.Zip.{AllZip-long}
-use Rattle.std.proofs.lemmas.Option.{slice_get-map, slice_get_read, slice_get_within}
+use Rattle.std.proofs.lemmas.Option.{same_Some, slice_get-map, slice_get_read, slice_get_within}
 use Rattle.std.specs.Option.{option_map}
 use Rattle.std.specs.Prelude.{nat_lt, slice_get}
 use Rattle.explorer_model.specs.declared.archive.Batch.{Batch}
@@ -55,9 +55,6 @@ games-cons segment list = texts-append segment.span.batches (journal_of list)
 
 -- ---- neighbours
 
-some_same : (a b : CountedSpan) → Some a ≡ Some b → a ≡ b
-some_same a b e = cc
-
 next-place : (at : ℕ) → suc at + 1 ≡ suc (at + 1)
 next-place at = omega arith
 
@@ -89,8 +86,8 @@ pub pair_games : (list : List CountedSpan) (at : ℕ) (left right : CountedSpan)
 pair_games [] at left right stand = none_some left _ stand.left_is
 pair_games (first ∷ []) zero left right stand = none_some right _ stand.right_is
 pair_games (first ∷ second ∷ list) zero left right stand =
-    let l = ap (λ (s : CountedSpan). length (texts_of s.span.batches)) (some_same first left stand.left_is) in
-    let r = ap (λ (s : CountedSpan). length (texts_of s.span.batches)) (some_same second right stand.right_is) in
+    let l = ap (λ (s : CountedSpan). length (texts_of s.span.batches)) (same_Some first left stand.left_is) in
+    let r = ap (λ (s : CountedSpan). length (texts_of s.span.batches)) (same_Some second right stand.right_is) in
     omega (arith, l, r, games-cons first (second ∷ list), games-cons second list)
 pair_games (first ∷ list) (suc at) left right stand =
     omega (
@@ -106,8 +103,8 @@ pub pair_adjoin : (first : ℕ) (list : List CountedSpan) (at : ℕ) (left right
 pair_adjoin first [] at left right adjoin stand = none_some left _ stand.left_is
 pair_adjoin first (one ∷ []) zero left right adjoin stand = none_some right _ stand.right_is
 pair_adjoin first (one ∷ two ∷ list) zero left right adjoin stand =
-    let l = some_same one left stand.left_is in
-    let r = some_same two right stand.right_is in
+    let l = same_Some one left stand.left_is in
+    let r = same_Some two right stand.right_is in
     ap (λ (s : CountedSpan). s.span.first) (sym r)
     ∙ adjoin.1.0
     ∙ ap (λ n. n + length one.span.batches) (sym adjoin.0)
@@ -197,8 +194,8 @@ steep_more at list left right stand pair later k l r least there =
     same : (k : ℕ) → at ≡ k → AreAt list k l r → IsSteep l r
     same k e there =
         let here = subst (λ n. AreAt list n l r) (sym e) there in
-        let a = some_same left l (sym stand.left_is ∙ here.left_is) in
-        let b = some_same right r (sym stand.right_is ∙ here.right_is) in
+        let a = same_Some left l (sym stand.left_is ∙ here.left_is) in
+        let b = same_Some right r (sym stand.right_is ∙ here.right_is) in
         subst (λ x. IsSteep x r) a (subst (λ y. IsSteep left y) b pair)
 
     by : (beyond : Bool) → nat_lt at k ≡ beyond → IsSteep l r
@@ -262,9 +259,9 @@ may_replace list at left right segment can is = record {
   spans = λ l r first second.
       is
       ∙ ap (λ (s : CountedSpan). both s.span right.span)
-      (some_same left l (sym can.stand.left_is ∙ first))
+      (same_Some left l (sym can.stand.left_is ∙ first))
       ∙ ap (λ (s : CountedSpan). both l.span s.span)
-      (some_same right r (sym can.stand.right_is ∙ second));
+      (same_Some right r (sym can.stand.right_is ∙ second));
 }
 
 -- a list of which two segments became one
@@ -314,8 +311,8 @@ not_from_more at list x y left right here apart later k least stands = by (nat_l
     same e =
         let stand : AreAt list at stands.first stands.second =
         subst (λ n. AreAt list n stands.first stands.second) (sym e) stands.stand in
-        let a = some_same x stands.first (sym here.left_is ∙ stand.left_is) in
-        let b = some_same y stands.second (sym here.right_is ∙ stand.right_is) in
+        let a = same_Some x stands.first (sym here.left_is ∙ stand.left_is) in
+        let b = same_Some y stands.second (sym here.right_is ∙ stand.right_is) in
         apart (
           ap (λ (s : CountedSpan). s.span) a ∙ stands.left_is,
           ap (λ (s : CountedSpan). s.span) b ∙ stands.right_is,
@@ -329,7 +326,7 @@ at_one : (list : List CountedSpan) (at : ℕ) (left right l r : CountedSpan)
     → AreAt list at left right → slice_get list at ≡ Some l → slice_get list (at + 1) ≡ Some r
     → (l ≡ left) × (r ≡ right)
 at_one list at left right l r stand first second =
-    (some_same l left (sym first ∙ stand.left_is), some_same r right (sym second ∙ stand.right_is))
+    (same_Some l left (sym first ∙ stand.left_is), same_Some r right (sym second ∙ stand.right_is))
 
 -- what the last neighbours that are due are
 pub is_picked : (items list : List CountedSpan) (at : ℕ) (left right : CountedSpan)
@@ -375,8 +372,8 @@ pub may_install : (list : List CountedSpan) (at : ℕ) (left right : Span) (segm
 may_install list at left right segment stands is = record {
   pair = slice_get_within list (at + 1) stands.second stands.stand.right_is;
   spans = λ l r first second.
-      let a = some_same stands.first l (sym stands.stand.left_is ∙ first) in
-      let b = some_same stands.second r (sym stands.stand.right_is ∙ second) in
+      let a = same_Some stands.first l (sym stands.stand.left_is ∙ first) in
+      let b = same_Some stands.second r (sym stands.stand.right_is ∙ second) in
       is
       ∙ ap (λ (s : Span). both s right) (sym stands.left_is ∙ ap (λ (x : CountedSpan). x.span) a)
       ∙ ap (λ (s : Span). both l.span s) (sym stands.right_is ∙ ap (λ (x : CountedSpan). x.span) b);

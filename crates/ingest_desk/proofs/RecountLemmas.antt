@@ -2,7 +2,7 @@
 use Rattle.std.proofs.Common.{◌≡◌, ◌≢◌, ◌<◌, ◌≤◌, ◌+◌, ℕ, zero, suc, Bool, true, false, cond, List, [], ◌∷◌, ◌++◌, length, map, flat_map, get_or, take, sum_by, Option, None, Some, refl, sym, ap, ◌∙◌, subst, arith, length-append, get_or-append-add}
 use Rattle.std.proofs.lemmas.Bool.Decides.{Decides-eqb, nat_tests}
 use Rattle.std.proofs.Math.Seq.{get_or-append_seam, take-length}
-use Rattle.std.proofs.lemmas.List.{append_assoc, get_or_append_left, get_or_default, length-map, map-append}
+use Rattle.std.proofs.lemmas.List.{append_assoc, get_or_append_left, get_or_default, length-map, map-append, nil_from_length}
 use Rattle.std.proofs.lemmas.List.Elements.{recursion_from_All}
 use Rattle.std.proofs.lemmas.List.Sums.{sum_by-cons}
 use Rattle.std.specs.List.{All, AllPairs, AllZip}
@@ -253,13 +253,9 @@ short_texts texts batch same is k d lt =
     ap (λ (ts : List (List ℕ)). get_or ts k d.bytes) (sym same) ∙ get_mapped bytes texts k d lt in
     omega (arith, ap length at, short.1)
 
-empty_list : {A : Type 0} (xs : List A) → length xs ≡ 0 → xs ≡ []
-empty_list [] e = refl
-empty_list (x ∷ xs) e = absurd (omega (arith, e))
-
 pub none_in : {A : Type 0} (xs : List A) (n : ℕ) → n ≡ length xs → (n == 0) ≡ true → xs ≡ []
 none_in xs n long zero_is =
-    let e : n ≡ 0 = (Decides-eqb n 0).0 zero_is in empty_list xs (sym long ∙ e)
+    let e : n ≡ 0 = (Decides-eqb n 0).0 zero_is in nil_from_length xs (sym long ∙ e)
 
 pub some_in : {A : Type 0} (xs : List A) (n : ℕ) → n ≡ length xs → (n == 0) ≡ false → xs ≡ [] → ⊥
 some_in xs n long zero_is none =

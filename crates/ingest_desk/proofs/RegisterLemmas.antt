@@ -7,13 +7,16 @@ use Rattle.std.proofs.lemmas.List.{append-nil, length-map, map-append}
 use Rattle.std.proofs.lemmas.List.Elements.{All-append, All-from_recursion, recursion_from_All}
 use Rattle.std.proofs.lemmas.List.Kept.{AllPairs-cons}
 use Rattle.std.proofs.lemmas.List.Sums.{sum_by-append}
-use Rattle.std.proofs.lemmas.Option.{get_or_from_slice_get, slice_get_within}
+use Rattle.std.proofs.lemmas.Option.{get_or_from_slice_get, same_Some, slice_get_within}
 use Rattle.std.proofs.lemmas.Slice.Eq.{bytes_eq-Decides}
 use Rattle.std.proofs.lemmas.Slice.Zip.{AllZip-long}
 use Rattle.std.specs.Bool.{MatchBool}
 use Rattle.std.specs.List.{All, AllByRecursion, AllPairs, AllZip}
 use Rattle.std.specs.Option.{is_some, option_or}
 use Rattle.std.specs.Prelude.{bytes_eq, ◌==◌, slice_get}
+use Rattle.plain_laws.specs.Bytes.{bytes_eq-comm}
+use Rattle.plain_laws.specs.Lists.{cons-nil}
+use Rattle.plain_laws.specs.Options.{some-none}
 use Rattle.explorer_model.specs.declared.archive.Batch.{Batch}
 use Rattle.explorer_model.specs.declared.archive.Classes.{Classes}
 use Rattle.explorer_model.specs.declared.archive.Game.{Game}
@@ -30,7 +33,7 @@ use Rattle.ingest_desk.specs.IdTable.{number_at}
 use Rattle.ingest_desk.specs.Registers.{Fits, IsRegisterOf, IsSame, text_bytes}
 use Rattle.ingest_desk.specs.declared.clashing.Clashing.{Clashing}
 use Rattle.ingest_desk.specs.declared.register.Register.{Register}
-use Rattle.ingest_desk.proofs.IdLemmas.{bytes_eq_comm, false_true, option_or-cond}
+use Rattle.ingest_desk.proofs.IdLemmas.{false_true, option_or-cond}
 
 -- ---- the games of a journal
 
@@ -84,7 +87,7 @@ pub number-ids : (first : ℕ) (games : List Game) (id : List ℕ)
 number-ids first [] id = refl
 number-ids first (game ∷ games) id =
     ap (λ b. cond b (Some first) (number_from (first + 1) id games))
-    (bytes_eq_comm game.classes.id.bytes id)
+    (bytes_eq-comm game.classes.id.bytes id)
     ∙ ap (cond (bytes_eq id game.classes.id.bytes) (Some first)) (number-ids (first + 1) games id)
 
 number_from-append : (first : ℕ) (games more : List Game) (id : List ℕ)
@@ -109,13 +112,10 @@ clashes-same f g same place (id ∷ ids) =
     ap (λ o. and_clash place o (clashes_from (place + 1) f ids)) (same id)
     ∙ ap (and_clash place (g id)) (clashes-same f g same (place + 1) ids)
 
-cons_nil : (x : Clashing) (xs : List Clashing) → x ∷ xs ≡ [] → ⊥
-cons_nil x xs e = cc
-
 none_here : (place : ℕ) (o : Option ℕ) (rest : List Clashing) → and_clash place o rest ≡ []
     → (o ≡ None) × (rest ≡ [])
 none_here place None rest e = (refl, e)
-none_here place (Some n) rest e = absurd (cons_nil _ _ e)
+none_here place (Some n) rest e = absurd (cons-nil _ _ e)
 
 none_from : (place : ℕ) (number : Numbering) (classes : List Classes)
     → clashes_from place number (ids_of classes) ≡ []
@@ -181,10 +181,7 @@ some_clash number classes i game is some none =
 
 cond_none : (b : Bool) (n : ℕ) (o : Option ℕ) → cond b (Some n) o ≡ None
     → (b ≡ false) × (o ≡ None)
-cond_none true n o e = absurd (some_none n e)
-  where
-    some_none : (n : ℕ) → Some n ≡ None → ⊥
-    some_none n e = cc
+cond_none true n o e = absurd (some-none n e)
 cond_none false n o e = (refl, e)
 
 others : (first : ℕ) (classes : List Classes) (id : List ℕ)
@@ -326,11 +323,8 @@ fewer_batches journal sound =
 
 -- ---- what is judged
 
-some_none : (x : Cause) → Some x ≡ None → ⊥
-some_none x e = cc
-
 room_case : (b : Bool) (k : Cause) → cond b (Some k) None ≡ None → b ≡ false
-room_case true k e = absurd (some_none k e)
+room_case true k e = absurd (some-none k e)
 room_case false k e = refl
 
 over-same : (journal : List Batch) (register : Register) (batch : Batch) → IsRegisterOf journal register
@@ -347,7 +341,7 @@ not_over games bytes e = (grind (arith, nat_tests), grind (arith, nat_tests))
 
 no_cause : (pairs : List Clashing) (journal : List Batch) (batch : Batch)
     → cause_by pairs journal batch ≡ None → (pairs ≡ []) × (has_no_room journal batch ≡ false)
-no_cause (pair ∷ pairs) journal batch e = absurd (some_none _ e)
+no_cause (pair ∷ pairs) journal batch e = absurd (some-none _ e)
 no_cause [] journal batch e = (refl, room_case (has_no_room journal batch) _ e)
 
 -- where there is no cause against a batch it fits
@@ -375,7 +369,7 @@ sound_behind journal tally sound counted none =
 
 open_cause : (fault : Option (ℕ × ℕ)) (games : List Game) (journal : List Batch) (tally : Counted)
     → cause fault games journal tally ≡ None → cause_of_new games journal tally ≡ None
-open_cause (Some counts) games journal tally none = absurd (some_none _ none)
+open_cause (Some counts) games journal tally none = absurd (some-none _ none)
 open_cause None games journal tally none = none
 
 -- the same, by whatever games the journal has
@@ -398,11 +392,11 @@ by_room : (pairs : List Clashing) (journal : List Batch) (batch : Batch) (over :
     ≡ cond over (Some (HasNoRoom (game_count journal) (byte_count journal))) None
 by_room [] journal batch over none is =
     ap (λ o. cond o (Some (HasNoRoom (game_count journal) (byte_count journal))) None) is
-by_room (pair ∷ pairs) journal batch over none is = absurd (cons_nil _ _ none)
+by_room (pair ∷ pairs) journal batch over none is = absurd (cons-nil _ _ none)
 
 by_limit : (over : Bool) (k : Cause) (o : Option Cause) → o ≡ cond over (Some k) None
     → MatchBool (not over) (o ≡ None) (¬ (o ≡ None))
-by_limit true k o is = λ none. some_none k (sym is ∙ none)
+by_limit true k o is = λ none. some-none k (sym is ∙ none)
 by_limit false k o is = is
 
 module _ (one : OneGame) (journal : List Batch) (games : List Game) (register : Register)
@@ -432,7 +426,7 @@ module _ (one : OneGame) (journal : List Batch) (games : List Game) (register : 
 
   -- whether there is a cause, where texts of the batch have stored ids
   pub not_taken : ¬ (pairs ≡ []) → ¬ (cause_of_new games journal tally ≡ None)
-  not_taken some none = some_none (HasIds pairs) (sym (judged_clash some) ∙ none)
+  not_taken some none = some-none (HasIds pairs) (sym (judged_clash some) ∙ none)
 
   -- and where none has
   pub taken_by : pairs ≡ [] → (over : Bool)
@@ -443,20 +437,12 @@ module _ (one : OneGame) (journal : List Batch) (games : List Game) (register : 
       by_limit over (HasNoRoom register.games register.bytes) (cause_of_new games journal tally)
       (judged_room none over room)
 
--- a list whose length is tested
-pub length_zero : (pairs : List Clashing) → (length pairs == 0) ≡ true → pairs ≡ []
-length_zero [] e = refl
-length_zero (pair ∷ pairs) e = grind (arith, nat_tests)
-
 pub length_some : (pairs : List Clashing) → (length pairs == 0) ≡ false → pairs ≡ [] → ⊥
 length_some [] e none = grind (arith, nat_tests)
-length_some (pair ∷ pairs) e none = cons_nil pair pairs none
+length_some (pair ∷ pairs) e none = cons-nil pair pairs none
 
 -- ---- the batch of a segment
 
-some_same : (x b : Batch) → Some x ≡ Some b → x ≡ b
-some_same x b e = cc
-
 pub first_is : (batches : List Batch) (batch found : Batch) → batches ≡ batch ∷ []
     → slice_get batches 0 ≡ Some found → found ≡ batch
-first_is batches batch found are is = some_same found batch (sym is ∙ ap (λ l. slice_get l 0) are)
+first_is batches batch found are is = same_Some found batch (sym is ∙ ap (λ l. slice_get l 0) are)

@@ -3,12 +3,13 @@ use Rattle.std.proofs.Common.{◌≡◌, suc, false, cond, List, [], ◌∷◌, 
 use Rattle.std.proofs.lemmas.List.Elements.{recursion_from_All}
 use Rattle.std.specs.List.{AllByRecursion, AllZip}
 use Rattle.std.specs.Prelude.{bytes_eq}
+use Rattle.std.proofs.lemmas.Option.{same_Some}
+use Rattle.plain_laws.specs.Lists.{cons-nil, each-push}
 use Rattle.explorer_model.specs.declared.archive.Batch.{Batch}
 use Rattle.explorer_model.specs.declared.archive.Classes.{Classes}
 use Rattle.explorer_model.specs.declared.archive.Game.{Game}
 use Rattle.explorer_model.specs.declared.archive.Placed.{Placed}
 use Rattle.explorer_model.specs.declared.fault.GameFault.{GameFault}
-use Rattle.explorer_model.specs.declared.fault.Refusal.{Refusal}
 use Rattle.explorer_model.specs.Labels.{no_label}
 use Rattle.explorer_model.specs.Imports.{Accepted, Candidate, Examination, Read, Refused, Verdict, and_candidate, batch_of, candidates, has_id_of, refusals, Replayed, verdict_by, verdict_of, verdicts, verdicts_from}
 use Rattle.explorer_model.specs.Journal.{HaveDifferentIds}
@@ -21,11 +22,6 @@ use Rattle.ingest_desk.proofs.IdLemmas.{other_bytes}
 use Rattle.ingest_desk.proofs.RegisterLemmas.{OneGame}
 
 -- ---- what holds of each item
-
-pub each_push : {X : Type 0} (P : X → Type 0) (xs : List X) (y : X) → AllByRecursion P xs → P y
-    → AllByRecursion P (xs ++ y ∷ [])
-each_push P [] y each is = (is, tt)
-each_push P (x ∷ xs) y each is = (each.0, each_push P xs y each.1 is)
 
 each_weaker : {X : Type 0} (P Q : X → Type 0) → ((x : X) → P x → Q x) → (xs : List X)
     → AllByRecursion P xs → AllByRecursion Q xs
@@ -99,7 +95,7 @@ accepted_all one (t ∷ ts) (e ∷ es) (game ∷ games) earlier are texts_are ap
     ∙ ap (λ o. verdict_by o t.place t.bytes game) (fresh earlier game heads) in
     ap (λ v. refusals (v ∷ verdicts_from (and_candidate earlier v) es)) verdict
     ∙ accepted_all one ts es games (earlier ++ c ∷ []) are.1 texts_are.1
-    (each_push (AreApart games) earlier c tails differ.0) differ.1
+    (each-push (AreApart games) earlier c tails differ.0) differ.1
 
 -- no text of a batch is refused where each has a game and the ids differ
 pub none_refused : OneGame → (texts : List Placed) (tallying : Tallying) (games : List Game)
@@ -112,9 +108,6 @@ none_refused one texts tallying games is texts_are different =
     (differ_of games different)
 
 -- ---- what is counted where no text is refused
-
-some_refused : (r : Refusal) (rs : List Refusal) → r ∷ rs ≡ [] → ⊥
-some_refused r rs e = cc
 
 abbrev TextsKept : List Placed → List Examination → Type 0
 TextsKept texts examinations =
@@ -134,7 +127,7 @@ kept_step t ts e es earlier (Accepted c) verdict is kept none =
     (replayed-is earlier replayed c (ap (verdict_of earlier) (sym is.2) ∙ verdict)).text_is in
     ap (λ x. x ∷ map (λ (c : Candidate). c.text) (candidates (verdicts_from (earlier ++ c ∷ []) es))) text
     ∙ ap (λ xs. t.bytes ∷ xs) (kept (earlier ++ c ∷ []) none)
-kept_step t ts e es earlier (Refused r) verdict is kept none = absurd (some_refused r _ none)
+kept_step t ts e es earlier (Refused r) verdict is kept none = absurd (cons-nil r _ none)
 
 texts_kept : (texts : List Placed) (examinations : List Examination)
     → AllZip IsExaminationOfText texts examinations → TextsKept texts examinations
@@ -145,16 +138,13 @@ texts_kept (t ∷ ts) [] are earlier none = absurd are
 texts_kept (t ∷ ts) (e ∷ es) are earlier none =
     kept_step t ts e es earlier (verdict_of earlier e) refl are.0 (texts_kept ts es are.1) none
 
-same_batch : (a b : Batch) → Some a ≡ Some b → a ≡ b
-same_batch a b e = cc
-
 none_batch : (b : Batch) → Path (Option Batch) None (Some b) → ⊥
 none_batch b e = cc
 
 batch_texts : (cs : List Candidate) (batch : Batch) → batch_of no_label cs ≡ Some batch
     → batch.texts ≡ map (λ (c : Candidate). c.text) cs
 batch_texts [] batch e = absurd (none_batch batch e)
-batch_texts (c ∷ cs) batch e = ap (λ (b : Batch). b.texts) (sym (same_batch _ batch e))
+batch_texts (c ∷ cs) batch e = ap (λ (b : Batch). b.texts) (sym (same_Some _ batch e))
 
 -- the whole batch is counted
 pub counts_all : (texts : List Placed) (tallying : Tallying) (counted : Counted)

@@ -12,7 +12,7 @@ use game_replay::laws::game_is_determined;
 use outside::FreeGate;
 use published_index::SharedSegment;
 use segment_blocks::Segment;
-use side_by_side::{Workers, map_each};
+use side_by_side::{Workers, all_made, map_each};
 use std::alloc::{AllocError, Global};
 use std::sync::{Arc, Wait};
 use std::thread::Threads;
@@ -56,7 +56,7 @@ pub(crate) fn count_each<R: Threads + Wait + Sync>(
         ensures { IfOk result (IsCountedAt at.place at.batch) }
     { count_alone(rt, alloc, at) };
     let results = map_each(rt, alloc, workers.count, batches, &enter, &count)?;
-    all_counted(alloc, results)
+    all_made(alloc, results)
 }
 
 /// Each batch with its place.
@@ -69,20 +69,6 @@ fn placed_batches(alloc: Global, journal: Vec<Batch>) -> Result<Vec<BatchAt>, Al
         batches.push(BatchAt { place, batch })?;
     }
     Ok(batches)
-}
-
-/// What leaves counted, where each of them had the memory for it.
-fn all_counted(
-    alloc: Global,
-    results: Vec<Result<CountedBatch, AllocError>>,
-) -> Result<Vec<CountedBatch>, AllocError>
-    ensures { IfOk result (λ counted. map Ok counted.items ≡ results.items) }
-{
-    let mut counted = Vec::with_capacity(alloc, results.len())?;
-    for batch in results {
-        counted.push(batch?)?;
-    }
-    Ok(counted)
 }
 
 /// Counts a batch.

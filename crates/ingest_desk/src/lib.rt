@@ -45,7 +45,7 @@ pub use mark::{Mark, MarkKind, Marks};
 pub use merge_desk::MergeDesk;
 pub use opening::open;
 pub use ready::Ready;
-pub use receipt::Receipt;
+pub use receipt::{Receipt, count_games};
 pub use report::{End, ImportCall, ImportEnding, Report};
 pub use spill_fault::SpillOpenFault;
 pub use spilling::open_spilled;

@@ -85,7 +85,7 @@ impl Ready {
         let batch = self.batch();
         let texts = copies_of(alloc, batch.texts.as_slice())?;
         Ok(Batch {
-            label: copy_of(&batch.label),
+            label: batch.label.copy(),
             texts: Texts::from_vec(texts),
         })
     }
@@ -101,14 +101,4 @@ fn copies_of(alloc: Global, texts: &[Bytes]) -> Result<Vec<Bytes>, AllocError>
         copies.push(Bytes::from_vec(bytes))?;
     }
     Ok(copies)
-}
-
-/// The same label, which takes no memory.
-fn copy_of(label: &Label) -> Label
-    ensures { result ≡ label.now }
-{
-    let Some(copy) = Label::of(label.as_str().as_bytes()) else {
-        unreachable!()
-    };
-    copy
 }

@@ -1,5 +1,6 @@
 //! What a commit gives for a stored batch.
-ghost use Rattle.std.specs.Prelude.{◌≡◌};
+ghost use Rattle.std.specs.Prelude.{◌≡◌, ◌<◌, ◌^◌};
+ghost use Rattle.ingest_desk.specs.Reporting.{games_of};
 
 use published_index::{Index, Note};
 
@@ -40,4 +41,16 @@ impl<J: Index> Receipt<J> {
     {
         self.note
     }
+}
+
+/// How many games the receipts have together.
+pub fn count_games<J: Index>(receipts: &[Receipt<J>]) -> u32
+    requires { games_of receipts.now < 2 ^ 32 }
+    ensures { result ≡ games_of receipts.now }
+{
+    let mut games = 0;
+    for receipt in receipts {
+        games += receipt.games();
+    }
+    games
 }

@@ -3,6 +3,7 @@ use Rattle.std.proofs.Common.{◌≡◌, ℕ, zero, suc, ◌+◌, ◌*◌, ◌/�
 use Rattle.std.specs.List.{sum_by, count_by, Contains, AllPairs}
 use Rattle.std.proofs.lemmas.Bool.Decides.{nat_tests}
 use Rattle.std.proofs.lemmas.List.Sums.{sum_by-cons, sum_by_more, sum_by-take-le}
+use Rattle.plain_laws.specs.Lists.{contains-first, contains-later}
 use Rattle.explorer_model.specs.declared.chess.Color.{Color}
 use Rattle.explorer_model.specs.declared.chess.Role.{Role}
 use Rattle.explorer_model.specs.declared.chess.Role.TheVariants.{Pawn, Knight, Bishop, Rook, Queen, King}
@@ -208,18 +209,12 @@ moves_way p m mover =
 rising_tail : (m : Move) (ms : List Move) → AllPairs (λ a b. place_of a < place_of b) (m ∷ ms) → AllPairs (λ a b. place_of a < place_of b) ms
 rising_tail m ms rising = λ i j d before inside. rising (suc i) (suc j) d (let h : suc i < suc j = omega arith in h) (let h : suc j < suc (length ms) = omega arith in h)
 
-contained_tail : (m x : Move) (ms : List Move) → Contains ms x → Contains (m ∷ ms) x
-contained_tail m x ms c = (suc c.0, (let h : c.0 < length ms = c.1 in let g : suc c.0 < suc (length ms) = omega arith in g), c.2)
-
 rising_head : (m x : Move) (ms : List Move) → AllPairs (λ a b. place_of a < place_of b) (m ∷ ms) → Contains ms x → place_of m < place_of x
 rising_head m x ms rising c =
     let k : ℕ = c.0 in
     let h : k < length ms = c.1 in
     let P : Move → Type 0 = λ y. place_of m < place_of y in
     subst P c.2 (rising 0 (suc k) x (omega arith) (let g : suc k < suc (length ms) = omega arith in g))
-
-contained_head : (m : Move) (ms : List Move) → Contains (m ∷ ms) m
-contained_head m ms = (0, omega arith, refl)
 
 fits_from : (p : Position) (low high : ℕ) (ms : List Move)
     → AllPairs (λ a b. place_of a < place_of b) ms
@@ -232,14 +227,14 @@ fits_from p low high [] rising above below counts ordered =
     let h : sum_below (way_at p) low ≤ sum_below (way_at p) high = sum_below-le (way_at p) low high ordered in omega arith
 fits_from p low high (m ∷ ms) rising above below counts ordered =
     let here : ℕ = place_of m in
-    let low_is : low ≤ here = above m (contained_head m ms) in
-    let high_is : here < high = below m (contained_head m ms) in
-    let one : way_at p here ≡ 1 = counts m (contained_head m ms) in
+    let low_is : low ≤ here = above m (contains-first ms m) in
+    let high_is : here < high = below m (contains-first ms m) in
+    let one : way_at p here ≡ 1 = counts m (contains-first ms m) in
     let rest : length ms + sum_below (way_at p) (here + 1) ≤ sum_below (way_at p) high =
     fits_from p (here + 1) high ms (rising_tail m ms rising)
     (λ x c. let h : here < place_of x = rising_head m x ms rising c in omega arith)
-    (λ x c. below x (contained_tail m x ms c))
-    (λ x c. counts x (contained_tail m x ms c))
+    (λ x c. below x (contains-later m ms x c))
+    (λ x c. counts x (contains-later m ms x c))
     (omega arith) in
     let more : sum_below (way_at p) (here + 1) ≡ sum_below (way_at p) here + way_at p here = sum_below-more (way_at p) here in
     let low_less : sum_below (way_at p) low ≤ sum_below (way_at p) here = sum_below-le (way_at p) low here low_is in

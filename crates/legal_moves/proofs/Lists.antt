@@ -3,6 +3,7 @@ use Rattle.std.proofs.Common.{◌≡◌, ◌≢◌, ℕ, ◌+◌, ◌*◌, ◌<�
 use Rattle.std.specs.List.{Contains, AllPairs, All}
 use Rattle.std.proofs.lemmas.List.Elements.{Contains-append_left, Contains-push, Contains-push_cases, Contains-get_or}
 use Rattle.std.proofs.lemmas.List.Quantifiers.{all_pairs_push}
+use Rattle.plain_laws.specs.Lists.{contains-none}
 use Rattle.step_tables.specs.Bitboard.{Holds}
 use Rattle.step_tables.proofs.BitboardLemmas.{Holds-zero}
 use Rattle.explorer_model.specs.declared.chess.Role.{Role}
@@ -23,13 +24,10 @@ lt_or_le a b = search arith
 below_or_at : (a n : ℕ) → a < n + 1 → (a < n) ⊎ (a ≡ n)
 below_or_at a n h = elim (lt_or_le a n) [ inl less ↦ inl less | inr more ↦ inr (omega arith) ]
 
-none_contained : (m : Move) → Contains [] m → ⊥
-none_contained m c = let h : c.0 < 0 = c.1 in absurd (omega arith)
-
 pub lists-none : (p : Position) → ListsBelow p 0 []
 lists-none p = record {
-  sound = λ m c. absurd (none_contained m c);
-  below = λ m c. absurd (none_contained m c);
+  sound = λ m c. absurd (contains-none m c);
+  below = λ m c. absurd (contains-none m c);
   complete = λ m legal h. absurd (omega arith);
   rising = λ i j d ij h. absurd (omega arith);
 }
@@ -103,11 +101,7 @@ some_listed p n (m ∷ moves) l some = (m, l.sound m (0, omega arith, refl))
 
 pub none_listed : (p : Position) (n : ℕ) → 32768 ≤ n → ListsBelow p n [] → (m : Move) × Legal p m → ⊥
 none_listed p n all l some =
-    none_contained some.0 (l.complete some.0 some.1 (let h : place_of some.0 < 32768 = place_of-lt some.0 in omega arith))
-
-pub is_empty : (moves : List Move) → length moves ≡ 0 → moves ≡ []
-is_empty [] e = refl
-is_empty (m ∷ moves) e = absurd (omega arith)
+    contains-none some.0 (l.complete some.0 some.1 (let h : place_of some.0 < 32768 = place_of-lt some.0 in omega arith))
 
 -- The moves from one square to another.
 

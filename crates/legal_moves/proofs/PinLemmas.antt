@@ -1,7 +1,8 @@
 -- What bitboards tell of pins and checks.
-use Rattle.std.proofs.Common.{◌≡◌, ◌↔◌, ℕ, ◌<◌, ◌^◌, ◌⊎◌, Option, Some, None, bit_and, w64, sym, ◌∙◌, subst, inl, inr, arith}
+use Rattle.std.proofs.Common.{◌≡◌, ◌↔◌, ℕ, ◌<◌, ◌^◌, ◌⊎◌, Option, Some, None, bit_and, w64, sym, ◌∙◌, subst, inl, inr}
 use Rattle.std.proofs.lemmas.Bool.{cases_eq}
 use Rattle.std.proofs.lemmas.Nat.Bits.{bit_at-trailing_zeros}
+use Rattle.std.proofs.Math.Nat.{pos_of_ne-zero}
 use Rattle.step_tables.specs.Bitboard.{Holds}
 use Rattle.step_tables.proofs.BitboardLemmas.{Holds-zero, Holds-and}
 use Rattle.explorer_model.specs.declared.chess.Color.{Color}
@@ -15,11 +16,8 @@ use Rattle.legal_moves.specs.Pins.{IsAimed, Pins, IsAlone, IsPinned}
 use Rattle.legal_moves.proofs.OneKing.{has_pieces, one_king}
 use Rattle.legal_moves.proofs.DestinationLemmas.{occupied-not_empty, unoccupied-empty}
 
-positive : (x : ℕ) → (x ≡ 0 → ⊥) → 0 < x
-positive x h = omega arith
-
 pub some_square : (x : ℕ) → x < 2 ^ 64 → (x ≡ 0 → ⊥) → (b : ℕ) × (b < 64) × Holds x b
-some_square x fits some = let h = bit_at-trailing_zeros w64 x (positive x some) fits in (_, h.0, h.1)
+some_square x fits some = let h = bit_at-trailing_zeros w64 x (pos_of_ne-zero some) fits in (_, h.0, h.1)
 
 pub no_bit : (x b : ℕ) → x ≡ 0 → Holds x b → ⊥
 no_bit x b none bit = Holds-zero b (let P : ℕ → Type 0 = λ x. Holds x b in subst P none bit)

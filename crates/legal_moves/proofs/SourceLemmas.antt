@@ -1,6 +1,6 @@
 -- Which moves the pieces of one role have to one square.
 use Rattle.std.proofs.Common.{◌≡◌, ◌≢◌, ◌↔◌, ℕ, ◌<◌, ◌≤◌, ◌⊎◌, Bool, IsTrue, true, false, ◌==◌, ◌&&◌, ◌||◌, is_some, if◌then◌else◌, Option, Some, None, bit_and, bit_or, refl, sym, ap, ◌∙◌, subst, inl, inr, arith}
-use Rattle.std.proofs.lemmas.Bool.{cases_eq, eqb-true}
+use Rattle.std.proofs.lemmas.Bool.{cases_eq, eq-eqb, eqb-true}
 use Rattle.std.proofs.lemmas.Bool.Decides.{nat_tests}
 use Rattle.step_tables.specs.Bitboard.{Holds}
 use Rattle.step_tables.proofs.BitboardLemmas.{Holds-zero, Holds-or, Holds-and}
@@ -49,15 +49,12 @@ castles_two : (p : Position) (m : Move) → Castles p m → files_apart m.from.i
 castles_two p m (inl c) = castles_files p.turn Short _ _ c.1 c.2
 castles_two p m (inr c) = castles_files p.turn Long _ _ c.1 c.2
 
-eq_self : (x y : ℕ) → x ≡ y → (x == y) ≡ true
-eq_self x y e = grind (arith, nat_tests)
-
 eq_not : (x y : ℕ) → x ≢ y → (x == y) ≡ false
 eq_not x y e = grind (arith, nat_tests)
 
 king_castles : (p : Position) (m : Move) → piece_at p.squares m.from.index ≡ piece_of p.turn King → files_apart m.from.index m.to.index ≡ 2
     → is_castling p m ≡ true
-king_castles p m stands two = ap (λ o. is_king_at o && (files_apart m.from.index m.to.index == 2)) stands ∙ eq_self _ _ two
+king_castles p m stands two = ap (λ o. is_king_at o && (files_apart m.from.index m.to.index == 2)) stands ∙ eq-eqb _ _ two
 
 king_steps : (p : Position) (m : Move) → files_apart m.from.index m.to.index ≢ 2 → is_castling p m ≡ false
 king_steps p m apart = by (is_king_at (piece_at p.squares m.from.index))

@@ -1,12 +1,13 @@
 -- What is summed, listed and told apart of hits is what is of the rows of all parts that pass the filter.
-use Rattle.std.proofs.Common.{◌≡◌, ℕ, ◌+◌, Bool, true, false, ◌&&◌, ◌||◌, ◌==◌, nat_lt, cond, if◌then◌else◌, List, [], ◌∷◌, ◌++◌, map, length, bytes_eq, suc, Option, None, refl, sym, ap, ◌∙◌, zero-add}
-use Rattle.std.specs.List.{AllByRecursion, AllZip, sum_by, flat_map, filter, filter_map, cons_option}
+use Rattle.std.proofs.Common.{◌≡◌, ℕ, ◌+◌, Bool, true, false, ◌&&◌, ◌||◌, ◌==◌, nat_lt, cond, if◌then◌else◌, List, [], ◌∷◌, ◌++◌, map, length, bytes_eq, Option, None, refl, sym, ap, ◌∙◌, zero-add}
+use Rattle.std.specs.List.{AllByRecursion, sum_by, flat_map, filter, filter_map, cons_option}
 use Rattle.std.specs.Ordering.{nat_cmp, is_lt}
 use Rattle.std.specs.Cmp.Lexicographic.{slice_cmp}
 use Rattle.std.proofs.lemmas.List.{map-append, length-map}
 use Rattle.std.proofs.lemmas.List.Elements.{filter-append, filter_map-append}
 use Rattle.std.proofs.lemmas.Grind.{flat_map-append}
 use Rattle.std.proofs.lemmas.List.Sums.{sum_by-cons, sum_by-append}
+use Rattle.std.proofs.lemmas.Slice.Zip.{AllZip-long}
 use Rattle.best_lists.specs.Entry.{moved_by}
 use Rattle.best_lists.specs.Ranking.{before_by_rating, before_by_month}
 use Rattle.best_lists.specs.declared.entry.Entry.{Entry}
@@ -37,16 +38,10 @@ rows_in parts = map (λ part. part.rows) parts
 abbrev pub hits_of : List ℕ → Filter → List Part → List NumberedRow
 hits_of key wanted parts = rows_from key (meets wanted any_next) 0 parts
 
-zip-length : {A B : Type 0} (R : A → B → Type 0) (xs : List A) (ys : List B) → AllZip R xs ys → length xs ≡ length ys
-zip-length R [] [] h = refl
-zip-length R [] (y ∷ ys) h = absurd h
-zip-length R (x ∷ xs) [] h = absurd h
-zip-length R (x ∷ xs) (y ∷ ys) h = ap suc (zip-length R xs ys h.1)
-
 -- a batch has a track for each of its classes
 pub tracks-length : (part : Part) (counted : IsPart part) → length counted.tally.tracks ≡ length part.classes
 tracks-length part counted =
-    sym (zip-length IsTrackOf counted.tally.games counted.tally.tracks counted.tally.are_tracks)
+    AllZip-long IsTrackOf counted.tally.games counted.tally.tracks counted.tally.are_tracks
     ∙ sym (ap (λ l. length l) counted.tally.classes_are ∙ length-map counted.tally.games (λ game. game.classes))
 
 -- ---- tests of rows that are picked

@@ -1,5 +1,5 @@
 -- The games of entries are found by their numbers.
-use Rattle.std.proofs.Common.{◌≡◌, ℕ, suc, ◌+◌, ◌-◌, ◌==◌, Bool, true, false, ◌&&◌, cond, inl, inr, List, [], ◌∷◌, ◌++◌, length, take, map, filter, Option, Some, None, is_some, option_map, Result, Ok, Err, IfOk, bytes_eq, refl, sym, ap, ◌∙◌, subst, arith}
+use Rattle.std.proofs.Common.{◌≡◌, ℕ, suc, ◌+◌, ◌-◌, ◌==◌, Bool, true, false, ◌&&◌, cond, inl, inr, List, [], ◌∷◌, ◌++◌, length, take, map, filter, Option, Some, None, is_some, option_map, bytes_eq, refl, sym, ap, ◌∙◌, subst, arith}
 use Rattle.std.specs.Prelude.{option_and_then, filter_map}
 use Rattle.std.specs.List.{All, AllByRecursion, AllZip, Contains, list_any, slice_get, enumerate_from, cons_option}
 use Rattle.std.proofs.lemmas.Bool.Decides.{nat_tests}
@@ -7,6 +7,7 @@ use Rattle.std.proofs.lemmas.List.{map-append, length-map}
 use Rattle.std.proofs.lemmas.List.Elements.{All-take}
 use Rattle.std.proofs.lemmas.Slice.Eq.{bytes_eq-Decides}
 use Rattle.std.proofs.lemmas.Option.{slice_get-map, slice_get_within}
+use Rattle.plain_laws.specs.Lists.{get-front}
 use Rattle.best_lists.proofs.BestLaws.{All-best}
 use Rattle.best_lists.specs.Ranking.{before_by_rating, before_by_month}
 use Rattle.best_lists.specs.declared.entry.Entry.{Entry}
@@ -25,7 +26,7 @@ use Rattle.lookup.specs.Listing.{all_classes, AreListed}
 use Rattle.row_sums.specs.Sums.{any_row, entries_where}
 use Rattle.lookup.specs.Parts.{tracks_in}
 use Rattle.row_sums.proofs.ListedRows.{IsFirst, best-stand, find-first, in-either, kept, stands-listed}
-use Rattle.row_sums.proofs.Places.{get-left, get-right}
+use Rattle.row_sums.proofs.Places.{get-right}
 use Rattle.tally_rows.specs.declared.row_key.RowKey.{RowKey}
 use Rattle.tally_rows.specs.declared.row.Row.{Row}
 use Rattle.tally_rows.specs.Cover.{meets, listing, listed_by}
@@ -173,7 +174,7 @@ module _ (list : Row → List Entry) (lists : ListsGames list) (key : List ℕ) 
         is = omega (arith, found.is);
         played = record {
           track = found.track;
-          at = get-left tracks rest found.place (slice_get_within tracks found.place found.track found.at) ∙ found.at;
+          at = get-front tracks rest found.place (slice_get_within tracks found.place found.track found.at) ∙ found.at;
           plays = plays-there key found.track row (picks-own_key row k.passes) found.passes;
         };
       }
@@ -323,8 +324,3 @@ listed-of list lists before games parts hits most listed known are =
     are.are_listed ∙ ap (λ (of : List Classes). filter_map (λ entry. listed_where list of are.rows entry.number) (take most are.entries)) known in
     listed-among list before parts hits are.rows are.entries most listed are.are_best
     (listings list lists parts are.rows (take most are.entries) listed found)
-
--- where there is a value, what follows from what holds of it
-pub if-ok : {A E : Type 0} (P Q : A → Type 0) (result : Result A E) → ((value : A) → P value → Q value) → IfOk result P → IfOk result Q
-if-ok P Q (Ok value) follows holds = follows value holds
-if-ok P Q (Err error) follows holds = holds

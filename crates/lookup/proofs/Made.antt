@@ -3,6 +3,7 @@ use Rattle.std.proofs.Common.{◌≡◌, ◌/◌, ℕ, Bool, true, false, List, 
 use Rattle.std.specs.List.{AllByRecursion, AllZip}
 use Rattle.std.proofs.lemmas.List.{map-append}
 use Rattle.std.proofs.lemmas.List.Elements.{All-from_recursion}
+use Rattle.plain_laws.specs.Lists.{each-append}
 use Rattle.explorer_model.specs.SoundClasses.{IsMonth}
 use Rattle.explorer_model.specs.declared.answer.Found.{Found}
 use Rattle.explorer_model.specs.declared.answer.Listed.{Listed}
@@ -65,10 +66,6 @@ spans-games_at at bytes sees (x ∷ texts) (g ∷ games) (t ∷ cover) of tracke
     subst Z (sym (map-append (game_at bytes) t (all_of cover)))
     (zip-append (IsGameAt at) g (all_of games) (map (game_at bytes) t) (map (game_at bytes) (all_of cover))
     (span-games_at at bytes sees x g t of.0 tracked.0) (spans-games_at at bytes sees texts games cover of.1 tracked.1))
-
-each-append : {A : Type 0} (P : A → Type 0) (xs ys : List A) → AllByRecursion P xs → AllByRecursion P ys → AllByRecursion P (xs ++ ys)
-each-append P [] ys each more = more
-each-append P (x ∷ xs) ys each more = (each.0, each-append P xs ys each.1 more)
 
 spans-months : (texts : List (List (List ℕ))) (games : List (List Game)) (cover : List (List Track))
     → AllZip (AllZip IsTextOf) texts games → AllZip (AllZip IsTrackOf) games cover

@@ -4,6 +4,7 @@ use Rattle.std.specs.List.{All, AllZip, slice_get, sum_by}
 use Rattle.std.proofs.lemmas.List.{take_more}
 use Rattle.std.proofs.lemmas.List.Sums.{sum_by_more, sum_by-take-le}
 use Rattle.std.proofs.lemmas.Option.{get_or_from_slice_get, same_Some, slice_get-map, slice_get_within}
+use Rattle.plain_laws.specs.Options.{IfSome-at}
 use Rattle.explorer_model.proofs.Lists.{zip-append}
 use Rattle.explorer_model.specs.declared.chess.Position.{Position}
 use Rattle.explorer_model.specs.declared.fault.Stop.{Stop}
@@ -35,9 +36,6 @@ placed (x ∷ xs) (suc i) within = let rest = placed xs i (omega arith) in recor
 pub take-at : {X : Type 0} (xs : List X) (i : ℕ) (x : X) → slice_get xs i ≡ Some x → take (i + 1) xs ≡ take i xs ++ x ∷ []
 take-at xs i x is =
     take_more xs i x (slice_get_within xs i x is) ∙ ap (λ y. take i xs ++ y ∷ []) (get_or_from_slice_get xs i x x is)
-
-pub some-at : {X : Type 0} (P : X → Type 0) (o : Option X) (x : X) → o ≡ Some x → IfSome o P → P x
-some-at P o x is holds = subst (λ (o : Option _). IfSome o P) is holds
 
 pub both-some : {X : Type 0} (P Q R : X → Type 0) (o : Option X) → ((x : X) → P x → Q x → R x) → IfSome o P → IfSome o Q → IfSome o R
 both-some P Q R None follows first second = tt
@@ -103,7 +101,7 @@ stops-at at key set appended n (Fault (Damaged part)) within before here =
         → (part < length set) × AreJudged at key set told part × JudgesPart at key part set told (Err (Fault (Damaged part)))
     stop told before here =
         let place : Placed set n = placed set n within in
-        let judged = some-at (λ (s : CountedSpan). Judges at key n (length s.classes) (blocks_at key (length (set_bytes (take n set))) s told) (Err (Fault (Damaged part))))
+        let judged = IfSome-at (λ (s : CountedSpan). Judges at key n (length s.classes) (blocks_at key (length (set_bytes (take n set))) s told) (Err (Fault (Damaged part))))
         (slice_get set n) place.value place.is here in
         let own : part ≡ n = judged.0 in
         subst (λ (k : ℕ). (k < length set) × AreJudged at key set told k × JudgesPart at key k set told (Err (Fault (Damaged part)))) (sym own)

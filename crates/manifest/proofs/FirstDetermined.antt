@@ -1,26 +1,18 @@
 -- What is read of a file of the first format is one thing.
-use Rattle.std.proofs.Common.{◌≡◌, inl, inr, ℕ, ◌+◌, List, [], ◌∷◌, ◌++◌, length, sum_by, Option, Some, IfSome, Ok, Err, refl, sym, ap, ◌∙◌, subst, arith, append_assoc, length-append}
+use Rattle.std.proofs.Common.{◌≡◌, inl, inr, ℕ, ◌+◌, List, [], ◌∷◌, ◌++◌, length, sum_by, Option, Some, IfSome, refl, sym, ap, ◌∙◌, subst, arith, append_assoc, length-append}
 use Rattle.std.proofs.lemmas.Grind.{flat_map-append}
 use Rattle.std.proofs.lemmas.List.Sums.{sum_by-append}
-use Rattle.record_log.proofs.DeterminedLemmas.{at_told}
+use Rattle.plain_laws.specs.Options.{IfSome-at}
+use Rattle.plain_laws.specs.Results.{Ok-Err, same_Err, same_Ok}
 use Rattle.explorer_model.specs.declared.archive.Batch.{Batch}
 use Rattle.explorer_model.specs.declared.store.LogFault.{LogFault}
 use Rattle.explorer_model.specs.declared.store.LogFault.TheVariants.{NotALog, OtherFormat, Damaged}
-use Rattle.explorer_model.specs.StoreFile.{Reading, first_journal_of}
+use Rattle.explorer_model.specs.StoreFile.{first_journal_of}
 use Rattle.explorer_model.specs.Visits.{texts_of}
 use Rattle.manifest.specs.First.{first_store_of, HasFirstJournal, IsWithinFirst, IsWrongFirst, PassesAt, PassesFirst}
 
-journal_same : (reading : Reading (List Batch)) (journal other : List Batch) → reading ≡ Ok journal → reading ≡ Ok other → journal ≡ other
-journal_same reading journal other is also = cc
-
-fault_same : (reading : Reading (List Batch)) (fault other : LogFault) → reading ≡ Err fault → reading ≡ Err other → fault ≡ other
-fault_same reading fault other is also = cc
-
-not_both : (reading : Reading (List Batch)) (journal : List Batch) (fault : LogFault) → reading ≡ Ok journal → reading ≡ Err fault → ⊥
-not_both reading journal fault is also = cc
-
 pub one-journal : (file : List ℕ) (journal other : List Batch) → HasFirstJournal journal file → HasFirstJournal other file → journal ≡ other
-one-journal file journal other is also = journal_same (first_journal_of file) journal other is also
+one-journal file journal other is also = same_Ok (first_journal_of file) journal other is also
 
 -- ---- where the limits are passed
 
@@ -75,9 +67,9 @@ passes-at-one journal (OtherFormat number) other one two = absurd one
 -- ---- one fault
 
 wrong-one : (file : List ℕ) (fault other : LogFault) → IsWrongFirst fault file → IsWrongFirst other file → fault ≡ other
-wrong-one file fault other (inl one) (inl two) = fault_same (first_journal_of file) fault other one two
-wrong-one file fault other (inl one) (inr two) = absurd (not_both (first_journal_of file) two.0 fault two.1 one)
-wrong-one file fault other (inr one) (inl two) = absurd (not_both (first_journal_of file) one.0 other one.1 two)
+wrong-one file fault other (inl one) (inl two) = same_Err (first_journal_of file) fault other one two
+wrong-one file fault other (inl one) (inr two) = absurd (Ok-Err (first_journal_of file) two.0 fault two.1 one)
+wrong-one file fault other (inr one) (inl two) = absurd (Ok-Err (first_journal_of file) one.0 other one.1 two)
 wrong-one file fault other (inr one) (inr two) =
     let same = one-journal file one.0 two.0 one.1 two.1 in
     passes-at-one two.0 fault other (subst (λ (l : List Batch). PassesAt l fault) same one.2) two.2
@@ -92,7 +84,7 @@ passes-not-within journal (OtherFormat number) within passes = passes
 
 not-wrong : (file : List ℕ) (journal : List Batch) (fault : LogFault) → HasFirstJournal journal file → IsWithinFirst journal
     → IsWrongFirst fault file → ⊥
-not-wrong file journal fault has within (inl one) = not_both (first_journal_of file) journal fault has one
+not-wrong file journal fault has within (inl one) = Ok-Err (first_journal_of file) journal fault has one
 not-wrong file journal fault has within (inr one) =
     let same = one-journal file one.0 journal one.1 has in
     passes-not-within journal fault within (subst (λ (l : List Batch). PassesAt l fault) same one.2)
@@ -100,9 +92,9 @@ not-wrong file journal fault has within (inr one) =
 module _ (content : Option (List ℕ)) (file : List ℕ) (told : content ≡ Some file) where
   pub one-fault : (fault other : LogFault) → IfSome content (IsWrongFirst fault) → IfSome content (IsWrongFirst other) → fault ≡ other
   one-fault fault other one two =
-      wrong-one file fault other (at_told (IsWrongFirst fault) content file told one) (at_told (IsWrongFirst other) content file told two)
+      wrong-one file fault other (IfSome-at (IsWrongFirst fault) content file told one) (IfSome-at (IsWrongFirst other) content file told two)
 
   pub read-or-wrong : (journal : List Batch) (fault : LogFault) → HasFirstJournal journal file → IsWithinFirst journal
       → IfSome content (IsWrongFirst fault) → ⊥
   read-or-wrong journal fault has within wrong =
-      not-wrong file journal fault has within (at_told (IsWrongFirst fault) content file told wrong)
+      not-wrong file journal fault has within (IfSome-at (IsWrongFirst fault) content file told wrong)

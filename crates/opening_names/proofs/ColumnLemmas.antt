@@ -18,16 +18,6 @@ use Rattle.opening_names.specs.Reading.{pieces_left}
 
 -- ---- texts
 
-pub name-text : (bytes : List ℕ) → IsUtf8 bytes → Some bytes ≡ name_of bytes
-unfolding name_of
-name-text bytes utf8 = ap (λ (b : Bool). if b then Some bytes else None) (sym (is_utf8-from_IsUtf8 bytes utf8))
-
-pub name-other : (bytes : List ℕ) → ¬ IsUtf8 bytes → None ≡ name_of bytes
-unfolding name_of
-name-other bytes other =
-    ap (λ (b : Bool). if b then Some bytes else None)
-    (sym (false_from_ne_true (is_utf8 bytes) (λ utf8. other (IsUtf8-from_is_utf8 bytes utf8))))
-
 pub is-text : (bytes text : List ℕ) → Some text ≡ name_of bytes → (is_utf8 bytes ≡ true) × (text ≡ bytes)
 unfolding name_of
 is-text bytes text is = by (is_utf8 bytes) refl is

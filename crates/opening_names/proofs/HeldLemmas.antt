@@ -6,6 +6,7 @@ use Rattle.std.specs.Option.{option_or}
 use Rattle.std.proofs.lemmas.List.{length-take-le, take_more}
 use Rattle.std.proofs.lemmas.Option.{none-some, same_Some}
 use Rattle.std.proofs.lemmas.Slice.Eq.{bytes_eq-Decides}
+use Rattle.plain_laws.specs.Options.{cond-some}
 use Rattle.explorer_model.specs.declared.chess.Position.{Position}
 use Rattle.explorer_model.specs.Chess.{Same}
 use Rattle.explorer_model.specs.Keys.{key}
@@ -118,11 +119,6 @@ kept b n (Some k) there = refl
 kept true n None there = absurd (there refl refl)
 kept false n None there = refl
 
-put : (b : Bool) (n : ℕ) (o : Option ℕ) → (b ≡ true → o ≡ None) → cond b (Some n) o ≡ option_or o (cond b (Some n) None)
-put true n o none = ap (λ o. option_or o (Some n)) (sym (none refl))
-put false n (Some k) none = refl
-put false n None none = refl
-
 module _ {S : Type 0} (places : HashMap (List ℕ) ℕ S) (lines : List NamedLine) (line : NamedLine) (tells : TellsPlaces places lines) where
   -- a line with a key that is there
   pub told-again : is_some (get bytes_eq places line.key) ≡ true → TellsPlaces places (lines ++ line ∷ [])
@@ -139,7 +135,7 @@ module _ {S : Type 0} (places : HashMap (List ℕ) ℕ S) (lines : List NamedLin
       → TellsPlaces now (lines ++ line ∷ [])
   told-new none now updates = λ key.
       updates.0 key ∙ ap (λ o. cond (bytes_eq line.key key) (Some (length lines)) o) (tells key)
-      ∙ put (bytes_eq line.key key) (length lines) (place_of lines key)
+      ∙ cond-some (bytes_eq line.key key) (length lines) (place_of lines key)
       (λ is.
       let here : line.key ≡ key = (bytes_eq-Decides line.key key).0 is in
       sym (tells key) ∙ ap (get bytes_eq places) (sym here) ∙ nothing (get bytes_eq places line.key) none)

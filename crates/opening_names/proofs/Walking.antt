@@ -1,7 +1,8 @@
 -- A walk along moves, and the opening of the last position on it that has one.
-use Rattle.std.proofs.Common.{◌≡◌, ℕ, zero, suc, ◌<◌, List, [], ◌∷◌, ◌++◌, map, length, get_or, Bor, Option, Some, None, refl, sym, subst, ◌∙◌, arith}
-use Rattle.std.specs.List.{AllByRecursion, AllZip, last_or}
+use Rattle.std.proofs.Common.{◌≡◌, ℕ, zero, suc, ◌<◌, List, [], ◌∷◌, map, length, get_or, Bor, Option, Some, None, refl, sym, subst, ◌∙◌, arith}
+use Rattle.std.specs.List.{AllByRecursion, last_or}
 use Rattle.std.specs.Option.{option_copied, option_or}
+use Rattle.plain_laws.specs.Options.{option_or-assoc}
 use Rattle.explorer_model.specs.declared.answer.MoveLine.{MoveLine}
 use Rattle.explorer_model.specs.declared.chess.Move.{Move}
 use Rattle.explorer_model.specs.declared.chess.Position.{Position}
@@ -10,7 +11,6 @@ use Rattle.explorer_model.specs.declared.player.PlayerLine.{PlayerLine}
 use Rattle.explorer_model.specs.Chess.{Legal, after}
 use Rattle.explorer_model.specs.Openings.{LastOpening, NamedPosition, OpeningOf, positions_on}
 use Rattle.explorer_model.specs.Visits.{AreLegalFrom}
-use Rattle.explorer_model.proofs.Lists.{zip-append}
 use Rattle.opening_names.specs.Reading.{positions_behind}
 
 on-behind : (p : Position) (moves : List Move) → positions_on p moves ≡ p ∷ positions_behind p moves
@@ -20,10 +20,6 @@ on-behind p (m ∷ moves) = refl
 last-of : (o : Option Position) (p : Position) (moves : List Move) → last_or o (positions_on p moves) ≡ last_or None (positions_on p moves)
 last-of o p [] = refl
 last-of o p (m ∷ moves) = refl
-
-or-assoc : (a b c : Option Opening) → option_or (option_or a b) c ≡ option_or a (option_or b c)
-or-assoc None b c = refl
-or-assoc (Some x) b c = refl
 
 pub copied-or : (a b : Option (Bor Opening)) → option_copied (option_or a b) ≡ option_or (option_copied a) (option_copied b)
 copied-or None b = refl
@@ -56,7 +52,7 @@ module _ (book : List NamedPosition) (root : Position) (plays : List Move) where
     completes = λ later last.
         (let L : List Position → Type 0 = λ ps. LastOpening book ps (option_or later own) in
         let W : Option Opening → Type 0 = λ o. LastOpening book (positions_on root plays) o in
-        subst W (or-assoc later own opening)
+        subst W (option_or-assoc later own opening)
         (walks.completes (option_or later own) (subst L (sym (on-behind (after board m) rest)) (own, later, is, last, refl))));
   }
 
@@ -100,6 +96,3 @@ lines-legal at (line ∷ lines) each = (each.0, lines-legal at lines each.1)
 pub player-lines-legal : (at : Position) (lines : List PlayerLine) → AllByRecursion (λ line. Legal at line.next) lines → AllByRecursion (λ m. Legal at m) (map (λ line. line.next) lines)
 player-lines-legal at [] each = tt
 player-lines-legal at (line ∷ lines) each = (each.0, player-lines-legal at lines each.1)
-
-pub zip-push : {A B : Type 0} (R : A → B → Type 0) (xs : List A) (ys : List B) (x : A) (y : B) → AllZip R xs ys → R x y → AllZip R (xs ++ x ∷ []) (ys ++ y ∷ [])
-zip-push R xs ys x y each last = zip-append R xs (x ∷ []) ys (y ∷ []) each (last, tt)

@@ -1,5 +1,5 @@
--- Keys of positions: the squares that they are made of, and how they are hashed, by one write of all
--- their bytes.
+-- Bridge: keys of positions, the squares that they are made of, and how they are hashed: by one write
+-- of all their bytes.
 use Rattle.std.specs.Prelude.{◌≡◌, ℕ, List, [], ◌∷◌, IsTrue, bytes_eq, length}
 use Rattle.std.specs.Cmp.{IsPartialEquivalence, partial_equiv_from_equiv}
 use Rattle.std.specs.Cmp.Lexicographic.{nat_list_eq_equiv}

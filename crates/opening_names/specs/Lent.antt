@@ -1,4 +1,4 @@
--- Namings that a book lends.
+-- Bridge: namings that a book lends.
 use Rattle.std.specs.Prelude.{map}
 use Rattle.std.specs.Option.{option_copied}
 use Rattle.explorer_model.specs.declared.opening.Naming.{Naming}

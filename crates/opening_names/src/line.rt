@@ -11,6 +11,7 @@ ghost use Rattle.opening_names.specs.Reading.{columns_as};
 use crate::pieces::split_piece;
 use crate::tidy_key::TidyKey;
 use crate::words::{count_words, play_words};
+use explorer_model::bytes::utf8_of;
 use explorer_model::chess::Position;
 use explorer_model::fault::Stop;
 use explorer_model::opening::{BookCause, Opening};
@@ -91,17 +92,6 @@ fn columns_of(line: &[u8]) -> Option<Cut<'_>>
         return None;
     }
     Some(Cut { eco, name, moves })
-}
-
-/// The text that the bytes are, where they are valid UTF-8.
-#[tactic(auto, unfolding(explorer_model::specs::Classes::name_of))]
-fn utf8_of(bytes: &[u8]) -> Option<&str>
-    ensures { option_map (λ text. text.now) result ≡ name_of bytes.now }
-{
-    match str::from_utf8(bytes) {
-        Ok(text) => Some(text),
-        Err(_) => None,
-    }
 }
 
 /// The opening of these names.

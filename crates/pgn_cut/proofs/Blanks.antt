@@ -2,7 +2,7 @@
 use Rattle.std.specs.Prelude.{◌≡◌, ℕ, ◌+◌, Bool, true, false, cond, ◌&&◌, ◌==◌, ◌↔◌, nat_eq, List, [], ◌∷◌, ◌++◌, drop, length, refl}
 use Rattle.std.specs.List.{starts_with, list_all}
 use Rattle.std.proofs.Common.{sym, ◌∙◌, ap, subst}
-use Rattle.std.proofs.lemmas.Bool.{ne_eqb}
+use Rattle.std.proofs.lemmas.Bool.{and_parts, ne_eqb}
 use Rattle.explorer_model.specs.Cuts.{Cut, Preamble, Parted, event, mark, onto, parted, is_white_space, preamble, cuts_of, cuts_from, cuts}
 use Rattle.pgn_cut.specs.Blank.{AllWhite, IsBlank}
 
@@ -13,25 +13,21 @@ no_start b white = ne_eqb 91 b (λ is. differs (subst (λ (x : ℕ). is_white_sp
     differs : is_white_space 91 ≡ true → ⊥
     differs e = cc
 
-both : (x y : Bool) → (x && y) ≡ true → (x ≡ true) × (y ≡ true)
-both true y e = (refl, e)
-both false y e = absurd cc
-
 parted-white : (fresh : Bool) (bytes : List ℕ) → AllWhite bytes → parted fresh bytes ≡ record { before = bytes; texts = [] }
 unfolding parted onto
 parted-white fresh [] white = refl
 parted-white true (b ∷ bytes) white =
-    let each = both (is_white_space b) (list_all is_white_space bytes) white in
+    let each = and_parts (is_white_space b) (list_all is_white_space bytes) white in
     rw (no_start b each.0, parted-white (b == 10) bytes each.1)
 parted-white false (b ∷ bytes) white =
-    let each = both (is_white_space b) (list_all is_white_space bytes) white in
+    let each = and_parts (is_white_space b) (list_all is_white_space bytes) white in
     rw (parted-white (b == 10) bytes each.1)
 
 preamble-white : (place : ℕ) (bytes : List ℕ) → AllWhite bytes → preamble place bytes ≡ []
 unfolding preamble
 preamble-white place [] white = refl
 preamble-white place (b ∷ bytes) white =
-    let each = both (is_white_space b) (list_all is_white_space bytes) white in
+    let each = and_parts (is_white_space b) (list_all is_white_space bytes) white in
     rw each.0 (preamble-white (place + 1) bytes each.1)
 
 white-preamble : (place : ℕ) (bytes : List ℕ) → preamble place bytes ≡ [] → AllWhite bytes

@@ -1,8 +1,9 @@
 -- The parts of a stream are its texts from start to start.
 use Rattle.std.specs.List.{starts_with, flat_map}
-use Rattle.std.proofs.Common.{◌≡◌, ◌↔◌, ◌⊎◌, inl, inr, ℕ, zero, suc, ◌+◌, ◌<◌, Bool, true, false, ◌&&◌, ◌==◌, IsTrue, nat_eq, List, [], ◌∷◌, ◌++◌, length, drop, slice_index, All, Contains, true≢false, refl, sym, ap, ◌∙◌, subst, arith}
-use Rattle.std.proofs.lemmas.Bool.{eqb-true, eq-eqb}
+use Rattle.std.proofs.Common.{◌≡◌, ◌↔◌, ◌⊎◌, inl, inr, ℕ, zero, suc, ◌+◌, ◌<◌, Bool, true, false, ◌&&◌, ◌==◌, IsTrue, nat_eq, List, [], ◌∷◌, ◌++◌, length, drop, slice_index, All, Contains, refl, sym, ap, ◌∙◌, subst, arith}
+use Rattle.std.proofs.lemmas.Bool.{eqb-true, eq-eqb, and_parts, and_from}
 use Rattle.std.proofs.lemmas.List.Elements.{All-nil, All-cons}
+use Rattle.plain_laws.specs.Lists.{contains-first, contains-later}
 use Rattle.explorer_model.specs.Cuts.{Parted, parted, onto, event}
 use Rattle.pgn_cut.specs.Starts.{IsStart, places_of}
 
@@ -45,12 +46,6 @@ texts-some bytes = parts-some true bytes
 
 -- ---- lists with an element
 
-contains-head : (x : ℕ) (xs : List ℕ) → Contains (x ∷ xs) x
-contains-head x xs = (0, omega arith, refl)
-
-contains-tail : (x y : ℕ) (xs : List ℕ) → Contains xs y → Contains (x ∷ xs) y
-contains-tail x y xs (k, below, is) = (suc k, omega (arith, below), is)
-
 contains-from : (x y : ℕ) (xs : List ℕ) → Contains (x ∷ xs) y → (y ≡ x) ⊎ Contains xs y
 contains-from x y xs (zero, below, is) = inl (sym is)
 contains-from x y xs (suc k, below, is) = inr (k, omega (arith, below), is)
@@ -61,8 +56,8 @@ further place y [] (k, below, is) = absurd (omega (arith, below))
 further place y (text ∷ texts) has =
     elim (contains-from place y (places_of (place + length text) texts) has) [
       | inl is ↦ subst (λ (x : ℕ). Contains (suc place ∷ places_of (suc place + length text) texts) (suc x)) (sym is)
-          (contains-head (suc place) (places_of (suc place + length text) texts))
-      | inr in_rest ↦ contains-tail (suc place) (suc y) (places_of (suc place + length text) texts)
+          (contains-first (places_of (suc place + length text) texts) (suc place))
+      | inr in_rest ↦ contains-later (suc place) (places_of (suc place + length text) texts) (suc y)
           (subst (λ (n : ℕ). Contains (places_of n texts) (suc y)) (omega arith) (further (place + length text) y texts in_rest))
     ]
 
@@ -71,8 +66,8 @@ nearer place y [] (k, below, is) = absurd (omega (arith, below))
 nearer place y (text ∷ texts) has =
     elim (contains-from (suc place) (suc y) (places_of (suc place + length text) texts) has) [
       | inl is ↦ subst (λ (x : ℕ). Contains (place ∷ places_of (place + length text) texts) x) (omega (arith, is))
-          (contains-head place (places_of (place + length text) texts))
-      | inr in_rest ↦ contains-tail place y (places_of (place + length text) texts)
+          (contains-first (places_of (place + length text) texts) place)
+      | inr in_rest ↦ contains-later place (places_of (place + length text) texts) y
           (nearer (place + length text) y texts (subst (λ (n : ℕ). Contains (places_of n texts) (suc y)) (omega arith) in_rest))
     ]
 
@@ -132,7 +127,7 @@ places parts = places_of (length parts.before) parts.texts
 places-onto : (starts : Bool) (b : ℕ) (parts : Parted) (place : ℕ) → Contains (places parts) place → Contains (places (onto starts b parts)) (suc place)
 unfolding onto
 places-onto true b parts place has =
-    contains-tail 0 (suc place) (places_of (0 + length (b ∷ parts.before)) parts.texts)
+    contains-later 0 (places_of (0 + length (b ∷ parts.before)) parts.texts) (suc place)
     (subst (λ (n : ℕ). Contains (places_of n parts.texts) (suc place)) (omega arith) (further (length parts.before) place parts.texts has))
 places-onto false b parts place has = further (length parts.before) place parts.texts has
 
@@ -153,17 +148,9 @@ places-from true b parts (suc place) has =
 places-from false b parts zero has = absurd (none-at-zero (length parts.before) parts.texts has)
 places-from false b parts (suc place) has = nearer (length parts.before) place parts.texts has
 
-both : (a b : Bool) → IsTrue (a && b) → IsTrue a × IsTrue b
-both true b is = (refl, is)
-both false b is = absurd (true≢false (sym is))
-
-starts-both : (a b : Bool) → IsTrue a → IsTrue b → IsTrue (a && b)
-starts-both true b a_is b_is = b_is
-starts-both false b a_is b_is = a_is
-
 found-first : (b : ℕ) (parts : Parted) → Contains (places (onto true b parts)) 0
 unfolding onto
-found-first b parts = contains-head 0 (places_of (0 + length (b ∷ parts.before)) parts.texts)
+found-first b parts = contains-first (places_of (0 + length (b ∷ parts.before)) parts.texts) 0
 
 found : (fresh : Bool) (bytes : List ℕ) (place : ℕ) → StartsAt fresh bytes place → Contains (places (parted fresh bytes)) place
 unfolding parted LineAt
@@ -171,7 +158,7 @@ found fresh [] place at = absurd (omega (arith, at.within))
 found fresh (b ∷ bytes) zero at =
     let begins : Bool = fresh && starts_with nat_eq (b ∷ bytes) event in
     let rest : Parted = parted (b == 10) bytes in
-    subst (λ (starts : Bool). Contains (places (onto starts b rest)) 0) (sym (starts-both fresh (starts_with nat_eq (b ∷ bytes) event) at.line at.event))
+    subst (λ (starts : Bool). Contains (places (onto starts b rest)) 0) (sym (and_from fresh (starts_with nat_eq (b ∷ bytes) event) at.line at.event))
     (found-first b rest)
 found fresh (b ∷ bytes) (suc place) at =
     places-onto (fresh && starts_with nat_eq (b ∷ bytes) event) b (parted (b == 10) bytes) place (found (b == 10) bytes place (behind fresh b bytes place at))
@@ -181,7 +168,7 @@ unfolding parted LineAt From
 told fresh [] place (k, below, is) = absurd (omega (arith, below))
 told fresh (b ∷ bytes) zero has =
     let is : IsTrue fresh × IsTrue (starts_with nat_eq (b ∷ bytes) event) =
-    both fresh (starts_with nat_eq (b ∷ bytes) event)
+    and_parts fresh (starts_with nat_eq (b ∷ bytes) event)
     (places-from (fresh && starts_with nat_eq (b ∷ bytes) event) b (parted (b == 10) bytes) 0 has) in
     record { within = omega arith; line = is.0; event = is.1 }
 told fresh (b ∷ bytes) (suc place) has =

@@ -1,6 +1,6 @@
 -- What an index covers, and more of it.
 use Rattle.std.proofs.Common.{◌≡◌, ℕ, zero, suc, ◌+◌, ◌-◌, ◌*◌, ◌<◌, Bool, List, [], ◌∷◌, ◌++◌, length, map, Result, Ok, refl, sym, ap, subst, ◌∙◌, arith}
-use Rattle.std.specs.List.{AllByRecursion, AllZip, slice_get}
+use Rattle.std.specs.List.{AllByRecursion, AllZip}
 use Rattle.std.proofs.lemmas.List.{append_assoc, append-nil, length-append, map-append, nil_from_length}
 use Rattle.std.proofs.lemmas.List.Concat.{flat_map-append}
 use Rattle.explorer_model.specs.declared.archive.Batch.{Batch}
@@ -17,6 +17,7 @@ use Rattle.published_index.specs.Cover.{journal_of}
 use Rattle.segment_blocks.specs.Segment.{CountedSpan, IsSegment}
 use Rattle.best_lists.proofs.Ranked.{puts, ranked, length-ranked, ranked-append, ranked-comm, ranked-InOrder, InOrder-ranked}
 use Rattle.std.specs.Ordering.{is_lt}
+use Rattle.plain_laws.specs.Lists.{get-front}
 use Rattle.player_index.specs.declared.entry.Entry.{Entry}
 use Rattle.player_index.specs.Entries.{before, entries_from, entries_in, entry, place_of, place_order, seat_by, name_in}
 use Rattle.player_index.specs.Index.{AreClassesOf}
@@ -88,9 +89,6 @@ read-classes one list each {journal} is {classes} known =
 
 -- ---- entries
 
-next : (n : ℕ) → suc n ≡ n + 1
-next n = omega arith
-
 pub entries-none : (first : ℕ) → [] ≡ entries_from first 0
 unfolding entries_from
 entries-none first = refl
@@ -125,14 +123,9 @@ entries-below first (suc count) =
     let rest = subst (λ n. AllByRecursion (λ (e : Entry). e.number < n) (entries_from (first + 1) count)) e (entries-below (first + 1) count) in
     (omega arith, (omega arith, rest))
 
-get-left : {X : Type 0} (xs ys : List X) (k : ℕ) → k < length xs → slice_get (xs ++ ys) k ≡ slice_get xs k
-get-left [] ys k within = absurd (omega arith)
-get-left (x ∷ xs) ys zero within = refl
-get-left (x ∷ xs) ys (suc k) within = get-left xs ys k (omega arith)
-
 module _ (classes more : List Classes) where
   place-same : (e : Entry) → e.number < length classes → place_of (classes ++ more) e ≡ place_of classes e
-  place-same e within = ap (λ o. (seat_by (name_in e.color o) e.color, e.number)) (get-left classes more e.number within)
+  place-same e within = ap (λ o. (seat_by (name_in e.color o) e.color, e.number)) (get-front classes more e.number within)
 
   order-same : (a b : Entry) → a.number < length classes → b.number < length classes → before (classes ++ more) a b ≡ before classes a b
   order-same a b first second = (λ k. is_lt (place_order (place-same a first k) (place-same b second k)))

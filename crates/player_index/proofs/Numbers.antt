@@ -8,6 +8,7 @@ use Rattle.std.specs.Ordering.{nat_cmp, ordering_then, is_eq}
 use Rattle.std.specs.Str.{bytes_eq}
 use Rattle.std.proofs.lemmas.List.{append_assoc, length_push}
 use Rattle.std.proofs.lemmas.Map.Text.{is_eq-slice_cmp}
+use Rattle.plain_laws.specs.Lists.{get-between}
 use Rattle.explorer_model.specs.declared.archive.Classes.{Classes}
 use Rattle.explorer_model.specs.declared.chess.Color.{Color}
 use Rattle.explorer_model.specs.declared.chess.Color.TheVariants.{White, Black}
@@ -59,10 +60,6 @@ seat-own : (name player : List ℕ) (color : Color) → is_eq (seat_order (seat_
 seat-own name player White = then-equal (slice_cmp nat_cmp (folded name) (folded player)) ∙ is_eq-slice_cmp (folded name) (folded player)
 seat-own name player Black = then-equal (slice_cmp nat_cmp (folded name) (folded player)) ∙ is_eq-slice_cmp (folded name) (folded player)
 
-get-here : {X : Type 0} (front : List X) (x : X) (rest : List X) → slice_get (front ++ x ∷ rest) (length front) ≡ Some x
-get-here [] x rest = refl
-get-here (y ∷ front) x rest = get-here front x rest
-
 -- of the two entries of a game
 module _ (all : List Classes) (classes : Classes) (number : ℕ) (here : slice_get all number ≡ Some classes) (player : List ℕ) where
   at-own : (color : Color) → is_at all (seat_by player color) (entry number color) ≡ plays_as player color classes
@@ -104,6 +101,6 @@ numbers-kept player color front (classes ∷ rest) n long =
     let later : map (λ e. e.number) (filter p (entries_from (n + 1) (length rest))) ≡ numbers_where (plays_as player color) (n + 1) rest =
     ap (λ l. map (λ e. e.number) (filter (is_at l (seat_by player color)) (entries_from (n + 1) (length rest)))) (sym regrouped)
     ∙ numbers-kept player color (front ++ classes ∷ []) rest (n + 1) (length_push front classes ∙ ap (λ m. m + 1) long) in
-    let here : slice_get all n ≡ Some classes = ap (slice_get all) (sym long) ∙ get-here front classes rest in
+    let here : slice_get all n ≡ Some classes = ap (slice_get all) (sym long) ∙ get-between front classes rest in
     ap (map (λ e. e.number)) (pair-kept all classes n here player color (entries_from (n + 1) (length rest)))
     ∙ numbers-by (plays_as player color classes) n color (filter p (entries_from (n + 1) (length rest))) (numbers_where (plays_as player color) (n + 1) rest) later

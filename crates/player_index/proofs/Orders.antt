@@ -6,6 +6,7 @@ use Rattle.std.specs.Cmp.{IsStrictWeakOrder, IsTotalOrder, then_total, on_total,
 use Rattle.std.specs.Cmp.Lexicographic.{nat_list_cmp_total}
 use Rattle.std.specs.FinMap.{nat_cmp-IsAntisymmetric}
 use Rattle.std.specs.Ordering.{nat_cmp, ordering_then, ordering_reverse, is_lt, is_eq}
+use Rattle.plain_laws.specs.Orderings.{less-is}
 use Rattle.best_lists.proofs.Ranked.{before-asym, not_before-trans}
 use Rattle.explorer_model.specs.Best.{IsStrictTotalOrder}
 use Rattle.explorer_model.specs.declared.archive.Classes.{Classes}
@@ -20,11 +21,6 @@ pub place-total : IsTotalOrder place_order
 place-total = then_total (on_total (λ (p : (List ℕ × ℕ) × ℕ). p.0) seat-total) (on_total (λ (p : (List ℕ × ℕ) × ℕ). p.1) nat_cmp_total)
 
 -- ---- answers of orders
-
-pub is-less : (o : Ordering) → is_lt o ≡ true → o ≡ Less
-is-less Less h = refl
-is-less Equal h = absurd (true≢false (sym h))
-is-less Greater h = absurd (true≢false (sym h))
 
 -- neither is before the other
 pub is-tie : {K : Type 0} {R : K → K → Ordering} → IsTotalOrder R → (x y : K) → is_lt (R x y) ≡ false → is_lt (R y x) ≡ false → R x y ≡ Equal
@@ -48,7 +44,7 @@ module _ {K : Type 0} {R : K → K → Ordering} (total : IsTotalOrder R) where
   below-chain x y z h k = by (R x y) refl
     where
       by : (o : Ordering) → R x y ≡ o → is_lt (R x z) ≡ true
-      by Less e = ap is_lt (total.trans x y z e (is-less (R y z) k))
+      by Less e = ap is_lt (total.trans x y z e (less-is (R y z) k))
       by Equal e = ap is_lt (total.congr x y z e) ∙ k
       by Greater e = absurd (true≢false (sym (ap is_lt (total.antisymm y x ∙ ap ordering_reverse e)) ∙ h))
 
@@ -63,7 +59,7 @@ color-one Black White e = absurd (let h : 1 ≡ 0 = e in omega arith)
 pub entry-order : (classes : List Classes) → IsStrictTotalOrder (before classes)
 entry-order classes = record {
   irreflexive = λ e. ap is_lt (tied_itself place-total (place_of classes e));
-  transitive = λ a b c h k. ap is_lt (place-total.trans (place_of classes a) (place_of classes b) (place_of classes c) (is-less _ h) (is-less _ k));
+  transitive = λ a b c h k. ap is_lt (place-total.trans (place_of classes a) (place_of classes b) (place_of classes c) (less-is _ h) (less-is _ k));
   total = λ a b h k.
       let tie : place_order (place_of classes a) (place_of classes b) ≡ Equal = is-tie place-total (place_of classes a) (place_of classes b) h k in
       let parts = both-equal (seat_order (seat_of classes a) (seat_of classes b)) (nat_cmp a.number b.number) tie in

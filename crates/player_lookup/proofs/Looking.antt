@@ -1,10 +1,7 @@
 -- A game is looked through, one position after another.
-use Rattle.std.proofs.Common.{◌≡◌, ◌+◌, ◌-◌, ◌<◌, ◌≤◌, ℕ, zero, suc, List, [], ◌∷◌, take, drop, length, get_or, inl, inr, Option, Some, None, sym, ap, ◌∙◌, subst, refl, arith}
+use Rattle.std.proofs.Common.{◌≡◌, ◌+◌, ◌-◌, ◌<◌, ◌≤◌, ℕ, zero, suc, List, [], ◌∷◌, take, drop, inl, inr, Option, Some, None, sym, ap, ◌∙◌, subst, refl, arith}
 use Rattle.std.specs.Prelude.{slice_get}
-use Rattle.std.proofs.lemmas.Bool.{cases_lt}
-use Rattle.std.proofs.lemmas.Option.{none-some, slice_get_within, get_or_from_slice_get, slice_get-get_or}
-use Rattle.std.proofs.Math.ListN.{drop_of_length-le}
-use Rattle.std.proofs.Math.Seq.{drop-cons}
+use Rattle.plain_laws.specs.Lists.{drop-get, drop-none}
 use Rattle.explorer_model.specs.declared.chess.Move.{Move}
 use Rattle.explorer_model.specs.declared.chess.Position.{Position}
 use Rattle.explorer_model.specs.Chess.{after, Legal, Same}
@@ -31,22 +28,6 @@ tidied-same p q tidy same tidied = record {
 
 -- ---- places of moves
 
-next-place : (i : ℕ) → suc i ≡ i + 1
-next-place i = omega arith
-
-get-some : {X : Type 0} (xs : List X) (i : ℕ) (x : X) → slice_get xs i ≡ Some x → drop i xs ≡ x ∷ drop (i + 1) xs
-get-some xs i x is =
-    drop-cons xs i x (slice_get_within xs i x is)
-    ∙ ap (λ y. y ∷ drop (suc i) xs) (get_or_from_slice_get xs i x x is)
-    ∙ ap (λ n. x ∷ drop n xs) (next-place i)
-
-get-none : {X : Type 0} (xs : List X) (i : ℕ) → slice_get xs i ≡ None → drop i xs ≡ []
-get-none [] i is = drop_of_length-le [] {i = i} (omega arith)
-get-none (x ∷ xs) i is = elim (cases_lt i (length (x ∷ xs))) [
-  | inl below ↦ absurd (none-some (get_or (x ∷ xs) i x) (sym is ∙ slice_get-get_or (x ∷ xs) i x below))
-  | inr past ↦ drop_of_length-le (x ∷ xs) past
-]
-
 -- ---- the stages that are left at a board
 
 abbrev pub left_at : ℕ → Position → List Move → List Stage
@@ -64,7 +45,7 @@ looking-first tidy root moves board at_root legal =
     subst (λ p. Looking tidy root moves p 0) (sym at_root) (record { legal = legal; visits = λ at tidied visit first. first })
 
 pub looking-legal : (p : Position) (moves : List Move) (ply : ℕ) (m : Move) → slice_get moves ply ≡ Some m → AreLegalFrom p (drop ply moves) → Legal p m
-looking-legal p moves ply m is legal = let L : List Move → Type 0 = λ ms. AreLegalFrom p ms in (subst L (get-some moves ply m is) legal).0
+looking-legal p moves ply m is legal = let L : List Move → Type 0 = λ ms. AreLegalFrom p ms in (subst L (drop-get moves ply m is) legal).0
 
 take-some : (n : ℕ) (p : Position) (m : Move) (moves : List Move) → 0 < n
     → left_at n p (m ∷ moves) ≡ record { position = p; next = Some m } ∷ left_at (n - 1) (after p m) moves
@@ -84,7 +65,7 @@ stages-some : (moves : List Move) (board : Position) (ply : ℕ) (m : Move) → 
     ≡ record { position = board; next = Some m } ∷ left_at (stage_limit - (ply + 1)) (after board m) (drop (ply + 1) moves)
 stages-some moves board ply m below is =
     let fewer : stage_limit - ply - 1 ≡ stage_limit - (ply + 1) = omega (arith, below) in
-    ap (left_at (stage_limit - ply) board) (get-some moves ply m is)
+    ap (left_at (stage_limit - ply) board) (drop-get moves ply m is)
     ∙ take-some (stage_limit - ply) board m (drop (ply + 1) moves) (omega (arith, below))
     ∙ ap (λ k. record { position = board; next = Some m } ∷ left_at k (after board m) (drop (ply + 1) moves)) fewer
 
@@ -92,7 +73,7 @@ stages-some moves board ply m below is =
 stages-none : (moves : List Move) (board : Position) (ply : ℕ) → ply < stage_limit → slice_get moves ply ≡ None
     → left_at (stage_limit - ply) board (drop ply moves) ≡ record { position = board; next = None } ∷ []
 stages-none moves board ply below is =
-    ap (left_at (stage_limit - ply) board) (get-none moves ply is) ∙ take-last (stage_limit - ply) board (omega (arith, below))
+    ap (left_at (stage_limit - ply) board) (drop-none moves ply is) ∙ take-last (stage_limit - ply) board (omega (arith, below))
 
 -- a position with the tidy form comes here
 pub looking-found : (tidy root : Position) (moves : List Move) (board : Position) (ply : ℕ) (next : Option Move) → ply < stage_limit
@@ -120,7 +101,7 @@ pub looking-next : (tidy root : Position) (moves : List Move) (board next : Posi
 looking-next tidy root moves board next ply m below is plays other looking =
     let L : List Move → Type 0 = λ ms. AreLegalFrom board ms in
     let going : Looking tidy root moves (after board m) (ply + 1) = record {
-      legal = (subst L (get-some moves ply m is) looking.legal).1;
+      legal = (subst L (drop-get moves ply m is) looking.legal).1;
       visits = λ at tidied visit later. looking.visits at tidied visit
           (subst (λ l. FirstVisit at l visit) (sym (stages-some moves board ply m below is)) (inr (λ same. other (tidied-same board at tidy same tidied), later)));
     } in

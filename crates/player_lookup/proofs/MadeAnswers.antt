@@ -1,5 +1,5 @@
 -- What is put together of the rows of a player's games is what is found.
-use Rattle.std.proofs.Common.{◌≡◌, ℕ, ◌/◌, ◌≤◌, List, [], ◌∷◌, length, map, Result, Ok, Err, IfOk, sym, ap, subst, ◌∙◌, arith}
+use Rattle.std.proofs.Common.{◌≡◌, ℕ, ◌/◌, ◌≤◌, List, [], ◌∷◌, length, map, sym, ap, subst, ◌∙◌, arith}
 use Rattle.std.proofs.lemmas.List.{length-map}
 use Rattle.std.specs.List.{AllByRecursion, AllZip}
 use Rattle.explorer_model.specs.Board.{opponent}
@@ -118,8 +118,3 @@ found-made q segments hits found few kept made =
           (subst (λ h. IsMadeOf q (map (λ game. game.classes) kept.seen) h found) kept.rows
           (subst (λ classes. IsMadeOf q classes hits found) are.classes made));
     }
-
--- where there is a value, what follows from what holds of it
-pub if-ok : {A E : Type 0} (P Q : A → Type 0) (result : Result A E) → ((value : A) → P value → Q value) → IfOk result P → IfOk result Q
-if-ok P Q (Ok value) follows holds = follows value holds
-if-ok P Q (Err error) follows holds = holds

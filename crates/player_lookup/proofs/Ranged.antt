@@ -2,6 +2,7 @@
 use Rattle.std.proofs.Common.{◌≡◌, ℕ, suc, ◌+◌, ◌<◌, ◌&&◌, Bool, true, false, if◌then◌else◌, List, [], ◌∷◌, ◌++◌, length, map, slice_index_or, Some, refl, sym, ap, ◌∙◌, arith}
 use Rattle.std.specs.List.{AllByRecursion, flat_map, slice_get}
 use Rattle.std.proofs.lemmas.List.{append_assoc, length_push}
+use Rattle.plain_laws.specs.Lists.{get-between}
 use Rattle.explorer_model.specs.Counting.{passes}
 use Rattle.explorer_model.specs.Players.{is_wanted, mode_index, plays_as}
 use Rattle.explorer_model.specs.Visits.{GameAt}
@@ -9,10 +10,6 @@ use Rattle.explorer_model.specs.declared.archive.Classes.{Classes}
 use Rattle.explorer_model.specs.declared.player.PlayerQuery.{PlayerQuery}
 use Rattle.player_index.specs.Entries.{numbers_where}
 use Rattle.player_lookup.specs.Kept.{is_taken, opponent_rating, rows_by, rows_kept, rows_of_game, rows_of_numbers}
-
-get-here : {X : Type 0} (front : List X) (x : X) (rest : List X) → slice_get (front ++ x ∷ rest) (length front) ≡ Some x
-get-here [] x rest = refl
-get-here (y ∷ front) x rest = get-here front x rest
 
 -- the numbers are those of games
 higher : (first more : ℕ) (numbers : List ℕ) → AllByRecursion (λ n. n < first + 1 + more) numbers → AllByRecursion (λ n. n < first + suc more) numbers
@@ -58,7 +55,7 @@ module _ (q : PlayerQuery) (key : List ℕ) where
       let later : flat_map one more ≡ rows_kept (opponent_rating q) key (is_wanted q) (n + 1) rest =
       ap (λ l. rows_of_numbers q key l more) (sym regrouped)
       ∙ ranged (front ++ game ∷ []) rest (n + 1) (length_push front game ∙ ap (λ m. m + 1) long) in
-      let here : slice_get all n ≡ Some game = ap (slice_get all) (sym long) ∙ get-here front game rest in
+      let here : slice_get all n ≡ Some game = ap (slice_get all) (sym long) ∙ get-between front game rest in
       let row = λ (b : Bool). rows_by (opponent_rating q) key b n game.classes game.visit in
       elim (test game.classes) as (λ b. test game.classes ≡ b
       → flat_map one (if b then n ∷ more else more) ≡ row (is_wanted q game.classes) ++ rows_kept (opponent_rating q) key (is_wanted q) (n + 1) rest) [

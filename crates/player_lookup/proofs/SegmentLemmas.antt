@@ -1,14 +1,16 @@
 -- The games of segments, one segment after another.
-use Rattle.std.proofs.Common.{◌≡◌, ℕ, suc, ◌+◌, ◌-◌, ◌<◌, ◌≤◌, List, [], ◌∷◌, ◌++◌, length, drop, get_or, sym, ap, ◌∙◌, refl, arith}
-use Rattle.std.specs.List.{AllZip, slice_get}
+use Rattle.std.proofs.Common.{◌≡◌, ℕ, ◌+◌, ◌-◌, ◌<◌, ◌≤◌, List, ◌∷◌, ◌++◌, length, drop, get_or, sym, ap, ◌∙◌, refl, arith}
+use Rattle.std.specs.List.{slice_get}
 use Rattle.std.proofs.lemmas.List.{drop_all, drop_more, length-append, length-map}
 use Rattle.std.proofs.lemmas.List.Concat.{flat_map-append}
+use Rattle.std.proofs.lemmas.Slice.Zip.{AllZip-long}
+use Rattle.plain_laws.specs.Lists.{get-front}
 use Rattle.explorer_model.specs.declared.archive.Batch.{Batch}
 use Rattle.explorer_model.specs.Visits.{IsTextOf, texts_of}
 use Rattle.player_lookup.specs.Seen.{IsGameIn}
 use Rattle.published_index.specs.Cover.{journal_of}
 use Rattle.row_sums.specs.Listing.{classes_in}
-use Rattle.row_sums.proofs.Places.{get-left, get-right}
+use Rattle.row_sums.proofs.Places.{get-right}
 use Rattle.segment_blocks.specs.Segment.{CountedSpan, IsSegment}
 
 -- the game of a number stands at a place among the games of the segments from one on
@@ -20,16 +22,10 @@ pub record IsLeft (segments : List CountedSpan) (number i left : ℕ) : Type 0 w
 pub left-first : (segments : List CountedSpan) (number : ℕ) → number < length (classes_in segments) → IsLeft segments number 0 number
 left-first segments number within = record { within = within; classes = refl; text = refl }
 
-pub zip-length : {A B : Type 0} (R : A → B → Type 0) (xs : List A) (ys : List B) → AllZip R xs ys → length xs ≡ length ys
-zip-length R [] [] each = refl
-zip-length R [] (y ∷ ys) each = absurd each
-zip-length R (x ∷ xs) [] each = absurd each
-zip-length R (x ∷ xs) (y ∷ ys) each = ap suc (zip-length R xs ys each.1)
-
 -- a segment has a text for each of its games
 segment-long : (segment : CountedSpan) → IsSegment segment → length (texts_of segment.span.batches) ≡ length segment.classes
 segment-long segment known =
-    zip-length IsTextOf (texts_of segment.span.batches) known.tally.games known.tally.are_games
+    sym (AllZip-long IsTextOf (texts_of segment.span.batches) known.tally.games known.tally.are_games)
     ∙ sym (ap length known.tally.classes_are ∙ length-map known.tally.games (λ game. game.classes))
 
 module _ (segments : List CountedSpan) (number i left : ℕ) (segment : CountedSpan) (within : i < length segments) (is : segment ≡ get_or segments i segment)
@@ -47,8 +43,8 @@ module _ (segments : List CountedSpan) (number i left : ℕ) (segment : CountedS
   left-here below so = record {
     within = below;
     known = known;
-    classes = sym (get-left segment.classes (classes_in (drop (i + 1) segments)) left below) ∙ ap (λ l. slice_get l left) (sym classes-are) ∙ so.classes;
-    text = sym (get-left (texts_of segment.span.batches) (texts_of (journal_of (drop (i + 1) segments))) left (omega (arith, below, segment-long segment known)))
+    classes = sym (get-front segment.classes (classes_in (drop (i + 1) segments)) left below) ∙ ap (λ l. slice_get l left) (sym classes-are) ∙ so.classes;
+    text = sym (get-front (texts_of segment.span.batches) (texts_of (journal_of (drop (i + 1) segments))) left (omega (arith, below, segment-long segment known)))
         ∙ ap (λ l. slice_get l left) (sym texts-are) ∙ so.text;
   }
 

@@ -2,6 +2,7 @@
 use Rattle.std.proofs.Common.{◌≡◌, ℕ, zero, suc, ◌≤◌, List, [], ◌∷◌, ◌++◌, length, take, replicate, slice_get, slice_set, Some, refl, sym, ap, ◌∙◌, arith}
 use Rattle.std.proofs.lemmas.List.{map-append, length-replicate}
 use Rattle.std.proofs.lemmas.List.Elements.{All-replicate}
+use Rattle.std.proofs.Math.Seq.{take-append_seam}
 use Rattle.explorer_model.specs.declared.archive.Batch.{Batch}
 use Rattle.explorer_model.specs.Spans.{Span}
 use Rattle.explorer_model.specs.Timeline.{IsPrefix, IsStart, Put, Join, Enter, Learn, after, both, joined_at, longer, seen_by, span_behind}
@@ -59,16 +60,12 @@ pub enter-is : (old new : Watching) (list : List CountedSpan) (passes : List (Li
     → timeline list (slice_set passes pass new.seen) ≡ after (timeline list passes) (Enter pass)
 enter-is old new list passes pass sees = ap (λ (seen : List Batch). timeline list (slice_set passes pass seen)) sees.journal
 
-take-prefix : (front rest : List Batch) → take (length front) (front ++ rest) ≡ front
-take-prefix [] rest = refl
-take-prefix (x ∷ front) rest = ap (λ (xs : List Batch). x ∷ xs) (take-prefix front rest)
-
 pub learn-is : (old new : Watching) (note : List Batch) (list : List CountedSpan) (passes : List (List Batch)) (pass : ℕ) → IsPrefix note (journal_of list)
     → seen_by pass (timeline list passes) ≡ old.seen → Learns old new note
     → timeline list (slice_set passes pass new.seen) ≡ after (timeline list passes) (Learn pass (length note))
 learn-is old new note list passes pass prefix had learns =
     let first : note ≡ take (length note) (journal_of list) =
-    sym (take-prefix note prefix.rest) ∙ ap (λ (journal : List Batch). take (length note) journal) (sym prefix.is) in
+    sym (take-append_seam note prefix.rest) ∙ ap (λ (journal : List Batch). take (length note) journal) (sym prefix.is) in
     let seen : new.seen ≡ longer (seen_by pass (timeline list passes)) (take (length note) (journal_of list)) =
     learns.seen ∙ ap (λ (s : List Batch). longer s note) (sym had) ∙ ap (λ (n : List Batch). longer (seen_by pass (timeline list passes)) n) first in
     ap (λ (s : List Batch). timeline list (slice_set passes pass s)) seen

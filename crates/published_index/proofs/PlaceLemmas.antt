@@ -1,5 +1,6 @@
 -- Each step keeps the rule over places.
-use Rattle.std.proofs.Common.{◌≡◌, ◌≢◌, ◌⊎◌, ℕ, zero, suc, ◌+◌, ◌-◌, ◌<◌, ◌≤◌, List, [], ◌∷◌, ◌++◌, set, Bool, true, false, true≢false, refl, sym, ap, ◌∙◌, subst, ⊎_elim, arith}
+use Rattle.std.proofs.Common.{◌≡◌, ◌≢◌, ◌⊎◌, ℕ, zero, suc, ◌+◌, ◌-◌, ◌<◌, ◌≤◌, List, [], ◌∷◌, ◌++◌, set, true, false, refl, sym, ap, ◌∙◌, subst, ⊎_elim, arith}
+use Rattle.std.proofs.lemmas.Bool.{both_ways}
 use mathlib.Core.Option.{some, some-ne-none, some-injective}
 use lib.ListN.{get_elem?}
 use Rattle.crossbeam_utils.specs.Register.{Turns, Forks, Merges}
@@ -64,9 +65,6 @@ times-append x [] zs = omega arith
 times-append x (y ∷ ys) zs = let rest = times-append x ys zs in omega arith
 
 -- ---- steps
-
-off : (b : Bool) → b ≡ false → b ≡ true → ⊥
-off b is_false is_true = true≢false (sym is_true ∙ is_false)
 
 pub begins : (words : List ℕ) → Given words (first_keeper ∷ [])
 begins words = record {
@@ -133,7 +131,7 @@ forks by v l r no_key kept parts drawn words views h at = record {
       (t.0 ∙ mine.0, sym (ap (λ (q : View). q.count) t.1) ∙ is.1 ∙ mine.1))
       (λ (t : (j ≢ by) × (get_elem? views j ≡ some u)). h.one_keeper j u t.1 key)
       (at_set views by j l u was))
-      (λ (same : r ≡ u). absurd (off r.keeps no_key (ap (λ (q : View). q.keeps) same ∙ key)))
+      (λ (same : r ≡ u). absurd (both_ways r.keeps no_key (ap (λ (q : View). q.keeps) same ∙ key)))
       (at_snoc (set views by l) r u j e);
   parts = let s = total-set parts_of views by v l at in let t = total-snoc parts_of (set views by l) r in
       let p = h.parts in omega arith;
@@ -148,7 +146,7 @@ merges by v other u some_part some_other words views h at apart there =
       seat = h.seat;
       count = h.count;
       one_keeper = λ j q e key. ⊎_elim
-          (λ (t : (j ≡ other) × (nobody ≡ q)). absurd (off nobody.keeps refl (ap (λ (y : View). y.keeps) t.1 ∙ key)))
+          (λ (t : (j ≡ other) × (nobody ≡ q)). absurd (both_ways nobody.keeps refl (ap (λ (y : View). y.keeps) t.1 ∙ key)))
           (λ (t : (j ≢ other) × (get_elem? (set views by w) j ≡ some q)). ⊎_elim
           (λ (z : (j ≡ by) × (w ≡ q)).
           let mine = h.one_keeper by v at (ap (λ (y : View). y.keeps) z.1 ∙ key) in
@@ -181,12 +179,12 @@ backs by v some_parts = forks by v (rest_of v) (handed_of v) refl (λ key. (key,
 
 -- all that a hand has
 pub wholes : (by : ℕ) (v : View) → v.keeps ≡ false → Forks Given by v nobody (all_of v)
-wholes by v no_key = forks by v nobody (all_of v) refl (λ key. absurd (off nobody.keeps refl key)) (omega arith) (λ x. omega arith)
+wholes by v no_key = forks by v nobody (all_of v) refl (λ key. absurd (both_ways nobody.keeps refl key)) (omega arith) (λ x. omega arith)
 
 -- one part of a hand
 pub ones : (by : ℕ) (v : View) → v.keeps ≡ false → 1 < v.parts → Forks Given by v (less_one v) (holder 1 [])
 ones by v no_key some_parts =
-    forks by v (less_one v) (holder 1 []) refl (λ key. absurd (off (less_one v).keeps refl key)) (omega arith) (λ x.
+    forks by v (less_one v) (holder 1 []) refl (λ key. absurd (both_ways (less_one v).keeps refl key)) (omega arith) (λ x.
     let one = where-some v.parts (times x v.drawn) (omega arith) in
     let left = where-some (v.parts - 1) (times x v.drawn) (omega arith) in
     omega arith)

@@ -1,20 +1,12 @@
 -- Beginnings of one list.
-use Rattle.std.proofs.Common.{◌≡◌, ◌↔◌, ℕ, ◌≤◌, Bool, IsTrue, true≢false, true, false, List, [], ◌∷◌, ◌++◌, length, refl, sym, ap, ◌∙◌, arith, append-nil, append_assoc, length-append}
+use Rattle.std.proofs.Common.{◌≡◌, ◌↔◌, ℕ, ◌≤◌, Bool, IsTrue, true≢false, true, false, List, [], ◌∷◌, ◌++◌, length, refl, sym, ap, arith, length-append}
 use Rattle.std.proofs.lemmas.Bool.Decides.{nat_tests}
 use Rattle.std.proofs.Common.{leb, nat_eq}
 use mathlib.Core.List.{IsPrefix as Begins}
 use Rattle.explorer_model.specs.Timeline.{IsPrefix}
 
-pub prefix-self : {A : Type 0} (xs : List A) → IsPrefix xs xs
-prefix-self xs = record { rest = []; is = sym (append-nil xs) }
-
 pub prefix-append : {A : Type 0} (xs more : List A) → IsPrefix xs (xs ++ more)
 prefix-append xs more = record { rest = more; is = refl }
-
-pub prefix-trans : {A : Type 0} (xs ys zs : List A) → IsPrefix xs ys → IsPrefix ys zs → IsPrefix xs zs
-prefix-trans {A} xs ys zs h k =
-    let behind : List A → List A = λ front. front ++ k.rest in
-    record { rest = h.rest ++ k.rest; is = k.is ∙ ap behind h.is ∙ append_assoc xs h.rest k.rest }
 
 -- a list that begins another one is a prefix of it
 pub prefix-begins : {A : Type 0} (xs ys : List A) → Begins xs ys → IsPrefix xs ys

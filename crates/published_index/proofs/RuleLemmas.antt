@@ -1,5 +1,6 @@
 -- The steps of readers and of the publisher keep the rule over what is published.
 use Rattle.std.proofs.Common.{◌≡◌, ℕ, ◌≢◌, List, [], ◌∷◌, ◌++◌, set, refl, sym, ◌∙◌, subst, ⊎_elim, Option, None, Some}
+use Rattle.explorer_model.proofs.Timelines.{prefix-self, prefix-trans}
 use mathlib.Core.Option.{some}
 use lib.ListN.{get_elem?}
 use Rattle.crossbeam_utils.specs.Register.{Admits, TurnsAt, Forks, Merges}
@@ -9,7 +10,6 @@ use Rattle.published_index.specs.declared.published.Published.{Published}
 use Rattle.published_index.specs.Cover.{journal_of}
 use Rattle.published_index.specs.History.{Reached}
 use Rattle.published_index.specs.Rule.{Begins, IsBelow, IsKeptBy, SeesShown, IsOf}
-use Rattle.published_index.proofs.PrefixLemmas.{prefix-self, prefix-trans}
 
 abbrev pub holds : Published → List (Option Reached) → Type 0
 holds shown = IsKeptBy shown.list shown.front

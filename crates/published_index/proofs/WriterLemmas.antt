@@ -3,6 +3,7 @@ use Rattle.std.proofs.Common.{◌≡◌, ℕ, ◌<◌, List, [], ◌∷◌, leng
 use Rattle.crossbeam_utils.specs.Register.{TurnsAt}
 use Rattle.explorer_model.specs.declared.archive.Batch.{Batch}
 use Rattle.explorer_model.specs.Timeline.{IsPrefix}
+use Rattle.explorer_model.proofs.Timelines.{prefix-self, prefix-trans}
 use Rattle.segment_blocks.specs.Segment.{CountedSpan}
 use Rattle.published_index.specs.declared.held.Held.{Held}
 use Rattle.published_index.specs.declared.published.Published.{Published}
@@ -13,7 +14,7 @@ use Rattle.published_index.specs.History.{Reached}
 use Rattle.published_index.specs.Operations.{change_made, applied}
 use Rattle.published_index.specs.Rule.{Begins}
 use Rattle.published_index.specs.Held.{held_change, waiting, IsQueued, IsWritten, Waits}
-use Rattle.published_index.proofs.PrefixLemmas.{prefix-self, prefix-append, prefix-trans}
+use Rattle.published_index.proofs.PrefixLemmas.{prefix-append}
 use Rattle.published_index.proofs.CoverLemmas.{journal-changed}
 use Rattle.published_index.proofs.RuleLemmas.{holds, sees, sees-turns, begins-self}
 

@@ -1,5 +1,7 @@
 -- What is read of a log's file is one thing.
-use Rattle.std.proofs.Common.{◌≡◌, ℕ, ◌+◌, List, [], ◌∷◌, length, map, Option, Some, IfSome, Ok, Err, refl, sym, ap, ◌∙◌, subst}
+use Rattle.std.proofs.Common.{◌≡◌, ℕ, ◌+◌, List, [], ◌∷◌, length, map, Option, Some, IfSome, Ok, Err, refl, sym, ap, ◌∙◌}
+use Rattle.plain_laws.specs.Options.{IfSome-at}
+use Rattle.plain_laws.specs.Results.{Ok-Err, same_Err}
 use Rattle.disk_model.specs.Disk.{DiskState}
 use Rattle.explorer_model.specs.StoreFile.{Reading, Record, record_bytes, front_of, records_at}
 use Rattle.explorer_model.specs.declared.store.LogFault.{LogFault}
@@ -22,25 +24,15 @@ one_list format payloads others image has also =
     ∙ ap (map (λ (r : Record). r.payload)) (records_same (reading_of format image) (records_at 12 payloads) (records_at 12 others) has also)
     ∙ payloads-at 12 others
 
--- what is said of a content that is told
-pub at_told : (P : List ℕ → Type 0) (content : Option (List ℕ)) (file : List ℕ) → content ≡ Some file → IfSome content P → P file
-at_told P content file told given = subst (λ (o : Option (List ℕ)). IfSome o P) told given
-
-fault_same : (reading : Reading (List Record)) (fault other : LogFault) → reading ≡ Err fault → reading ≡ Err other → fault ≡ other
-fault_same reading fault other is also = cc
-
-not_both : (reading : Reading (List Record)) (records : List Record) (fault : LogFault) → reading ≡ Ok records → reading ≡ Err fault → ⊥
-not_both reading records fault is also = cc
-
 fault_read : (format : Format) (content : Option (List ℕ)) (file : List ℕ) → content ≡ Some file → (fault : LogFault)
     → IfSome content (λ f. reading_of format f ≡ Err fault) → reading_of format file ≡ Err fault
-fault_read format content file told fault read = at_told (λ f. reading_of format f ≡ Err fault) content file told read
+fault_read format content file told fault read = IfSome-at (λ f. reading_of format f ≡ Err fault) content file told read
 
 -- a content that is refused has one fault
 pub one_fault : (format : Format) (content : Option (List ℕ)) (file : List ℕ) → content ≡ Some file → (fault other : LogFault)
     → IfSome content (λ f. reading_of format f ≡ Err fault) → IfSome content (λ f. reading_of format f ≡ Err other) → fault ≡ other
 one_fault format content file told fault other read also =
-    fault_same (reading_of format file) fault other (fault_read format content file told fault read) (fault_read format content file told other also)
+    same_Err (reading_of format file) fault other (fault_read format content file told fault read) (fault_read format content file told other also)
 
 -- where the closed gate of a log with these payloads stands
 gate_of : (format : Format) (payloads : List (List ℕ)) → ℕ
@@ -65,7 +57,7 @@ module _ {D : Type 0} (disk : D → DiskState) (left_since : D → ℕ → List 
 
   module _ (file : List ℕ) (told : (disk before).content ≡ Some file) where
     payloads_read : (payloads : List (List ℕ)) (log : Log D) → IsOpened disk left_since format payloads before log → HasPayloads format payloads file
-    payloads_read payloads log opened = at_told (HasPayloads format payloads) (disk before).content file told opened.read
+    payloads_read payloads log opened = IfSome-at (HasPayloads format payloads) (disk before).content file told opened.read
 
     pub opened_one : (payloads others : List (List ℕ)) (log after : Log D) → IsOpened disk left_since format payloads before log
         → IsOpened disk left_since format others before after → (payloads ≡ others) × (log.gate ≡ after.gate)
@@ -76,4 +68,4 @@ module _ {D : Type 0} (disk : D → DiskState) (left_since : D → ℕ → List 
     pub opened_or_refused : (payloads : List (List ℕ)) (log : Log D) (fault : LogFault) → IsOpened disk left_since format payloads before log
         → IfSome (disk before).content (λ f. reading_of format f ≡ Err fault) → ⊥
     opened_or_refused payloads log fault opened read =
-        not_both (reading_of format file) (records_at 12 payloads) fault (payloads_read payloads log opened) (fault_read format (disk before).content file told fault read)
+        Ok-Err (reading_of format file) (records_at 12 payloads) fault (payloads_read payloads log opened) (fault_read format (disk before).content file told fault read)

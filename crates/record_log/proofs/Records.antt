@@ -4,6 +4,7 @@ use Rattle.std.proofs.lemmas.List.{drop-drop}
 use Rattle.std.proofs.lemmas.List.Elements.{recursion_from_All}
 use Rattle.std.specs.Int.{w32, to_le_bytes, IsInRange}
 use Rattle.std.specs.Result.{result_map_both}
+use Rattle.plain_laws.specs.Options.{IfSome-at, IfSome-from}
 use Rattle.explorer_model.specs.StoreFile.{Reading, Record, header, record_bytes, front_of, length_behind, and_record, records_from, records_of, records_at, gate_limit, CanStand}
 use Rattle.explorer_model.specs.declared.store.LogFault.{LogFault}
 use Rattle.explorer_model.specs.declared.store.LogFault.TheVariants.{Damaged}
@@ -16,7 +17,6 @@ use Rattle.outside.proofs.StreamLemmas.{rises-later}
 use Rattle.disk_model.specs.Disk.{DiskState}
 use Rattle.record_log.specs.declared.stop.ReadStop.{ReadStop}
 use Rattle.record_log.specs.declared.stop.ReadStop.TheVariants as stops
-use Rattle.record_log.proofs.Told.{told_by, told_at}
 use Rattle.record_log.proofs.Appending.{shut-records}
 
 module _ (file : List ℕ) (gate byte : ℕ) (read : take 1 (drop gate file) ≡ byte ∷ []) where
@@ -98,5 +98,5 @@ pub stop_behind : (IsOf IsOf' : LogFault → List ℕ → Type 0) (stop : ReadSt
 stop_behind IsOf IsOf' stops.Disk old middle new same never to stop = rises-later old.faults middle.faults new.faults never stop
 stop_behind IsOf IsOf' stops.Memory old middle new same never to stop = tt
 stop_behind IsOf IsOf' (stops.Log fault) old middle new same never to stop =
-    told_by old.content (IsOf' fault)
-    (λ file is. to fault file is (told_at middle.content (IsOf fault) file (same ∙ is) stop))
+    IfSome-from (IsOf' fault) old.content
+    (λ file is. to fault file is (IfSome-at (IsOf fault) middle.content file (same ∙ is) stop))

@@ -1,17 +1,6 @@
 -- Facts of what a disk tells.
-use Rattle.std.proofs.Common.{◌≡◌, List, ℕ, true, Option, Some, None, IfSome, Result, Ok, Err, OnOk, IsSome, is_ok, is_some, option_map, ap, ◌∙◌, subst, refl}
+use Rattle.std.proofs.Common.{◌≡◌, List, ℕ, true, Option, Some, None, Result, Ok, Err, OnOk, IsSome, is_ok, is_some, option_map, ap, ◌∙◌, refl}
 use Rattle.disk_model.specs.Disk.{AlsoTold, DiskState, Fails, FailsToWrite, IsQuiet, Stays, StaysTold, Torn, Writes, written}
-
--- a fact for what is told, and one of what is told
-pub told_by : (told : Option (List ℕ)) (P : List ℕ → Type 0) → ((file : List ℕ) → told ≡ Some file → P file) → IfSome told P
-told_by None P from = tt
-told_by (Some file) P from = from file refl
-
-pub told_at : (told : Option (List ℕ)) (P : List ℕ → Type 0) (file : List ℕ) → told ≡ Some file → IfSome told P → P file
-told_at None P file is given = absurd (cc (is))
-told_at (Some other) P file is given =
-    let same : other ≡ file = cc (is) in
-    subst P same given
 
 module _ {D : Type 0} (disk : D → DiskState) (left_since : D → ℕ → List ℕ → Type 0) (old new : D) (quiet : IsQuiet disk left_since old new) where
   pub kept_content : (disk new).content ≡ (disk old).content

@@ -2,6 +2,7 @@
 use Rattle.std.proofs.Common.{◌≡◌, ℕ, ◌+◌, ◌==◌, Bool, true, false, ◌||◌, cond, ◌⊎◌, inl, inr, List, [], ◌∷◌, ◌++◌, filter, map, Some, refl, sym, ap, ◌∙◌, arith}
 use Rattle.std.specs.List.{All, Contains, find, flat_map, list_any}
 use Rattle.std.proofs.lemmas.Bool.Decides.{nat_tests}
+use Rattle.std.proofs.lemmas.Bool.{or_right}
 use Rattle.best_lists.proofs.BestLaws.{All-best}
 use Rattle.best_lists.specs.Entry.{moved_by}
 use Rattle.best_lists.specs.declared.entry.Entry.{Entry}
@@ -51,14 +52,10 @@ pub find-first : {X : Type 0} (p : X → Bool) (xs : List X) → list_any p xs �
 find-first p [] some = cc
 find-first p (y ∷ ys) some = first-by p y ys (p y) refl (find-first p ys) some
 
-or-right : (a b : Bool) → b ≡ true → (a || b) ≡ true
-or-right true b e = refl
-or-right false b e = e
-
 pub any-IsIn : {X : Type 0} (p : X → Bool) (xs : List X) (x : X) → IsIn x xs → p x ≡ true → list_any p xs ≡ true
 any-IsIn p [] x m e = absurd m
 any-IsIn p (y ∷ ys) x (inl is) e = ap (λ b. b || list_any p ys) (ap p (sym is) ∙ e)
-any-IsIn p (y ∷ ys) x (inr m) e = or-right (p y) (list_any p ys) (any-IsIn p ys x m e)
+any-IsIn p (y ∷ ys) x (inr m) e = or_right (p y) (list_any p ys) (any-IsIn p ys x m e)
 
 -- an entry of the rows is listed by one of them
 moved-lists : (list : Row → List Entry) (hit : NumberedRow) (entry : Entry) → IsIn entry (map (moved_by hit.first) (list hit.row))
@@ -81,7 +78,7 @@ stands-listed list test (hit ∷ hits) entry m =
     elim (in-either (cond (test hit.row) (map (moved_by hit.first) (list hit.row)) [])
     (flat_map (λ h. cond (test h.row) (map (moved_by h.first) (list h.row)) []) hits) entry m) [
       | inl here ↦ ap (λ b. b || list_any (lists_number list entry.number) hits) (part-lists list hit entry (test hit.row) here)
-      | inr later ↦ or-right (lists_number list entry.number hit) (list_any (lists_number list entry.number) hits) (stands-listed list test hits entry later)
+      | inr later ↦ or_right (lists_number list entry.number hit) (list_any (lists_number list entry.number) hits) (stands-listed list test hits entry later)
     ]
 
 -- the best of entries stand among them

@@ -1,10 +1,11 @@
 -- Places in lists one after another, as loops come to them.
-use Rattle.std.proofs.Common.{◌≡◌, ℕ, zero, suc, ◌+◌, ◌-◌, ◌<◌, ◌≤◌, Bool, true, false, cond, List, [], ◌∷◌, ◌++◌, length, take, drop, get_or, map, Option, Some, None, refl, sym, ap, ◌∙◌, subst, arith}
+use Rattle.std.proofs.Common.{◌≡◌, ℕ, zero, suc, ◌+◌, ◌-◌, ◌<◌, ◌≤◌, Bool, true, false, cond, List, [], ◌∷◌, ◌++◌, length, take, drop, get_or, map, Option, Some, None, sym, ap, ◌∙◌, subst, arith}
 use Rattle.std.specs.Prelude.{option_and_then, filter_map}
 use Rattle.std.specs.List.{AllByRecursion, cons_option, find, slice_get}
 use Rattle.std.proofs.lemmas.List.{append-nil, take_more, drop_more, drop_all, length-append, length-map}
 use Rattle.std.proofs.lemmas.List.Concat.{flat_map-append}
 use Rattle.std.proofs.lemmas.List.Elements.{filter_map-append}
+use Rattle.plain_laws.specs.Lists.{each-push, get-front}
 use Rattle.best_lists.specs.declared.entry.Entry.{Entry}
 use Rattle.row_sums.specs.declared.hits.Hit.{Hit}
 use Rattle.row_sums.specs.Hits.{NumberedRow, hit_as}
@@ -14,11 +15,6 @@ use Rattle.tally_rows.specs.declared.row.Row.{Row}
 use Rattle.segment_blocks.specs.Segment.{CountedSpan}
 
 -- ---- places in lists one after another
-
-pub get-left : {X : Type 0} (xs ys : List X) (k : ℕ) → k < length xs → slice_get (xs ++ ys) k ≡ slice_get xs k
-get-left [] ys k within = absurd (omega arith)
-get-left (x ∷ xs) ys zero within = refl
-get-left (x ∷ xs) ys (suc k) within = get-left xs ys k (omega arith)
 
 pub get-right : {X : Type 0} (xs ys : List X) (k : ℕ) → length xs ≤ k → slice_get (xs ++ ys) k ≡ slice_get ys (k - length xs)
 get-right [] ys k past = (let e : k ≡ k - 0 = omega arith in ap (slice_get ys) e)
@@ -64,7 +60,7 @@ module _ (segments : List CountedSpan) (i : ℕ) (segment : CountedSpan) (within
   classes-are = ap classes_in (drop_more segments i segment within ∙ ap (λ s. s ∷ drop (i + 1) segments) (sym is))
 
   pub classes-here : (left : ℕ) → left < length segment.classes → slice_get (classes_in (drop i segments)) left ≡ slice_get segment.classes left
-  classes-here left below = ap (λ l. slice_get l left) classes-are ∙ get-left segment.classes (classes_in (drop (i + 1) segments)) left below
+  classes-here left below = ap (λ l. slice_get l left) classes-are ∙ get-front segment.classes (classes_in (drop (i + 1) segments)) left below
 
   pub classes-later : (left : ℕ) → length segment.classes ≤ left
       → slice_get (classes_in (drop i segments)) left ≡ slice_get (classes_in (drop (i + 1) segments)) (left - length segment.classes)
@@ -91,11 +87,7 @@ found-next h xs i d within found is =
 
 -- ---- what holds of each item so far
 
-all-push : {X : Type 0} (P : X → Type 0) (xs : List X) (x : X) → AllByRecursion P xs → P x → AllByRecursion P (xs ++ x ∷ [])
-all-push P [] x each h = (h, tt)
-all-push P (y ∷ xs) x each h = (each.0, all-push P xs x each.1 h)
-
 pub all-front : {X : Type 0} (P : X → Type 0) (xs : List X) (i : ℕ) (x : X) → i < length xs → x ≡ get_or xs i x
     → AllByRecursion P (take i xs) → P x → AllByRecursion P (take (i + 1) xs)
 all-front P xs i x within is each h =
-    subst (AllByRecursion P) (sym (take_more xs i x within ∙ ap (λ y. take i xs ++ y ∷ []) (sym is))) (all-push P (take i xs) x each h)
+    subst (AllByRecursion P) (sym (take_more xs i x within ∙ ap (λ y. take i xs ++ y ∷ []) (sym is))) (each-push P (take i xs) x each h)

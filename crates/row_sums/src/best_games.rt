@@ -9,12 +9,11 @@ ghost use Rattle.row_sums.specs.Listing.{AreBestOf};
 ghost use Rattle.tally_rows.specs.Row.{row_of};
 ghost use Rattle.tally_rows.specs.declared.row.Row.{Row};
 
-use crate::filter::month_number;
 use crate::hits::Hit;
 use best_lists::{Best4, ByMonth, ByRating, Entry, Ranking};
 use segment_blocks::HeldRow;
 use std::alloc::{AllocError, Global};
-use tally_rows::{Row, Single};
+use tally_rows::{Row, Single, month_number};
 
 /// A ranking by which rows list their best games.
 pub trait ListsGames: Ranking {

@@ -1,11 +1,11 @@
 //! Which rows and which games a filter takes.
 ghost use Rattle.std.specs.Prelude.{◌≡◌, ◌==◌, false, position, slice_index_or};
-ghost use Rattle.explorer_model.specs.Counting.{group_place, group_ratings, month_number, is_since, is_until, passes};
+ghost use Rattle.explorer_model.specs.Counting.{group_place, group_ratings, is_since, is_until, passes};
 ghost use Rattle.tally_rows.specs.Cover.{passes_row_key};
 
 use explorer_model::archive::{Classes, Group, Month};
 use explorer_model::query::Filter;
-use tally_rows::RowKey;
+use tally_rows::{RowKey, month_number};
 
 /// The least ratings of the groups.
 const GROUP_RATINGS: [u16; 9] = [0, 1000, 1200, 1400, 1600, 1800, 2000, 2200, 2500];
@@ -46,13 +46,6 @@ fn is_in_groups(filter: &Filter, group: Group) -> bool
         Some(place) => filter.groups[place],
         None => false,
     }
-}
-
-/// Months in their order in time.
-pub fn month_number(month: Month) -> u32
-    ensures { result ≡ month_number month }
-{
-    12 * u32::from(month.year) + u32::from(month.month)
 }
 
 fn is_since(since: Option<Month>, month: Month) -> bool

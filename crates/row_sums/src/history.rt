@@ -7,12 +7,12 @@ ghost use Rattle.row_sums.specs.GroupSums.{HasRoom, line_with, no_line, no_total
 ghost use Rattle.row_sums.specs.Hits.{hit_as, AreSound};
 ghost use Rattle.row_sums.specs.Sums.{months_in, month_line, history_in};
 
-use crate::filter::month_number;
 use crate::groups::Places;
 use crate::hits::Hit;
 use crate::totals::with_games;
 use explorer_model::answer::{MonthLine, Totals};
 use std::alloc::{AllocError, Global};
+use tally_rows::month_number;
 
 /// A line for each month of the rows, ascending.
 pub fn history_of(alloc: Global, hits: &[Hit]) -> Result<Vec<MonthLine>, AllocError>

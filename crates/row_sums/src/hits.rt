@@ -1,11 +1,11 @@
 //! Rows of a position.
-ghost use Rattle.std.specs.Prelude.{◌≡◌, cond};
+ghost use Rattle.std.specs.Prelude.{◌≡◌};
 ghost use Rattle.row_sums.specs.Hits.{hit_as};
-ghost use Rattle.tally_rows.specs.Row.{is_white, is_draw, is_black};
 
-use explorer_model::archive::{Month, Outcome};
+use explorer_model::archive::Month;
 use explorer_model::chess::Move;
 use segment_blocks::HeldRow;
+use tally_rows::counts_of;
 
 /// A row of the position that is asked for, as its block holds it.
 #[derive(Clone, Copy, Debug)]
@@ -46,7 +46,7 @@ impl Hit<'_> {
         ensures black { result.2 ≡ (hit_as self.now).row.black }
     {
         match &self.row {
-            HeldRow::Game(game) => one_game(game.outcome),
+            HeldRow::Game(game) => counts_of(game.outcome),
             HeldRow::Whole(row) => (row.white, row.draws, row.black),
         }
     }
@@ -66,18 +66,5 @@ impl Hit<'_> {
             }
             HeldRow::Whole(row) => row.ratings,
         }
-    }
-}
-
-/// One game, counted for White, as a draw or for Black.
-fn one_game(outcome: Outcome) -> (u32, u32, u32)
-    ensures white { result.0 ≡ cond (is_white outcome) 1 0 }
-    ensures draws { result.1 ≡ cond (is_draw outcome) 1 0 }
-    ensures black { result.2 ≡ cond (is_black outcome) 1 0 }
-{
-    match outcome {
-        Outcome::White => (1, 0, 0),
-        Outcome::Draw => (0, 1, 0),
-        Outcome::Black => (0, 0, 1),
     }
 }

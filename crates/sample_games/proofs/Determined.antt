@@ -1,15 +1,16 @@
 -- A sample is determined by its number and the generator.
-use Rattle.std.proofs.Common.{◌≡◌, ◌≢◌, ℕ, zero, suc, ◌+◌, ◌<◌, Bool, true, false, true≢false, List, [], ◌∷◌, ◌++◌, length, get_or, inl, inr, ◌⊎◌, Option, Some, slice_get, Contains, codes, refl, sym, ap, ◌∙◌, subst, arith}
+use Rattle.std.proofs.Common.{◌≡◌, ◌≢◌, ℕ, zero, suc, ◌+◌, ◌<◌, Bool, true, false, true≢false, List, [], ◌∷◌, ◌++◌, length, get_or, inl, inr, ◌⊎◌, Some, slice_get, Contains, codes, refl, sym, ap, ◌∙◌, subst, arith}
 use Rattle.std.specs.Cmp.Lexicographic.{slice_cmp}
 use Rattle.std.specs.declared.cmp.Ordering.{Ordering}
 use Rattle.std.specs.declared.cmp.Ordering.TheVariants.{Less, Equal, Greater}
-use Rattle.std.specs.Option.{unwrap_or}
 use Rattle.std.specs.Ordering.{nat_cmp, is_lt, is_eq, ordering_reverse}
 use Rattle.std.specs.Cmp.{IsStrictWeakOrder}
 use Rattle.std.proofs.lemmas.Cmp.{nat_list_cmp_total}
 use Rattle.std.proofs.lemmas.List.Sorted.{ranks_by, sorted_far}
 use Rattle.std.proofs.lemmas.Map.Text.{is_eq-slice_cmp}
 use Rattle.std.specs.Cmp.Lexicographic.{bytes_decides}
+use Rattle.std.proofs.lemmas.Option.{same_Some}
+use Rattle.plain_laws.specs.Lists.{contains-cases, contains-first, contains-later}
 use Rattle.explorer_model.specs.declared.chess.Move.{Move}
 use Rattle.explorer_model.specs.declared.chess.Position.{Position}
 use Rattle.explorer_model.specs.Chess.{Legal, after, start}
@@ -51,19 +52,8 @@ strict-tail m moves strict i j d lt below = strict (suc i) (suc j) d (omega (ari
 strict-head : (m x : Move) (moves : List Move) → Strict (m ∷ moves) → Contains moves x → less m x ≡ true
 strict-head m x moves strict at = subst (λ (y : Move). less m y ≡ true) at.2 (strict 0 (suc at.0) x (omega arith) (omega (arith, at.1)))
 
-within : (m x : Move) (moves : List Move) → Contains moves x → Contains (m ∷ moves) x
-within m x moves at = (suc at.0, omega (arith, at.1), at.2)
-
-first : (m : Move) (moves : List Move) → Contains (m ∷ moves) m
-first m moves = (0, omega arith, refl)
-
--- a member is the first or stands behind it
-behind-or-first : (m x : Move) (moves : List Move) → Contains (m ∷ moves) x → (m ≡ x) ⊎ Contains moves x
-behind-or-first m x moves (zero, low, is) = inl is
-behind-or-first m x moves (suc k, low, is) = inr (k, omega (arith, low), is)
-
 same-first : (m n : Move) (moves others : List Move) → Strict (m ∷ moves) → Strict (n ∷ others) → Contains (n ∷ others) m → Contains (m ∷ moves) n → m ≡ n
-same-first m n moves others strict strict' in_other in_moves = by (behind-or-first n m others in_other) (behind-or-first m n moves in_moves) where
+same-first m n moves others strict strict' in_other in_moves = by (contains-cases n others m in_other) (contains-cases m moves n in_moves) where
   by : (n ≡ m) ⊎ Contains others m → (m ≡ n) ⊎ Contains moves n → m ≡ n
   by (inl same) other = sym same
   by (inr at) (inl same) = same
@@ -71,17 +61,17 @@ same-first m n moves others strict strict' in_other in_moves = by (behind-or-fir
 
 tail-in : (m n : Move) (moves others : List Move) → Strict (m ∷ moves) → m ≡ n → ((x : Move) → Contains (m ∷ moves) x → Contains (n ∷ others) x)
     → (x : Move) → Contains moves x → Contains others x
-tail-in m n moves others strict same all x at = by (behind-or-first n x others (all x (within m x moves at))) where
+tail-in m n moves others strict same all x at = by (contains-cases n others x (all x (contains-later m moves x at))) where
   by : (n ≡ x) ⊎ Contains others x → Contains others x
   by (inl is) = let self : less m m ≡ true = subst (λ (y : Move). less m y ≡ true) (sym (same ∙ is)) (strict-head m x moves strict at) in absurd (never-both m m self self)
   by (inr there) = there
 
 same-lists : (moves others : List Move) → Strict moves → Strict others → ((x : Move) → Contains moves x → Contains others x) → ((x : Move) → Contains others x → Contains moves x) → moves ≡ others
 same-lists [] [] strict strict' to from = refl
-same-lists [] (n ∷ others) strict strict' to from = (let at = from n (first n others) in absurd (omega (arith, at.1)))
-same-lists (m ∷ moves) [] strict strict' to from = (let at = to m (first m moves) in absurd (omega (arith, at.1)))
+same-lists [] (n ∷ others) strict strict' to from = (let at = from n (contains-first others n) in absurd (omega (arith, at.1)))
+same-lists (m ∷ moves) [] strict strict' to from = (let at = to m (contains-first moves m) in absurd (omega (arith, at.1)))
 same-lists (m ∷ moves) (n ∷ others) strict strict' to from =
-    let same : m ≡ n = same-first m n moves others strict strict' (to m (first m moves)) (from n (first n others)) in
+    let same : m ≡ n = same-first m n moves others strict strict' (to m (contains-first moves m)) (from n (contains-first others n)) in
     let rest : moves ≡ others = same-lists moves others (strict-tail m moves strict) (strict-tail n others strict')
     (tail-in m n moves others strict same to) (tail-in n m others moves strict' (sym same) from) in
     λ i. same i ∷ rest i
@@ -93,9 +83,6 @@ one-list p moves others listed listed' =
 
 -- ---- the moves that are drawn
 
-some-same : (o m : Move) → Some o ≡ Some m → o ≡ m
-some-same o m e = ap (λ (x : Option Move). unwrap_or x o) e
-
 abbrev AreSame : List Move → List Move → Lcg → Lcg → Type 0
 AreSame moves others behind behind' = (moves ≡ others) × (behind ≡ behind')
 
@@ -105,7 +92,7 @@ stuck-draws (suc plies) p before moves behind none (inl draws) = (draws.1, draws
 stuck-draws (suc plies) p before moves behind none (inr (legal, m, rest, listed, picks, draws, is)) = absurd (none m ((listed.each m).0 (picked legal _ m picks))) where
   picked : (moves : List Move) (k : ℕ) (m : Move) → slice_get moves k ≡ Some m → Contains moves m
   picked [] k m e = absurd (grind (arith, e))
-  picked (o ∷ moves) zero m e = (0, omega arith, some-same o m e)
+  picked (o ∷ moves) zero m e = (0, omega arith, same_Some o m e)
   picked (o ∷ moves) (suc k) m e = let at = picked moves k m e in (suc at.0, omega (arith, at.1), at.2)
 
 one-draw : (plies : ℕ) (p : Position) (before : Lcg) (moves others : List Move) (behind behind' : Lcg)
@@ -117,7 +104,7 @@ one-draw (suc plies) p before moves others behind behind' (inr draws) (inl draws
     let own = stuck-draws (suc plies) p before moves behind draws'.0 (inr draws) in (own.0 ∙ sym draws'.1, own.1 ∙ sym draws'.2)
 one-draw (suc plies) p before moves others behind behind' (inr (legal, m, rest, listed, picks, draws, is)) (inr (legal', m', rest', listed', picks', draws', is')) =
     let lists : legal ≡ legal' = one-list p legal legal' listed listed' in
-    let same : m ≡ m' = some-same m m' (sym picks ∙ ap (λ (ms : List Move). slice_get ms (drawn (length ms) before)) lists ∙ picks') in
+    let same : m ≡ m' = same_Some m m' (sym picks ∙ ap (λ (ms : List Move). slice_get ms (drawn (length ms) before)) lists ∙ picks') in
     let later_on : AreSame rest rest' behind behind' =
     one-draw plies (after p m) (later before) rest rest' behind behind' draws (subst (λ (x : Move). DrawsMoves plies (after p x) (later before) rest' behind') (sym same) draws') in
     (is ∙ ((λ i. same i ∷ later_on.0 i) ∙ sym is'), later_on.1)

@@ -1,8 +1,8 @@
 -- Each sample is read as its game.
 use Rattle.std.proofs.Common.{◌≡◌, ℕ, zero, suc, ◌+◌, ◌≤◌, true, nat_le, List, [], ◌∷◌, ◌++◌, length, map, slice_get, Contains, Option, Some, None, Result, Ok, codes, decimal, refl, sym, ap, ◌∙◌, subst, arith, inl, inr}
-use Rattle.std.specs.Option.{unwrap_or}
 use Rattle.std.proofs.lemmas.Bool.Decides.{nat_tests}
 use Rattle.std.proofs.lemmas.List.{append_assoc}
+use Rattle.std.proofs.lemmas.Option.{same_Some}
 use Rattle.explorer_model.specs.declared.archive.Classes.{Classes}
 use Rattle.explorer_model.specs.declared.archive.Ending.{Ending}
 use Rattle.explorer_model.specs.declared.archive.Game.{Game}
@@ -29,12 +29,9 @@ use Rattle.sample_games.proofs.Tags.{IsResult, IsSound, HasClasses, sound, class
 
 -- ---- moves that are drawn
 
-some-same : (o m : Move) → Some o ≡ Some m → o ≡ m
-some-same o m e = ap (λ (x : Option Move). unwrap_or x o) e
-
 picked-contains : (moves : List Move) (k : ℕ) (m : Move) → slice_get moves k ≡ Some m → Contains moves m
 picked-contains [] k m e = absurd (grind (arith, e))
-picked-contains (o ∷ moves) zero m e = (0, omega arith, some-same o m e)
+picked-contains (o ∷ moves) zero m e = (0, omega arith, same_Some o m e)
 picked-contains (o ∷ moves) (suc k) m e =
     let later_on : Contains moves m = picked-contains moves k m e in
     (suc later_on.0, omega (arith, later_on.1), later_on.2)

@@ -3,13 +3,13 @@ use Rattle.std.proofs.Common.{◌≡◌, ℕ, ◌+◌, ◌-◌, ◌==◌, Bool, 
 use Rattle.std.specs.List.{list_all}
 use Rattle.std.proofs.lemmas.Bool.{cond-false}
 use Rattle.std.proofs.lemmas.List.{append_assoc, length-append}
-use Rattle.std.proofs.Math.Seq.{drop-append-add}
+use Rattle.std.proofs.Math.Seq.{drop-append-add, take-append_seam}
 use Rattle.explorer_model.specs.declared.archive.Ending.{Ending}
 use Rattle.explorer_model.specs.declared.archive.Tag.{Tag}
 use Rattle.explorer_model.specs.Items.{Pair, Item, Lead, Bracket, Shape, lead_of, shape_by, shape_of, items_from, name_at, after_white, after_byte, closes_string, ends_line, escapes, keep_unless, string_len, unescaped, pair_of, pair_within, pair_item_of, ◌>>=◌}
 use Rattle.explorer_model.specs.Parts.{Heading, meaning}
 use Rattle.sample_games.specs.Samples.{tag_line}
-use Rattle.sample_games.proofs.Symbols.{Reads, Parted, adds-tag, reads-line, take-front, Skipped, skip}
+use Rattle.sample_games.proofs.Symbols.{Reads, Parted, adds-tag, reads-line, Skipped, skip}
 
 -- a byte that stands for itself in a string
 abbrev pub is_plain : ℕ → Bool
@@ -80,7 +80,7 @@ module _ (name value : List ℕ) (named : IsName name) (is_plain_value : list_al
       let with_value : List ℕ → Option (Tag × List ℕ) = λ bytes. Some (record { name = name; value = bytes }, rest) in
       ap (λ (n : ℕ). closed_at n (drop (n + 1) string)) is
       ∙ (ap (λ (bytes : List ℕ). closed_at (length value) bytes) behind-string
-      ∙ ap with_value (ap (unescaped false) (take-front value (34 ∷ 93 ∷ rest)) ∙ unescaped-plain value is_plain_value))
+      ∙ ap with_value (ap (unescaped false) (take-append_seam value (34 ∷ 93 ∷ rest)) ∙ unescaped-plain value is_plain_value))
 
   pair-is : pair_of (name ++ 32 ∷ 34 ∷ string) ≡ Some (tag, rest)
   unfolding pair_of

@@ -1,7 +1,8 @@
 -- What stands first in a movetext, and what is read behind it.
-use Rattle.std.proofs.Common.{◌≡◌, ℕ, ◌+◌, ◌==◌, Bool, true, false, ◌&&◌, List, [], ◌∷◌, ◌++◌, length, map, take, Option, Some, Result, Ok, ok_or, refl, sym, ap, ◌∙◌, subst, arith}
+use Rattle.std.proofs.Common.{◌≡◌, ℕ, ◌+◌, ◌==◌, Bool, true, false, List, [], ◌∷◌, ◌++◌, length, map, take, Option, Some, Result, Ok, ok_or, refl, sym, ap, ◌∙◌, subst, arith}
 use Rattle.std.specs.List.{list_all, prefix_len}
-use Rattle.std.proofs.lemmas.Bool.{cond-true, cond-false}
+use Rattle.std.proofs.lemmas.Bool.{cond-true, cond-false, and_parts}
+use Rattle.std.proofs.Math.Seq.{take-append_seam}
 use Rattle.explorer_model.specs.declared.archive.Ending.{Ending}
 use Rattle.explorer_model.specs.declared.archive.Parts.{Parts}
 use Rattle.explorer_model.specs.declared.archive.Tag.{Tag}
@@ -83,19 +84,11 @@ adds-tag item row tag tags texts ending is rest = record {
   ends = rest.ends;
 }
 
-split-true : (a b : Bool) → (a && b) ≡ true → (a ≡ true) × (b ≡ true)
-split-true true b h = (refl, h)
-split-true false b h = absurd (grind (arith, h))
-
 prefix_len-stops : (p : ℕ → Bool) (xs : List ℕ) (c : ℕ) (rest : List ℕ) → list_all p xs ≡ true → p c ≡ false → prefix_len p (xs ++ c ∷ rest) ≡ length xs
 prefix_len-stops p [] c rest all stops = cond-false (p c) (1 + prefix_len p rest) 0 stops
 prefix_len-stops p (x ∷ xs) c rest all stops =
-    let both : (p x ≡ true) × (list_all p xs ≡ true) = split-true (p x) (list_all p xs) all in
+    let both : (p x ≡ true) × (list_all p xs ≡ true) = and_parts (p x) (list_all p xs) all in
     cond-true (p x) (1 + prefix_len p (xs ++ c ∷ rest)) 0 both.0 ∙ (ap (λ (n : ℕ). 1 + n) (prefix_len-stops p xs c rest both.1 stops) ∙ omega arith)
-
-pub take-front : (xs ys : List ℕ) → take (length xs) (xs ++ ys) ≡ xs
-take-front [] ys = refl
-take-front (x ∷ xs) ys = ap (λ (zs : List ℕ). x ∷ zs) (take-front xs ys)
 
 -- where the items go on behind bytes that belong to the item before
 pub record Skipped (count : ℕ) (bytes rest : List ℕ) (fresh : Bool) (place : ℕ) : Type 0 where
@@ -127,9 +120,9 @@ symbol-items b more c rest fresh place symbol stops =
     let shape : shape_of fresh b bytes ≡ record { kind = kind_of_symbol (b ∷ more); more = length more } =
     ap (λ (l : Lead). shape_by l b bytes) lead
     ∙ (ap (λ (n : ℕ). record { kind = kind_of_symbol (b ∷ take n bytes); more = n }) count
-    ∙ ap (λ (xs : List ℕ). record { kind = kind_of_symbol (b ∷ xs); more = length more }) (take-front more (c ∷ rest))) in
+    ∙ ap (λ (xs : List ℕ). record { kind = kind_of_symbol (b ∷ xs); more = length more }) (take-append_seam more (c ∷ rest))) in
     ap (λ (s : Shape). record { kind = s.kind; place = place; text = b ∷ take s.more bytes } ∷ items_from s.more (b == 10) (place + 1) bytes) shape
-    ∙ ap (λ (xs : List ℕ). record { kind = kind_of_symbol (b ∷ more); place = place; text = b ∷ xs } ∷ items_from (length more) (b == 10) (place + 1) bytes) (take-front more (c ∷ rest))
+    ∙ ap (λ (xs : List ℕ). record { kind = kind_of_symbol (b ∷ more); place = place; text = b ∷ xs } ∷ items_from (length more) (b == 10) (place + 1) bytes) (take-append_seam more (c ∷ rest))
 
 -- ---- symbols in the movetext
 

@@ -1,3 +1,4 @@
 pub mod Movetexts
 pub mod Samples
 pub mod Streams
+pub mod StreamLaws

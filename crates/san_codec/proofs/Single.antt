@@ -1,6 +1,6 @@
 -- No other legal move agrees with what a legal move is written as.
-use Rattle.std.proofs.Common.{◌≡◌, ◌≢◌, ℕ, ◌<◌, ◌&&◌, ◌||◌, ◌==◌, ◌⊎◌, inl, inr, Bool, true, false, Option, Some, None, is_some, List, refl, sym, subst, ap, ◌∙◌, arith, if◌then◌else◌}
-use Rattle.std.proofs.lemmas.Bool.{and_parts, eqb-true, cases_eq}
+use Rattle.std.proofs.Common.{◌≡◌, ◌≢◌, ℕ, ◌<◌, ◌||◌, ◌==◌, ◌⊎◌, inl, inr, Bool, true, false, Option, Some, None, is_some, List, refl, sym, subst, ap, ◌∙◌, arith, if◌then◌else◌}
+use Rattle.std.proofs.lemmas.Bool.{and_parts, eqb-true, cases_eq, and_from, or_right}
 use Rattle.std.proofs.lemmas.Bool.Decides.{Decides-eqb}
 use Rattle.explorer_model.specs.declared.chess.Color.{Color}
 use Rattle.explorer_model.specs.declared.chess.Color.TheVariants.{White, Black}
@@ -36,17 +36,9 @@ square_from a b file rank = omega (arith, file, rank)
 or_left : (a b : Bool) → a ≡ true → (a || b) ≡ true
 or_left a b e = ap (λ (x : Bool). x || b) e
 
-or_right : (a b : Bool) → b ≡ true → (a || b) ≡ true
-or_right true b e = refl
-or_right false b e = e
-
 or_cases : (a b : Bool) → (a || b) ≡ true → (a ≡ true) ⊎ (b ≡ true)
 or_cases true b e = inl refl
 or_cases false b e = inr e
-
-both : (a b : Bool) → a ≡ true → b ≡ true → (a && b) ≡ true
-both true b e f = f
-both false b e f = e
 
 pawn_there : (occupant : Option Piece) → IsRole Pawn occupant → is_pawn_at occupant ≡ true
 pawn_there None is = absurd is
@@ -101,7 +93,7 @@ captures_taken p m is (diagonal, inl enemy) =
     or_left (is_some (piece_at p.squares m.to.index)) (takes_en_passant p m) (some_there (opponent p.turn) (piece_at p.squares m.to.index) enemy)
 captures_taken p m is (diagonal, inr crossed) =
     or_right (is_some (piece_at p.squares m.to.index)) (takes_en_passant p m)
-    (both (is_pawn_at (piece_at p.squares m.from.index)) (is_square p.en_passant m.to.index)
+    (and_from (is_pawn_at (piece_at p.squares m.from.index)) (is_square p.en_passant m.to.index)
     (pawn_there (piece_at p.squares m.from.index) is) (square_tested p.en_passant m.to.index crossed))
 
 too_far : (squares : List (Option Piece)) (turn : Color) (from to : ℕ) → from < 64 → to < 64

@@ -1,7 +1,6 @@
 -- What the squares from which pieces of one role go to one square say of a text.
-use Rattle.std.proofs.Common.{◌≡◌, ◌≢◌, ◌↔◌, ◌^◌, w64, IfOk, ℕ, ◌<◌, Bool, true, false, ◌==◌, List, ◌∷◌, Option, Some, None, Result, Ok, Err, bit_and, refl, sym, ap, ◌∙◌, subst, arith, slice_index_or, []}
+use Rattle.std.proofs.Common.{◌≡◌, ◌≢◌, ◌↔◌, IfOk, ℕ, ◌<◌, Bool, true, false, ◌==◌, List, ◌∷◌, Option, Some, None, Result, Ok, Err, bit_and, refl, sym, ap, ◌∙◌, subst, slice_index_or, []}
 use Rattle.std.proofs.Math.Bool.{not, beq}
-use Rattle.std.proofs.lemmas.Nat.Bits.{bit_at-trailing_zeros}
 use Rattle.std.proofs.lemmas.Bool.Decides.{Decides-eqb}
 use Rattle.step_tables.specs.Bitboard.{Holds}
 use Rattle.step_tables.specs.Test.{all_below, is_set_of}
@@ -39,10 +38,6 @@ ranks_right : all_below (λ r. is_set_of (λ s. rank_of s == r) (slice_index_or 
 unfolding all_below
 ranks_right = refl
 
-all_right : is_set_of (λ s. true) 18446744073709551615 ≡ true
-unfolding all_below
-all_right = refl
-
 pub file-says : (f s : ℕ) → f < 8 → s < 64 → Holds (slice_index_or files f 0) s ↔ (file_of s ≡ f)
 file-says f s on_f on_s =
     Holds-is_set_of (λ s. file_of s == f) (λ s. file_of s ≡ f) (slice_index_or files f 0) (λ b. Decides-eqb (file_of b) f)
@@ -53,10 +48,6 @@ rank-says r s on_r on_s =
     Holds-is_set_of (λ s. rank_of s == r) (λ s. rank_of s ≡ r) (slice_index_or ranks r 0) (λ b. Decides-eqb (rank_of b) r)
     (all_below-at (λ r. is_set_of (λ s. rank_of s == r) (slice_index_or ranks r 0)) 8 ranks_right r on_r) s on_s
 
-pub all-says : (s : ℕ) → s < 64 → Holds 18446744073709551615 s
-all-says s on =
-    (Holds-is_set_of (λ s. true) (λ s. Unit {0}) 18446744073709551615 (λ b. ((λ _. tt), (λ _. refl))) all_right s on).1 tt
-
 -- Small facts.
 
 pub same_flag : (a b : Bool) → not (beq a b) ≡ false → a ≡ b
@@ -64,12 +55,6 @@ same_flag true true e = refl
 same_flag true false e = cc
 same_flag false true e = cc
 same_flag false false e = refl
-
-positive : (x : ℕ) → (x ≡ 0 → ⊥) → 0 < x
-positive x h = omega arith
-
-pub some_bit : (x : ℕ) → x < 2 ^ 64 → (x ≡ 0 → ⊥) → (b : ℕ) × (b < 64) × Holds x b
-some_bit x fits some = let h = bit_at-trailing_zeros w64 x (positive x some) fits in (_, h.0, h.1)
 
 pub answers_legal : (p : Position) (form : SanForm) (r : Result Move SanFault) → Answers p form r → IfOk r (λ m. Legal p m)
 answers_legal p form (Ok m) h = h.0

@@ -4,6 +4,7 @@ ghost use Rattle.explorer_model.specs.Letters.{role_of, promotions, lettered, fi
 ghost use Rattle.explorer_model.specs.San.{unmarked, optional, byte_is, promoted, moved, from_start, to_target, named_move, is_o, castling, form_of, san_form};
 
 use explorer_model::chess::{Role, Side};
+use explorer_model::letters::{file_named, rank_named};
 use explorer_model::notation::{NamedMove, SanForm};
 
 /// What `text` names, where it is in the grammar.
@@ -132,15 +133,6 @@ fn split_rank(text: &[u8]) -> (Option<u8>, &[u8])
     (None, text)
 }
 
-fn rank_named(byte: u8) -> Option<u8>
-    ensures { result ≡ rank_named byte }
-{
-    match byte {
-        b'1'..=b'8' => Some(byte - b'1'),
-        _ => None,
-    }
-}
-
 fn split_file(text: &[u8]) -> (Option<u8>, &[u8])
     ensures part { result.0 ≡ (optional file_named (reverse text.now)).0 }
     ensures rest { reverse result.1.now ≡ (optional file_named (reverse text.now)).1 }
@@ -151,15 +143,6 @@ fn split_file(text: &[u8]) -> (Option<u8>, &[u8])
         return (Some(file), rest);
     }
     (None, text)
-}
-
-fn file_named(byte: u8) -> Option<u8>
-    ensures { result ≡ file_named byte }
-{
-    match byte {
-        b'a'..=b'h' => Some(byte - b'a'),
-        _ => None,
-    }
 }
 
 /// The piece of a move whose text before the file is `text`.

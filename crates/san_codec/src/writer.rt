@@ -4,11 +4,12 @@ ghost use Rattle.explorer_model.specs.declared.chess.Move.{Move as AMove};
 ghost use Rattle.explorer_model.specs.declared.chess.Role.TheVariants.{Pawn};
 ghost use Rattle.explorer_model.specs.Chess.{IsValid, Legal, is_castling, castling_side, after as after_move};
 ghost use Rattle.explorer_model.specs.San.{captures, IsRole, MovesLike, Rivals, RivalsOnFile, RivalsOnRank, PieceStart, StartOf, IsMarked, role_text, start_text, capture_text, promotion_text, castling_text, mark_text, named_text, MoveText, SanText};
-ghost use Rattle.explorer_model.specs.Letters.{letter_of, square_text, file_letter, rank_digit};
+ghost use Rattle.explorer_model.specs.Letters.{square_text, file_letter, rank_digit};
 
 use crate::reader::captures;
 use arrayvec::ArrayVec;
 use explorer_model::chess::{Move, Piece, Position, Role, Side};
+use explorer_model::letters::letter_of;
 use explorer_model::notation::{CheckMark, Start};
 use explorer_model::square::{file_of, rank_of};
 
@@ -155,19 +156,6 @@ fn push_role(text: &mut ArrayVec<u8, 8>, role: Role)
     match role {
         Role::Pawn => {}
         _ => text.push(letter_of(role)),
-    }
-}
-
-fn letter_of(role: Role) -> u8
-    ensures { result ≡ letter_of role }
-{
-    match role {
-        Role::Pawn => b'P',
-        Role::Knight => b'N',
-        Role::Bishop => b'B',
-        Role::Rook => b'R',
-        Role::Queen => b'Q',
-        Role::King => b'K',
     }
 }
 

@@ -1,28 +1,14 @@
 -- The batches of a segment: where a game stands among them, and more of them behind others.
-use Rattle.std.proofs.Common.{◌≡◌, ℕ, zero, suc, ◌+◌, ◌<◌, ◌≤◌, List, [], ◌∷◌, ◌++◌, take, length, Some, None, is_none, unwrap_or, refl, sym, ap, subst, ◌∙◌, true≢false, arith}
+use Rattle.std.proofs.Common.{◌≡◌, ℕ, zero, suc, ◌+◌, ◌<◌, ◌≤◌, List, [], ◌∷◌, ◌++◌, take, length, Some, refl, sym, ap, subst, ◌∙◌, arith}
 use Rattle.std.specs.List.{slice_get}
 use Rattle.std.proofs.lemmas.List.{length-append}
+use Rattle.std.proofs.lemmas.Option.{none-some, same_Some}
+use Rattle.plain_laws.specs.Lists.{get-behind, get-front}
 use Rattle.explorer_model.specs.Visits.{texts_of}
 use Rattle.segment_blocks.specs.declared.held_batch.HeldBatch.{HeldBatch}
 use Rattle.segment_blocks.specs.HeldBatches.{batch_of, classes_of, all_batches, all_classes, IsHeldFrom, StandFrom, IsGame}
 
 -- ---- places in two lists
-
-slice_get-left : {X : Type 0} (xs ys : List X) (i : ℕ) → i < length xs → slice_get (xs ++ ys) i ≡ slice_get xs i
-slice_get-left [] ys i h = absurd (omega arith)
-slice_get-left (x ∷ xs) ys zero h = refl
-slice_get-left (x ∷ xs) ys (suc i) h = slice_get-left xs ys i (omega arith)
-
-slice_get-right : {X : Type 0} (xs ys : List X) (n i : ℕ) → n ≡ length xs + i → slice_get (xs ++ ys) n ≡ slice_get ys i
-slice_get-right [] ys n i e = ap (slice_get ys) (omega (arith, e))
-slice_get-right (x ∷ xs) ys zero i e = absurd (omega (arith, e))
-slice_get-right (x ∷ xs) ys (suc n) i e = slice_get-right xs ys n i (omega (arith, e))
-
-nothing-here : {X : Type 0} (x : X) → None ≡ Some x → ⊥
-nothing-here x e = true≢false (ap is_none e)
-
-first-is : {X : Type 0} (x y : X) → Some x ≡ Some y → x ≡ y
-first-is x y e = ap (λ o. unwrap_or o x) e
 
 -- ---- a batch at its place
 
@@ -32,9 +18,9 @@ games_before n held = length (all_classes (take n held))
 
 pub games_before-next : (all : List HeldBatch) (k : ℕ) (h : HeldBatch) → slice_get all k ≡ Some h
     → games_before (suc k) all ≡ games_before k all + length (classes_of h)
-games_before-next [] k h e = absurd (nothing-here h e)
+games_before-next [] k h e = absurd (none-some h e)
 games_before-next (x ∷ xs) zero h e =
-    omega (arith, length-append (classes_of x) [], ap (λ b. length (classes_of b)) (first-is x h e))
+    omega (arith, length-append (classes_of x) [], ap (λ b. length (classes_of b)) (same_Some x h e))
 games_before-next (x ∷ xs) (suc k) h e =
     omega (arith, length-append (classes_of x) (all_classes (take (suc k) xs)), length-append (classes_of x) (all_classes (take k xs)), games_before-next xs k h e)
 
@@ -47,9 +33,9 @@ games_before-within (x ∷ xs) (suc k) =
 
 pub stand-at : (first : ℕ) (all : List HeldBatch) (k : ℕ) (h : HeldBatch) → StandFrom first all → slice_get all k ≡ Some h
     → IsHeldFrom (first + games_before k all) h
-stand-at first [] k h stand e = absurd (nothing-here h e)
+stand-at first [] k h stand e = absurd (none-some h e)
 stand-at first (x ∷ xs) zero h stand e =
-    let same = first-is x h e in
+    let same = same_Some x h e in
     record {
       start = omega (arith, stand.0.start, ap (λ (b : HeldBatch). b.start) same);
       aligned = subst (λ b. length (batch_of b).texts ≡ length (classes_of b)) same stand.0.aligned;
@@ -65,14 +51,14 @@ stand-at first (x ∷ xs) (suc k) h stand e =
 
 pub game-at : (first : ℕ) (all : List HeldBatch) (k n m : ℕ) (h : HeldBatch) → StandFrom first all → slice_get all k ≡ Some h
     → n ≡ games_before k all + m → m < length (classes_of h) → IsGame all n h m
-game-at first [] k n m h stand e at inside = absurd (nothing-here h e)
-game-at first (x ∷ xs) zero n m h stand e at inside = subst (λ b. IsGame (x ∷ xs) n b m) (first-is x h e) here
+game-at first [] k n m h stand e at inside = absurd (none-some h e)
+game-at first (x ∷ xs) zero n m h stand e at inside = subst (λ b. IsGame (x ∷ xs) n b m) (same_Some x h e) here
   where
     n_is : n ≡ m
     n_is = omega (arith, at)
 
     in_first : m < length (classes_of x)
-    in_first = subst (λ b. m < length (classes_of b)) (sym (first-is x h e)) inside
+    in_first = subst (λ b. m < length (classes_of b)) (sym (same_Some x h e)) inside
 
     in_texts : m < length (batch_of x).texts
     in_texts = omega (arith, in_first, stand.0.aligned)
@@ -81,9 +67,9 @@ game-at first (x ∷ xs) zero n m h stand e at inside = subst (λ b. IsGame (x �
     here = record {
       in_classes = in_first;
       in_texts = in_texts;
-      classes = sym (ap (slice_get (classes_of x ++ all_classes xs)) n_is ∙ slice_get-left (classes_of x) (all_classes xs) m in_first);
+      classes = sym (ap (slice_get (classes_of x ++ all_classes xs)) n_is ∙ get-front (classes_of x) (all_classes xs) m in_first);
       text = sym (ap (slice_get ((batch_of x).texts ++ texts_of (all_batches xs))) n_is
-          ∙ slice_get-left (batch_of x).texts (texts_of (all_batches xs)) m in_texts);
+          ∙ get-front (batch_of x).texts (texts_of (all_batches xs)) m in_texts);
     }
 game-at first (x ∷ xs) (suc k) n m h stand e at inside =
     let n' = games_before k xs + m in
@@ -92,9 +78,9 @@ game-at first (x ∷ xs) (suc k) n m h stand e at inside =
     record {
       in_classes = there.in_classes;
       in_texts = there.in_texts;
-      classes = there.classes ∙ sym (slice_get-right (classes_of x) (all_classes xs) n n' n_is);
+      classes = there.classes ∙ sym (get-behind (classes_of x) (all_classes xs) n' n n_is);
       text = there.text
-          ∙ sym (slice_get-right (batch_of x).texts (texts_of (all_batches xs)) n n' (omega (arith, n_is, stand.0.aligned)));
+          ∙ sym (get-behind (batch_of x).texts (texts_of (all_batches xs)) n' n (omega (arith, n_is, stand.0.aligned)));
     }
 
 -- ---- a batch behind others

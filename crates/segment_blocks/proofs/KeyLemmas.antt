@@ -1,5 +1,5 @@
 -- Rows in the order of their keys, and where a key stands among them.
-use Rattle.std.proofs.Common.{◌≡◌, ℕ, Bool, true, false, cond, not, ◌&&◌, Option, None, Some, List, [], ◌∷◌, ◌++◌, map, filter, bytes_eq, refl, sym, ap, subst, ◌∙◌, true≢false}
+use Rattle.std.proofs.Common.{◌≡◌, ℕ, Bool, true, false, cond, not, Option, None, Some, List, [], ◌∷◌, ◌++◌, map, filter, bytes_eq, refl, sym, ap, subst, ◌∙◌, true≢false}
 use Rattle.std.specs.List.{AllByRecursion}
 use Rattle.std.specs.List.Sorted.{IsStrictlySortedBy}
 use Rattle.std.specs.declared.cmp.Ordering.{Ordering}
@@ -8,6 +8,7 @@ use Rattle.std.specs.Ordering.{nat_cmp, ordering_then, is_lt, is_gt}
 use Rattle.std.specs.Cmp.{tied_itself}
 use Rattle.std.specs.Cmp.Lexicographic.{slice_cmp, nat_list_cmp_total, bytes_decides}
 use Rattle.std.specs.FinMap.{nat_cmp-IsAntisymmetric, slice_cmp-IsAntisymmetric}
+use Rattle.plain_laws.specs.Lists.{filter-all, filter-both}
 use Rattle.tally_rows.specs.declared.row_key.RowKey.{RowKey}
 use Rattle.tally_rows.specs.declared.row.Row.{Row}
 use Rattle.tally_rows.specs.RowKey.{row_order}
@@ -254,19 +255,6 @@ module _ (key : List ℕ) where
       by : (b : Bool) → is_below key row ≡ b → Rise (from_key key rows) → Rise (from_key key (row ∷ rows))
       by true e next = subst Rise (sym (from_key-below key row rows e)) next
       by false e next = subst Rise (sym (from_key-not key row rows e)) h
-
-filter-all : (rows : List Row) → filter (λ row. true) rows ≡ rows
-filter-all [] = refl
-filter-all (row ∷ rows) = ap (λ l. row ∷ l) (filter-all rows)
-
-filter-both : (p q : Row → Bool) (rows : List Row) → filter q (filter p rows) ≡ filter (λ row. p row && q row) rows
-filter-both p q [] = refl
-filter-both p q (row ∷ rows) = by (p row) (filter-both p q rows)
-  where
-    by : (b : Bool) → filter q (filter p rows) ≡ filter (λ r. p r && q r) rows
-        → filter q (cond b (row ∷ filter p rows) (filter p rows)) ≡ cond (b && q row) (row ∷ filter (λ r. p r && q r) rows) (filter (λ r. p r && q r) rows)
-    by true next = ap (λ l. cond (q row) (row ∷ l) l) next
-    by false next = next
 
 pub from_bound-filter : (from : Option (List ℕ)) (rows : List Row) → Rise rows → from_bound from rows ≡ filter (is_from from) rows
 from_bound-filter None rows h = sym (filter-all rows)

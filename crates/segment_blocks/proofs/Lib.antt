@@ -3,7 +3,6 @@ pub mod BlockLemmas
 pub mod BothLemmas
 pub mod UntilLemmas
 pub mod EncodedLemmas
-pub mod HalvingLemmas
 pub mod HeldLemmas
 pub mod KeyLemmas
 pub mod KeyOrderLemmas

@@ -3,9 +3,10 @@ use Rattle.std.proofs.Common.{◌≡◌, ℕ, zero, suc, ◌+◌, ◌≤◌, Boo
 use Rattle.std.proofs.lemmas.List.{get_or_default}
 use Rattle.best_lists.specs.declared.entry.Entry.{Entry}
 use Rattle.best_lists.specs.Entry.{moved_by}
+use Rattle.explorer_model.specs.Counting.{month_number}
 use Rattle.tally_rows.specs.declared.row.Row.{Row}
 use Rattle.tally_rows.specs.declared.single.Single.{Single}
-use Rattle.tally_rows.specs.Row.{row_of, row_key_of, month_rank, shifted_row}
+use Rattle.tally_rows.specs.Row.{row_of, row_key_of, shifted_row}
 use Rattle.explorer_model.specs.declared.archive.Outcome.{Outcome}
 use Rattle.segment_blocks.specs.declared.mark.Mark.{Mark}
 use Rattle.segment_blocks.specs.Both.{HaveBothMoved, MayBothMove}
@@ -25,7 +26,7 @@ pub game-shifted : (by : ℕ) (game : Single) → row_of (record game { number =
 unfolding row_of shifted_row
 game-shifted by game = λ i. record (row_of game) {
   top = cond-moved by (is_some game.row_key.next) (record { rank = game.sum; number = game.number }) i;
-  recent = cond-moved by (is_some game.row_key.next) (record { rank = month_rank game.row_key.month; number = game.number }) i;
+  recent = cond-moved by (is_some game.row_key.next) (record { rank = month_number game.row_key.month; number = game.number }) i;
 }
 
 pub shifted-key : (by : ℕ) (row : Row) → (shifted_row by row).key ≡ row.key

@@ -1,8 +1,9 @@
 -- Segments of one batch and of two spans.
-use Rattle.std.proofs.Common.{◌≡◌, ℕ, ◌+◌, ◌<◌, ◌^◌, List, [], ◌∷◌, ◌++◌, length, refl, sym, ap, subst, ◌∙◌, append-nil, arith}
-use Rattle.std.specs.List.{All, AllZip}
+use Rattle.std.proofs.Common.{◌≡◌, ℕ, ◌+◌, ◌<◌, ◌^◌, List, [], ◌∷◌, ◌++◌, length, sym, ap, subst, ◌∙◌, append-nil, arith}
+use Rattle.std.specs.List.{All}
 use Rattle.std.proofs.lemmas.List.{length-map, length-append}
 use Rattle.std.proofs.lemmas.List.Elements.{All-nil, All-cons, All-append}
+use Rattle.std.proofs.lemmas.Slice.Zip.{AllZip-long}
 use Rattle.explorer_model.specs.declared.archive.Batch.{Batch}
 use Rattle.explorer_model.specs.Journal.{IsBatch}
 use Rattle.explorer_model.specs.Visits.{IsTextOf, texts_of}
@@ -12,16 +13,10 @@ use Rattle.segment_blocks.specs.HeldBatches.{batch_of, classes_of, all_batches, 
 use Rattle.segment_blocks.specs.PackedRows.{Packed, AreBlocksOf}
 use Rattle.segment_blocks.specs.Segment.{CanJoin, IsTallyOfBoth}
 
-zip-length : {X Y : Type 0} (P : X → Y → Type 0) (xs : List X) (ys : List Y) → AllZip P xs ys → length xs ≡ length ys
-zip-length P [] [] h = refl
-zip-length P [] (y ∷ ys) h = absurd h
-zip-length P (x ∷ xs) [] h = absurd h
-zip-length P (x ∷ xs) (y ∷ ys) h = omega (arith, zip-length P xs ys h.1)
-
 -- a batch has as many texts as games
 pub texts-length : (counted : Counted) → IsCounted counted → length counted.batch.texts ≡ length counted.classes
 texts-length counted h =
-    zip-length IsTextOf counted.batch.texts h.tally.games h.tally.are_games ∙ sym (length-map h.tally.games (λ g. g.classes))
+    sym (AllZip-long IsTextOf counted.batch.texts h.tally.games h.tally.are_games) ∙ sym (length-map h.tally.games (λ g. g.classes))
     ∙ ap length (sym h.tally.classes_are)
 
 module _ (first : ℕ) (held : HeldBatch) (packed : Packed) (counted : Counted) (h : IsCounted counted)

@@ -1,4 +1,4 @@
--- Rows of two walks that move behind others, the lesser one first.
+-- Bridge: rows of two walks that move behind others, the lesser one first.
 use Rattle.std.specs.Prelude.{◌≡◌, ⊤, ℕ, ◌+◌, ◌≤◌, true, List, [], ◌∷◌, ◌++◌, length}
 use Rattle.std.specs.Ordering.{is_lt}
 use Rattle.tally_rows.specs.declared.row.Row.{Row}

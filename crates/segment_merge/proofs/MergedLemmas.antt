@@ -1,5 +1,5 @@
 -- Merged rows add up to both lists, and stand in order.
-use Rattle.std.proofs.Common.{◌≡◌, ℕ, ◌+◌, ◌<◌, Bool, true, false, cond, None, Some, unwrap_or, Result, Ok, Err, OnOk, List, [], ◌∷◌, ◌++◌, map, take, drop, length, refl, sym, ap, subst, ◌∙◌, append-nil, append_assoc, arith}
+use Rattle.std.proofs.Common.{◌≡◌, ℕ, ◌+◌, ◌<◌, Bool, true, false, cond, None, Some, List, [], ◌∷◌, ◌++◌, map, take, drop, length, refl, sym, ap, subst, ◌∙◌, append-nil, append_assoc, arith}
 use Rattle.std.specs.declared.cmp.Ordering.{Ordering}
 use Rattle.std.specs.declared.cmp.Ordering.TheVariants.{Less, Equal, Greater}
 use Rattle.std.specs.List.{AllByRecursion, count_by}
@@ -28,6 +28,7 @@ use Rattle.tally_rows.specs.Track.{Track}
 use Rattle.tally_rows.proofs.AddsUp.{IsSound-tallied}
 use Rattle.tally_rows.proofs.Both.{Tallied-both}
 use Rattle.std.proofs.lemmas.List.Concat.{flat_map-append}
+use Rattle.std.proofs.lemmas.Option.{same_Some}
 use Rattle.segment_blocks.specs.PackedRows.{AreInOrder}
 use Rattle.segment_blocks.proofs.OrderLemmas.{in_order-front}
 use Rattle.segment_blocks.specs.Moving.{next_row_key}
@@ -281,13 +282,6 @@ Tallied-merged left right ls rs a b =
 
 -- ---- the next row of both
 
-on_ok_both : {X E A B C : Type 0} (result : Result X E) → (A → B → C) → OnOk result A → OnOk result B → OnOk result C
-on_ok_both (Ok x) f a b = f a b
-on_ok_both (Err e) f a b = tt
-
-some-is : (o p : Ordering) → Some o ≡ Some p → o ≡ p
-some-is o p e = ap (λ q. unwrap_or q o) e
-
 none-some : {P : Type 0} (o : Ordering) → None ≡ Some o → P
 none-some o e = cc
 
@@ -312,18 +306,18 @@ pub step-less : (ls rs : List Row) → next_order ls rs ≡ Some Less → merged
 step-less [] [] e = none-some Less e
 step-less [] (r ∷ rs) e = not_less e
 step-less (l ∷ ls) [] e = merged-nil_right (l ∷ ls) ∙ ap (λ k. l ∷ k) (sym (merged-nil_right ls))
-step-less (l ∷ ls) (r ∷ rs) e = merged-less l ls r rs (some-is _ Less e)
+step-less (l ∷ ls) (r ∷ rs) e = merged-less l ls r rs (same_Some _ Less e)
 
 pub step-greater : (ls rs : List Row) → next_order ls rs ≡ Some Greater → merged ls rs ≡ take 1 rs ++ merged ls (drop 1 rs)
 step-greater [] [] e = none-some Greater e
 step-greater (l ∷ ls) [] e = not_greater e
 step-greater [] (r ∷ rs) e = merged-nil_left (r ∷ rs) ∙ ap (λ k. r ∷ k) (sym (merged-nil_left rs))
-step-greater (l ∷ ls) (r ∷ rs) e = merged-greater l ls r rs (some-is _ Greater e)
+step-greater (l ∷ ls) (r ∷ rs) e = merged-greater l ls r rs (same_Some _ Greater e)
 
 -- both next rows have the same parts
 module _ (l r : Row) (ls rs new_ls new_rs : List Row) (e : next_order ls rs ≡ Some Equal) (at_l : ls ≡ l ∷ new_ls) (at_r : rs ≡ r ∷ new_rs) where
   pub same-row_key : row_order (row_key_of l) (row_key_of r) ≡ Equal
-  same-row_key = some-is _ Equal (sym (λ i. next_order (at_l i) (at_r i)) ∙ e)
+  same-row_key = same_Some _ Equal (sym (λ i. next_order (at_l i) (at_r i)) ∙ e)
 
   next-equal : merged ls rs ≡ combined l r ∷ merged new_ls new_rs
   next-equal = (λ i. merged (at_l i) (at_r i)) ∙ merged-equal l new_ls r new_rs same-row_key
@@ -352,13 +346,10 @@ both-ended [] (r ∷ rs) e = cc
 both-ended (l ∷ ls) [] e = cc
 both-ended (l ∷ ls) (r ∷ rs) e = cc
 
-pub key-is : (o p : RowKey) → Some o ≡ Some p → o ≡ p
-key-is o p e = ap (λ q. unwrap_or q o) e
-
 pub order-of-keys : (ls rs : List Row) (a b : RowKey) → next_row_key ls ≡ Some a → next_row_key rs ≡ Some b → next_order ls rs ≡ Some (row_order a b)
 order-of-keys [] rs a b e f = cc
 order-of-keys (l ∷ ls) [] a b e f = cc
-order-of-keys (l ∷ ls) (r ∷ rs) a b e f = λ i. Some (row_order (key-is _ a e i) (key-is _ b f i))
+order-of-keys (l ∷ ls) (r ∷ rs) a b e f = λ i. Some (row_order (same_Some _ a e i) (same_Some _ b f i))
 
 pub next-shifted : (by : ℕ) (rows : List Row) → next_row_key (map (shifted_row by) rows) ≡ next_row_key rows
 next-shifted by [] = refl

@@ -4,8 +4,10 @@ use Rattle.std.specs.List.{AllByRecursion}
 use Rattle.std.specs.List.Sorted.{IsStrictlySortedBy}
 use Rattle.std.specs.declared.cmp.Ordering.{Ordering}
 use Rattle.std.specs.declared.cmp.Ordering.TheVariants.{Less, Equal, Greater}
-use Rattle.std.specs.Ordering.{ordering_then, ordering_reverse, is_lt, is_gt}
+use Rattle.std.specs.Ordering.{ordering_reverse, is_lt, is_gt}
 use Rattle.std.specs.Cmp.Lexicographic.{nat_list_cmp_total}
+use Rattle.plain_laws.specs.Lists.{filter-all, filter-both}
+use Rattle.plain_laws.specs.Orderings.{then-less}
 use Rattle.tally_rows.specs.declared.row_key.RowKey.{RowKey}
 use Rattle.tally_rows.specs.declared.row.Row.{Row}
 use Rattle.tally_rows.specs.RowKey.{row_order, row_order-total}
@@ -21,20 +23,6 @@ use Rattle.segment_merge.proofs.MergedLemmas.{merged-nil_left, merged-nil_right,
 
 abbrev kept_by : (test : Row → Bool) → Row → List Row → Bool → List Row
 kept_by test row rows b = cond b (row ∷ filter test rows) (filter test rows)
-
-pub filter-all : (rows : List Row) → filter (λ row. true) rows ≡ rows
-filter-all [] = refl
-filter-all (row ∷ rows) = ap (λ l. row ∷ l) (filter-all rows)
-
-filter-both : (p q : Row → Bool) (rows : List Row) → filter q (filter p rows) ≡ filter (λ row. p row && q row) rows
-filter-both p q [] = refl
-filter-both p q (row ∷ rows) = by (p row) (filter-both p q rows)
-  where
-    by : (b : Bool) → filter q (filter p rows) ≡ filter (λ r. p r && q r) rows
-        → filter q (cond b (row ∷ filter p rows) (filter p rows))
-        ≡ cond (b && q row) (row ∷ filter (λ r. p r && q r) rows) (filter (λ r. p r && q r) rows)
-    by true next = ap (λ l. cond (q row) (row ∷ l) l) next
-    by false next = next
 
 pub All-filter : (P : Row → Type 0) (test : Row → Bool) (rows : List Row) → AllByRecursion P rows → AllByRecursion P (filter test rows)
 All-filter P test [] h = tt
@@ -85,9 +73,6 @@ filter-shifted from below by (row ∷ rows) =
     cases false next = next
 
 -- ---- rows below a key, and the others
-
-then-less : (p q : Ordering) → p ≡ Less → ordering_then p q ≡ Less
-then-less p q e = ap (λ o. ordering_then o q) e
 
 module _ (key : List ℕ) where
   abbrev is_above : Row → Bool

@@ -5,15 +5,17 @@ use Rattle.std.proofs.lemmas.List.{map-append, map-id, length-map}
 use Rattle.std.proofs.lemmas.List.Concat.{flat_map-append}
 use Rattle.std.proofs.lemmas.List.Elements.{recursion_from_All}
 use Rattle.std.proofs.lemmas.List.Sums.{count_by-le-length}
+use Rattle.std.proofs.lemmas.Slice.Zip.{AllZip-long}
 use Rattle.best_lists.specs.Ranking.{before_by_rating, before_by_month}
 use Rattle.best_lists.specs.declared.entry.Entry.{Entry}
 use Rattle.best_lists.specs.Entry.{moved_by}
 use Rattle.explorer_model.specs.declared.archive.Classes.{Classes}
 use Rattle.explorer_model.specs.Visits.{IsTextOf, texts_of}
+use Rattle.explorer_model.specs.Counting.{month_number}
 use Rattle.tally_rows.specs.declared.row.Row.{Row}
 use Rattle.explorer_model.specs.declared.chess.Move.{Move}
 use Rattle.tally_rows.specs.declared.single.Single.{Single}
-use Rattle.tally_rows.specs.Row.{row_key_of, row_of, month_rank, shifted_row}
+use Rattle.tally_rows.specs.Row.{row_key_of, row_of, shifted_row}
 use Rattle.tally_rows.specs.Tallied.{rating_sum, track_month, entries, has_move, IsTally, Tallied}
 use Rattle.tally_rows.specs.Tally.{IsTallyOf, IsTrackOf}
 use Rattle.tally_rows.specs.Track.{has}
@@ -28,12 +30,6 @@ use Rattle.segment_merge.proofs.MergedLemmas.{Tallied-merged}
 
 -- ---- lists of the same length
 
-zip-length : {X Y : Type 0} (P : X → Y → Type 0) (xs : List X) (ys : List Y) → AllZip P xs ys → length xs ≡ length ys
-zip-length P [] [] h = refl
-zip-length P [] (y ∷ ys) h = absurd h
-zip-length P (x ∷ xs) [] h = absurd h
-zip-length P (x ∷ xs) (y ∷ ys) h = omega (arith, zip-length P xs ys h.1)
-
 zip-append : {X Y : Type 0} (P : X → Y → Type 0) (xs : List X) (ys : List Y) (us : List X) (vs : List Y) → AllZip P xs ys → AllZip P us vs → AllZip P (xs ++ us) (ys ++ vs)
 zip-append P [] [] us vs h k = k
 zip-append P [] (y ∷ ys) us vs h k = absurd h
@@ -43,7 +39,7 @@ zip-append P (x ∷ xs) (y ∷ ys) us vs h k = (h.0, zip-append P xs ys us vs h.
 module _ (texts : List (List ℕ)) (classes : List Classes) (rows : List Row) (tally : IsTallyOf texts classes rows) where
   pub tracks-length : length tally.tracks ≡ length classes
   tracks-length =
-      sym (zip-length IsTrackOf tally.games tally.tracks tally.are_tracks) ∙ sym (length-map tally.games (λ g. g.classes)) ∙ ap length (sym tally.classes_are)
+      AllZip-long IsTrackOf tally.games tally.tracks tally.are_tracks ∙ sym (length-map tally.games (λ g. g.classes)) ∙ ap length (sym tally.classes_are)
 
   -- the rows of a span can be shifted behind so many games
   pub rooms : (by : ℕ) → by + length classes ≤ segment_limit → AllByRecursion (HasRoom by) rows
@@ -130,7 +126,7 @@ pub game-shifted : (by : ℕ) (game : Single) → row_of (record game { number =
 unfolding row_of shifted_row
 game-shifted by game = λ i. record (row_of game) {
   top = cond-moved by (is_some game.row_key.next) (record { rank = game.sum; number = game.number }) i;
-  recent = cond-moved by (is_some game.row_key.next) (record { rank = month_rank game.row_key.month; number = game.number }) i;
+  recent = cond-moved by (is_some game.row_key.next) (record { rank = month_number game.row_key.month; number = game.number }) i;
 }
 
 unlisted : (by : ℕ) (b : Bool) (e : Entry) → b ≡ false → cond b (e ∷ []) [] ≡ map (moved_by by) (cond b (e ∷ []) [])
@@ -141,7 +137,7 @@ pub ended-game-shifted : (by : ℕ) (game : Single) → is_some game.row_key.nex
 unfolding row_of shifted_row
 ended-game-shifted by game d = λ i. record (row_of game) {
   top = unlisted by (is_some game.row_key.next) (record { rank = game.sum; number = game.number }) d i;
-  recent = unlisted by (is_some game.row_key.next) (record { rank = month_rank game.row_key.month; number = game.number }) d i;
+  recent = unlisted by (is_some game.row_key.next) (record { rank = month_number game.row_key.month; number = game.number }) d i;
 }
 
 pub small-shifted : (by : ℕ) (row : Row) → HasRoom by row → IsSmall (shifted_row by row)

@@ -10,7 +10,7 @@ use crate::merging::merge_rows;
 use crate::side::Side;
 use outside::Gate;
 use segment_blocks::{PackedRows, Segment, Steps};
-use side_by_side::{Workers, map_taken};
+use side_by_side::{Workers, all_made, map_taken};
 use std::alloc::{AllocError, Global};
 use std::marker::Brand;
 use std::sync::ledger::{Blank, Ledger};
@@ -212,18 +212,4 @@ fn end_of(keys: &[PositionKey], n: usize) -> Option<PositionKey>
     ensures { result ≡ slice_get keys.now n }
 {
     keys.get(n).copied()
-}
-
-/// The parts, where each was made.
-fn all_made(
-    alloc: Global,
-    results: Vec<Result<PackedRows, AllocError>>,
-) -> Result<Vec<PackedRows>, AllocError>
-    ensures { IfOk result (λ parts. map Ok parts.items ≡ results.items) }
-{
-    let mut parts = Vec::with_capacity(alloc, results.len())?;
-    for part in results {
-        parts.push(part?)?;
-    }
-    Ok(parts)
 }

@@ -4,6 +4,7 @@ use Rattle.std.proofs.KnownBytes.{Appends-nil, Appends-trans, Consumes-nil, Cons
 use Rattle.std.proofs.lemmas.List.Concat.{flat_map-append}
 use Rattle.std.proofs.lemmas.List.Elements.{filter_map-append}
 use Rattle.std.specs.Io.KnownBytes.{Appends, Consumes}
+use Rattle.std.proofs.Math.Seq.{take-length}
 use Rattle.outside.specs.Stream.{AppendsFront, FailsToTake, Reads, Rises, Stream, Takes}
 use Rattle.explorer_model.specs.declared.archive.Batch.{Batch}
 use Rattle.explorer_model.specs.declared.wire.Asked.{Asked}
@@ -23,7 +24,7 @@ use Rattle.session.specs.Replies.{Offer, closes, route_of}
 use Rattle.session.specs.Serving.{AreOpen, AsksIn, ComesNext, FailsBy, HasCause, Served, Wrote}
 use Rattle.session.specs.Steps.{IsServing, Replied}
 use Rattle.session.proofs.ExchangeLemmas.{asks-behind, asks-more, last-closes, open-more, exchanges-grow, exchanges-more, tells-none, tells-trans}
-use Rattle.session.proofs.FrontLemmas.{prefix-length, take-all, take-behind}
+use Rattle.session.proofs.FrontLemmas.{prefix-length, take-behind}
 
 appends-front : (a b c : Option (List ℕ)) (xs ys : List ℕ) → Appends a b xs → AppendsFront b c ys
     → AppendsFront a c (xs ++ ys)
@@ -112,7 +113,7 @@ exchanged offer link before wire wire' l l' middle after asked reply some i a r 
     let journal = after.pass.seen in
     let served = exchanges-grow offer middle.pass.seen journal (moment_of before) i.exchanges (moment_of middle) r.grew i.served in
     let grants = subst (λ (seen : List Batch). Grants offer (route_of offer asked) seen (moment_of middle) (moment_of after) r.call reply)
-    (sym (take-all journal)) r.grants in
+    (sym (take-length journal)) r.grants in
     let whole : length journal ≤ length journal = omega arith in
     let given : l'.given ≡ l.given + length a.got = ap (λ (s : Stream). s.given) a.reads.rest in
     let written : l'.written ≡ l.written = ap (λ (s : Stream). s.written) a.reads.rest in

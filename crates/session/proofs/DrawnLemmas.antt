@@ -1,7 +1,8 @@
 -- What the drawer of an importer draws while connections are served, and that it keeps its parts.
-use Rattle.std.proofs.Common.{◌≡◌, ◌⊎◌, inl, inr, ℕ, suc, List, [], ◌∷◌, ◌++◌, Option, take, refl, ap, subst, ◌∙◌, arith}
+use Rattle.std.proofs.Common.{◌≡◌, ◌⊎◌, inl, inr, ℕ, List, [], ◌∷◌, ◌++◌, Option, take, refl, ap, subst, ◌∙◌}
 use Rattle.std.specs.List.{Contains}
 use Rattle.std.proofs.lemmas.List.Elements.{Contains-append_cases}
+use Rattle.plain_laws.specs.Lists.{contains-first, contains-later}
 use Rattle.explorer_model.specs.declared.archive.Batch.{Batch}
 use Rattle.explorer_model.specs.declared.wire.Reply.{Reply}
 use Rattle.outside.specs.Stream.{Stream}
@@ -39,12 +40,6 @@ parts-stay offer before (x ∷ xs) [] after are = absurd are
 
 -- ---- whose each place is
 
-there : {A : Type 0} (y : A) (xs : List A) (x : A) → Contains xs x → Contains (y ∷ xs) x
-there y xs x c = let less = c.1 in (suc c.0, omega (arith, less), c.2)
-
-here : {A : Type 0} (xs : List A) (x : A) → Contains (x ∷ xs) x
-here xs x = (0, omega arith, refl)
-
 drawn-by : (offer : Offer) (x : Exchange) (journal : List Batch) (before after : Moment) (place : ℕ) (route : Route) → route_of offer x.asked ≡ route
     → Grants offer route (take after.seen journal) before after x.call x.reply → Contains after.drawing.drawn place
     → Contains before.drawing.drawn place ⊎ IsDrawnFor offer place journal x
@@ -70,9 +65,9 @@ drawn-among offer journal before after (x ∷ xs) place s c = later (drawn-among
     first : Contains before.drawing.drawn place ⊎ IsDrawnFor offer place journal x
         → Contains before.drawing.drawn place ⊎ IsDrawnAmong offer place journal (x ∷ xs)
     first (inl earlier) = inl earlier
-    first (inr for_it) = inr (x, here xs x, for_it)
+    first (inr for_it) = inr (x, contains-first xs x, for_it)
 
     later : Contains s.0.drawing.drawn place ⊎ IsDrawnAmong offer place journal xs
         → Contains before.drawing.drawn place ⊎ IsDrawnAmong offer place journal (x ∷ xs)
     later (inl by_then) = first (drawn-by offer x journal before s.0 place (route_of offer x.asked) refl s.3 by_then)
-    later (inr among) = inr (among.0, there x xs among.0 among.1, among.2)
+    later (inr among) = inr (among.0, contains-later x xs among.0 among.1, among.2)

@@ -1,7 +1,8 @@
 -- Fronts of lists.
-use Rattle.std.proofs.Common.{◌≡◌, ℕ, zero, suc, ◌+◌, ◌≤◌, List, [], ◌∷◌, ◌++◌, Some, length, take, refl, ap, length-append, arith}
+use Rattle.std.proofs.Common.{◌≡◌, ℕ, zero, suc, ◌+◌, ◌≤◌, List, [], ◌∷◌, ◌++◌, Some, length, take, ap, length-append, arith}
 use Rattle.std.proofs.lemmas.List.{take-append-le}
 use Rattle.std.specs.List.{slice_get}
+use Rattle.plain_laws.specs.Lists.{get-append}
 use Rattle.explorer_model.specs.Timeline.{IsPrefix}
 
 pub prefix-length : {A : Type 0} (xs ys : List A) → IsPrefix xs ys → length xs ≤ length ys
@@ -11,17 +12,6 @@ prefix-length xs ys p = omega (arith, length-append xs p.rest, ap length p.is)
 pub take-prefix : {A : Type 0} (n : ℕ) (xs ys : List A) → n ≤ length xs → IsPrefix xs ys
     → take n ys ≡ take n xs
 take-prefix n xs ys few p = rw p.is (take-append-le n xs p.rest few)
-
-pub take-all : {A : Type 0} (xs : List A) → take (length xs) xs ≡ xs
-take-all [] = refl
-take-all (x ∷ xs) = ap (λ l. x ∷ l) (take-all xs)
-
--- what stands in a front stands in the list
-pub get-append : {A : Type 0} (xs ys : List A) (i : ℕ) (x : A) → slice_get xs i ≡ Some x
-    → slice_get (xs ++ ys) i ≡ Some x
-get-append [] ys i x h = cc
-get-append (y ∷ xs) ys zero x h = h
-get-append (y ∷ xs) ys (suc i) x h = get-append xs ys i x h
 
 pub get-prefix : {A : Type 0} (xs ys : List A) (i : ℕ) (x : A) → IsPrefix xs ys
     → slice_get xs i ≡ Some x → slice_get ys i ≡ Some x

@@ -5,7 +5,6 @@ ghost use Rattle.explorer_model.specs.Timeline.{IsPrefix};
 ghost use Rattle.explorer_model.specs.Wire.{body_limit};
 ghost use Rattle.ingest_desk.specs.Importers.{EndsInMemory, ending_of};
 ghost use Rattle.ingest_desk.specs.Lives.{StandFrom};
-ghost use Rattle.ingest_desk.specs.Reporting.{games_of};
 ghost use Rattle.session.specs.Exchanges.{backend};
 ghost use Rattle.session.specs.Imports.{AreNew, TellsEnding};
 ghost use Rattle.session.specs.Replies.{readings_of};
@@ -22,7 +21,7 @@ use answer_json::stored_body;
 use explorer_model::archive::Bytes;
 use explorer_model::fault::Refusal;
 use explorer_model::wire::Reply;
-use ingest_desk::{End, Importer, Receipt, Report};
+use ingest_desk::{End, Importer, Receipt, Report, count_games};
 use published_index::{Index, Note, Pass};
 use std::alloc::{AllocError, Global};
 use std::sync::Wait;
@@ -75,18 +74,6 @@ fn are_behind<J: Index>(receipts: &[Receipt<J>], seen: u32) -> bool
         Some(first) => seen < first.batches(),
         None => true,
     }
-}
-
-/// How many games the receipts have together.
-fn count_games<J: Index>(receipts: &[Receipt<J>]) -> u32
-    requires { games_of receipts.now < 2 ^ 32 }
-    ensures { result ≡ games_of receipts.now }
-{
-    let mut games = 0;
-    for receipt in receipts {
-        games += receipt.games();
-    }
-    games
 }
 
 /// The pass learns the notes of receipts.

@@ -11,10 +11,12 @@ ghost use Rattle.std.specs.Fork.Halves.{GivesFrom};
 ghost use denote.Param.Send.{IsSend, IsSync};
 
 mod each;
+mod made;
 mod taking;
 mod workers;
 
 pub use each::map_each;
+pub use made::all_made;
 use std::alloc::{AllocError, Global};
 use std::marker::{Send, Sync};
 use std::thread::{Threads, join};

@@ -2,6 +2,7 @@
 use Rattle.std.proofs.Common.{◌≡◌, ◌≢◌, ℕ, ◌+◌, ◌<◌, ◌^◌, List, [], ◌∷◌, ◌++◌, length, length-append, Option, refl, sym, ap, ◌∙◌, subst, arith, append_assoc, append-nil}
 use Rattle.std.specs.Int.{w16, w32, w64, to_le_bytes}
 use Rattle.std.proofs.lemmas.List.{nil_from_length}
+use Rattle.plain_laws.specs.Lists.{same_cons}
 use Rattle.best_lists.specs.declared.entry.Entry.{Entry}
 use Rattle.best_lists.specs.Ranking.{before_by_rating, before_by_month}
 use Rattle.explorer_model.specs.declared.archive.Speed.{Speed}
@@ -11,7 +12,7 @@ use Rattle.tally_rows.specs.declared.row.Row.{Row}
 use Rattle.tally_rows.specs.declared.row_key.RowKey.{RowKey}
 use Rattle.tally_rows.specs.Row.{row_key_of}
 use Rattle.spill_blobs.specs.RowBlocks.{move_bytes, row_key_bytes, count_bytes, list_bytes, CanBeWritten, IsBroken, IsKeyOfValid, IsList, IsRowAt, IsRowKey}
-use Rattle.spill_blobs.proofs.RowLemmas.{Split, split, heads, length-move, length-list, length-row_key, as_parts, k1, k2, rest_bytes, lists_bytes}
+use Rattle.spill_blobs.proofs.RowLemmas.{Split, split, length-move, length-list, length-row_key, as_parts, k1, k2, rest_bytes, lists_bytes}
 
 -- ---- what a row's games have in common
 
@@ -43,8 +44,8 @@ module _ (bytes key r0 : List ℕ) (long : length key ≡ 34) (is : bytes ≡ ke
       no-speed off k rest w valid e =
           let behind = k.month.month ∷ speed_index k.speed ∷ (to_le_bytes w16 k.group.value ++ rest) in
           let years_are = split (to_le_bytes w16 year) (to_le_bytes w16 k.month.year) r4 behind refl (sym years ∙ (cut-move k rest w e).back) in
-          let month_is = heads month k.month.month (place ∷ r6) _ (sym months ∙ years_are.back) in
-          let place_is = heads place (speed_index k.speed) r6 _ month_is.1 in
+          let month_is = same_cons month k.month.month (place ∷ r6) _ (sym months ∙ years_are.back) in
+          let place_is = same_cons place (speed_index k.speed) r6 _ month_is.1 in
           off k.speed (sym place_is.0)
 
       -- all of them

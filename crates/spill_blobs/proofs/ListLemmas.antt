@@ -3,10 +3,11 @@ use Rattle.std.proofs.Common.{◌≡◌, ◌≢◌, ℕ, ◌+◌, ◌-◌, ◌*�
 use Rattle.std.specs.List.{AllByRecursion, flat_map}
 use Rattle.std.proofs.lemmas.List.{get_or_default, take_more}
 use Rattle.std.proofs.lemmas.List.Concat.{flat_map-append}
+use Rattle.plain_laws.specs.Lists.{same_cons}
 use Rattle.best_lists.specs.declared.entry.Entry.{Entry}
 use Rattle.explorer_model.specs.Best.{best, best_one, others}
 use Rattle.spill_blobs.specs.RowBlocks.{entry_bytes, list_bytes, AreFew, Fits, IsList}
-use Rattle.spill_blobs.proofs.RowLemmas.{split, heads, length-entries, length-list, one_list}
+use Rattle.spill_blobs.proofs.RowLemmas.{split, length-entries, length-list, one_list}
 
 -- what stands for an entry past the end of a list
 abbrev pub no_entry : Entry
@@ -55,14 +56,14 @@ module _ (block all rest : List ℕ) (count : ℕ) (xs : List Entry) (block_is :
   -- and with others no entries are
   pub block-none : (rest ≡ replicate (length rest) 0 → ⊥) → (ys : List Entry) → AreFew ys → block ≢ list_bytes ys
   block-none others ys few e =
-      let both = heads count (length ys) all _ (sym block_is ∙ e) in
+      let both = same_cons count (length ys) all _ (sym block_is ∙ e) in
       let sizes : length (flat_map entry_bytes xs) ≡ length (flat_map entry_bytes ys) = omega (arith, length-entries xs, length-entries ys, both.0, size) in
       let two = split (flat_map entry_bytes xs) (flat_map entry_bytes ys) rest (replicate (8 * (4 - length ys)) 0) sizes (sym all_is ∙ both.1) in
       others (two.back ∙ ap (λ n. replicate n 0) (omega (arith, left, size, both.0, few.few)))
 
 -- too many
 pub count-none : (block all : List ℕ) (count : ℕ) → block ≡ count ∷ all → 4 < count → (ys : List Entry) → AreFew ys → block ≢ list_bytes ys
-count-none block all count is many ys few e = (let both = heads count (length ys) all _ (sym is ∙ e) in omega (arith, both.0, few.few, many))
+count-none block all count is many ys few e = (let both = same_cons count (length ys) all _ (sym is ∙ e) in omega (arith, both.0, few.few, many))
 
 -- ---- the best of them
 

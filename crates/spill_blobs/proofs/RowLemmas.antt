@@ -4,6 +4,7 @@ use Rattle.std.specs.List.{AllByRecursion, flat_map}
 use Rattle.std.specs.Int.{w16, w32, w64, to_le_bytes, from_le_bytes}
 use Rattle.std.proofs.lemmas.List.{length-replicate}
 use Rattle.std.proofs.lemmas.Nat.{from_le_bytes-to_le_bytes_2, from_le_bytes-to_le_bytes_4, from_le_bytes-to_le_bytes_8}
+use Rattle.plain_laws.specs.Lists.{same_cons}
 use Rattle.best_lists.specs.declared.entry.Entry.{Entry}
 use Rattle.explorer_model.specs.declared.archive.Speed.{Speed}
 use Rattle.explorer_model.specs.declared.archive.Speed.TheVariants.{UltraBullet, Bullet, Blitz, Rapid, Classical, Correspondence}
@@ -81,7 +82,7 @@ one_promotion a (Some King) h k e = absurd (omega arith)
 abbrev move_of : Square × Square × Option Role → Move
 move_of p = record { from = p.0; to = p.1; promotion = p.2 }
 
-third : (a b c x y z : ℕ) → a ∷ b ∷ c ∷ [] ≡ x ∷ y ∷ z ∷ [] → (a ≡ x) × (b ≡ y) × (c ≡ z)
+pub third : (a b c x y z : ℕ) → a ∷ b ∷ c ∷ [] ≡ x ∷ y ∷ z ∷ [] → (a ≡ x) × (b ≡ y) × (c ≡ z)
 third a b c x y z e = (cc, cc, cc)
 
 pub one_move : (m n : Option Move) → CanBeWritten m → CanBeWritten n
@@ -148,12 +149,9 @@ entries-one (c ∷ a) (d ∷ b) x y n h k e =
     let rest = entries-one a b x y (omega arith) h.1 k.1 first.1 in
     cc (first.0, rest)
 
-pub heads : (a b : ℕ) (x y : List ℕ) → a ∷ x ≡ b ∷ y → (a ≡ b) × (x ≡ y)
-heads a b x y e = (cc, cc)
-
 pub one_list : (a b : List Entry) → AreFew a → AreFew b → list_bytes a ≡ list_bytes b → a ≡ b
 one_list a b h k e =
-    let both = heads (length a) (length b) _ _ e in
+    let both = same_cons (length a) (length b) _ _ e in
     entries-one a b _ _ both.0 h.fit k.fit both.1
 
 pub length-entries : (a : List Entry) → length (flat_map entry_bytes a) ≡ 8 * length a
@@ -198,8 +196,8 @@ one_row_key r s w v all =
     let key = split r.key s.key (k1 r) (k1 s) (w.key ∙ sym v.key) all in
     let next = split (move_bytes r.next) (move_bytes s.next) (k2 r) (k2 s) (length-move r.next ∙ sym (length-move s.next)) key.back in
     let year = split (to_le_bytes w16 r.month.year) (to_le_bytes w16 s.month.year) (k3 r) (k3 s) refl next.back in
-    let month = heads r.month.month s.month.month (k4 r) (k4 s) year.back in
-    let speed = heads (speed_index r.speed) (speed_index s.speed) (to_le_bytes w16 r.group.value) (to_le_bytes w16 s.group.value) month.1 in
+    let month = same_cons r.month.month s.month.month (k4 r) (k4 s) year.back in
+    let speed = same_cons (speed_index r.speed) (speed_index s.speed) (to_le_bytes w16 r.group.value) (to_le_bytes w16 s.group.value) month.1 in
     let e1 : r.key ≡ s.key = key.front in
     let e2 : r.next ≡ s.next = one_move r.next s.next w.next v.next next.front in
     let e3 : r.month.year ≡ s.month.year = two r.month.year s.month.year w.year v.year year.front in

@@ -6,7 +6,7 @@ use Rattle.std.specs.List.Sorted.{IsStrictlySortedBy}
 use Rattle.std.specs.declared.cmp.Ordering.{Ordering}
 use Rattle.std.specs.declared.cmp.Ordering.TheVariants.{Less, Equal, Greater}
 use Rattle.std.specs.Ordering.{is_lt}
-use Rattle.std.proofs.lemmas.Bool.{cases_eq}
+use Rattle.std.proofs.lemmas.Bool.{and_from, and_parts, cases_eq}
 use Rattle.std.proofs.lemmas.List.{get_or_default, take_more}
 use Rattle.std.proofs.lemmas.List.Sums.{sum_by-cons, sum_by-append}
 use Rattle.explorer_model.specs.declared.chess.Move.{Move}
@@ -14,6 +14,7 @@ use Rattle.explorer_model.specs.declared.chess.Role.{Role}
 use Rattle.explorer_model.proofs.Squares.{square_eq}
 use Rattle.std.specs.Option.{option_eq}
 use Rattle.std.proofs.lemmas.Bool.Decides.{Decides-eqb}
+use Rattle.plain_laws.specs.Orderings.{less-is}
 use Rattle.explorer_model.specs.declared.chess.Position.{Position}
 use Rattle.explorer_model.specs.Chess.{Legal}
 use Rattle.explorer_model.specs.Tidy.{IsTidyKey}
@@ -44,11 +45,6 @@ module _ {X : Type 0} (P : X → Type 0) where
       subst (AllByRecursion P) (sym (take_more xs i x inside ∙ ap (λ y. take i xs ++ y ∷ []) (sym is))) (all-push (take i xs) x all one)
 
 -- ---- order
-
-less-is : (o : Ordering) → is_lt o ≡ true → o ≡ Less
-less-is Less e = refl
-less-is Equal e = cc
-less-is Greater e = cc
 
 pub less-not : (o : Ordering) → is_lt o ≡ false → o ≡ Less → ⊥
 less-not Less e h = cc
@@ -198,14 +194,6 @@ any-contains test m only (y ∷ moves) = (let rest = any-contains test m only mo
     back rest (zero, below, is) = or-left (test y) (list_any test moves) ((only y).1 is)
     back rest (suc k, below, is) = or-right (test y) (list_any test moves) (rest (k, omega (arith, below), is))
 
-and-parts : (a b : Bool) → IsTrue (a && b) → IsTrue a × IsTrue b
-and-parts true b h = (refl, h)
-and-parts false b h = absurd (true≢false (sym h))
-
-and-both : (a b : Bool) → IsTrue a → IsTrue b → IsTrue (a && b)
-and-both true b h k = k
-and-both false b h k = absurd (true≢false (sym h))
-
 -- moves are the same where squares and promotions are
 module _ (test : Role → Role → Bool) (same : (a b : Role) → (IsTrue (test a b) → a ≡ b) × (a ≡ b → IsTrue (test a b))) where
   option-same : (a b : Option Role) → IsTrue (option_eq test a b) → a ≡ b
@@ -226,8 +214,8 @@ module _ (test : Role → Role → Bool) (same : (a b : Role) → (IsTrue (test 
     where
       one : IsTrue (is_same m n) → m ≡ n
       one h =
-          let first = and-parts (m.from.index == n.from.index) ((m.to.index == n.to.index) && option_eq test m.promotion n.promotion) h in
-          let second = and-parts (m.to.index == n.to.index) (option_eq test m.promotion n.promotion) first.1 in
+          let first = and_parts (m.from.index == n.from.index) ((m.to.index == n.to.index) && option_eq test m.promotion n.promotion) h in
+          let second = and_parts (m.to.index == n.to.index) (option_eq test m.promotion n.promotion) first.1 in
           let from : m.from ≡ n.from = square_eq m.from n.from ((Decides-eqb m.from.index n.from.index).0 first.0) in
           let to : m.to ≡ n.to = square_eq m.to n.to ((Decides-eqb m.to.index n.to.index).0 second.0) in
           let promotion : m.promotion ≡ n.promotion = option-same m.promotion n.promotion second.1 in
@@ -235,6 +223,6 @@ module _ (test : Role → Role → Bool) (same : (a b : Role) → (IsTrue (test 
 
       itself : IsTrue (is_same m m)
       itself =
-          and-both (m.from.index == m.from.index) ((m.to.index == m.to.index) && option_eq test m.promotion m.promotion)
+          and_from (m.from.index == m.from.index) ((m.to.index == m.to.index) && option_eq test m.promotion m.promotion)
           ((Decides-eqb m.from.index m.from.index).1 refl)
-          (and-both (m.to.index == m.to.index) (option_eq test m.promotion m.promotion) ((Decides-eqb m.to.index m.to.index).1 refl) (option-itself m.promotion))
+          (and_from (m.to.index == m.to.index) (option_eq test m.promotion m.promotion) ((Decides-eqb m.to.index m.to.index).1 refl) (option-itself m.promotion))

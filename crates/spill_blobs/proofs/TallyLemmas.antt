@@ -9,6 +9,7 @@ use Rattle.std.proofs.lemmas.List.{length-map}
 use Rattle.std.proofs.lemmas.List.Sums.{sum_by-cons, count_by-le-length}
 use Rattle.std.proofs.lemmas.Option.{none-some, same_Some}
 use Rattle.std.proofs.lemmas.Slice.Eq.{bytes_eq-Decides}
+use Rattle.std.proofs.lemmas.Slice.Zip.{AllZip-long}
 use Rattle.best_lists.specs.declared.entry.Entry.{Entry}
 use Rattle.best_lists.specs.Ranking.{before_by_rating, before_by_month}
 use Rattle.explorer_model.specs.Best.{best}
@@ -315,15 +316,9 @@ module _ (laws : Laws) (segment : CountedSpan) (is : IsSegment segment) (at : Po
       by None legal = tt
       by (Some m) legal = laws.moves comes.position at m comes.valid valid one legal
 
-  zip-length : {A B : Type 0} (R : A → B → Type 0) (xs : List A) (ys : List B) → AllZip R xs ys → length xs ≡ length ys
-  zip-length R [] [] h = refl
-  zip-length R [] (y ∷ ys) h = absurd h
-  zip-length R (x ∷ xs) [] h = absurd h
-  zip-length R (x ∷ xs) (y ∷ ys) h = ap suc (zip-length R xs ys h.1)
-
   tracks-length : length tracks ≡ length segment.classes
   tracks-length =
-      sym (zip-length IsTrackOf is.tally.games is.tally.tracks is.tally.are_tracks)
+      AllZip-long IsTrackOf is.tally.games is.tally.tracks is.tally.are_tracks
       ∙ sym (ap (λ l. length l) is.tally.classes_are ∙ length-map is.tally.games (λ (game : Game). game.classes))
 
   row-sound : (row : Row) → IsIn row segment.rows → row.key ≡ bytes → IsSoundRow at (length segment.classes) row

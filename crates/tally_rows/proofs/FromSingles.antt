@@ -13,12 +13,13 @@ use Rattle.explorer_model.specs.Best.{best, IsStrictTotalOrder}
 use Rattle.best_lists.specs.Ranking.{before_by_rating, before_by_month, by_rating_is_order, by_month_is_order}
 use Rattle.best_lists.specs.declared.entry.Entry.{Entry}
 use Rattle.best_lists.proofs.Same.{ties, best-same}
+use Rattle.explorer_model.specs.Counting.{month_number}
 use Rattle.tally_rows.specs.declared.row_key.RowKey.{RowKey}
 use Rattle.tally_rows.specs.declared.row.Row.{Row}
 use Rattle.tally_rows.specs.declared.single.Single.{Single}
 use Rattle.tally_rows.specs.Adding.{sum_at, listed_at, SameAt, IsSound}
 use Rattle.tally_rows.specs.RowKey.{row_order, same_row_key}
-use Rattle.tally_rows.specs.Row.{row_key_of, row_of, is_white, is_draw, is_black, month_rank, combined, combined_from, combined_rows}
+use Rattle.tally_rows.specs.Row.{row_key_of, row_of, is_white, is_draw, is_black, combined, combined_from, combined_rows}
 use Rattle.tally_rows.specs.Single.{single_of, AreSingles}
 use Rattle.tally_rows.specs.declared.sort_entry.SortEntry.{SortEntry}
 use Rattle.tally_rows.specs.SortEntry.{any_single, picked, IsEntryIn}
@@ -132,7 +133,7 @@ module _ (tracks : List Track) (singles : List Single) (c : RowKey)
         ∙ ap (λ h. sum_by h tracks) (λ i t. moved (has c t) (is_some c.next) (mover_rating c.key t.classes) i);
     top = ap (best before_by_rating 4) (listed_at-singles (λ r. r.top) rating_sum (λ p e. refl));
     recent = ap (best before_by_month 4) (listed_at-singles (λ r. r.recent) track_month
-        (λ p e. ap (λ m. cond (is_some c.next) (record { rank = month_rank m; number = p.0 } ∷ []) [])
+        (λ p e. ap (λ m. cond (is_some c.next) (record { rank = month_number m; number = p.0 } ∷ []) [])
         (row_keys_at-AreOf c.key p.1 c (has-row_keys_at c p.1 e)).month));
   }
 

@@ -7,6 +7,7 @@ use Rattle.std.specs.Ordering.{nat_cmp, is_lt, ordering_reverse}
 use Rattle.std.specs.declared.cmp.Ordering.{Ordering}
 use Rattle.std.specs.declared.cmp.Ordering.TheVariants.{Less, Equal, Greater}
 use Rattle.std.proofs.lemmas.Bool.Decides.{nat_tests}
+use Rattle.plain_laws.specs.Orderings.{less-is}
 use Rattle.explorer_model.specs.Best.{IsStrictTotalOrder}
 use Rattle.best_lists.proofs.Same.{ties, ties-same}
 use Rattle.explorer_model.specs.declared.chess.Move.{Move}
@@ -52,16 +53,11 @@ number_first {X} {then} order f = record {
 abbrev pub text_before : Move → Move → Bool
 text_before a b = is_lt (slice_cmp nat_cmp (uci_text a) (uci_text b))
 
-is_Less : (r : Ordering) → is_lt r ≡ true → r ≡ Less
-is_Less Less e = refl
-is_Less Equal e = cc
-is_Less Greater e = cc
-
 pub text_before-order : IsStrictTotalOrder text_before
 text_before-order = record {
   irreflexive = λ a. ap is_lt (tied_itself nat_list_cmp_total (uci_text a));
   transitive = λ a b c p q.
-      ap is_lt (nat_list_cmp_total.trans (uci_text a) (uci_text b) (uci_text c) (is_Less _ p) (is_Less _ q));
+      ap is_lt (nat_list_cmp_total.trans (uci_text a) (uci_text b) (uci_text c) (less-is _ p) (less-is _ q));
   total = λ a b p q. same a b (slice_cmp nat_cmp (uci_text a) (uci_text b)) refl p q;
 }
   where

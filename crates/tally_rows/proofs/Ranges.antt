@@ -8,11 +8,12 @@ use Rattle.std.specs.declared.cmp.Ordering.TheVariants.{Less}
 use Rattle.std.specs.Ordering.{nat_cmp, ordering_then}
 use Rattle.std.specs.Cmp.{nat_cmp_is}
 use Rattle.std.specs.Cmp.Lexicographic.{slice_cmp}
-use Rattle.std.proofs.lemmas.Bool.{le-leb}
+use Rattle.std.proofs.lemmas.Bool.{and_from, le-leb}
 use Rattle.std.proofs.lemmas.Bool.Decides.{nat_tests}
 use Rattle.std.proofs.lemmas.List.{append-nil, map-append}
 use Rattle.std.proofs.lemmas.List.Elements.{All-append, recursion_from_All, filter_passes}
 use Rattle.std.proofs.Math.Bool.{and-true}
+use Rattle.plain_laws.specs.Orderings.{then-less}
 use Rattle.tally_rows.specs.declared.key_range.KeyRange.{KeyRange}
 use Rattle.tally_rows.specs.declared.row.Row.{Row}
 use Rattle.tally_rows.specs.declared.row_key.RowKey.{RowKey}
@@ -68,9 +69,6 @@ word-less a b p q less =
     spelled_cmp 8 0 a b p.bytes q.bytes (omega (arith, long)) (omega (arith, wide))
     ∙ ap (λ (o : Ordering). ordering_then o (slice_cmp nat_cmp (drop 8 a) (drop 8 b))) (sym (nat_cmp_is (first_word a) (first_word b) Less less))
 
-then-less : (p q : Ordering) → p ≡ Less → ordering_then p q ≡ Less
-then-less p q e = ap (λ o. ordering_then o q) e
-
 row-less : (x y : Row) → IsKey x.key → IsKey y.key → first_word x.key < first_word y.key → row_order (row_key_of x) (row_key_of y) ≡ Less
 unfolding row_order
 row-less x y p q less = then-less (slice_cmp nat_cmp x.key y.key) _ (word-less x.key y.key p q less)
@@ -113,9 +111,6 @@ later-from from below word le e = grind (arith, nat_tests)
 not-below : (word below : ℕ) → nat_lt word below ≡ false → nat_le below word ≡ true
 not-below word below e = grind (arith, nat_tests)
 
-both-true : (a b : Bool) → a ≡ true → b ≡ true → (a && b) ≡ true
-both-true a b p q = (λ i. p i && q i)
-
 module _ (tracks : List Track) (from below : ℕ) (rising : from ≤ below) (first rest : List Row)
     (left : TalliedWithin (is_between from below) tracks first) (right : TalliedWithin (is_from below) tracks rest) where
   before : AllByRecursion (λ x. AllByRecursion (λ y. row_order (row_key_of x) (row_key_of y) ≡ Less) rest) first
@@ -137,7 +132,7 @@ module _ (tracks : List Track) (from below : ℕ) (rising : from ≤ below) (fir
 
       by : (b : Bool) → nat_lt (first_word c.key) below ≡ b → Contains (map row_key_of (first ++ rest)) c
       by true e =
-          let there = left.every c (both-true (is_from from c.key) (nat_lt (first_word c.key) below) passes e) any in
+          let there = left.every c (and_from (is_from from c.key) (nat_lt (first_word c.key) below) passes e) any in
           subst (λ (ks : List RowKey). Contains ks c) (sym keys_are)
           (Contains-IsIn (map row_key_of first ++ map row_key_of rest) c
           (IsIn-append_left (map row_key_of first) (map row_key_of rest) c (IsIn-from_Contains (map row_key_of first) c there)))

@@ -7,7 +7,7 @@ use Rattle.std.proofs.lemmas.List.Folds.{list_any-append}
 use Rattle.std.proofs.lemmas.List.Elements.{filter-append}
 use Rattle.std.proofs.lemmas.Option.{none-some}
 use Rattle.std.specs.Prelude.{unwrap_or}
-use Rattle.std.proofs.lemmas.Slice.Eq.{bytes_eq-Decides}
+use Rattle.plain_laws.specs.Bytes.{bytes_eq-is, bytes_eq-self}
 use Rattle.explorer_model.specs.declared.archive.Classes.{Classes}
 use Rattle.tally_rows.specs.declared.row_key.RowKey.{RowKey}
 use Rattle.tally_rows.specs.declared.single.Single.{Single}
@@ -18,12 +18,6 @@ use Rattle.tally_rows.specs.Track.{Step, Track, visit, row_keys_at, is_some_wher
 use Rattle.tally_rows.proofs.RowOrder.{same_row_key-is}
 
 -- ---- keys
-
-key-is : (a b : List ℕ) → bytes_eq a b ≡ true → a ≡ b
-key-is a b is = (bytes_eq-Decides a b).0 is
-
-key-self : (a : List ℕ) → bytes_eq a a ≡ true
-key-self a = (bytes_eq-Decides a a).1 refl
 
 -- ---- one game
 
@@ -37,7 +31,7 @@ hit c classes number None = []
 hit c classes number (Some step) = cond (same_row_key c (row_key_in classes step)) (single_at classes number step ∷ []) []
 
 has-key-of : (c : RowKey) (classes : Classes) (step : Step) → same_row_key c (row_key_in classes step) ≡ true → has_key c.key step ≡ true
-has-key-of c classes step is = ap (λ k. bytes_eq step.key k) (ap (λ p. p.key) (same_row_key-is c (row_key_in classes step) is)) ∙ key-self step.key
+has-key-of c classes step is = ap (λ k. bytes_eq step.key k) (ap (λ p. p.key) (same_row_key-is c (row_key_in classes step) is)) ∙ bytes_eq-self step.key
 
 other-row_key : (c : RowKey) (classes : Classes) (step : Step) → has_key c.key step ≡ false → same_row_key c (row_key_in classes step) ≡ false
 other-row_key c classes step other =
@@ -70,7 +64,7 @@ seen_before c classes number earlier (step ∷ steps) is =
     seen_before-by c classes number earlier step rest is none true before = none
     seen_before-by c classes number earlier step rest is none false before =
         let other : has_key c.key step ≡ false = false_from_ne_true (has_key c.key step) (λ has.
-        true≢false (sym is ∙ ap (λ k. list_any (has_key k) earlier) (sym (key-is step.key c.key has)) ∙ before)) in
+        true≢false (sym is ∙ ap (λ k. list_any (has_key k) earlier) (sym (bytes_eq-is step.key c.key has)) ∙ before)) in
         ap (λ b. cond b (single_at classes number step ∷ with_row_key c (map (single_at classes number) rest)) (with_row_key c (map (single_at classes number) rest)))
         (other-row_key c classes step other)
         ∙ none
@@ -90,7 +84,7 @@ unseen c classes number earlier (step ∷ steps) none =
     unseen-by c classes number earlier step steps none later true is =
         let F : List Step → List Single = λ ss. map (single_at classes number) ss in
         let rest : List Step = first_steps (earlier ++ step ∷ []) steps in
-        let first : list_any (has_key step.key) earlier ≡ false = ap (λ k. list_any (has_key k) earlier) (key-is step.key c.key is) ∙ none in
+        let first : list_any (has_key step.key) earlier ≡ false = ap (λ k. list_any (has_key k) earlier) (bytes_eq-is step.key c.key is) ∙ none in
         let known : list_any (has_key c.key) (earlier ++ step ∷ []) ≡ true =
         list_any-append (has_key c.key) earlier (step ∷ [])
         ∙ ap (λ b. b || list_any (has_key c.key) (step ∷ [])) none
@@ -116,7 +110,7 @@ found-key key (first ∷ steps) step is = found-by key first steps step (λ late
   where
     found-by : (key : List ℕ) (first : Step) (steps : List Step) (step : Step) → (find (has_key key) steps ≡ Some step → step.key ≡ key)
         → (b : Bool) → has_key key first ≡ b → (if b then Some first else find (has_key key) steps) ≡ Some step → step.key ≡ key
-    found-by key first steps step later true same is = ap (λ o. (unwrap_or o step).key) (sym is) ∙ key-is first.key key same
+    found-by key first steps step later true same is = ap (λ o. (unwrap_or o step).key) (sym is) ∙ bytes_eq-is first.key key same
     found-by key first steps step later false same is = later is
 
 -- the parts of a game at the key of others, where its first step with that key is known

@@ -4,9 +4,9 @@ use Rattle.explorer_model.specs.Best.{best}
 use Rattle.best_lists.specs.Entry.{moved_by}
 use Rattle.best_lists.specs.declared.entry.Entry.{Entry}
 use Rattle.best_lists.specs.Ranking.{before_by_rating, before_by_month}
-use Rattle.explorer_model.specs.declared.archive.Month.{Month}
 use Rattle.explorer_model.specs.declared.archive.Outcome.{Outcome}
 use Rattle.explorer_model.specs.declared.archive.Outcome.TheVariants as outcomes
+use Rattle.explorer_model.specs.Counting.{month_number}
 use Rattle.tally_rows.specs.declared.row_key.RowKey.{RowKey}
 use Rattle.tally_rows.specs.RowKey.{same_row_key}
 use Rattle.tally_rows.specs.declared.row.Row.{Row}
@@ -35,10 +35,6 @@ abbrev pub is_black : Outcome → Bool
 is_black outcomes.Black = true
 is_black _ = false
 
--- what recent games are listed by
-abbrev pub month_rank : Month → ℕ
-month_rank month = 12 * month.year + month.month
-
 -- the game of a single as it is listed, where a move follows
 abbrev pub rating_entries : Single → List Entry
 rating_entries single =
@@ -48,7 +44,7 @@ rating_entries single =
 abbrev pub month_entries : Single → List Entry
 month_entries single =
     cond (is_some single.row_key.next)
-    (record { rank = month_rank single.row_key.month; number = single.number } ∷ []) []
+    (record { rank = month_number single.row_key.month; number = single.number } ∷ []) []
 
 -- the row of one game
 unfoldable pub row_of : Single → Row

@@ -6,11 +6,12 @@ use Rattle.explorer_model.specs.Best.{best}
 use Rattle.best_lists.specs.Ranking.{before_by_rating, before_by_month}
 use Rattle.best_lists.specs.declared.entry.Entry.{Entry}
 use Rattle.explorer_model.specs.declared.archive.Classes.{Classes}
+use Rattle.explorer_model.specs.Counting.{month_number}
 use Rattle.tally_rows.specs.declared.row_key.RowKey.{RowKey}
 use Rattle.tally_rows.specs.declared.row.Row.{Row}
 use Rattle.tally_rows.specs.RowKey.{row_order}
 use Rattle.tally_rows.specs.Track.{Track, has}
-use Rattle.tally_rows.specs.Row.{row_key_of, is_white, is_draw, is_black, month_rank}
+use Rattle.tally_rows.specs.Row.{row_key_of, is_white, is_draw, is_black}
 
 -- bit 0 of the key's byte of state
 abbrev pub is_black_to_move : List ℕ → Bool
@@ -24,7 +25,7 @@ abbrev pub rating_sum : Track → ℕ
 rating_sum track = track.classes.white.rating + track.classes.black.rating
 
 abbrev pub track_month : Track → ℕ
-track_month track = month_rank track.classes.month
+track_month track = month_number track.classes.month
 
 -- the games that pass a test, with their places from a first one on
 unfoldable pub entries : (Track → ℕ) → (Track → Bool) → ℕ → List Track → List Entry

@@ -16,7 +16,7 @@ pub use counted_row::{CountedAs, CountedRow};
 pub use grid::{Cell, Grid};
 pub use key_range::{KeyRange, first_word};
 pub use packed_keys::PositionKey;
-pub use row::Row;
+pub use row::{Row, counts_of, month_number};
 pub use row_key::RowKey;
 pub use rows::rows_of;
 pub use single::Single;

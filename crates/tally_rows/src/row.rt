@@ -1,7 +1,8 @@
 //! A row: games with five parts in common, counted.
 ghost use Rattle.std.specs.Prelude.{◌≡◌, ◌+◌, ◌<◌, ◌^◌, cond, is_some};
+ghost use Rattle.explorer_model.specs.Counting.{month_number};
 ghost use Rattle.tally_rows.specs.RowKey.{same_row_key};
-ghost use Rattle.tally_rows.specs.Row.{row_key_of, combined, row_of, rating_entries, month_entries, is_white, is_draw, is_black, month_rank, Fit, HasRoomForOne};
+ghost use Rattle.tally_rows.specs.Row.{row_key_of, combined, row_of, rating_entries, month_entries, is_white, is_draw, is_black, Fit, HasRoomForOne};
 
 use crate::{RowKey, Single};
 use best_lists::{Best4, ByMonth, ByRating};
@@ -140,7 +141,7 @@ impl Row {
 }
 
 /// One game, counted for White, as a draw or for Black.
-fn counts_of(outcome: Outcome) -> (u32, u32, u32)
+pub fn counts_of(outcome: Outcome) -> (u32, u32, u32)
     ensures white { result.0 ≡ cond (is_white outcome) 1 0 }
     ensures draws { result.1 ≡ cond (is_draw outcome) 1 0 }
     ensures black { result.2 ≡ cond (is_black outcome) 1 0 }
@@ -180,15 +181,15 @@ fn recent_of(single: &Single) -> Best4<ByMonth>
     ensures { result ≡ month_entries single.now }
 {
     if single.row_key.next.is_some() {
-        Best4::one(month_rank(single.row_key.month), single.number)
+        Best4::one(month_number(single.row_key.month), single.number)
     } else {
         Best4::empty()
     }
 }
 
-/// What recent games are listed by.
-fn month_rank(month: Month) -> u32
-    ensures { result ≡ month_rank month }
+/// Months in their order in time.
+pub fn month_number(month: Month) -> u32
+    ensures { result ≡ month_number month }
 {
     12 * u32::from(month.year) + u32::from(month.month)
 }

@@ -1,12 +1,12 @@
 use Rattle.std.proofs.Common.{true, sym, ap, subst, ◌∙◌, map, List, arith}
 use Rattle.std.specs.List.{All}
-use Rattle.std.proofs.lemmas.List.{length-set}
+use Rattle.std.proofs.lemmas.List.{length-set, nil_from_length}
 use Rattle.std.proofs.lemmas.List.Elements.{All-push}
 use Rattle.explorer_model.specs.Imports.{verdict_of}
 use Rattle.batch_tally.specs.declared.accepting.Accepted.{Accepted}
 use Rattle.batch_tally.specs.Accepting.{candidate_as, IsCounted}
 use Rattle.batch_tally.specs.Reading.{examination_as, HasCount}
-use Rattle.batch_tally.proofs.Completing.{nothing-left, first-left, short-rest}
+use Rattle.batch_tally.proofs.Completing.{first-left, short-rest}
 use Rattle.batch_tally.proofs.MarkLemmas.{id_marked_more}
 use Rattle.batch_tally.proofs.Verdicts.{one-accepted, one-refused, ends-accepted, ends-refused, words-more}
 use Rattle.batch_tally.proofs.accepting.accept.Goals as goal
@@ -45,8 +45,8 @@ returns-clause-counted c = c.loop-reading.invariant.counted
 
 pub returns-clause-accepted : goal.returns-clause-accepted
 returns-clause-accepted c =
-    ends-accepted _ _ _ _ (nothing-left _ (sym c.loop-reading.reading-iterator.rest.ok.0 ∙ c.in-None.ensures.steps.0)) c.loop-reading.invariant.sorting
+    ends-accepted _ _ _ _ (nil_from_length _ (sym c.loop-reading.reading-iterator.rest.ok.0 ∙ c.in-None.ensures.steps.0)) c.loop-reading.invariant.sorting
 
 pub returns-clause-refused : goal.returns-clause-refused
 returns-clause-refused c =
-    ends-refused _ _ _ _ (nothing-left _ (sym c.loop-reading.reading-iterator.rest.ok.0 ∙ c.in-None.ensures.steps.0)) c.loop-reading.invariant.sorting
+    ends-refused _ _ _ _ (nil_from_length _ (sym c.loop-reading.reading-iterator.rest.ok.0 ∙ c.in-None.ensures.steps.0)) c.loop-reading.invariant.sorting

@@ -1,7 +1,7 @@
 use Rattle.std.proofs.Common.{rules}
 use Rattle.std.proofs.lemmas.Slice.Eq.{slice_eq-Decides}
-use Rattle.batch_tally.proofs.Deciding.{option-decides}
+use Rattle.plain_laws.specs.Options.{option_eq-decides}
 use Rattle.batch_tally.proofs.keyed_board.have_same_squares.Goals as goal
 
 pub returns : goal.returns
-returns c = slice_eq-Decides (option-decides (λ a b. search rules)) c.args.one.now c.args.other.now c.eq.result c.eq.ensures
+returns c = slice_eq-Decides (option_eq-decides (λ a b. search rules)) c.args.one.now c.args.other.now c.eq.result c.eq.ensures

@@ -1,9 +1,9 @@
 use Rattle.std.proofs.Common.{◌<◌, ℕ, List, length, get_or, IfOk, subst}
 use Rattle.explorer_model.specs.declared.archive.Placed.{Placed}
 use Rattle.std.specs.List.{AllZip}
+use Rattle.std.proofs.lemmas.Result.{IfOk-weaker}
 use Rattle.batch_tally.specs.declared.reading.Run.{Run}
 use Rattle.batch_tally.specs.Reading.{AreContentsOf, AreRunsFrom, RunMade, run_of}
-use Rattle.batch_tally.proofs.LeafLemmas.{if-ok}
 use Rattle.batch_tally.proofs.RunLemmas.{all-read}
 use Rattle.batch_tally.proofs.reading.read_all.Goals as goal
 
@@ -13,7 +13,7 @@ returns g c =
     let runs = c.in_ok-runs.runs.items in
     let results = c.in_ok-results in
     let parts = c.in_ok-parts in
-    if-ok _ _ c.readings_of.result (λ readings are.
+    IfOk-weaker c.readings_of.result _ _ (λ readings are.
     all-read (λ part. part.items) texts runs results.results.items parts.parts.items readings.items parts.ensures
     (subst (λ (l : List Placed). AreRunsFrom 0 (length l) runs) c.as_slice-given.ensures.value c.in_ok-runs.ensures) results.ensures.count
     (subst (λ (l : List Placed). (n : ℕ) (d : RunMade) (r : Run) → n < length runs

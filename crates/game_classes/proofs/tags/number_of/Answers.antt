@@ -1,8 +1,8 @@
 use Rattle.std.proofs.Common.{arith}
-use Rattle.game_classes.proofs.Numbers.{within}
+use Rattle.plain_laws.specs.Numbers.{ten-rises}
 use Rattle.game_classes.proofs.tags.number_of.Goals as goal
 
 pub returns-clause-short : goal.returns-clause-short
 returns-clause-short c =
-    let more = within _ _ c.if-most-text.false in
+    let more = ten-rises _ _ c.if-most-text.false in
     omega (arith, more, c.digits_value.ensures.short)

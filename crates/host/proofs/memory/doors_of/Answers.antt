@@ -1,22 +1,14 @@
-use Rattle.std.proofs.Common.{◌≡◌, ◌+◌, ◌<◌, ◌++◌, ◌∷◌, [], ℕ, List, Option, Some, drop, length, zero, suc, map, slice_get, rules, arith, refl, sym, ap, ◌∙◌, ◌⊎◌, inl, inr, add-one}
+use Rattle.std.proofs.Common.{◌≡◌, ◌+◌, ◌<◌, ◌++◌, ◌∷◌, [], ℕ, List, Option, Some, drop, zero, suc, map, slice_get, rules, arith, refl, sym, ap, ◌∙◌, ◌⊎◌, inl, inr, add-one}
 use Rattle.std.proofs.lemmas.Bool.{cases_eq}
 use Rattle.std.proofs.lemmas.List.{map-append}
 use Rattle.std.proofs.lemmas.Grind.{common_steps}
 use Rattle.std.specs.Vec.Iter.{into_iter_items}
+use Rattle.plain_laws.specs.Lists.{get-between, get-front}
 use Rattle.outside.specs.Memory.{MemoryDoor, stream_of}
 use Rattle.outside.specs.Stream.{Stream}
 use Rattle.host.specs.Hosts.{AreFresh, fresh}
 use Rattle.host.specs.Memory.{each_links, links_of}
 use Rattle.host.proofs.memory.doors_of.Goals as goal
-
-get_front : {A : Type 0} (xs ys : List A) (j : ℕ) → j < length xs → slice_get (xs ++ ys) j ≡ slice_get xs j
-get_front [] ys j below = absurd (omega (arith, below))
-get_front (x ∷ xs) ys zero below = refl
-get_front (x ∷ xs) ys (suc j) below = get_front xs ys j (omega (arith, below))
-
-get_last : {A : Type 0} (xs : List A) (y : A) → slice_get (xs ++ y ∷ []) (length xs) ≡ Some y
-get_last [] y = refl
-get_last (x ∷ xs) y = get_last xs y
 
 fresh_more : (k connections : ℕ) (links : ℕ → Option (List Stream)) (doors : List MemoryDoor) (door : MemoryDoor) (items : List MemoryDoor)
     → AreFresh k connections links (map (λ (d : MemoryDoor). d.connections) doors) → door.connections ≡ fresh connections (links k)
@@ -28,10 +20,10 @@ fresh_more k connections links doors door items are is items_is = record {
   where
     by : (j : ℕ) → (j ≡ k) ⊎ (j ≡ k → ⊥) → j < k + 1
         → slice_get (map (λ (d : MemoryDoor). d.connections) doors ++ door.connections ∷ []) j ≡ Some (fresh connections (links j))
-    by j (inl same) below = rw (same, ← are.number) (get_last (map (λ (d : MemoryDoor). d.connections) doors) door.connections ∙ ap Some (rw are.number is))
+    by j (inl same) below = rw (same, ← are.number) (get-between (map (λ (d : MemoryDoor). d.connections) doors) door.connections [] ∙ ap Some (rw are.number is))
     by j (inr differs) below =
         let under : j < k = omega (arith, below, differs) in
-        get_front (map (λ (d : MemoryDoor). d.connections) doors) _ j (rw are.number under) ∙ are.each j under
+        get-front (map (λ (d : MemoryDoor). d.connections) doors) _ j (rw are.number under) ∙ are.each j under
 
 drop_next : {A : Type 0} (k : ℕ) (xs : List A) → slice_get (drop k xs) 0 ≡ slice_get xs k
 drop_next zero xs = refl

@@ -1,8 +1,9 @@
 use Rattle.std.proofs.Common.{◌≡◌, ℕ, List, true, false, ◌==◌, ◌+◌, ◌*◌, length, refl, sym, ◌∙◌, subst, arith}
 use Rattle.std.proofs.lemmas.Bool.Decides.{nat_tests}
+use Rattle.std.proofs.lemmas.List.{nil_from_length}
 use Rattle.explorer_model.specs.declared.chess.Move.{Move}
 use Rattle.legal_moves.specs.Listing.{ListsBelow}
-use Rattle.legal_moves.proofs.Lists.{IsSwept, swept-none, swept-to, swept-next, swept-all, some_listed, none_listed, is_empty}
+use Rattle.legal_moves.proofs.Lists.{IsSwept, swept-none, swept-to, swept-next, swept-all, some_listed, none_listed}
 use Rattle.legal_moves.proofs.generate.has_move.Goals as goal
 
 not_empty : (n : ℕ) → (n == 0) ≡ false → n ≡ 0 → ⊥
@@ -46,6 +47,6 @@ returns c = (
   λ some.
       let P : List Move → Type 0 = λ moves. ListsBelow c.args.position.now 32768 moves in
       absurd (none_listed c.args.position.now 32768 (omega arith)
-      (subst P (is_empty c.loop-rest.moves.items c.loop-rest.invariant.1)
+      (subst P (nil_from_length c.loop-rest.moves.items c.loop-rest.invariant.1)
       (swept-all c.args.position.now c.loop-rest.rest c.loop-rest.moves.items c.loop-rest.invariant.0 c.loop-rest-test.false)) some),
 )

@@ -1,6 +1,7 @@
 use Rattle.std.proofs.Common.{◌≡◌, List, map, sym, ◌∙◌, subst}
 use Rattle.std.specs.Arc.{arc_value}
 use Rattle.std.specs.List.{AllByRecursion}
+use Rattle.std.proofs.lemmas.Result.{IfOk-weaker}
 use Rattle.explorer_model.specs.declared.archive.Classes.{Classes}
 use Rattle.explorer_model.specs.declared.chess.Position.{Position}
 use Rattle.explorer_model.specs.Chess.{Legal}
@@ -13,7 +14,7 @@ use Rattle.lookup.specs.Parts.{Part, journal_of, parts_in}
 use Rattle.row_sums.specs.Listing.{classes_in}
 use Rattle.row_sums.specs.Sums.{moves_in}
 use Rattle.lookup.proofs.LegalMoves.{moves-legal}
-use Rattle.lookup.proofs.Listings.{if-ok, segment-classes}
+use Rattle.lookup.proofs.Listings.{segment-classes}
 use Rattle.lookup.proofs.Looking.{put-together}
 use Rattle.lookup.proofs.Numbered.{taken-rows}
 use Rattle.tally_rows.specs.Cover.{meets}
@@ -43,8 +44,8 @@ returns c =
     let hits : map hit_as c.args.hits.now ≡ rows_from c.args.key.now (meets c.args.query.now.filter any_next) 0 parts =
     c.requires.rows ∙ taken-rows c.args.key.now c.args.query.now.filter parts in
     let games : List Classes = classes_in (map arc_value c.args.segments.now) in
-    if-ok (λ found. IsPutTogether c.args.query.now games (map hit_as c.args.hits.now) found)
-    (λ found. IsFound (journal_of parts) c.args.query.now found) c.found_in.result
+    IfOk-weaker c.found_in.result (λ found. IsPutTogether c.args.query.now games (map hit_as c.args.hits.now) found)
+    (λ found. IsFound (journal_of parts) c.args.query.now found)
     (λ found is.
     c.parts_recount.ensures parts c.requires.parts c.args.query.now c.args.key.now found
     (record { board = c.requires.valid.board; tidy = c.requires.key; top = c.requires.top; recent = c.requires.recent })

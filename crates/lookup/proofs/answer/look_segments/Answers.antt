@@ -1,13 +1,13 @@
 use Rattle.std.proofs.Common.{◌≤◌, ◌+◌, ℕ, List, map, subst, ◌∙◌}
 use Rattle.std.specs.Arc.{arc_value}
 use Rattle.std.specs.List.{sum_by}
+use Rattle.std.proofs.lemmas.Result.{IfOk-weaker}
 use Rattle.explorer_model.specs.declared.archive.Batch.{Batch}
 use Rattle.explorer_model.specs.Finds.{IsFound}
 use Rattle.explorer_model.specs.Spans.{Covers}
 use Rattle.lookup.specs.Parts.{journal_of, segment_part}
 use Rattle.lookup.specs.SegmentRows.{row_steps}
 use Rattle.lookup.proofs.Journal.{segments-journal}
-use Rattle.lookup.proofs.Listings.{if-ok}
 use Rattle.lookup.proofs.OneKey.{one-key}
 use Rattle.segment_blocks.specs.Segment.{CountedSpan}
 use Rattle.lookup.proofs.answer.look_segments.Goals as goal
@@ -27,7 +27,7 @@ returns-clause-cost g c = λ key digits tidy small.
 pub returns-clause-found : goal.returns-clause-found
 returns-clause-found g c =
     let segments : List CountedSpan = map arc_value c.args.segments.now in
-    if-ok (λ found. IsFound (journal_of (map segment_part segments)) c.args.query.now found)
-    (λ found. (journal : List Batch) → Covers (map (λ (segment : CountedSpan). segment.span) segments) journal → IsFound journal c.args.query.now found) c.found_of.result
+    IfOk-weaker c.found_of.result (λ found. IsFound (journal_of (map segment_part segments)) c.args.query.now found)
+    (λ found. (journal : List Batch) → Covers (map (λ (segment : CountedSpan). segment.span) segments) journal → IsFound journal c.args.query.now found)
     (λ found is journal covers. subst (λ (j : List Batch). IsFound j c.args.query.now found) (segments-journal segments ∙ covers.whole) is)
     c.found_of.ensures

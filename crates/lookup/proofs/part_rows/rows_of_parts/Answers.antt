@@ -3,9 +3,10 @@ use Rattle.std.specs.Global.{Global}
 use Rattle.std.specs.List.{AllZip, slice_get}
 use Rattle.std.proofs.lemmas.List.{take_all}
 use Rattle.std.proofs.lemmas.List.Sums.{sum_by-take-le}
+use Rattle.plain_laws.specs.Options.{IfSome-at}
 use Rattle.lookup.specs.declared.part_rows.PartRows.{PartRows}
 use Rattle.lookup.specs.Reading.{most_steps, read_steps, AreJudged, AreOfKey, AreRead}
-use Rattle.lookup.proofs.ReadLemmas.{Placed, both-some, cost-more, cost-within, few-marks, games-more, games-within, kept-games, most-read, part-of, placed, read-more, some-at, stops-at, undamaged, zip-at}
+use Rattle.lookup.proofs.ReadLemmas.{Placed, both-some, cost-more, cost-within, few-marks, games-more, games-within, kept-games, most-read, part-of, placed, read-more, stops-at, undamaged, zip-at}
 use Rattle.outside.specs.Ports.{Scratch}
 use Rattle.segment_blocks.specs.Kept.{KeptSpan}
 use Rattle.segment_blocks.specs.Segment.{CountedSpan}
@@ -53,12 +54,12 @@ loop-part-preserved g c =
       first = omega (arith, l.invariant.first, games, games-more set i segment place.is);
       read = subst (λ (parts : List PartRows). AreRead at 0 (take (i + 1) set) parts) (sym pushed)
           (read-more at set i segment place.is l.parts.items part l.invariant.read l.invariant.first
-          (some-at (λ (s : CountedSpan). sound.AreSound at (length s.classes) rows.items) (slice_get set i) segment place.is c.in-Ok.ensures.sound));
+          (IfSome-at (λ (s : CountedSpan). sound.AreSound at (length s.classes) rows.items) (slice_get set i) segment place.is c.in-Ok.ensures.sound));
       same = c.in-Ok.ensures.faults ∙ same;
       found = λ key tidy holds.
           subst (λ (parts : List PartRows). AllZip (AreOfKey key) (take (i + 1) set) parts) (sym pushed)
           (zip-at (AreOfKey key) set i segment place.is l.parts.items part (l.invariant.found key tidy holds)
-          (some-at (λ (s : CountedSpan). rows.items ≡ filter (has_key key) s.rows) (slice_get set i) segment place.is
+          (IfSome-at (λ (s : CountedSpan). rows.items ≡ filter (has_key key) s.rows) (slice_get set i) segment place.is
           (c.in-Ok.ensures.found key tidy (subst (λ (s : Scratch). Holds set s) (sym same) holds))));
       judged = λ key tidy.
           both-some (λ (told : List ℕ). AreJudged at key set told i) (λ (told : List ℕ). JudgesPart at key i set told (Ok rows))
@@ -68,17 +69,17 @@ loop-part-preserved g c =
           (subst (λ (s : Scratch). IfSome s.appended (λ told. JudgesPart at key i set told (Ok rows))) same (c.in-Ok.ensures.judged key tidy));
       cost = λ key digits tidy small holds.
           let own : rows.items ≡ filter (has_key key) segment.rows =
-          some-at (λ (s : CountedSpan). rows.items ≡ filter (has_key key) s.rows) (slice_get set i) segment place.is
+          IfSome-at (λ (s : CountedSpan). rows.items ≡ filter (has_key key) s.rows) (slice_get set i) segment place.is
           (c.in-Ok.ensures.found key tidy (subst (λ (s : Scratch). Holds set s) (sym same) holds)) in
           let step : c.rows.new.steps ≤ l.steps + lesser_limit + digits segment + length rows.items + 1 =
-          some-at (λ (s : CountedSpan). (n : ℕ) → length (marks s.rows) < 2 ^ n → c.rows.new.steps ≤ l.steps + lesser_limit + n + length rows.items + 1)
+          IfSome-at (λ (s : CountedSpan). (n : ℕ) → length (marks s.rows) < 2 ^ n → c.rows.new.steps ≤ l.steps + lesser_limit + n + length rows.items + 1)
           (slice_get set i) segment place.is c.in-Ok.ensures.cost (digits segment) (few-marks digits set i segment place.is small) in
           cost-more digits set i segment place.is (read_steps key digits) c.args.steps.now l.steps c.rows.new.steps (l.invariant.cost key digits tidy small holds)
           (omega (arith, step, ap (λ (rs : List Row). length rs) own));
       most = λ key digits tidy small.
           cost-more digits set i segment place.is (most_steps digits) c.args.steps.now l.steps c.rows.new.steps (l.invariant.most key digits tidy small)
           (most-read digits set i segment place.is key _ (g.P.Port.port l.port) l.steps c.rows.new.steps
-          (some-at (λ (s : CountedSpan). length (marks s.rows) < 2 ^ digits segment
+          (IfSome-at (λ (s : CountedSpan). length (marks s.rows) < 2 ^ digits segment
           → Reads key (blocks_at key (length (set_bytes (take i set))) s) (length s.rows) (digits segment) (g.P.Port.port l.port) l.steps c.rows.new.steps)
           (slice_get set i) segment place.is (c.rows.ensures.reads key (digits segment) tidy) (few-marks digits set i segment place.is small)));
     }
@@ -93,7 +94,7 @@ returns-in-Err-clause-whole g c = λ key tidy holds.
     let i = c.loop-part.part in
     let place : Placed set i = placed set i (omega (arith, c.loop-part-test.true, c.parts-count.ensures.count)) in
     undamaged key place.value c.in-Err.stop
-    (some-at (λ (s : CountedSpan). GivesRowsOf key s (Err c.in-Err.stop)) (slice_get set i) place.value place.is
+    (IfSome-at (λ (s : CountedSpan). GivesRowsOf key s (Err c.in-Err.stop)) (slice_get set i) place.value place.is
     (c.in-Err.ensures.found key tidy (subst (λ (s : Scratch). Holds set s) (sym c.loop-part.invariant.same) holds)))
 
 pub returns-in-Err-clause-part : goal.returns-in-Err-clause-part
@@ -120,7 +121,7 @@ returns-in-Err-clause-most g c = λ key digits tidy small.
     let segment : CountedSpan = place.value in
     cost-within digits set i segment place.is (most_steps digits) c.args.steps.now l.steps c.rows.new.steps (l.invariant.most key digits tidy small)
     (most-read digits set i segment place.is key _ (g.P.Port.port l.port) l.steps c.rows.new.steps
-    (some-at (λ (s : CountedSpan). length (marks s.rows) < 2 ^ digits segment
+    (IfSome-at (λ (s : CountedSpan). length (marks s.rows) < 2 ^ digits segment
     → Reads key (blocks_at key (length (set_bytes (take i set))) s) (length s.rows) (digits segment) (g.P.Port.port l.port) l.steps c.rows.new.steps)
     (slice_get set i) segment place.is (c.rows.ensures.reads key (digits segment) tidy) (few-marks digits set i segment place.is small)))
 
@@ -133,7 +134,7 @@ returns-in_default-clause-most g c = λ key digits tidy small.
     let segment : CountedSpan = place.value in
     cost-within digits set i segment place.is (most_steps digits) c.args.steps.now l.steps c.rows.new.steps (l.invariant.most key digits tidy small)
     (most-read digits set i segment place.is key _ (g.P.Port.port l.port) l.steps c.rows.new.steps
-    (some-at (λ (s : CountedSpan). length (marks s.rows) < 2 ^ digits segment
+    (IfSome-at (λ (s : CountedSpan). length (marks s.rows) < 2 ^ digits segment
     → Reads key (blocks_at key (length (set_bytes (take i set))) s) (length s.rows) (digits segment) (g.P.Port.port l.port) l.steps c.rows.new.steps)
     (slice_get set i) segment place.is (c.rows.ensures.reads key (digits segment) tidy) (few-marks digits set i segment place.is small)))
 

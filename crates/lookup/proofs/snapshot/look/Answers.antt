@@ -2,11 +2,11 @@ use Rattle.std.proofs.Common.{◌≤◌, ◌<◌, ◌^◌, ◌+◌, List, map, l
 use Rattle.std.specs.Arc.{arc_value}
 use Rattle.std.specs.List.{All, sum_by}
 use Rattle.std.proofs.lemmas.List.{length-map}
+use Rattle.std.proofs.lemmas.Result.{IfOk-weaker}
 use Rattle.explorer_model.specs.declared.archive.Batch.{Batch}
 use Rattle.explorer_model.specs.Finds.{IsFound}
 use Rattle.explorer_model.specs.Spans.{Covers}
 use Rattle.lookup.specs.SegmentRows.{row_steps}
-use Rattle.lookup.proofs.Listings.{if-ok}
 use Rattle.published_index.specs.Cover.{journal_of, spans_of}
 use Rattle.segment_blocks.specs.Segment.{CountedSpan}
 use Rattle.lookup.proofs.snapshot.look.Goals as goal
@@ -18,8 +18,8 @@ look_segments-requires-clause-few g c =
 pub returns-clause-found : goal.returns-clause-found
 returns-clause-found g c =
     let list : List CountedSpan = map arc_value c.segments.result.now in
-    if-ok (λ found. (journal : List Batch) → Covers (map (λ (segment : CountedSpan). segment.span) list) journal → IsFound journal c.args.query.now found)
-    (λ found. IsFound (journal_of c.args.snapshot.now) c.args.query.now found) c.look_segments.result
+    IfOk-weaker c.look_segments.result (λ found. (journal : List Batch) → Covers (map (λ (segment : CountedSpan). segment.span) list) journal → IsFound journal c.args.query.now found)
+    (λ found. IsFound (journal_of c.args.snapshot.now) c.args.query.now found)
     (λ found is. is (journal_of c.args.snapshot.now) (subst (λ (s : List CountedSpan). Covers (spans_of s) (journal_of c.args.snapshot.now)) (sym c.segments.ensures.segments) c.segments.ensures.list.covers))
     c.look_segments.ensures.found
 

@@ -1,5 +1,6 @@
 use Rattle.std.proofs.Common.{◌≡◌, ℕ, List, map, sym, ap, ◌∙◌, subst}
 use Rattle.std.specs.List.{AllByRecursion, AllZip}
+use Rattle.std.proofs.lemmas.Result.{IfOk-weaker}
 use Rattle.explorer_model.specs.Chess.{Legal}
 use Rattle.explorer_model.specs.Finds.{IsFound}
 use Rattle.explorer_model.specs.Tidy.{IsTidyKey}
@@ -10,7 +11,7 @@ use Rattle.lookup.specs.Lines.{IsPutTogether}
 use Rattle.lookup.specs.Parts.{Part, segment_part}
 use Rattle.lookup.specs.Reading.{hits_in, AreOfKey}
 use Rattle.lookup.specs.Sound.{IsSoundAnswer}
-use Rattle.lookup.proofs.Listings.{if-ok, segment-classes}
+use Rattle.lookup.proofs.Listings.{segment-classes}
 use Rattle.lookup.proofs.Looking.{put-together}
 use Rattle.lookup.proofs.Numbered.{taken-rows}
 use Rattle.lookup.proofs.ReadHits.{read-legal, read-rows, read-sound}
@@ -47,8 +48,8 @@ returns-clause-found c =
     let games : List Classes = classes_in set in
     let each = set-parts set c.requires.set.each in
     let hits : map hit_as c.as_slice.result.now ≡ hits_in pick c.args.parts.now = ap (map hit_as) c.as_slice.ensures.value ∙ c.in_ok-hits.ensures in
-    if-ok (λ found. IsPutTogether query games (map hit_as c.as_slice.result.now) found)
-    (λ found. (key : List ℕ) → IsTidyKey query.at key → AllZip (AreOfKey key) set c.args.parts.now → IsFound (journal_of set) query found) c.found_in.result
+    IfOk-weaker c.found_in.result (λ found. IsPutTogether query games (map hit_as c.as_slice.result.now) found)
+    (λ found. (key : List ℕ) → IsTidyKey query.at key → AllZip (AreOfKey key) set c.args.parts.now → IsFound (journal_of set) query found)
     (λ found is. λ key tidy are.
     subst (λ (journal : List Batch). IsFound journal query found) (set-batches set)
     (c.parts_recount.ensures parts each query key found
@@ -66,6 +67,6 @@ returns-clause-sound c =
     let hits : map hit_as c.as_slice.result.now ≡ hits_in pick c.args.parts.now = ap (map hit_as) c.as_slice.ensures.value ∙ c.in_ok-hits.ensures in
     let L : List NumberedRow → Type 0 = λ hits. AllByRecursion (λ m. Legal query.at m) (moves_in hits) in
     let legal : L (map hit_as c.as_slice.result.now) = subst L (sym hits) (read-legal query.at pick set c.args.parts.now c.requires.parts) in
-    if-ok (λ found. IsPutTogether query games (map hit_as c.as_slice.result.now) found) (λ found. IsSoundAnswer query.at found) c.found_in.result
+    IfOk-weaker c.found_in.result (λ found. IsPutTogether query games (map hit_as c.as_slice.result.now) found) (λ found. IsSoundAnswer query.at found)
     (λ found is. sound-answer games (set-sound c.classes_of_games_are_sound.ensures set c.requires.set.each) query (map hit_as c.as_slice.result.now) found legal is)
     c.found_in.ensures

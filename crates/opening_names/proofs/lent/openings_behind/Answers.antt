@@ -2,11 +2,12 @@ use Rattle.std.proofs.Common.{◌≡◌, ◌∷◌, ◌++◌, [], List, Option, 
 use Rattle.std.specs.List.{AllZip}
 use Rattle.std.specs.Option.{option_copied}
 use Rattle.std.proofs.lemmas.List.{map-append, take_more}
+use Rattle.std.proofs.lemmas.Slice.Zip.{all_zipped_more}
 use Rattle.explorer_model.specs.declared.chess.Move.{Move}
 use Rattle.explorer_model.specs.declared.opening.Opening.{Opening}
 use Rattle.explorer_model.specs.Chess.{Legal, after}
 use Rattle.explorer_model.specs.Openings.{OpeningOf}
-use Rattle.opening_names.proofs.Walking.{each-at, zip-push}
+use Rattle.opening_names.proofs.Walking.{each-at}
 use Rattle.opening_names.proofs.lent.openings_behind.Goals as goal
 
 pub behind-requires-clause-legal : goal.behind-requires-clause-legal
@@ -33,4 +34,4 @@ loop-step-preserved c =
     ap (map option_copied) c.in_ok-push.ensures.items ∙ map-append option_copied l.openings.items (lent ∷ []) in
     subst Ms (sym more)
     (subst Os (sym pushed)
-    (zip-push R (take l.step-index played) (map option_copied l.openings.items) step.result (option_copied lent) l.invariant named))
+    (all_zipped_more R (take l.step-index played) (map option_copied l.openings.items) step.result (option_copied lent) l.invariant named))

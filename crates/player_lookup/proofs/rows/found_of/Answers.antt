@@ -1,12 +1,13 @@
 use Rattle.std.proofs.Common.{List, map, sym, subst}
 use Rattle.std.specs.Arc.{arc_value}
 use Rattle.std.specs.List.{AllByRecursion}
+use Rattle.std.proofs.lemmas.Result.{IfOk-weaker}
 use Rattle.explorer_model.specs.Chess.{Legal}
 use Rattle.explorer_model.specs.Players.{IsPlayerFound, is_wanted}
 use Rattle.explorer_model.specs.declared.chess.Move.{Move}
 use Rattle.explorer_model.specs.declared.chess.Position.{Position}
 use Rattle.player_lookup.specs.Made.{IsMadeOf, moves_listed}
-use Rattle.player_lookup.proofs.MadeAnswers.{found-made, if-ok, listed-moves, sound-rows}
+use Rattle.player_lookup.proofs.MadeAnswers.{found-made, listed-moves, sound-rows}
 use Rattle.published_index.specs.Cover.{journal_of}
 use Rattle.row_sums.specs.Hits.{hit_as}
 use Rattle.row_sums.specs.Listing.{classes_in}
@@ -32,6 +33,6 @@ pub returns : goal.returns
 returns c =
     let q = c.args.query.now in
     let segments : List CountedSpan = map arc_value c.args.segments.now in
-    if-ok (IsMadeOf q (classes_in segments) (map hit_as c.args.hits.now)) (IsPlayerFound (journal_of segments) q) c.found_in.result
+    IfOk-weaker c.found_in.result (IsMadeOf q (classes_in segments) (map hit_as c.args.hits.now)) (IsPlayerFound (journal_of segments) q)
     (λ found made. found-made q segments (map hit_as c.args.hits.now) found c.requires.recent c.requires.kept made)
     c.found_in.ensures

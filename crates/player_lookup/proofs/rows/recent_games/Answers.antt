@@ -1,10 +1,10 @@
 use Rattle.std.proofs.Common.{◌≡◌, List, map, take, ap, subst, ◌∙◌}
 use Rattle.std.specs.Prelude.{filter_map}
 use Rattle.std.specs.Arc.{arc_value}
+use Rattle.std.proofs.lemmas.Result.{IfOk-weaker}
 use Rattle.best_lists.specs.declared.entry.Entry.{Entry}
 use Rattle.explorer_model.specs.declared.answer.Listed.{Listed}
 use Rattle.player_lookup.specs.Made.{AreLatestOf}
-use Rattle.player_lookup.proofs.MadeAnswers.{if-ok}
 use Rattle.row_sums.specs.Hits.{NumberedRow, hit_as}
 use Rattle.row_sums.specs.Listing.{classes_in, listed_where}
 use Rattle.player_lookup.proofs.rows.recent_games.Goals as goal
@@ -16,7 +16,7 @@ returns c =
     let told : (rows : List NumberedRow) (entries : List Entry) → List Listed → Type 0 =
     λ rows entries listed. listed ≡ filter_map (λ (entry : Entry). listed_where (λ row. row.recent) games rows entry.number) entries in
     let entries : c.first.result.now ≡ take c.args.most c.in_ok-recent.recent = c.first.ensures ∙ ap (take c.args.most) c.entries.ensures.entries in
-    if-ok (λ listed. told (map hit_as c.as_slice.result.now) c.first.result.now listed.items) (λ listed. AreLatestOf games hits c.args.most listed.items) c.listed_by_month.result
+    IfOk-weaker c.listed_by_month.result (λ listed. told (map hit_as c.as_slice.result.now) c.first.result.now listed.items) (λ listed. AreLatestOf games hits c.args.most listed.items)
     (λ listed is. record {
       rows = map hit_as c.in_ok-recent.rows.items;
       entries = c.in_ok-recent.recent;

@@ -1,8 +1,9 @@
 use Rattle.std.proofs.Common.{◌≡◌, ◌<◌, ◌∙◌, length, Err, arith}
 use Rattle.std.proofs.lemmas.Result.{err_from_is_err_and}
+use Rattle.plain_laws.specs.Options.{IfSome-at, IfSome-from}
 use Rattle.record_log.specs.Log.{reading_of}
 use Rattle.record_log.specs.Reading.{IsDamaged}
-use Rattle.record_log.proofs.Told.{told_by, told_at, kept_content}
+use Rattle.record_log.proofs.Told.{kept_content}
 use Rattle.record_log.proofs.Records.{damaged_there, ends_there, stop_behind}
 use Rattle.record_log.proofs.opening.read_records.Goals as goal
 
@@ -17,7 +18,7 @@ returns-in_err-payload-clause-stops g c =
     (kept_content g.D.Disk.disk g.D.Disk.left_since c.args.disk.now l.disk l.invariant.quiet) l.invariant.quiet.never_falls
     (λ fault file is bad.
     let inside : l.gate < length file = omega (arith, g.met.D.Disk.told_size c.args.disk.now file is, c.requires.size, so_far.inside) in
-    damaged_there c.args.format l.payloads.items l.gate file (told_at _ _ file is l.invariant.begins) fault
+    damaged_there c.args.format l.payloads.items l.gate file (IfSome-at _ _ file is l.invariant.begins) fault
     so_far.can_stand so_far.place inside bad)
     c.in_err-payload.ensures.stops)
 
@@ -26,6 +27,6 @@ returns-clause-read g c =
     let l = c.loop-payloads in
     let found = rw c.in_default.is at c.in_ok-payload.ensures.found in
     let kept = kept_content g.D.Disk.disk g.D.Disk.left_since c.args.disk.now l.disk l.invariant.quiet in
-    told_by _ _ (λ file is.
-    ends_there c.args.format l.payloads.items l.gate file (told_at _ _ file is l.invariant.begins)
-    l.invariant.up_to.can_stand (told_at _ _ file (kept ∙ is) found))
+    IfSome-from _ _ (λ file is.
+    ends_there c.args.format l.payloads.items l.gate file (IfSome-at _ _ file is l.invariant.begins)
+    l.invariant.up_to.can_stand (IfSome-at _ _ file (kept ∙ is) found))

@@ -1,9 +1,10 @@
 use Rattle.std.proofs.Common.{◌≡◌, ◌↔◌, ◌<◌, ℕ, inl, inr, refl, sym, subst}
 use Rattle.std.proofs.lemmas.Bool.{cases_eq}
+use Rattle.legal_moves.proofs.PinLemmas.{some_square}
 use Rattle.step_tables.specs.Bitboard.{Holds}
 use Rattle.step_tables.proofs.BitboardLemmas.{Holds-zero}
 use Rattle.explorer_model.specs.declared.square.Square.{Square}
-use Rattle.san_codec.proofs.Sources.{same_flag, some_bit, sources_at, among-says, none-found, two-found, move-found}
+use Rattle.san_codec.proofs.Sources.{same_flag, sources_at, among-says, none-found, two-found, move-found}
 use Rattle.san_codec.proofs.board_reader.read_named.Goals as goal
 
 only_one : (found more first : ℕ) → ((b : ℕ) → b < 64 → Holds more b ↔ (Holds found b × (b ≡ first → ⊥))) → more ≡ 0
@@ -26,7 +27,7 @@ pub returns-then-more-ne0 : goal.returns-then-more-ne0
 returns-then-more-ne0 c =
     let to : Square = record { index = c.args.named.target; on_board = c.if-named-ge64.false } in
     let first : Square = record { index = c.lowest-first.result; on_board = c.lowest-first.ensures.on_board } in
-    let bit = some_bit c.without-more.result c.without-more.type_inv c.if-more-ne0.true in
+    let bit = some_square c.without-more.result c.without-more.type_inv c.if-more-ne0.true in
     let second : Square = record { index = bit.0; on_board = bit.1 } in
     let more = (c.without-more.ensures.others bit.0 bit.1).0 bit.2 in
     two-found c.args.board.now c.args.named to refl c.takes.result c.takes.ensures.captures (same_flag c.takes.result c.args.named.captures c.if-takes-named.false)

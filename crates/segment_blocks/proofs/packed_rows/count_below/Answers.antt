@@ -1,14 +1,11 @@
-use Rattle.std.proofs.Common.{◌≡◌, ◌+◌, ◌<◌, ◌/◌, [], true, false, length, get_or, refl, Bool, sym, ap, ◌∙◌, true≢false, arith}
+use Rattle.std.proofs.Common.{◌≡◌, ◌+◌, ◌<◌, ◌/◌, [], true, false, length, get_or, sym, ap, ◌∙◌, true≢false, arith}
 use Rattle.std.proofs.lemmas.List.{get_or_default}
+use Rattle.std.proofs.lemmas.Bool.{false_from_ne_true}
+use Rattle.plain_laws.specs.Numbers.{halves}
 use Rattle.segment_blocks.specs.PackedRows.{is_first_below}
 use Rattle.segment_blocks.proofs.KeyLemmas.{Rise-from_sorted}
 use Rattle.segment_blocks.proofs.BlockLemmas.{first-chain}
-use Rattle.segment_blocks.proofs.HalvingLemmas.{halves}
 use Rattle.segment_blocks.proofs.packed_rows.count_below.Goals as goal
-
-not_true : (b : Bool) → (b ≡ true → ⊥) → b ≡ false
-not_true true h = absurd (h refl)
-not_true false h = refl
 
 pub loop-size-preserved-then-begins_below : goal.loop-size-preserved-then-begins_below
 loop-size-preserved-then-begins_below g c =
@@ -46,7 +43,7 @@ loop-size-preserved g c =
     record {
       within = omega (arith, l.invariant.within);
       below = l.invariant.below;
-      above = λ k more inside. not_true (is_first_below key (get_or blocks k [])) (λ e. true≢false (sym (first-chain key blocks middle k c.requires.some (Rise-from_sorted _ c.requires.ordered) more inside e) ∙ here));
+      above = λ k more inside. false_from_ne_true (is_first_below key (get_or blocks k [])) (λ e. true≢false (sym (first-chain key blocks middle k c.requires.some (Rise-from_sorted _ c.requires.ordered) more inside e) ∙ here));
       cost = λ digits fits.
           let old = l.invariant.cost digits fits in
           let new = halves l.size old.0 some old.1 in

@@ -2,9 +2,10 @@ use Rattle.std.proofs.Common.{◌≡◌, ◌<◌, ◌^◌, ℕ, Bool, true, fals
 use Rattle.std.specs.Result.{result_ok}
 use Rattle.best_lists.specs.declared.entry.Entry.{Entry}
 use Rattle.explorer_model.specs.declared.archive.Outcome.{Outcome}
+use Rattle.explorer_model.specs.Counting.{month_number}
 use Rattle.tally_rows.specs.declared.row.Row.{Row}
 use Rattle.tally_rows.specs.declared.single.Single.{Single}
-use Rattle.tally_rows.specs.Row.{row_of, row_key_of, is_white, is_draw, is_black, month_rank}
+use Rattle.tally_rows.specs.Row.{row_of, row_key_of, is_white, is_draw, is_black}
 use Rattle.segment_blocks.proofs.single_game.single_in.Goals as goal
 
 -- a row with the parts of a single, and the counts and the lists of its row
@@ -69,7 +70,7 @@ read_again game s parts outcome rating first =
     same_row (row_of game) s parts (ap (λ o. cond (is_white o) 1 0) outcome) (ap (λ o. cond (is_draw o) 1 0) outcome) (ap (λ o. cond (is_black o) 1 0) outcome)
     ((λ i. cond (is_some (parts i).next) (rating i) 0) ∙ rating-again b game.rating)
     ((λ i. cond (is_some (parts i).next) (e ∷ []) []) ∙ top-again b e f first)
-    ((λ i. cond (is_some (parts i).next) (ranked (month_rank (parts i).month) e ∷ []) []) ∙ recent-again b (month_rank game.row_key.month) e f first)
+    ((λ i. cond (is_some (parts i).next) (ranked (month_number (parts i).month) e ∷ []) []) ∙ recent-again b (month_number game.row_key.month) e f first)
 
 rating-fits : (game : Single) → game.rating < 2 ^ 16 → (row_of game).ratings < 2 ^ 16
 unfolding row_of

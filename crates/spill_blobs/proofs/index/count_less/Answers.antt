@@ -1,5 +1,5 @@
 use Rattle.std.proofs.Common.{◌≡◌, ◌+◌, ◌<◌, ◌/◌, [], true, false, length, get_or, sym, ◌∙◌, true≢false, arith}
-use Rattle.segment_blocks.proofs.HalvingLemmas.{halves}
+use Rattle.plain_laws.specs.Numbers.{halves}
 use Rattle.spill_blobs.specs.Marks.{is_less}
 use Rattle.spill_blobs.proofs.IndexLemmas.{less-chain, not_true}
 use Rattle.spill_blobs.proofs.MarkLemmas.{count-is}

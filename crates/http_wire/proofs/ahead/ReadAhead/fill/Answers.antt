@@ -1,16 +1,13 @@
-use Rattle.std.proofs.Common.{◌≡◌, ◌≤◌, ◌-◌, ◌++◌, List, ℕ, length, take, slice_range, Result, Ok, Err, OnErr, sym, subst, ap, ◌∙◌, arith}
+use Rattle.std.proofs.Common.{◌≡◌, ◌≤◌, ◌-◌, ◌++◌, List, ℕ, length, take, slice_range, sym, subst, ap, ◌∙◌, arith}
 use Rattle.std.proofs.lemmas.List.{length-take-le}
 use Rattle.std.specs.List.{copy_within}
+use Rattle.plain_laws.specs.Results.{OnErr-from}
 use Rattle.outside.specs.Stream.{Stream}
 use Rattle.outside.proofs.StreamLemmas.{reads-gives}
 use Rattle.http_wire.specs.declared.ahead.ReadAhead.TheInside.{Inside}
 use Rattle.http_wire.proofs.Places.{part-before, part-more, part-moved}
 use Rattle.http_wire.proofs.ahead.ReadAhead.fill.Goals.{then-self-eq8192, else-self-eq8192}
 use Rattle.http_wire.proofs.ahead.ReadAhead.fill.Goals as goal
-
-on_err : {A E : Type 0} (r : Result A E) (P : Type 0) → P → OnErr r P
-on_err (Ok a) P holds = tt
-on_err (Err e) P holds = holds
 
 -- what is read ahead stays where it is moved
 record Stays (inside : Inside) (old : List ℕ) : Type 0 where
@@ -47,7 +44,7 @@ returns-in_err-count-clause-stays g c =
           w.copy_within.ensures.after w.copy_within.ensures.len w.self-inside-is
       | else-self-eq8192 w ↦ stays-there old inside c.args.self.now c.self.invariant.0 fits c.self.view_is w.self-inside-is
     ] in
-    on_err c.from_residual.result _
+    OnErr-from c.from_residual.result _
     (part-before inside.bytes c.read.new.into inside.start inside.end (8192 - inside.end) stays.fits ∙ stays.kept)
 
 pub returns-clause-fills : goal.returns-clause-fills

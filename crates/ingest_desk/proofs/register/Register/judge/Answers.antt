@@ -1,10 +1,11 @@
 use Rattle.std.proofs.Common.{◌≡◌, ◌+◌, ℕ, true, false, List, length, sum_by, sym, ap, ◌∙◌, arith}
+use Rattle.plain_laws.specs.Lists.{length-zero}
 use Rattle.explorer_model.specs.declared.archive.Batch.{Batch}
 use Rattle.ingest_desk.specs.Causes.{is_over}
 use Rattle.ingest_desk.specs.Clashes.{clashes_of}
 use Rattle.ingest_desk.specs.IdTable.{number_at}
 use Rattle.ingest_desk.specs.Registers.{text_bytes}
-use Rattle.ingest_desk.proofs.RegisterLemmas.{judged_clash, judged_room, length_some, length_zero, long}
+use Rattle.ingest_desk.proofs.RegisterLemmas.{judged_clash, judged_room, length_some, long}
 use Rattle.ingest_desk.proofs.register.Register.judge.Goals as goal
 
 pub clashes-pairs-requires : goal.clashes-pairs-requires
@@ -32,7 +33,7 @@ returns-then-is_over c = λ journal games is are.
     ap length c.classes-classes.ensures ∙ long tally c.batch-batch.ensures.counted in
     judged_room c.game_is_determined.ensures journal games now is are tally pairs
     (c.clashes-pairs.ensures ∙ ap (clashes_of (number_at now.ids)) c.classes-classes.ensures)
-    (length_zero pairs (sym c.is_empty.ensures ∙ c.if-not-is_empty.false)) true
+    (length-zero pairs (sym c.is_empty.ensures ∙ c.if-not-is_empty.false)) true
     (ap (λ n. is_over (now.games + n) (now.bytes + text_bytes tally.batch)) (sym games_are)
     ∙ ap (λ n. is_over (now.games + length c.classes-classes.result.now) (now.bytes + n)) (sym bytes)
     ∙ sym c.is_over.ensures ∙ c.if-is_over.true)
@@ -49,7 +50,7 @@ returns c = λ journal games is are.
     ap length c.classes-classes.ensures ∙ long tally c.batch-batch.ensures.counted in
     judged_room c.game_is_determined.ensures journal games now is are tally pairs
     (c.clashes-pairs.ensures ∙ ap (clashes_of (number_at now.ids)) c.classes-classes.ensures)
-    (length_zero pairs (sym c.is_empty.ensures ∙ c.if-not-is_empty.false)) false
+    (length-zero pairs (sym c.is_empty.ensures ∙ c.if-not-is_empty.false)) false
     (ap (λ n. is_over (now.games + n) (now.bytes + text_bytes tally.batch)) (sym games_are)
     ∙ ap (λ n. is_over (now.games + length c.classes-classes.result.now) (now.bytes + n)) (sym bytes)
     ∙ sym c.is_over.ensures ∙ c.if-is_over.false)

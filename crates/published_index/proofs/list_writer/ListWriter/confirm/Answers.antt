@@ -1,5 +1,5 @@
 use Rattle.std.proofs.Common.{drop}
-use Rattle.published_index.proofs.PrefixLemmas.{prefix-trans}
+use Rattle.explorer_model.proofs.Timelines.{prefix-trans}
 use Rattle.published_index.proofs.WriterLemmas.{within-journal}
 use Rattle.published_index.proofs.list_writer.ListWriter.confirm.Goals as goal
 

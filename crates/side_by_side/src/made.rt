@@ -1,4 +1,4 @@
-//! What leaves made, where each of them had the memory for it.
+//! What calls made, where each of them had the memory for it.
 ghost use Rattle.std.specs.Prelude.{◌≡◌, Ok, IfOk, map};
 
 use std::alloc::{AllocError, Global};
@@ -6,8 +6,8 @@ use std::alloc::{AllocError, Global};
 /// The parts, where each was made.
 pub fn all_made<T: Drop>(
     alloc: Global,
-    results: Vec<Result<Vec<T>, AllocError>>,
-) -> Result<Vec<Vec<T>>, AllocError>
+    results: Vec<Result<T, AllocError>>,
+) -> Result<Vec<T>, AllocError>
     ensures { IfOk result (λ parts. map Ok parts.items ≡ results.items) }
 {
     let mut parts = Vec::with_capacity(alloc, results.len())?;

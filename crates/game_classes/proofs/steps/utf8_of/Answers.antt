@@ -1,9 +1,0 @@
-use Rattle.std.proofs.Common.{◌∙◌, ap, Some, List, ℕ}
-use Rattle.game_classes.proofs.Texts.{name_of-text, name_of-other}
-use Rattle.game_classes.proofs.steps.utf8_of.Goals as goal
-
-pub returns-in-Ok : goal.returns-in-Ok
-returns-in-Ok c = ap (λ (s : List ℕ). Some s) c.in-Ok.ensures.cases.0 ∙ name_of-text c.args.bytes.now c.in-Ok.ensures.cases.1
-
-pub returns-in-Err : goal.returns-in-Err
-returns-in-Err c = name_of-other c.args.bytes.now c.in-Err.ensures.cases.0

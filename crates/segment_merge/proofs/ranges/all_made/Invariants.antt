@@ -1,5 +1,0 @@
-use Rattle.std.proofs.Common.{◌≡◌, ◌++◌, Ok, map}
-use Rattle.segment_merge.proofs.ranges.all_made.Given as goal
-
-abbrev pub invariant-loop-part : goal.invariant-loop-part
-invariant-loop-part l = map Ok l.parts.items ++ l.part-iterator.rest.items ≡ l.fn.results.items
