@@ -4,6 +4,7 @@ use Rattle.std.specs.List.{All, AllByRecursion, AllZip}
 use Rattle.std.specs.Prelude.{IsSome}
 use Rattle.std.proofs.lemmas.List.{append-nil}
 use Rattle.std.proofs.lemmas.List.Elements.{All-append, All-cons, All-nil}
+use Rattle.std.proofs.lemmas.Slice.Zip.{all_zipped_more}
 use Rattle.outside.specs.Stream.{Reads, Rises, Stream}
 use Rattle.explorer_model.specs.declared.archive.Placed.{Placed}
 use Rattle.explorer_model.specs.Cuts.{Cut, cuts, text_limit}
@@ -26,12 +27,6 @@ use Rattle.import_run.proofs.PlaceLemmas.{ascend_of_stream}
 use Rattle.import_run.proofs.TakingLemmas.{all_cuts-more, all_whole, hand_ascends, more_cuts}
 
 -- ---- lists of groups
-
-pub zip_more : {A B : Type 0} (R : A → B → Type 0) (xs : List A) (ys : List B) (x : A) (y : B) → AllZip R xs ys → R x y → AllZip R (xs ++ x ∷ []) (ys ++ y ∷ [])
-zip_more R [] [] x y each last = (last, tt)
-zip_more R [] (b ∷ ys) x y each last = absurd each
-zip_more R (a ∷ xs) [] x y each last = absurd each
-zip_more R (a ∷ xs) (b ∷ ys) x y each last = (each.0, zip_more R xs ys x y each.1 last)
 
 all_ascend : (groups : List (List Cut)) (hand : List Cut) → AllByRecursion Ascend groups → Ascend hand → AllByRecursion Ascend (groups ++ hand ∷ [])
 all_ascend [] hand each last = (last, tt)
@@ -67,7 +62,7 @@ module _ (given : List (List Cut)) (taken : List Cut) (cut : Cut) (whole : List 
       let same = more_groups given h.whole (h.hand ++ cut ∷ []) in
       record {
         whole = h.whole ++ hand ∷ [];
-        held = subst (λ (l : List TextGroup). AllZip IsGroupOf (h.whole ++ hand ∷ []) l) (sym more_is) (zip_more IsGroupOf h.whole whole hand mid h.held here);
+        held = subst (λ (l : List TextGroup). AllZip IsGroupOf (h.whole ++ hand ∷ []) l) (sym more_is) (all_zipped_more IsGroupOf h.whole whole hand mid h.held here);
         hand = [];
         holds = none;
         all = is ∙ sym (all_cuts-more (given ++ h.whole) hand) ∙ ap (λ (l : List (List Cut)). all_cuts l ++ []) same;
@@ -82,7 +77,7 @@ ends_all given stream taken whole more group few all more_is ascend h =
     let same = more_groups given h.whole h.hand in
     record {
       whole = h.whole ++ h.hand ∷ [];
-      held = subst (λ (l : List TextGroup). AllZip IsGroupOf (h.whole ++ h.hand ∷ []) l) (sym more_is) (zip_more IsGroupOf h.whole whole h.hand group h.held h.holds);
+      held = subst (λ (l : List TextGroup). AllZip IsGroupOf (h.whole ++ h.hand ∷ []) l) (sym more_is) (all_zipped_more IsGroupOf h.whole whole h.hand group h.held h.holds);
       all = record {
         whole = given ++ h.whole;
         hand = h.hand;

@@ -55,7 +55,7 @@ same_games one (text ∷ texts) (g ∷ gs) (h ∷ hs) a b =
 
 -- ---- one commit
 
-module _ {D : Type 0} (disk : D → DiskState) (left_since : D → ℕ → List ℕ → Type 0) (tally : Counted) (old new : Stored D) (had has : Drawing) where
+module _ {D : Type 0} (one : OneGame) (disk : D → DiskState) (left_since : D → ℕ → List ℕ → Type 0) (tally : Counted) (old new : Stored D) (had has : Drawing) where
   module _ (known : Known) (is_known : Some (stored_in old) ≡ Some (store_of known)) where
     same : stored_in old ≡ store_of known
     same = some_same (stored_in old) (store_of known) is_known
@@ -105,7 +105,13 @@ module _ {D : Type 0} (disk : D → DiskState) (left_since : D → ℕ → List 
         is.told,
       )
       by_answer (Err (faults.Closed before after mark)) is = (refuses (IsClosed before after) is.store, is.marked)
-      by_answer (Err (faults.Clash handed pairs note)) is = (refuses (HasIds pairs.items) is.store, is.back)
+      by_answer (Err (faults.Clash handed pairs note)) is = (
+        refuses (HasIds pairs.items) is.store,
+        is.back,
+        λ games are.
+            let J : List Batch → Type 0 = λ j. AreGamesOf j games in
+            same_games one (texts_of known.journal) games known.games (subst J (is.told ∙ is.store.stores ∙ at) are) known.are_games,
+      )
       by_answer (Err (faults.Full games bytes note)) is = (refuses (HasNoRoom games bytes) is.store, is.told)
       by_answer (Err (faults.DiskFault before after mark)) is = (
         record {
@@ -129,13 +135,6 @@ module _ {D : Type 0} (disk : D → DiskState) (left_since : D → ℕ → List 
   pub commits : {J : Type 0} (answer : Result (Receipt J) (CommitFault J)) → desk.CommitsBy disk left_since tally old new had has answer → (known : Known) → Some (stored_in old) ≡ Some (store_of known)
       → Commits answer known tally (Some (stored_in new))
   commits answer is known is_known = record { new = stored_in new; still = refl; by = by_answer known is_known answer is }
-
--- the games of a store that is known are those of its journal
-pub known_games : {D : Type 0} (old : Stored D) (sound : IsSound (journal old)) → OneGame → (known : Known) → Some (stored_in old) ≡ Some (store_of known) → known.games ≡ sound.games
-known_games old sound one known is =
-    let at : journal old ≡ known.journal = ap (λ (s : Store). s.journal) (some_same (stored_in old) (store_of known) is) in
-    let G : List Batch → Type 0 = λ j. AreGamesOf j known.games in
-    same_games one (texts_of (journal old)) known.games sound.games (subst G (sym at) known.are_games) sound.are_games
 
 -- ---- an import
 

@@ -1,6 +1,8 @@
 -- What the answer to a commit tells by itself.
 use Rattle.std.proofs.Common.{◌≡◌, ◌≢◌, ◌∙◌, ℕ, Bool, true, false, List, [], ◌∷◌, ◌++◌, length, take, Option, None, Some, Result, Ok, Err, if◌then◌else◌, refl, sym, ap, subst}
 use Rattle.std.specs.Prelude.{slice_get}
+use Rattle.std.proofs.lemmas.Option.{none-some}
+use Rattle.plain_laws.specs.Lists.{get-between}
 use Rattle.disk_model.specs.Disk.{DiskState}
 use Rattle.explorer_model.specs.declared.archive.Batch.{Batch}
 use Rattle.explorer_model.specs.declared.archive.Game.{Game}
@@ -9,7 +11,7 @@ use Rattle.explorer_model.specs.Journal.{IsSound, byte_count, game_count}
 use Rattle.explorer_model.specs.Visits.{AreGamesOf}
 use Rattle.published_index.specs.Places.{Drawing}
 use Rattle.tally_rows.specs.Tally.{Counted}
-use Rattle.ingest_desk.specs.Causes.{Cause, HasIds, HasNoRoom, IsClosed, cause, cause_by, has_no_room}
+use Rattle.ingest_desk.specs.Causes.{HasIds, HasNoRoom, IsClosed, cause, cause_by, has_no_room}
 use Rattle.ingest_desk.specs.Clashes.{clashes_of}
 use Rattle.ingest_desk.specs.Commits.{CommitsBy, IsReceiptOf}
 use Rattle.ingest_desk.specs.Reporting.{IsReceipt}
@@ -19,22 +21,15 @@ use Rattle.ingest_desk.specs.declared.fault.CommitFault.{CommitFault}
 use Rattle.ingest_desk.specs.declared.fault.CommitFault.TheVariants as faults
 use Rattle.ingest_desk.specs.declared.receipt.Receipt.{Receipt}
 use Rattle.import_run.specs.Beside.{AnswersTo, IsFullFor}
-use Rattle.import_run.specs.Committing.{IsClash, Known, Store, store_of}
+use Rattle.import_run.specs.Committing.{IsClash}
 
 -- ---- lists
-
-get_behind : (xs : List Batch) (x : Batch) → slice_get (xs ++ x ∷ []) (length xs) ≡ Some x
-get_behind [] x = refl
-get_behind (y ∷ ys) x = get_behind ys x
 
 take_front : (xs : List Batch) (x : Batch) → take (length xs) (xs ++ x ∷ []) ≡ xs
 take_front [] x = refl
 take_front (y ∷ ys) x = ap (λ (l : List Batch). y ∷ l) (take_front ys x)
 
 -- ---- causes
-
-none_some : (c : Cause) → (let o : Option Cause = None in o) ≡ Some c → ⊥
-none_some c e = cc
 
 closed_room : (f : ℕ × ℕ) (games bytes : ℕ) → Some (IsClosed f.0 f.1) ≡ Some (HasNoRoom games bytes) → ⊥
 closed_room f games bytes e = cc
@@ -60,7 +55,7 @@ same_bytes a b c d e = cc
 module _ (stored : List Game) (journal : List Batch) (tally : Counted) (are : AreGamesOf journal stored) where
   full_by_room : (games bytes : ℕ) (b : Bool) → has_no_room journal tally.batch ≡ b → clashes_of (numbers_of stored) tally.classes ≡ []
       → (if b then Some (HasNoRoom (game_count journal) (byte_count journal)) else None) ≡ Some (HasNoRoom games bytes) → IsFullFor journal games bytes tally
-  full_by_room games bytes false is none e = absurd (none_some _ e)
+  full_by_room games bytes false is none e = absurd (none-some _ e)
   full_by_room games bytes true is none e = record {
     games_are = same_games (game_count journal) (byte_count journal) games bytes e;
     bytes_are = same_bytes (game_count journal) (byte_count journal) games bytes e;
@@ -81,7 +76,7 @@ module _ (stored : List Game) (journal : List Batch) (tally : Counted) (are : Ar
 
   ids_by_room : (named : List Clashing) (b : Bool) → (if b then Some (HasNoRoom (game_count journal) (byte_count journal)) else None) ≡ Some (HasIds named) → ⊥
   ids_by_room named true e = room_ids named _ _ e
-  ids_by_room named false e = none_some _ e
+  ids_by_room named false e = none-some _ e
 
   cons_some : (pair : Clashing) (pairs : List Clashing) → pair ∷ pairs ≡ [] → ⊥
   cons_some pair pairs e = cc
@@ -107,7 +102,7 @@ module _ {D J : Type 0} (disk : D → DiskState) (left_since : D → ℕ → Lis
       let before = journal old in
       record {
         batches = is.batches;
-        stands = ap (λ (l : List Batch). slice_get l (length before)) note ∙ get_behind before tally.batch;
+        stands = ap (λ (l : List Batch). slice_get l (length before)) note ∙ get-between before tally.batch [];
         games = is.games;
         first = is.first ∙ sym (ap (λ (l : List Batch). game_count (take (length before) l)) note ∙ ap game_count (take_front before tally.batch));
       }
@@ -123,15 +118,14 @@ module _ {D J : Type 0} (disk : D → DiskState) (left_since : D → ℕ → Lis
       let are = sound.are_games in
       subst P (sym (is.told ∙ is.store.stores)) (full sound.games (journal old) tally are games bytes old.manifest.fault (is.store.refused sound.games are))
 
-  pub clash-of : (told : Option Store) → ((known : Known) → told ≡ Some (store_of known) → known.games ≡ sound.games)
-      → (result : Result (Receipt J) (CommitFault J)) → CommitsBy disk left_since tally old new had has result → IsClash result tally told
-  clash-of told same (Ok receipt) is = tt
-  clash-of told same (Err (faults.Closed before after mark)) is = tt
-  clash-of told same (Err (faults.DiskFault before after mark)) is = tt
-  clash-of told same (Err (faults.Full games bytes note)) is = tt
-  clash-of told same (Err (faults.OutOfMemory out)) is = tt
-  clash-of told same (Err (faults.Clash handed pairs note)) is =
+  pub clash-of : (result : Result (Receipt J) (CommitFault J)) → CommitsBy disk left_since tally old new had has result → IsClash result tally
+  clash-of (Ok receipt) is = tt
+  clash-of (Err (faults.Closed before after mark)) is = tt
+  clash-of (Err (faults.DiskFault before after mark)) is = tt
+  clash-of (Err (faults.Full games bytes note)) is = tt
+  clash-of (Err (faults.OutOfMemory out)) is = tt
+  clash-of (Err (faults.Clash handed pairs note)) is =
       let are = sound.are_games in
       let named = ids sound.games (journal old) tally are pairs.items old.manifest.fault (is.store.refused sound.games are) in
       let P : List Batch → Type 0 = λ j. AreGamesOf j sound.games in
-      (is.back, (named.0, (sound.games, (subst P (sym (is.told ∙ is.store.stores)) are, (named.1, same)))))
+      (is.back, (named.0, (sound.games, (subst P (sym (is.told ∙ is.store.stores)) are, named.1))))

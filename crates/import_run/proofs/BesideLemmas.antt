@@ -1,6 +1,5 @@
 -- Groups that are settled, whoever else stores beside.
-use Rattle.std.proofs.Common.{◌≡◌, ◌≢◌, ◌∙◌, ◌+◌, ◌<◌, ◌≤◌, ◌||◌, ℕ, Bool, true, false, List, [], ◌∷◌, ◌++◌, length, map, filter_map, Option, None, Some, option_map, Result, Ok, Err, refl, sym, ap, subst, suc, arith, nat_lt, length-append}
-use Rattle.std.specs.Option.{option_or}
+use Rattle.std.proofs.Common.{◌≡◌, ◌≢◌, ◌∙◌, ◌+◌, ◌<◌, ◌≤◌, ◌||◌, ℕ, Bool, true, false, List, [], ◌∷◌, ◌++◌, length, map, filter_map, Option, None, Some, Result, Ok, Err, refl, sym, ap, subst, suc, arith, nat_lt, length-append}
 use Rattle.std.specs.Prelude.{sum_by}
 use Rattle.std.specs.List.{All, AllZip, Contains, cons_option, flat_map}
 use Rattle.std.proofs.lemmas.Bool.Decides.{nat_tests}
@@ -9,7 +8,6 @@ use Rattle.std.proofs.lemmas.List.{append-nil, length-map}
 use Rattle.std.proofs.lemmas.List.Elements.{All-append, All-from_recursion, Contains-append_left, Contains-append_right, filter_map-append}
 use Rattle.std.proofs.lemmas.List.Sums.{sum_by-append}
 use Rattle.explorer_model.specs.declared.archive.Batch.{Batch}
-use Rattle.explorer_model.specs.declared.archive.Placed.{Placed}
 use Rattle.explorer_model.specs.declared.fault.Refusal.{Refusal}
 use Rattle.explorer_model.specs.Cuts.{Cut}
 use Rattle.explorer_model.specs.Imports.{AccountedBeside, AreExaminations, Candidate, Examination, IsExaminationOf, Numbering, Verdict, batch_of, candidates, numbers_of, refusals, verdicts, verdicts_behind, verdicts_by}
@@ -19,8 +17,6 @@ use Rattle.explorer_model.specs.Visits.{texts_of}
 use Rattle.explorer_model.proofs.Lists.{zip-append}
 use Rattle.tally_rows.specs.Tally.{Counted}
 use Rattle.tally_rows.proofs.Sums.{sum_by-map}
-use Rattle.batch_tally.specs.Tallying.{IsTallying}
-use Rattle.batch_tally.specs.declared.tallying.Tallying.{Tallying}
 use Rattle.ingest_desk.specs.Causes.{is_over}
 use Rattle.ingest_desk.specs.Clashes.{clashes_from}
 use Rattle.ingest_desk.specs.Marked.{IsMark}
@@ -30,87 +26,17 @@ use Rattle.ingest_desk.specs.declared.fault.CommitFault.TheVariants as faults
 use Rattle.ingest_desk.specs.declared.mark.MarkKind.TheVariants as kinds
 use Rattle.ingest_desk.specs.declared.receipt.Receipt.{Receipt}
 use Rattle.ingest_desk.specs.declared.report.End.{End}
+use Rattle.ingest_desk.proofs.RegisterLemmas.{texts_more}
 use Rattle.import_run.specs.declared.open_import.OpenImport.{OpenImport}
 use Rattle.import_run.specs.declared.open_import.Stopped.{Stopped}
 use Rattle.import_run.specs.declared.settle.Done.{Done}
-use Rattle.import_run.specs.declared.text_group.TalliedGroup.{TalliedGroup}
-use Rattle.import_run.specs.Beside.{AnswersFor, AnswersTo, AreNamed, AreRepeats, EndsBeside, IsFullFor, ProgressBeside, RoundsBeside, SettlesBeside, StopsBeside, last_batches}
-use Rattle.import_run.specs.Committing.{Known, Store, store_of}
-use Rattle.import_run.specs.Grouping.{Ascend, IsTallied, merged}
+use Rattle.import_run.specs.Beside.{AnswersFor, AnswersTo, AreRepeats, EndsBeside, IsFullFor, ProgressBeside, SettlesBeside, StopsBeside, last_batches}
 use Rattle.import_run.specs.Importing.{IsEndOf}
-use Rattle.import_run.specs.Labelling.{CountsUnder, under}
+use Rattle.import_run.specs.Labelling.{CountsUnder}
 use Rattle.import_run.specs.Rounds.{IsDecided}
-use Rattle.import_run.specs.Settling.{kept, left_by, lost, named_by, placed}
-use Rattle.import_run.proofs.HandLemmas.{batch_texts, counted_ids, first, kept_none, more}
-use Rattle.import_run.proofs.RepeatLemmas.{all-repeats-grow, named-grow, repeats}
-use Rattle.import_run.proofs.TurnLemmas.{texts_more}
-use Rattle.import_run.proofs.VerdictLemmas.{OneGame, found}
-
--- ---- rounds
-
-pub untold : (known : Known) → (let o : Option Store = None in o) ≡ Some (store_of known) → ⊥
-untold known e = cc
-
-no_number : (n : ℕ) → (let o : Option ℕ = None in o) ≡ Some n → ⊥
-no_number n e = cc
-
--- the group as it was tallied first
-pub first_beside : {label : List ℕ} (cuts : List Cut) (made : TalliedGroup) (clashes : List (List Batch)) → Ascend cuts → IsTallied label cuts made
-    → RoundsBeside label cuts made.tally made.places.items made.refused.items clashes
-unfolding first
-first_beside {label} cuts made clashes ascend is = record {
-  rounds = first None cuts made ascend is;
-  named = λ id n e. absurd (no_number n e);
-}
-
-by_both : (o p : Option ℕ) (n : ℕ) (P : Type 0) → (o ≡ Some n → P) → (p ≡ Some n → P) → option_or o p ≡ Some n → P
-by_both None p n P from then e = then e
-by_both (Some m) p n P from then e = from e
-
--- what was named before, or is named in the journal of one clash more
-found_named : (stored number : Numbering) (clashes clashes' : List (List Batch)) → IsPrefix clashes clashes' → AreNamed clashes stored → AreNamed clashes' number → AreNamed clashes' (found stored number)
-found_named stored number clashes clashes' grew named more id n e =
-    by_both (stored id) (number id) n _ (λ here. named-grow clashes clashes' stored grew named id n here) (λ there. more id n there) e
-
-pub more_beside : {label : List ℕ} → OneGame → (cuts : List Cut) (counted : Counted) (places : List ℕ) (refused : List Refusal) (clashes clashes' : List (List Batch)) (r : RoundsBeside label cuts (Some counted) places refused clashes)
-    (number : Numbering) (named refused' : List Refusal) (rest : List Placed) (next : Tallying) (tally : Option Counted) → IsPrefix clashes clashes' → AreNamed clashes' number
-    → named ≡ named_by number (kept r.rounds.stored (verdicts r.rounds.examinations)) → rest ≡ map placed (left_by number (kept r.rounds.stored (verdicts r.rounds.examinations)))
-    → refused' ≡ merged refused named → IsTallying rest next → tally ≡ option_map (under label) next.tally → RoundsBeside label cuts tally next.places.items refused' clashes'
-unfolding more
-more_beside {label} one cuts counted places refused clashes clashes' r number named refused' rest next tally grew theirs named_are rest_are refused_are made tally_is = record {
-  rounds = more one None cuts counted places refused None r.rounds number named refused' rest next tally None named_are rest_are refused_are made tally_is
-      (λ k e. absurd (untold k e)) (λ k e. absurd (untold k e));
-  named = found_named r.rounds.stored number clashes clashes' grew r.named theirs;
-}
-
--- ---- the end of a group
-
-module _ {J : Type 0} where
-  pub settles_beside : {label : List ℕ} (cuts : List Cut) (counted : Counted) (places : List ℕ) (refused : List Refusal) (clashes clashes' : List (List Batch)) (r : RoundsBeside label cuts (Some counted) places refused clashes)
-      (answer : Result (Receipt J) (CommitFault J)) (done : Done J) → IsPrefix clashes clashes' → AnswersTo answer counted → done.answer ≡ Some answer → done.refused.items ≡ refused → SettlesBeside label cuts done clashes'
-  settles_beside {label} cuts counted places refused clashes clashes' r answer done grew answers answer_is refused_is =
-      let P : Option (Result (Receipt J) (CommitFault J)) → Type 0 = λ a. AnswersFor label (kept r.rounds.stored (verdicts r.rounds.examinations)) a in
-      record {
-        examinations = r.rounds.examinations;
-        are_examinations = r.rounds.are_examinations;
-        number = r.rounds.stored;
-        named = named-grow clashes clashes' r.rounds.stored grew r.named;
-        refused = refused_is ∙ r.rounds.refused_are;
-        answer = subst P (sym answer_is) (counted, r.rounds.made, answers);
-      }
-
-  pub settles_none_beside : {label : List ℕ} (cuts : List Cut) (places : List ℕ) (refused : List Refusal) (clashes : List (List Batch)) (r : RoundsBeside label cuts None places refused clashes) (done : Done J)
-      → done.answer ≡ None → done.refused.items ≡ refused → SettlesBeside label cuts done clashes
-  settles_none_beside {label} cuts places refused clashes r done answer_is refused_is =
-      let P : Option (Result (Receipt J) (CommitFault J)) → Type 0 = λ a. AnswersFor label (kept r.rounds.stored (verdicts r.rounds.examinations)) a in
-      record {
-        examinations = r.rounds.examinations;
-        are_examinations = r.rounds.are_examinations;
-        number = r.rounds.stored;
-        named = r.named;
-        refused = refused_is ∙ r.rounds.refused_are;
-        answer = subst P (sym answer_is) r.rounds.made;
-      }
+use Rattle.import_run.specs.Settling.{kept, lost}
+use Rattle.import_run.proofs.HandLemmas.{batch_texts, counted_ids, kept_none}
+use Rattle.import_run.proofs.RepeatLemmas.{all-repeats-grow, repeats}
 
 -- ---- one more group
 

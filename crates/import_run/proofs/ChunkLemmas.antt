@@ -1,6 +1,5 @@
 -- One read of a stream that is read ahead.
-use Rattle.std.proofs.Common.{◌≡◌, inl, ◌+◌, ◌-◌, ◌^◌, ◌<◌, ℕ, List, [], ◌++◌, take, Option, None, Some, Result, Ok, Err, refl, sym, ap, subst, ◌∙◌, arith, length-append}
-use Rattle.std.specs.Prelude.{OnErr}
+use Rattle.std.proofs.Common.{◌≡◌, inl, ◌+◌, ◌-◌, ◌^◌, ◌<◌, ℕ, List, [], ◌++◌, take, Option, None, Some, refl, sym, ap, subst, ◌∙◌, arith, length-append}
 use Rattle.std.specs.List.{All}
 use Rattle.std.proofs.lemmas.List.{append-nil}
 use Rattle.outside.specs.Stream.{FailsToGive, Gives, Reads, Rises, Stream}
@@ -17,11 +16,6 @@ use Rattle.import_run.specs.declared.ahead.ReadEnd.TheVariants.{Ended, Failed}
 use Rattle.import_run.specs.Ahead.{CanGoOn, CanTake, CutAhead, EndsAhead, HoldsAhead, HoldsBy, IsUnder, StandsFor, left_by, left_of}
 use Rattle.import_run.proofs.AheadLemmas.{stands_cut, while_reading}
 use Rattle.import_run.proofs.ReadLemmas.{longer, no_fault, read_failed, read_last, read_more}
-
--- what holds anyhow holds where memory was wanting
-pub on_err : {A E : Type 0} (r : Result A E) (P : Type 0) → P → OnErr r P
-on_err (Ok x) P holds = tt
-on_err (Err e) P holds = holds
 
 -- ---- what may be read yet
 

@@ -4,6 +4,7 @@ use Rattle.std.specs.Io.KnownBytes.{IsAtEnd}
 use Rattle.std.specs.List.{AllByRecursion, Contains}
 use Rattle.std.proofs.lemmas.List.{append-nil}
 use Rattle.std.proofs.lemmas.List.Elements.{All-append, Contains-append_left, Contains-append_right}
+use Rattle.plain_laws.specs.Lists.{cons-nil, each-front}
 use Rattle.outside.specs.Stream.{Gives, Reads, Rises, Stream, source_alone}
 use Rattle.explorer_model.specs.declared.archive.Batch.{Batch}
 use Rattle.explorer_model.specs.declared.fault.Refusal.{Refusal}
@@ -27,7 +28,7 @@ use Rattle.import_run.specs.Ending.{MayRise, ReadFaultsAre}
 use Rattle.import_run.specs.Importing.{EndsEarly}
 use Rattle.import_run.specs.EndingBeside.{BreaksBeside, ComesBeside, ImportsBeside, IsCutBeside, LacksBeside, StandsBeside}
 use Rattle.import_run.specs.SoFar.{AreGroupsSoFar, IsWhole}
-use Rattle.import_run.specs.Taking.{ComesQuietlyBeside, CutSoFar, IsReady, IsWholeBeside, LacksAtEnd, LacksWithin, StopsAtEnd, StopsWithin, TakenAll}
+use Rattle.import_run.specs.Taking.{ComesQuietlyBeside, CutSoFar, IsReady, IsWholeBeside, LacksAtEnd, LacksWithin, StopsAtEnd, StopsIn, StopsWithin, TakenAll}
 use Rattle.import_run.proofs.GroupLemmas.{all_cuts, texts_in}
 use Rattle.import_run.proofs.HoldLemmas.{holds_texts}
 use Rattle.import_run.proofs.ReadLemmas.{early_faults, longer, no_fault, one_byte, read_more}
@@ -37,9 +38,6 @@ use Rattle.import_run.proofs.SoFarLemmas.{BeginSoFar, ended_taken, lacking_so_fa
 use Rattle.import_run.proofs.StreamCutLemmas.{cuts_few, no_preamble}
 
 -- ---- lists of groups
-
-cons_nil : {A : Type 0} (x : A) (xs : List A) → x ∷ xs ≡ [] → ⊥
-cons_nil x xs e = cc
 
 -- the groups before a last one, or all
 split_front : {A : Type 0} (done rest whole : List A) (last : A) → done ++ rest ≡ whole ++ last ∷ [] → (done ≡ whole ++ last ∷ []) ⊎ ((more : List A) × (whole ≡ done ++ more))
@@ -51,7 +49,7 @@ split_front {A} (d ∷ done) rest [] last is =
   where
     by_done : (done : List A) → done ++ rest ≡ [] → d ≡ last → d ∷ done ≡ last ∷ []
     by_done [] none head = ap (λ (x : A). x ∷ []) head
-    by_done (e ∷ done) none head = absurd (cons_nil e (done ++ rest) none)
+    by_done (e ∷ done) none head = absurd (cons-nil e (done ++ rest) none)
 split_front {A} (d ∷ done) rest (w ∷ whole) last is =
     let head : d ≡ w = cc in
     let tail : done ++ rest ≡ whole ++ last ∷ [] = cc in
@@ -69,8 +67,8 @@ split_next {A} (d ∷ done) next rest [] last is =
     let none : done ++ next ∷ rest ≡ [] = cc in absurd (by_done done none)
   where
     by_done : (done : List A) → done ++ next ∷ rest ≡ [] → ⊥
-    by_done [] none = cons_nil next rest none
-    by_done (e ∷ done) none = cons_nil e (done ++ next ∷ rest) none
+    by_done [] none = cons-nil next rest none
+    by_done (e ∷ done) none = cons-nil e (done ++ next ∷ rest) none
 split_next {A} (d ∷ done) next rest (w ∷ whole) last is =
     let head : d ≡ w = cc in
     let tail : done ++ next ∷ rest ≡ whole ++ last ∷ [] = cc in
@@ -79,10 +77,6 @@ split_next {A} (d ∷ done) next rest (w ∷ whole) last is =
     by : ((done ≡ whole) × (next ≡ last)) ⊎ ((more : List A) × (whole ≡ done ++ next ∷ more)) → d ≡ w → ((d ∷ done ≡ w ∷ whole) × (next ≡ last)) ⊎ ((more : List A) × (w ∷ whole ≡ (d ∷ done) ++ next ∷ more))
     by (inl same) head = inl ((λ i. head i ∷ same.0 i), same.1)
     by (inr (more, is)) head = inr (more, λ i. sym head i ∷ is i)
-
-each_before : (gs more : List (List Cut)) → AllByRecursion IsWhole (gs ++ more) → AllByRecursion IsWhole gs
-each_before [] more each = tt
-each_before (g ∷ gs) more each = (each.0, each_before gs more each.1)
 
 each_at : (gs : List (List Cut)) (group : List Cut) (more : List (List Cut)) → AllByRecursion IsWhole (gs ++ group ∷ more) → IsWhole group
 each_at [] group more each = each.0
@@ -176,7 +170,7 @@ module _ {J : Type 0} (stream : List ℕ) (left_over : Option (List ℕ)) where
         } in
         comes report stopped.end p.batches end (ends_stopped stopped.end p.batches report.refused.items b.left b.ends breaks beside) (front_receipts closed p) (subst Q (sym refused) both) (front_few closed (next ++ more) p is)
 
-    pub stopped_within_beside : (start : Option Store) (stopped : Stopped J) (told : Option Store) → report.end ≡ stopped.end → report.refused.items ≡ import.refused.items ++ stopped.refused.items
+    stopped_within_beside : (start : Option Store) (stopped : Stopped J) (told : Option Store) → report.end ≡ stopped.end → report.refused.items ≡ import.refused.items ++ stopped.refused.items
         → StopsWithin start stream import stopped told → ComesQuietlyBeside import.group.label stream left_over report
     stopped_within_beside start stopped told end refused w =
         let s = w.stops in
@@ -190,7 +184,7 @@ module _ {J : Type 0} (stream : List ℕ) (left_over : Option (List ℕ)) where
         comes_stopped stopped s.closed s.next w.more front.0 p b end refused front.1 is
         (subst P (sym is) (breaks_within s.closed s.next w.more p.batches import.refused.items stopped.refused.items report.refused.items b.left p.accounted b.judged b.some_left refused s.each s.whole first))
 
-    pub stopped_at_end_beside : (start : Option Store) (stopped : Stopped J) (told : Option Store) → report.end ≡ stopped.end → report.refused.items ≡ import.refused.items ++ stopped.refused.items
+    stopped_at_end_beside : (start : Option Store) (stopped : Stopped J) (told : Option Store) → report.end ≡ stopped.end → report.refused.items ≡ import.refused.items ++ stopped.refused.items
         → IsAtEnd left_over → StopsAtEnd start (cuts stream) import stopped told → ComesQuietlyBeside import.group.label stream left_over report
     stopped_at_end_beside start stopped told end refused at_end s = by (split_next s.done s.next s.rest s.all.whole s.all.hand s.all.all_are)
       where
@@ -224,7 +218,12 @@ module _ {J : Type 0} (stream : List ℕ) (left_over : Option (List ℕ)) where
             let first = no_preamble stream (all_cuts s.done ++ s.next) (all_cuts more ++ s.all.hand) (is ∙ sym (append_assoc (all_cuts s.done) s.next (all_cuts more ++ s.all.hand))) (omega (arith, some, length-append (all_cuts s.done) s.next)) in
             comes_stopped stopped s.done s.next (all_cuts more ++ s.all.hand) s.rest p b end refused (inr (at_end, s.all)) is
             (subst G (sym is) (breaks_within s.done s.next (all_cuts more ++ s.all.hand) p.batches import.refused.items stopped.refused.items report.refused.items b.left p.accounted b.judged b.some_left refused
-            (each_before s.done (s.next ∷ more) each) full first))
+            (each-front IsWhole s.done (s.next ∷ more) each) full first))
+
+    pub stopped_in_beside : (start : Option Store) (stopped : Stopped J) (told : Option Store) → report.end ≡ stopped.end → report.refused.items ≡ import.refused.items ++ stopped.refused.items
+        → StopsIn start stream left_over import stopped told → ComesQuietlyBeside import.group.label stream left_over report
+    stopped_in_beside start stopped told end refused (inl w) = stopped_within_beside start stopped told end refused w
+    stopped_in_beside start stopped told end refused (inr (at_end, e)) = stopped_at_end_beside start stopped told end refused at_end e
 
     -- ---- an import that nothing was refused of but what is settled
 
@@ -273,7 +272,7 @@ module _ {J : Type 0} (stream : List ℕ) (left_over : Option (List ℕ)) where
           by (inr (more, whole)) =
               let p = l.behind.settled.beside in
               let each : AllByRecursion IsWhole (l.done ++ more) = subst (λ (g : List (List Cut)). AllByRecursion IsWhole g) whole l.all.in_groups.each in
-              lacks_front l.done (all_cuts more ++ l.all.hand) p end (l.rest, inr (at_end, l.all)) (each_before l.done more each)
+              lacks_front l.done (all_cuts more ++ l.all.hand) p end (l.rest, inr (at_end, l.all)) (each-front IsWhole l.done more each)
               (l.all.in_groups.all ∙ ap (λ (g : List (List Cut)). all_cuts g ++ l.all.hand) whole ∙ ap (λ (k : List Cut). k ++ l.all.hand) (all_cuts-append l.done more)
               ∙ append_assoc (all_cuts l.done) (all_cuts more) l.all.hand)
 

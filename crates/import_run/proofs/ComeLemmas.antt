@@ -19,7 +19,7 @@ use Rattle.import_run.specs.Ending.{AreSettled, HasMaybeOneMore, ReadFaultsAre, 
 use Rattle.import_run.specs.Progress.{AreReceiptsOf, Progress}
 use Rattle.import_run.specs.Rounds.{MayStore}
 use Rattle.import_run.specs.SoFar.{AreAllGroups, AreGroupsSoFar, AreInGroups}
-use Rattle.import_run.specs.Taking.{ComesQuietly, ComesTo, CutSoFar, IsReady, IsWholeSettled, LacksAtEnd, LacksBehind, LacksWithin, StopsAtEnd, StopsBehind, StopsWithin, TakenAll}
+use Rattle.import_run.specs.Taking.{ComesQuietly, ComesTo, CutSoFar, IsReady, IsWholeSettled, LacksAtEnd, LacksBehind, LacksWithin, StopsAtEnd, StopsBehind, StopsIn, StopsWithin, TakenAll}
 use Rattle.import_run.proofs.AccountLemmas.{alike}
 use Rattle.import_run.proofs.HoldLemmas.{holds_texts}
 use Rattle.import_run.proofs.SoFarLemmas.{ended_taken, lacking_so_far, stopped_so_far}
@@ -155,17 +155,21 @@ module _ {J : Type 0} (start : Known) (report : Report J) (stream : List ℕ) (l
         (comes_by stopped.end is p.batches (subst R (sym receipts) p.receipts_are) so.new so.still so.stands so.stores)
 
     -- within a stream that may go on
-    pub stopped_within : StopsWithin (Some (store_of start)) stream import stopped told → ComesQuietly import.group.label start stream left_over report told
+    stopped_within : StopsWithin (Some (store_of start)) stream import stopped told → ComesQuietly import.group.label start stream left_over report told
     stopped_within w =
         let s = w.stops in
         let front = stopped_so_far (Some (store_of start)) stream left_over import told stopped w in
         comes_stopped (s.closed ++ s.next ∷ front.0) s.closed front.0 s.next front.1 refl s.behind
 
     -- at the end of a stream
-    pub stopped_at_end : IsAtEnd left_over → (taken : List Cut) → taken ≡ cuts stream → StopsAtEnd (Some (store_of start)) taken import stopped told → ComesQuietly import.group.label start stream left_over report told
+    stopped_at_end : IsAtEnd left_over → (taken : List Cut) → taken ≡ cuts stream → StopsAtEnd (Some (store_of start)) taken import stopped told → ComesQuietly import.group.label start stream left_over report told
     stopped_at_end at_end taken all s =
         let G : List Cut → Type 0 = λ k. AreAllGroups k (s.done ++ s.next ∷ s.rest) in
         comes_stopped (s.done ++ s.next ∷ s.rest) s.done s.rest s.next (inr (at_end, subst G all s.all)) refl s.behind
+
+    pub stopped_in : StopsIn (Some (store_of start)) stream left_over import stopped told → ComesQuietly import.group.label start stream left_over report told
+    stopped_in (inl w) = stopped_within w
+    stopped_in (inr (at_end, e)) = stopped_at_end at_end (cuts stream) refl e
 
 -- the whole groups of a stream are settled, where no more than one cut has begun
 pub whole_settled : {J : Type 0} (start : Known) (stream : List ℕ) (after : List ℕ → List Cut) (last : List Cut) (import : OpenImport J) (told : Option Store) (receipts : List (Receipt J)) (refused : List Refusal)

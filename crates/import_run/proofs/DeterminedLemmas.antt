@@ -1,6 +1,7 @@
 -- Imports of one told stream that ended early come to the same.
-use Rattle.std.proofs.Common.{◌≡◌, ◌⊎◌, inl, inr, ℕ, ◌<◌, List, [], ◌∷◌, ◌++◌, length, Option, None, Some, refl, sym, ap, subst, ◌∙◌}
-use Rattle.std.specs.Prelude.{IsSome}
+use Rattle.std.proofs.Common.{◌≡◌, ◌⊎◌, inl, inr, ℕ, ◌<◌, List, [], ◌∷◌, ◌++◌, length, None, Some, refl, sym, ap, subst, ◌∙◌}
+use Rattle.std.proofs.lemmas.Option.{some_pair_parts}
+use Rattle.plain_laws.specs.Options.{IsSome-is}
 use Rattle.disk_model.specs.Disk.{DiskState}
 use Rattle.outside.specs.Stream.{Stream}
 use Rattle.explorer_model.specs.declared.archive.Batch.{Batch}
@@ -61,17 +62,6 @@ one_mark a b a' b' mark other counts one second =
     let after = one.after_is ∙ counts.1 ∙ sym second.after_is in
     let failed = one.failed_is ∙ sym second.failed_is in
     λ i. record { kind = kind i; before = before i; after = after i; failed = failed i }
-
-pair_same : (a b a' b' : ℕ) → ◌≡◌ {A = Option (ℕ × ℕ)} (Some (a, b)) (Some (a', b')) → (a ≡ a') × (b ≡ b')
-pair_same a b a' b' e =
-    let same : (a, b) ≡ (a', b') = one (a, b) (a', b') e in
-    (ap (λ (p : ℕ × ℕ). p.0) same, ap (λ (p : ℕ × ℕ). p.1) same)
-  where
-    one : (x y : ℕ × ℕ) → ◌≡◌ {A = Option (ℕ × ℕ)} (Some x) (Some y) → x ≡ y
-    one x y e = cc
-
-is_some : (o : Option (ℕ × ℕ)) (x : ℕ × ℕ) → o ≡ Some x → IsSome o
-is_some o x is = subst (λ (p : Option (ℕ × ℕ)). IsSome p) (sym is) refl
 
 module _ {D J : Type 0} {label : List ℕ} (disk : D → DiskState) (left_since : D → ℕ → List ℕ → Type 0) (one : OneGame) (same_batches : SameBatches label) (same_refused : SameRefused label) (bytes : List ℕ)
     (source source_after source_other : Stream) (before after other_after : Stored D) (report other : Report J) (told : source.left ≡ Some bytes)
@@ -161,10 +151,10 @@ module _ {D J : Type 0} {label : List ℕ} (disk : D → DiskState) (left_since 
         by (inl (done, next)) = let same = at_one done next in alike same.0 same.1.0
         by (inr (inl goes)) =
             absurd (closed_later one same_batches same_refused first.start second.start games_are stores_are faults_are x.so_far y.so_far first.batches second.batches report.refused.items other.refused.items x.left y.left x.ends y.ends goes
-            (is_some second.start.fault counts (faults_are ∙ is)))
+            (IsSome-is second.start.fault counts (faults_are ∙ is)))
         by (inr (inr goes)) =
             absurd (closed_later one same_batches same_refused second.start first.start (sym games_are) (sym stores_are) (sym faults_are) y.so_far x.so_far second.batches first.batches other.refused.items report.refused.items y.left x.left y.ends x.ends goes
-            (is_some first.start.fault counts is))
+            (IsSome-is first.start.fault counts is))
 
   -- ---- by the ends
 
@@ -200,7 +190,7 @@ module _ {D J : Type 0} {label : List ℕ} (disk : D → DiskState) (left_since 
   same_closed a b a' b' mark mark' is also =
       let x = stands_by (ends.Closed a b mark) is in
       let y = stands_by_other (ends.Closed a' b' mark') also in
-      let counts = pair_same a b a' b' (sym x.1 ∙ sym faults_are ∙ y.1) in
+      let counts = some_pair_parts a a' b b' (sym x.1 ∙ sym faults_are ∙ y.1) in
       let marks = one_mark a b a' b' mark mark' counts x.0 y.0 in
       (closed_alike x.2 y.2 (a, b) x.1, is ∙ (λ i. ends.Closed (counts.0 i) (counts.1 i) (marks i)) ∙ sym also)
 
@@ -235,7 +225,7 @@ module _ {D J : Type 0} {label : List ℕ} (disk : D → DiskState) (left_since 
         let B : List (List Cut) → Type 0 = λ gs. AreExaminations gs settled_all.accounted.examinations in
         closed_among one same_batches same_refused first.start x.so_far first.batches report.refused.items x.left x.ends among.extra among.rest among.none
         settled_all.accounted.examinations (subst B among.is settled_all.accounted.are_examinations)
-        (settled_all.closed (is_some second.start.fault counts (faults_are ∙ is))) (is_some first.start.fault counts is)
+        (settled_all.closed (IsSome-is second.start.fault counts (faults_are ∙ is))) (IsSome-is first.start.fault counts is)
 
   pub same_disk_fault : (a b a' b' : ℕ) (mark mark' : Marked) → report.end ≡ ends.DiskFault a b mark → other.end ≡ ends.DiskFault a' b' mark' → length first.batches ≡ length second.batches → AreAlike first.batches second.batches report other × (after.failed ≡ other_after.failed)
   same_disk_fault a b a' b' mark mark' is also long =

@@ -7,13 +7,13 @@ use Rattle.published_index.specs.States.{IsPublishing, Publishing}
 use Rattle.ingest_desk.specs.Installs.{caught_up, list_by}
 use Rattle.ingest_desk.specs.Listing.{JoinsPicked}
 use Rattle.ingest_desk.specs.Stored.{Stored}
+use Rattle.ingest_desk.proofs.KeptLemmas.{not_behind}
 use Rattle.import_run.specs.declared.draining.DrainEnd.{DrainEnd}
 use Rattle.import_run.specs.declared.draining.DrainEnd.TheVariants.{Idle, Gone, OutOfMemory}
 use Rattle.import_run.specs.declared.merging.Merging.TheVariants.{Left}
 use Rattle.import_run.specs.Alone.{AnswersDrained}
 use Rattle.import_run.specs.Upkeep.{Merges}
 use Rattle.import_run.proofs.FollowedLists.{joins_length}
-use Rattle.import_run.proofs.UpkeepLemmas.{nothing_held}
 
 few_changed : (list : List CountedSpan) (change : Change) → length list ≤ 64 → length (with_change list change) ≤ 65
 few_changed list (AddOf segment) few = omega (arith, few, length-append list (segment ∷ []))
@@ -29,7 +29,7 @@ few_by index is = few_caught_up index.list index.held is.list.few
 
 -- a job makes the list one shorter
 pub one_shorter : (old new : Publishing) → JoinsPicked (list_by old) new.list → new.held ≡ None → length (list_by new) + 1 ≡ length (list_by old)
-one_shorter old new joins none = omega (arith, ap length (nothing_held new none), joins_length (list_by old) new.list joins)
+one_shorter old new joins none = omega (arith, ap length (not_behind new none), joins_length (list_by old) new.list joins)
 
 -- what is left behind so many jobs
 pub drains_by : {D : Type 0} (end : DrainEnd) (jobs : ℕ) (first old new : Stored D) → jobs + length (list_by old.index) ≡ length (list_by first.index) → Merges (Left end) old.index new.index

@@ -6,6 +6,7 @@ use Rattle.std.proofs.lemmas.Grind.{flat_map-append}
 use Rattle.std.proofs.lemmas.List.{append-nil, length-map}
 use Rattle.std.proofs.lemmas.List.Elements.{filter_map-append}
 use Rattle.std.proofs.lemmas.List.Sums.{sum_by-append, sum_by-cons}
+use Rattle.plain_laws.specs.Options.{some-none}
 use Rattle.explorer_model.specs.declared.archive.Batch.{Batch}
 use Rattle.explorer_model.specs.declared.archive.Game.{Game}
 use Rattle.explorer_model.specs.declared.fault.Refusal.{Refusal}
@@ -76,7 +77,7 @@ one_before journal batches None = ap (λ (l : List Batch). l ++ batches) (append
 one_before journal batches (Some batch) = append_assoc journal (batch ∷ []) batches
 
 -- the games of the journal with the batches of groups
-after_groups : (label : List ℕ) (journal : List Batch) (games : List Game) (groups : List (List Cut)) (examinations : List (List Examination)) → AreGamesOf journal games → AreExaminations groups examinations
+pub after_groups : (label : List ℕ) (journal : List Batch) (games : List Game) (groups : List (List Cut)) (examinations : List (List Examination)) → AreGamesOf journal games → AreExaminations groups examinations
     → AreGamesOf (journal ++ batches_behind label games examinations) (games_after games examinations)
 unfolding verdicts_in_turn
 after_groups label journal games [] [] are each = subst (λ (j : List Batch). AreGamesOf j games) (sym (append-nil journal)) are
@@ -177,12 +178,9 @@ some_batch : (label : List ℕ) (cs : List Candidate) → (cs ≡ [] → ⊥) �
 some_batch label [] some = absurd (some refl)
 some_batch label (c ∷ cs) some = (_, refl)
 
-none_some : (counts : ℕ × ℕ) → Some counts ≡ None → ⊥
-none_some counts e = cc
-
 kept_open : (fault : Option (ℕ × ℕ)) (games : List Game) (vs : List Verdict) → fault ≡ None → kept (stored_by fault games) vs ≡ kept (numbers_of games) vs
 kept_open None games vs none = refl
-kept_open (Some counts) games vs none = absurd (none_some counts none)
+kept_open (Some counts) games vs none = absurd (some-none counts none)
 
 kept_closed : (fault : Option (ℕ × ℕ)) (games : List Game) (vs : List Verdict) → IsSome fault → kept (stored_by fault games) vs ≡ candidates vs
 kept_closed None games vs some = cc

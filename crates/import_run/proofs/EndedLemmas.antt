@@ -2,11 +2,11 @@
 use Rattle.std.proofs.Common.{◌≡◌, ◌⊎◌, inl, inr, ℕ, ◌+◌, ◌-◌, ◌<◌, ◌≤◌, ◌&&◌, ◌==◌, Bool, true, false, true≢false, nat_lt, cond, List, [], ◌∷◌, ◌++◌, length, take, drop, nat_eq, refl, sym, ap, subst, ◌∙◌, append_assoc, arith}
 use Rattle.std.specs.Cmp.Lexicographic.{pointwise, same_text}
 use Rattle.std.specs.List.{starts_with}
-use Rattle.std.proofs.lemmas.Bool.{ltb-true, ltb-false}
+use Rattle.std.proofs.lemmas.Bool.{ltb-true, ltb-false, and_parts}
 use Rattle.std.proofs.lemmas.List.{append-nil, length-take, take-append-le}
 use Rattle.explorer_model.specs.Cuts.{Cut, Parted, Preamble, cut_at, cuts, cuts_from, cuts_of, event, is_white_space, mark, onto, parted, preamble}
 use Rattle.import_run.specs.SoFar.{ended_cuts}
-use Rattle.import_run.proofs.SoFarLemmas.{ended_front}
+use Rattle.import_run.proofs.SoFarLemmas.{ended_front, take_front}
 
 -- ---- what bytes begin with
 
@@ -98,22 +98,17 @@ grows_neither b less more (inr grows) = inr (record {
   before = ap (λ (l : List ℕ). b ∷ l) grows.before;
 })
 
-both_true : (fresh starts : Bool) → (fresh && starts) ≡ true → (fresh ≡ true) × (starts ≡ true)
-both_true true true is = (refl, refl)
-both_true true false is = absurd (true≢false (sym is))
-both_true false starts is = absurd (true≢false (sym is))
-
 grows_by : (fresh : Bool) (b : ℕ) (bytes more : List ℕ) (less longer : Parted) → GrowsOrNone less longer → (length bytes < 7 → less.texts ≡ []) → (first second : Bool)
     → (fresh && starts_with nat_eq (b ∷ bytes) event) ≡ first → (fresh && starts_with nat_eq (b ∷ (bytes ++ more)) event) ≡ second → GrowsOrNone (onto first b less) (onto second b longer)
 grows_by fresh b bytes more less longer later none true true is also = grows_both b less longer later
 grows_by fresh b bytes more less longer later none false false is also = grows_neither b less longer later
 grows_by fresh b bytes more less longer later none true false is also =
-    let starts = both_true fresh (starts_with nat_eq (b ∷ bytes) event) is in
+    let starts = and_parts fresh (starts_with nat_eq (b ∷ bytes) event) is in
     let long = starts_long (b ∷ bytes) event starts.1 in
     let same = ap (λ (s : Bool). fresh && s) (starts_same (b ∷ bytes) more event long) in
     absurd (true≢false (sym is ∙ sym same ∙ also))
 grows_by fresh b bytes more less longer later none false true is also =
-    let starts = both_true fresh (starts_with nat_eq (b ∷ (bytes ++ more)) event) also in
+    let starts = and_parts fresh (starts_with nat_eq (b ∷ (bytes ++ more)) event) also in
     let not : starts_with nat_eq (b ∷ bytes) event ≡ false = sym (ap (λ (f : Bool). f && starts_with nat_eq (b ∷ bytes) event) starts.0) ∙ is in
     let short : length (b ∷ bytes) < 7 = starts_late (b ∷ bytes) more event not starts.1 in
     inl (onto_texts false b less refl ∙ none (omega (arith, short)))
@@ -136,6 +131,7 @@ record GoesOn (less more : List Cut) : Type 0 where
   more_is : more ≡ front ++ behind
   few : length last ≤ 1
   none : length last ≡ 0 → front ≡ []
+  some : (front ≡ []) ⊎ (0 < length behind)
 
 cuts_of-append : (place : ℕ) (texts more : List (List ℕ)) → (behind : ℕ) × (cuts_of place (texts ++ more) ≡ cuts_of place texts ++ cuts_of behind more)
 unfolding cuts_of
@@ -154,7 +150,7 @@ one_preamble place (b ∷ bytes) = by (is_white_space b) (one_preamble (place + 
     by false later = omega arith
 
 few_go_on : (less more : List Cut) → length less ≤ 1 → GoesOn less more
-few_go_on less more few = record { front = []; last = less; behind = more; less_is = refl; more_is = refl; few = few; none = λ e. refl }
+few_go_on less more few = record { front = []; last = less; behind = more; less_is = refl; more_is = refl; few = few; none = λ e. refl; some = inl refl }
 
 one_cut : (place : ℕ) (text : List ℕ) → length (cuts_of place (text ∷ [])) ≡ 1
 unfolding cuts_of
@@ -185,6 +181,7 @@ from_grows place less more (inr grows) =
           ∙ sym (append_assoc front (cuts_of at grows.texts) (cuts_of two.0 (grows.longer ∷ grows.others)));
       few = omega (arith, one_cut one.0 grows.last);
       none = λ e. absurd (omega (arith, e, one_cut one.0 grows.last));
+      some = inr (omega arith);
     }
 
 from_goes_on : (place : ℕ) (bytes more : List ℕ) → GoesOn (cuts_from place bytes) (cuts_from place (bytes ++ more))
@@ -232,3 +229,20 @@ ended_stand bytes more =
     let on = cuts_go_on bytes more in
     let is = ended_is bytes on.front on.last (sym on.less_is) on.few on.none in
     (on.behind, on.more_is ∙ ap (λ (l : List Cut). l ++ on.behind) (sym is))
+
+-- and first among those that have ended
+pub ended_stay : (bytes more : List ℕ) → (rest : List Cut) × (ended_cuts (bytes ++ more) ≡ ended_cuts bytes ++ rest)
+ended_stay bytes more =
+    let on = cuts_go_on bytes more in
+    let is = ended_is bytes on.front on.last (sym on.less_is) on.few on.none in
+    by on.front on.behind is on.more_is on.some
+  where
+    by : (front behind : List Cut) → ended_cuts bytes ≡ front → cuts (bytes ++ more) ≡ front ++ behind → (front ≡ []) ⊎ (0 < length behind)
+        → (rest : List Cut) × (ended_cuts (bytes ++ more) ≡ ended_cuts bytes ++ rest)
+    by front behind is more_is (inl none) =
+        let all = ended_cuts (bytes ++ more) in (all, ap (λ (l : List Cut). l ++ all) (sym (is ∙ none)))
+    by front behind is more_is (inr some) = (
+      take (length behind - 1) behind,
+      ap (λ (l : List Cut). take (length l - 1) l) more_is ∙ take_front front behind some
+          ∙ ap (λ (l : List Cut). l ++ take (length behind - 1) behind) (sym is),
+    )

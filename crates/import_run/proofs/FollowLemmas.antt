@@ -1,6 +1,7 @@
 -- What one commit does to the published list of one who stores alone.
 use Rattle.std.proofs.Common.{◌≡◌, ℕ, Bool, true, false, List, [], ◌∷◌, Option, None, Some, Result, Ok, Err, if◌then◌else◌, refl, sym, ap, subst, ◌∙◌}
 use Rattle.std.proofs.lemmas.List.{append-nil}
+use Rattle.plain_laws.specs.Options.{some-none}
 use Rattle.disk_model.specs.Disk.{DiskState}
 use Rattle.explorer_model.specs.declared.archive.Batch.{Batch}
 use Rattle.explorer_model.specs.Imports.{numbers_of}
@@ -18,17 +19,14 @@ use Rattle.ingest_desk.specs.declared.clashing.Clashing.{Clashing}
 use Rattle.ingest_desk.specs.declared.fault.CommitFault.{CommitFault}
 use Rattle.ingest_desk.specs.declared.fault.CommitFault.TheVariants as faults
 use Rattle.ingest_desk.specs.declared.receipt.Receipt.{Receipt}
+use Rattle.ingest_desk.proofs.KeptLemmas.{not_behind}
 use Rattle.import_run.specs.Since.{IsSince}
 use Rattle.import_run.specs.SinceLaws.{since_before, since_same}
 use Rattle.import_run.specs.Upkeep.{Follows, IsMerged, IsSinceAlone, MergesBehind, StoresSame}
-use Rattle.import_run.proofs.UpkeepLemmas.{nothing_held}
 
 -- what holds of the stored values of one holds of those of the same
 pub tied : {A : Type 0} (P : A → Type 0) (mid after : A) → after ≡ mid → P mid → P after
 tied P mid after same holds = subst P (sym same) holds
-
-none_some : {A : Type 0} (x : A) → Some x ≡ None → ⊥
-none_some {A} x e = cc
 
 closed_ids : (pairs : List Clashing) (before after : ℕ) → Some (HasIds pairs) ≡ Some (IsClosed before after) → ⊥
 closed_ids pairs before after e = cc
@@ -50,7 +48,7 @@ module _ {D : Type 0} (disk : D → DiskState) (left_since : D → ℕ → List 
   stays stored held list is = record {
     batches = [];
     journal_is = same.same_journal ∙ stored ∙ sym (append-nil (journal old));
-    lists = ap list_by is ∙ nothing_held mid.index held ∙ list;
+    lists = ap list_by is ∙ not_behind mid.index held ∙ list;
   }
 
   module _ {J : Type 0} (tally : Counted) (had has : Drawing) (sound : IsSound (journal old)) where
@@ -68,7 +66,7 @@ module _ {D : Type 0} (disk : D → DiskState) (left_since : D → ℕ → List 
             room = is.list.room;
             longer = mid.index.list;
             puts = is.list.puts;
-            merged = subst (λ (l : List CountedSpan). IsMerged l (list_by new.index)) (nothing_held mid.index is.none_held) merged;
+            merged = subst (λ (l : List CountedSpan). IsMerged l (list_by new.index)) (not_behind mid.index is.none_held) merged;
           },
           refl,
         );
@@ -83,7 +81,7 @@ module _ {D : Type 0} (disk : D → DiskState) (left_since : D → ℕ → List 
     by_answer none (Err (faults.Full games bytes note)) is merged = (fault_same is.store.manifest none, stays is.store.stores is.none_held is.list merged)
     by_answer none (Err (faults.DiskFault before after mark)) is merged =
         let broken : mid.manifest.fault ≡ Some (before, after) = ap (λ (l : Log D). l.fault) is.store.manifest.rest in
-        absurd (none_some (before, after) (sym broken ∙ none))
+        absurd (some-none (before, after) (sym broken ∙ none))
     by_answer none (Err (faults.OutOfMemory stored)) is merged = absurd merged
 
     pub commit_alone : (answer : Result (Receipt J) (CommitFault J)) → CommitsBy disk left_since tally old mid had has answer

@@ -3,9 +3,10 @@ use Rattle.std.proofs.Common.{◌≡◌, ◌≤◌, ◌<◌, ◌+◌, ℕ, zero,
 use Rattle.std.proofs.lemmas.Bool.Decides.{nat_tests}
 use Rattle.std.proofs.lemmas.List.{append_cancel_left}
 use Rattle.std.proofs.lemmas.List.Elements.{All-append, All-cons, All-drop, All-push, All-take, recursion_from_All}
-use Rattle.std.proofs.lemmas.Option.{slice_get_within}
+use Rattle.std.proofs.lemmas.Option.{same_Some, slice_get_within}
 use Rattle.std.specs.List.{All, AllByRecursion}
 use Rattle.std.specs.Prelude.{nat_lt, slice_get}
+use Rattle.plain_laws.specs.Lists.{get-nil}
 use Rattle.explorer_model.specs.declared.archive.Batch.{Batch}
 use Rattle.explorer_model.specs.Journal.{IsBatch}
 use Rattle.explorer_model.specs.Spans.{Span}
@@ -53,18 +54,9 @@ joins_length list new joins =
 
 -- ---- segments
 
-no_segment : (segment : CountedSpan) (P : Type 0) → slice_get [] zero ≡ Some segment → P
-no_segment segment P e = absurd (no segment e)
-  where
-    no : (s : CountedSpan) → slice_get [] zero ≡ Some s → ⊥
-    no s e = cc
-
-some_same : (a b : CountedSpan) → Some a ≡ Some b → a ≡ b
-some_same a b e = cc
-
 segment_at : (list : List CountedSpan) (at : ℕ) (segment : CountedSpan) → AllByRecursion CountsItsSpan list → slice_get list at ≡ Some segment → CountsItsSpan segment
-segment_at [] at segment all is = no_segment segment _ is
-segment_at (x ∷ list) zero segment all is = subst CountsItsSpan (some_same x segment is) all.0
+segment_at [] at segment all is = get-nil segment _ is
+segment_at (x ∷ list) zero segment all is = subst CountsItsSpan (same_Some x segment is) all.0
 segment_at (x ∷ list) (suc at) segment all is = segment_at list at segment all.1 is
 
 -- as many blocks as rows hold these

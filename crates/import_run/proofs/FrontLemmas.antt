@@ -2,14 +2,16 @@
 use Rattle.std.proofs.Common.{◌≡◌, ℕ, List, [], ◌∷◌, ◌++◌, Option, refl, sym, subst, ◌∙◌, append_assoc}
 use Rattle.std.specs.List.{AllByRecursion, AllZip}
 use Rattle.std.proofs.lemmas.List.{append-nil}
+use Rattle.explorer_model.specs.declared.fault.Stop.{Stop}
 use Rattle.explorer_model.specs.Cuts.{Cut}
 use Rattle.import_run.specs.declared.open_import.OpenImport.{OpenImport}
 use Rattle.import_run.specs.declared.open_import.Stopped.{Stopped}
 use Rattle.import_run.specs.declared.text_group.TalliedGroup.{TalliedGroup}
 use Rattle.import_run.specs.Committing.{Store}
 use Rattle.import_run.specs.Grouping.{Ascend, IsTallied}
+use Rattle.import_run.specs.Importing.{BreaksBy}
 use Rattle.import_run.specs.Taking.{IsSettledSo, LacksAmong, LacksBehind, StopsAmong, StopsBehind}
-use Rattle.import_run.proofs.TakingLemmas.{lacks_more}
+use Rattle.import_run.proofs.TakingLemmas.{by_stop, lacks_more}
 
 -- some of these groups are settled, and the others are tallied and left
 pub record SettledFront {J : Type 0} (label : List ℕ) (start : Option Store) (closed groups : List (List Cut)) (rest : List TalliedGroup) (import : OpenImport J) (told : Option Store) : Type 0 where
@@ -60,25 +62,16 @@ module _ {J : Type 0} (label : List ℕ) (start : Option Store) (closed groups :
           settled = subst (λ (l : List (List Cut)). IsSettledSo start l new told') (append_assoc closed f.done (next ∷ [])) (step (closed ++ f.done) next ascend.0 each.0 f.settled);
         }
 
-    -- the next one ended the import
-    pub front_stops : (stopped : Stopped J) → ((closed : List (List Cut)) (next : List Cut) → Ascend next → IsTallied label next one → IsSettledSo start closed old told → StopsBehind start closed next new stopped told')
-        → StopsAmong start closed groups new stopped told'
-    front_stops stopped step = by f.left f.groups_are each_left f.ascend
+    -- the next one ended the import, or memory was wanting for it
+    pub front_breaks : (stop : Stop (Stopped J)) → ((closed : List (List Cut)) (next : List Cut) → Ascend next → IsTallied label next one → IsSettledSo start closed old told
+        → BreaksBy stop (λ stopped. StopsBehind start closed next new stopped told') (LacksBehind start closed (next ∷ []) new told'))
+        → BreaksBy stop (λ stopped. StopsAmong start closed groups new stopped told') (LacksAmong start closed groups new told')
+    front_breaks stop step = by f.left f.groups_are each_left f.ascend
       where
-        by : (left : List (List Cut)) → groups ≡ f.done ++ left → AllZip (IsTallied label) left (one ∷ rest') → AllByRecursion Ascend left → StopsAmong start closed groups new stopped told'
+        by : (left : List (List Cut)) → groups ≡ f.done ++ left → AllZip (IsTallied label) left (one ∷ rest') → AllByRecursion Ascend left
+            → BreaksBy stop (λ stopped. StopsAmong start closed groups new stopped told') (LacksAmong start closed groups new told')
         by [] is each ascend = absurd each
-        by (next ∷ left) is each ascend = record { done = f.done; next = next; rest = left; groups_are = is; behind = step (closed ++ f.done) next ascend.0 each.0 f.settled }
-
-    -- memory was wanting for the next one
-    pub front_lacks : ((closed : List (List Cut)) (next : List Cut) → Ascend next → IsTallied label next one → IsSettledSo start closed old told → LacksBehind start closed (next ∷ []) new told')
-        → LacksAmong start closed groups new told'
-    front_lacks step = by f.left f.groups_are each_left f.ascend
-      where
-        by : (left : List (List Cut)) → groups ≡ f.done ++ left → AllZip (IsTallied label) left (one ∷ rest') → AllByRecursion Ascend left → LacksAmong start closed groups new told'
-        by [] is each ascend = absurd each
-        by (next ∷ left) is each ascend = record {
-          done = f.done;
-          rest = next ∷ left;
-          groups_are = is;
-          behind = lacks_more start (closed ++ f.done) (next ∷ []) left new told' (step (closed ++ f.done) next ascend.0 each.0 f.settled);
-        }
+        by (next ∷ left) is each ascend = by_stop stop
+            (λ stopped behind. record { done = f.done; next = next; rest = left; groups_are = is; behind = behind })
+            (λ behind. record { done = f.done; rest = next ∷ left; groups_are = is; behind = lacks_more start (closed ++ f.done) (next ∷ []) left new told' behind })
+            (step (closed ++ f.done) next ascend.0 each.0 f.settled)

@@ -2,7 +2,9 @@
 use Rattle.std.proofs.Common.{◌≡◌, ◌<◌, ◌≤◌, ◌+◌, inl, inr, ℕ, Bool, true, false, cond, List, [], ◌∷◌, ◌++◌, length, map, filter, get_or, Option, None, Some, option_map, Result, Ok, Err, refl, sym, ap, ◌∙◌, subst, arith, zero, suc, add-one}
 use Rattle.std.proofs.lemmas.List.{length-map}
 use Rattle.std.specs.List.{All, AllByRecursion, AllZip}
+use Rattle.std.specs.Option.{option_or}
 use Rattle.std.specs.Prelude.{OnErr, is_none}
+use Rattle.plain_laws.specs.Options.{some-none}
 use Rattle.arrayvec.specs.ArrayVec.{ArrayVec}
 use Rattle.explorer_model.specs.declared.archive.Batch.{Batch}
 use Rattle.explorer_model.specs.declared.archive.Game.{Game}
@@ -10,7 +12,7 @@ use Rattle.explorer_model.specs.declared.archive.Placed.{Placed}
 use Rattle.explorer_model.specs.declared.fault.Refusal.{Refusal}
 use Rattle.explorer_model.specs.Cuts.{Cut}
 use Rattle.explorer_model.specs.Imports.{Candidate, Numbering, batch_of, candidates, numbers_of, refusals, verdicts}
-use Rattle.published_index.specs.Changes.{Change}
+use Rattle.explorer_model.specs.Timeline.{IsPrefix}
 use Rattle.tally_rows.specs.Tally.{Counted}
 use Rattle.batch_tally.specs.Tallying.{IsExaminationOfText, IsTallying, IsTallyMade}
 use Rattle.batch_tally.specs.declared.tallying.Tallying.{Tallying}
@@ -22,14 +24,17 @@ use Rattle.ingest_desk.specs.declared.fault.CommitFault.TheVariants as faults
 use Rattle.ingest_desk.specs.declared.receipt.Receipt.{Receipt}
 use Rattle.import_run.specs.declared.settle.Done.{Done}
 use Rattle.import_run.specs.declared.text_group.TalliedGroup.{TalliedGroup}
+use Rattle.import_run.specs.Answered.{Committed, notes_of}
+use Rattle.import_run.specs.Beside.{AreNamed}
 use Rattle.import_run.specs.Committing.{Commits, CommitsTo, Known, Store, cause_in, store_of}
 use Rattle.import_run.specs.Grouping.{Ascend, IsTallied, merged}
 use Rattle.import_run.specs.Hand.{InHand}
 use Rattle.import_run.specs.Labelling.{CountsUnder, IsTallyUnder, under}
-use Rattle.import_run.specs.Rounds.{IsAnswer, IsBatchOf, IsDecided, IsStill, MayHaveMore, MayStore, Rounds, Settles, size_of, stored_by}
+use Rattle.import_run.specs.Rounds.{GroupBy, IsAnswer, IsBatchOf, IsDecided, IsLacking, IsStill, MayHaveMore, MayStore, Rounds, Settles, size_of, stored_by}
 use Rattle.import_run.specs.Settling.{AreRead, Fresh, id_of, kept, left_by, lost, named_by, placed}
 use Rattle.import_run.proofs.LabelLemmas.{counts_own, made_under}
-use Rattle.import_run.proofs.VerdictLemmas.{OneGame, again, ascends, exact, fewer_fresh, fewer_read, found, found_right, fresh, kept-left, kept_found, merged_lost, same_settled, settled_none}
+use Rattle.import_run.proofs.RepeatLemmas.{named-grow}
+use Rattle.import_run.proofs.VerdictLemmas.{OneGame, again, ascends, exact, fewer_fresh, fewer_read, found, fresh, kept-left, kept_found, merged_lost, same_settled, settled_none}
 
 -- ---- the tally of candidates
 
@@ -98,55 +103,86 @@ short P number cs all = short_all P (left_by number cs) (short_left P (λ c. is_
 
 -- ---- rounds
 
--- the candidates that are kept are in hand
-pub hand : {label : List ℕ} (told : Option Store) (cuts : List Cut) (counted : Counted) (places : List ℕ) (refused : List Refusal) (now : Option Store) → Rounds label told cuts (Some counted) places refused now → InHand counted places
-hand {label} told cuts counted places refused now r =
-    let all = fresh cuts [] r.examinations r.are_examinations in
-    let same = kept-left r.stored (verdicts r.examinations) in
-    let P : List Candidate → Type 0 = λ cs. AreRead cs in
-    let Q : List Candidate → Type 0 = λ cs. Fresh [] cs in
-    record {
-      candidates = kept r.stored (verdicts r.examinations);
-      counts = counts_own label (kept r.stored (verdicts r.examinations)) counted r.made;
-      places_are = r.places_are;
-      read = subst P (sym same) (fewer_read (λ c. is_none (r.stored (id_of c))) (candidates (verdicts r.examinations)) all.1);
-      fresh = subst Q (sym same) (fewer_fresh (λ c. is_none (r.stored (id_of c))) [] (candidates (verdicts r.examinations)) all.0);
-    }
+by_both : (o p : Option ℕ) (n : ℕ) (P : Type 0) → (o ≡ Some n → P) → (p ≡ Some n → P) → option_or o p ≡ Some n → P
+by_both None p n P from then e = then e
+by_both (Some m) p n P from then e = from e
 
--- some more ids were found to be stored
-unfoldable pub more : {label : List ℕ} → OneGame → (told : Option Store) (cuts : List Cut) (counted : Counted) (places : List ℕ) (refused : List Refusal) (now : Option Store) (r : Rounds label told cuts (Some counted) places refused now)
-    (number : Numbering) (named refused' : List Refusal) (rest : List Placed) (next : Tallying) (tally : Option Counted) (now' : Option Store)
-    → named ≡ named_by number (kept r.stored (verdicts r.examinations)) → rest ≡ map placed (left_by number (kept r.stored (verdicts r.examinations)))
-    → refused' ≡ merged refused named → IsTallying rest next → tally ≡ option_map (under label) next.tally
-    → ((known : Known) → told ≡ Some (store_of known) → IsStill known now')
-    → ((known : Known) → told ≡ Some (store_of known) → (id : List ℕ) (n : ℕ) → number id ≡ Some n → stored_by known.fault known.games id ≡ Some n)
-    → Rounds label told cuts tally next.places.items refused' now'
-unfolding hand
-more {label} one told cuts counted places refused now r number named refused' rest next tally now' named_are rest_are refused_are made tally_is still right =
-    let cs = kept r.stored (verdicts r.examinations) in
-    let h = hand told cuts counted places refused now r in
-    let left = left_by number cs in
-    let each : AllZip IsExaminationOfText (map placed left) made.examinations = let P : List Placed → Type 0 = λ l. AllZip IsExaminationOfText l made.examinations in subst P rest_are made.are_examinations in
-    let both = again one left made.examinations (fewer_read (λ c. is_none (number (id_of c))) cs h.read) (fewer_fresh (λ c. is_none (number (id_of c))) [] cs h.fresh) each in
-    let now_kept : candidates (verdicts made.examinations) ≡ kept (found r.stored number) (verdicts r.examinations) = both.0 ∙ sym (kept_found r.stored number (verdicts r.examinations)) in
-    let P : List Candidate → Type 0 = λ cs. IsTallyUnder label cs tally in
-    record {
-      ascend = r.ascend;
-      examinations = r.examinations;
-      are_examinations = r.are_examinations;
-      stored = found r.stored number;
-      refused_are = refused_are ∙ ap (λ l. merged l named) r.refused_are ∙ ap (merged (lost r.stored (verdicts r.examinations))) named_are
-          ∙ merged_lost r.stored number 0 (verdicts r.examinations) (ascends 0 cuts [] r.examinations r.ascend r.are_examinations);
-      places_are = made.places ∙ ap (map (λ (c : Candidate). c.place)) now_kept;
-      made = subst P now_kept (made_under label (candidates (verdicts made.examinations)) next.tally tally made.tally tally_is);
-      still = still;
-      right = λ known is id n e. found_right (r.stored id) (number id) n (stored_by known.fault known.games id) (r.right known is id n) (right known is id n) e;
-    }
+-- what was named before, or is named in the journal of one clash more
+found_named : (stored number : Numbering) (clashes clashes' : List (List Batch)) → IsPrefix clashes clashes' → AreNamed clashes stored → AreNamed clashes' number → AreNamed clashes' (found stored number)
+found_named stored number clashes clashes' grew named more id n e =
+    by_both (stored id) (number id) n _ (λ here. named-grow clashes clashes' stored grew named id n here) (λ there. more id n there) e
+
+module _ {J : Type 0} where
+  -- the candidates that are kept are in hand
+  pub hand : {label : List ℕ} (cuts : List Cut) (counted : Counted) (places : List ℕ) (refused : List Refusal) (clashes : List (Committed J)) → Rounds label cuts (Some counted) places refused clashes → InHand counted places
+  hand {label} cuts counted places refused clashes r =
+      let b = r.by in
+      let all = fresh cuts [] b.examinations b.are_examinations in
+      let same = kept-left b.number (verdicts b.examinations) in
+      let P : List Candidate → Type 0 = λ cs. AreRead cs in
+      let Q : List Candidate → Type 0 = λ cs. Fresh [] cs in
+      record {
+        candidates = kept b.number (verdicts b.examinations);
+        counts = counts_own label (kept b.number (verdicts b.examinations)) counted b.made;
+        places_are = r.places_are;
+        read = subst P (sym same) (fewer_read (λ c. is_none (b.number (id_of c))) (candidates (verdicts b.examinations)) all.1);
+        fresh = subst Q (sym same) (fewer_fresh (λ c. is_none (b.number (id_of c))) [] (candidates (verdicts b.examinations)) all.0);
+      }
+
+  -- some more ids were found to be stored
+  pub more : {label : List ℕ} → OneGame → (cuts : List Cut) (counted : Counted) (places : List ℕ) (refused : List Refusal) (clashes clashes' : List (Committed J)) (r : Rounds label cuts (Some counted) places refused clashes)
+      (number : Numbering) (named refused' : List Refusal) (rest : List Placed) (next : Tallying) (tally : Option Counted)
+      → IsPrefix (notes_of clashes) (notes_of clashes') → AreNamed (notes_of clashes') number
+      → named ≡ named_by number (kept r.by.number (verdicts r.by.examinations)) → rest ≡ map placed (left_by number (kept r.by.number (verdicts r.by.examinations)))
+      → refused' ≡ merged refused named → IsTallying rest next → tally ≡ option_map (under label) next.tally
+      → Rounds label cuts tally next.places.items refused' clashes'
+  unfolding hand
+  more {label} one cuts counted places refused clashes clashes' r number named refused' rest next tally grew theirs named_are rest_are refused_are made tally_is =
+      let b = r.by in
+      let cs = kept b.number (verdicts b.examinations) in
+      let h = hand cuts counted places refused clashes r in
+      let left = left_by number cs in
+      let each : AllZip IsExaminationOfText (map placed left) made.examinations = let P : List Placed → Type 0 = λ l. AllZip IsExaminationOfText l made.examinations in subst P rest_are made.are_examinations in
+      let both = again one left made.examinations (fewer_read (λ c. is_none (number (id_of c))) cs h.read) (fewer_fresh (λ c. is_none (number (id_of c))) [] cs h.fresh) each in
+      let now_kept : candidates (verdicts made.examinations) ≡ kept (found b.number number) (verdicts b.examinations) = both.0 ∙ sym (kept_found b.number number (verdicts b.examinations)) in
+      let P : List Candidate → Type 0 = λ cs. IsTallyUnder label cs tally in
+      record {
+        ascend = r.ascend;
+        by = record {
+          examinations = b.examinations;
+          are_examinations = b.are_examinations;
+          number = found b.number number;
+          named = found_named b.number number (notes_of clashes) (notes_of clashes') grew b.named theirs;
+          refused_are = refused_are ∙ ap (λ l. merged l named) b.refused_are ∙ ap (merged (lost b.number (verdicts b.examinations))) named_are
+              ∙ merged_lost b.number number 0 (verdicts b.examinations) (ascends 0 cuts [] b.examinations r.ascend b.are_examinations);
+          made = subst P now_kept (made_under label (candidates (verdicts made.examinations)) next.tally tally made.tally tally_is);
+        };
+        places_are = made.places ∙ ap (map (λ (c : Candidate). c.place)) now_kept;
+      }
+
+  -- the group as it was tallied first
+  pub first : {label : List ℕ} (cuts : List Cut) (made : TalliedGroup) → Ascend cuts → IsTallied label cuts made → Rounds {J = J} label cuts made.tally made.places.items made.refused.items []
+  first {label} cuts made ascend is =
+      let none : Numbering = λ id. None in
+      let same = settled_none (verdicts is.examinations) in
+      let P : List Candidate → Type 0 = λ cs. IsTallyUnder label cs made.tally in
+      record {
+        ascend = ascend;
+        by = record {
+          examinations = is.examinations;
+          are_examinations = is.are_examinations;
+          number = none;
+          named = λ id n found. absurd (none_some n found);
+          refused_are = is.refused ∙ ap refusals (sym same);
+          made = subst P (ap candidates (sym same)) is.tally;
+        };
+        places_are = is.places ∙ ap (λ fs. map (λ (c : Candidate). c.place) (candidates fs)) (sym same);
+      }
+    where
+      none_some : (n : ℕ) → (let o : Option ℕ = None in o) ≡ Some n → ⊥
+      none_some n e = cc
 
 -- ---- what is known of the store
-
-some_none : {A : Type 0} (x : A) → Some x ≡ None → ⊥
-some_none x e = cc
 
 none_ids : (pairs : List Clashing) → (let none : Option Cause = None in none) ≡ Some (HasIds pairs) → ⊥
 none_ids pairs e = cc
@@ -206,7 +242,7 @@ no_clashes games journal counted nothing = by (clashes_of (numbers_of games) cou
   where
     by : (pairs : List Clashing) → cause_by pairs journal counted.batch ≡ None → pairs ≡ []
     by [] e = refl
-    by (pair ∷ pairs) e = absurd (some_none _ e)
+    by (pair ∷ pairs) e = absurd (some-none _ e)
 
 unnamed : {label : List ℕ} (fault : Option (ℕ × ℕ)) (games : List Game) (journal : List Batch) (counted : Counted) (cs : List Candidate) → CountsUnder label cs counted → cause fault games journal counted ≡ None
     → AllByRecursion (λ c. stored_by fault games (id_of c) ≡ None) cs
@@ -220,76 +256,63 @@ kept_unnamed {label} (Some f) games journal counted cs counts never = all_none c
 kept_unnamed {label} None games journal counted cs counts never =
     kept_none (numbers_of games) 0 cs (ap (clashes_from 0 (numbers_of games)) (sym (counted_ids cs counted counts)) ∙ no_pairs (clashes_of (numbers_of games) counted.classes) journal counted never)
 
+-- each number that was found is that of a stored game
+abbrev pub AreRight : Known → Numbering → Type 0
+AreRight known number = (id : List ℕ) (n : ℕ) → number id ≡ Some n → stored_by known.fault known.games id ≡ Some n
+
 module _ {J : Type 0} where
-  -- a clash leaves the store as it was
-  pub still_clash : (known : Known) (handed counted : Counted) (pairs : ArrayVec Clashing) (note : List Batch) (now now' : Option Store) → IsStill known now
-      → ((k : Known) → now ≡ Some (store_of k) → Commits {J = J} (Err (faults.Clash handed pairs note)) k counted now') → IsStill known now'
-  still_clash known handed counted pairs note now now' is holds =
-      let commits = holds known is in
-      commits.still ∙ (λ i. Some (record { journal = commits.by.0.stores i; fault = commits.by.0.fault i; failed = commits.by.0.fails i }))
-
-  -- what a clash names is stored
-  pub right_clash : (known : Known) (handed counted : Counted) (pairs : ArrayVec Clashing) (note : List Batch) (now now' : Option Store) (games : List Game) → IsStill known now
-      → ((k : Known) → now ≡ Some (store_of k) → Commits {J = J} (Err (faults.Clash handed pairs note)) k counted now') → ((k : Known) → now ≡ Some (store_of k) → k.games ≡ games)
-      → (id : List ℕ) (n : ℕ) → numbers_of games id ≡ Some n → stored_by known.fault known.games id ≡ Some n
-  right_clash known handed counted pairs note now now' games is holds same id n e =
-      by_fault known.fault refl (ap (λ (g : List Game). numbers_of g id) (same known is) ∙ e)
-    where
-      by_fault : (fault : Option (ℕ × ℕ)) → known.fault ≡ fault → numbers_of known.games id ≡ Some n → stored_by fault known.games id ≡ Some n
-      by_fault None at here = here
-      by_fault (Some f) at here =
-          let P : Option (ℕ × ℕ) → Type 0 = λ k. cause k known.games known.journal counted ≡ Some (HasIds pairs.items) in
-          absurd (closed_clash f pairs.items (subst P at (holds known is).by.0.refused))
-
   -- ---- the end of a group
 
-  pub settles : {label : List ℕ} (known : Known) (cuts : List Cut) (places : List ℕ) (refused : List Refusal) (now : Option Store) (counted : Counted) (r : Rounds label (Some (store_of known)) cuts (Some counted) places refused now)
-      (answer : Result (Receipt J) (CommitFault J)) (done : Done J) (now' : Option Store) → IsDecided answer
-      → ((k : Known) → now ≡ Some (store_of k) → Commits answer k counted now') → done.answer ≡ Some answer → done.refused.items ≡ refused → Settles label known cuts done now'
-  settles {label} known cuts places refused now counted r answer done now' never holds answer_is refused_is =
-      let still = r.still known refl in
-      let commits = holds known still in
+  pub settles : {label : List ℕ} (known : Known) (cuts : List Cut) (refused : List Refusal) (counted : Counted) (clashes : List (Committed J)) (b : GroupBy label cuts (Some counted) refused clashes)
+      (answer : Result (Receipt J) (CommitFault J)) (done : Done J) (now' : Option Store) → AreRight known b.number → IsDecided answer
+      → Commits answer known counted now' → done.answer ≡ Some answer → done.refused.items ≡ refused → Settles label known cuts done now'
+  settles {label} known cuts refused counted clashes b answer done now' right never commits answer_is refused_is =
       let N = stored_by known.fault known.games in
-      let none = kept_unnamed known.fault known.games known.journal counted (kept r.stored (verdicts r.examinations)) r.made (no_ids known counted commits.new answer never commits.by) in
-      let same = same_settled r.stored N (verdicts r.examinations) (exact r.stored N (verdicts r.examinations) (r.right known refl) none) in
+      let none = kept_unnamed known.fault known.games known.journal counted (kept b.number (verdicts b.examinations)) b.made (no_ids known counted commits.new answer never commits.by) in
+      let same = same_settled b.number N (verdicts b.examinations) (exact b.number N (verdicts b.examinations) right none) in
       let P : List Candidate → Type 0 = λ cs. CountsUnder label cs counted in
-      let Q : Option (Result (Receipt J) (CommitFault J)) → Type 0 = λ a. IsAnswer label known (kept N (verdicts r.examinations)) a now' in
+      let Q : Option (Result (Receipt J) (CommitFault J)) → Type 0 = λ a. IsAnswer label known (kept N (verdicts b.examinations)) a now' in
       record {
-        examinations = r.examinations;
-        are_examinations = r.are_examinations;
-        refused = refused_is ∙ r.refused_are ∙ ap refusals same;
-        answer = subst Q (sym answer_is) (counted, subst P (ap candidates same) r.made, commits);
+        examinations = b.examinations;
+        are_examinations = b.are_examinations;
+        refused = refused_is ∙ b.refused_are ∙ ap refusals same;
+        answer = subst Q (sym answer_is) (counted, subst P (ap candidates same) b.made, commits);
       }
 
-  pub settles_none : {label : List ℕ} (known : Known) (cuts : List Cut) (places : List ℕ) (refused : List Refusal) (now : Option Store) (r : Rounds label (Some (store_of known)) cuts None places refused now) (done : Done J)
-      → done.answer ≡ None → done.refused.items ≡ refused → Settles label known cuts done now
-  settles_none {label} known cuts places refused now r done answer_is refused_is =
+  pub settles_none : {label : List ℕ} (known : Known) (cuts : List Cut) (refused : List Refusal) (clashes : List (Committed J)) (b : GroupBy label cuts None refused clashes) (done : Done J) (now : Option Store) → AreRight known b.number
+      → IsStill known now → done.answer ≡ None → done.refused.items ≡ refused → Settles label known cuts done now
+  settles_none {label} known cuts refused clashes b done now right still answer_is refused_is =
       let N = stored_by known.fault known.games in
       let R : List Candidate → Type 0 = λ cs. AllByRecursion (λ c. N (id_of c) ≡ None) cs in
-      let same = same_settled r.stored N (verdicts r.examinations) (exact r.stored N (verdicts r.examinations) (r.right known refl) (subst R (sym r.made) tt)) in
-      let Q : Option (Result (Receipt J) (CommitFault J)) → Type 0 = λ a. IsAnswer label known (kept N (verdicts r.examinations)) a now in
+      let same = same_settled b.number N (verdicts b.examinations) (exact b.number N (verdicts b.examinations) right (subst R (sym b.made) tt)) in
+      let Q : Option (Result (Receipt J) (CommitFault J)) → Type 0 = λ a. IsAnswer label known (kept N (verdicts b.examinations)) a now in
       record {
-        examinations = r.examinations;
-        are_examinations = r.are_examinations;
-        refused = refused_is ∙ r.refused_are ∙ ap refusals same;
-        answer = subst Q (sym answer_is) (sym (ap candidates same) ∙ r.made, r.still known refl);
+        examinations = b.examinations;
+        are_examinations = b.are_examinations;
+        refused = refused_is ∙ b.refused_are ∙ ap refusals same;
+        answer = subst Q (sym answer_is) (sym (ap candidates same) ∙ b.made, still);
       }
 
   -- ---- want of memory
 
-  pub lacks_commit : {label : List ℕ} (known : Known) (cuts : List Cut) (places : List ℕ) (refused : List Refusal) (now : Option Store) (counted : Counted) (r : Rounds label (Some (store_of known)) cuts (Some counted) places refused now) (stored : Bool)
-      (now' : Option Store) → Commits {J = J} (Err (faults.OutOfMemory stored)) known counted now' → MayHaveMore label known (cuts ∷ []) now'
-  lacks_commit {label} known cuts places refused now counted r true now' commits =
+  pub lacks_commit : {label : List ℕ} (known : Known) (cuts : List Cut) (refused : List Refusal) (counted : Counted) (clashes : List (Committed J)) (b : GroupBy label cuts (Some counted) refused clashes)
+      (answer : Result (Receipt J) (CommitFault J)) (now' : Option Store) → AreRight known b.number → IsLacking answer → Commits answer known counted now' → MayHaveMore label known (cuts ∷ []) now'
+  lacks_commit {label} known cuts refused counted clashes b (Ok receipt) now' right lacking commits = absurd lacking
+  lacks_commit {label} known cuts refused counted clashes b (Err (faults.Closed before after mark)) now' right lacking commits = absurd lacking
+  lacks_commit {label} known cuts refused counted clashes b (Err (faults.Clash handed pairs note)) now' right lacking commits = absurd lacking
+  lacks_commit {label} known cuts refused counted clashes b (Err (faults.Full games bytes note)) now' right lacking commits = absurd lacking
+  lacks_commit {label} known cuts refused counted clashes b (Err (faults.DiskFault before after mark)) now' right lacking commits = absurd lacking
+  lacks_commit {label} known cuts refused counted clashes b (Err (faults.OutOfMemory true)) now' right lacking commits =
       let N = stored_by known.fault known.games in
-      let none = unnamed known.fault known.games known.journal counted (kept r.stored (verdicts r.examinations)) r.made commits.by.refused in
-      let same = same_settled r.stored N (verdicts r.examinations) (exact r.stored N (verdicts r.examinations) (r.right known refl) none) in
+      let none = unnamed known.fault known.games known.journal counted (kept b.number (verdicts b.examinations)) b.made commits.by.refused in
+      let same = same_settled b.number N (verdicts b.examinations) (exact b.number N (verdicts b.examinations) right none) in
       let batch : IsBatchOf label known cuts counted.batch = record {
-        examinations = r.examinations;
-        are_examinations = r.are_examinations;
-        batch_is = ap (batch_of label) (sym (ap candidates same)) ∙ r.made.batch;
+        examinations = b.examinations;
+        are_examinations = b.are_examinations;
+        batch_is = ap (batch_of label) (sym (ap candidates same)) ∙ b.made.batch;
       } in
       record { new = commits.new; still = commits.still; fault = commits.by.fault; journal = inr (counted.batch, batch, commits.by.stores) }
-  lacks_commit {label} known cuts places refused now counted r false now' commits = record { new = commits.new; still = commits.still; fault = commits.by.fault; journal = inl commits.by.stores }
+  lacks_commit {label} known cuts refused counted clashes b (Err (faults.OutOfMemory false)) now' right lacking commits = record { new = commits.new; still = commits.still; fault = commits.by.fault; journal = inl commits.by.stores }
 
 pub on_err : {T E : Type 0} (result : Result T E) {P : Type 0} → P → OnErr result P
 on_err (Ok t) p = tt
@@ -307,24 +330,3 @@ stores_more label known (next ∷ groups) more journal is = is
 
 pub lacks_still : (label : List ℕ) (known : Known) (groups : List (List Cut)) (now : Option Store) → IsStill known now → MayHaveMore label known groups now
 lacks_still label known groups now still = record { new = store_of known; still = still; fault = refl; journal = stores_nothing label known groups }
-
--- the group as it was tallied first
-unfoldable pub first : {label : List ℕ} (told : Option Store) (cuts : List Cut) (made : TalliedGroup) → Ascend cuts → IsTallied label cuts made → Rounds label told cuts made.tally made.places.items made.refused.items told
-first {label} told cuts made ascend is =
-    let none : Numbering = λ id. None in
-    let same = settled_none (verdicts is.examinations) in
-    let P : List Candidate → Type 0 = λ cs. IsTallyUnder label cs made.tally in
-    record {
-      ascend = ascend;
-      examinations = is.examinations;
-      are_examinations = is.are_examinations;
-      stored = none;
-      refused_are = is.refused ∙ ap refusals (sym same);
-      places_are = is.places ∙ ap (λ fs. map (λ (c : Candidate). c.place) (candidates fs)) (sym same);
-      made = subst P (ap candidates (sym same)) is.tally;
-      still = λ known e. e;
-      right = λ known e id n found. absurd (none_some n found);
-    }
-  where
-    none_some : (n : ℕ) → (let o : Option ℕ = None in o) ≡ Some n → ⊥
-    none_some n e = cc

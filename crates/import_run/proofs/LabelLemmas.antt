@@ -1,5 +1,6 @@
 -- Batches and tallies of candidates under a label.
 use Rattle.std.proofs.Common.{◌≡◌, ℕ, List, [], ◌∷◌, Option, None, Some, option_map, sym, ap, subst}
+use Rattle.std.proofs.lemmas.Option.{none-some, same_Some}
 use Rattle.explorer_model.specs.declared.archive.Batch.{Batch}
 use Rattle.explorer_model.specs.declared.fault.Refusal.{Refusal}
 use Rattle.explorer_model.specs.Cuts.{Cut}
@@ -16,21 +17,15 @@ use Rattle.import_run.specs.Labelling.{CountsUnder, IsTallyUnder, under}
 use Rattle.import_run.specs.Progress.{Progress}
 use Rattle.import_run.specs.Taking.{ComesQuietly, ComesQuietlyBeside, Imports}
 
-none_some : (batch : Batch) → (let o : Option Batch = None in o) ≡ Some batch → ⊥
-none_some batch e = cc
-
-same_some : (a b : Batch) → Some a ≡ Some b → a ≡ b
-same_some a b e = cc
-
 -- the batch of candidates has the label
 pub label_is : (label : List ℕ) (cs : List Candidate) (batch : Batch) → batch_of label cs ≡ Some batch → batch.label ≡ label
-label_is label [] batch e = absurd (none_some batch e)
-label_is label (c ∷ cs) batch e = ap (λ (b : Batch). b.label) (sym (same_some _ batch e))
+label_is label [] batch e = absurd (none-some batch e)
+label_is label (c ∷ cs) batch e = ap (λ (b : Batch). b.label) (sym (same_Some _ batch e))
 
 -- under another label it is the same batch, but for the label
 relabelled : (label other : List ℕ) (cs : List Candidate) (batch : Batch) → batch_of other cs ≡ Some batch → batch_of label cs ≡ Some (record batch { label = label })
-relabelled label other [] batch e = absurd (none_some batch e)
-relabelled label other (c ∷ cs) batch e = ap (λ (b : Batch). Some (record b { label = label })) (same_some _ batch e)
+relabelled label other [] batch e = absurd (none-some batch e)
+relabelled label other (c ∷ cs) batch e = ap (λ (b : Batch). Some (record b { label = label })) (same_Some _ batch e)
 
 pub counts_under : (label : List ℕ) (cs : List Candidate) (counted : Counted) → Counts cs counted → CountsUnder label cs (under label counted)
 counts_under label cs counted counts = record {

@@ -2,6 +2,7 @@
 use Rattle.std.proofs.Common.{◌≡◌, ⊎_elim, ℕ, ◌+◌, ◌-◌, ◌^◌, ◌<◌, List, [], ◌∷◌, ◌++◌, Option, None, Some, length, refl, sym, ap, subst, ◌∙◌, length-append, arith}
 use Rattle.std.specs.Io.KnownBytes.{Consumes, IsAtEnd}
 use Rattle.std.proofs.lemmas.List.{append-nil}
+use Rattle.std.proofs.lemmas.Option.{none-some}
 use Rattle.disk_model.specs.Disk.{DiskState}
 use Rattle.outside.specs.Stream.{Reads, Rises, Stream}
 use Rattle.explorer_model.specs.declared.archive.Batch.{Batch}
@@ -23,11 +24,8 @@ use Rattle.import_run.specs.SoFar.{AreInGroups, ended_cuts}
 use Rattle.import_run.proofs.SameGroups.{same_groups}
 use Rattle.import_run.proofs.VerdictLemmas.{OneGame}
 
-no_rise : (before after : ℕ) → after ≡ before → before < 2 ^ 64 - 1 → Rises before after → ⊥
+pub no_rise : (before after : ℕ) → after ≡ before → before < 2 ^ 64 - 1 → Rises before after → ⊥
 no_rise before after same few rises = ⊎_elim (λ rose. omega (arith, rose, same)) (λ greatest. omega (arith, greatest, same, few)) rises.rose
-
-none_some : (x : ℕ × ℕ) → None ≡ Some x → ⊥
-none_some x e = cc
 
 no_longer : (left after : Option (List ℕ)) (bytes stream : List ℕ) → left ≡ Some bytes → Consumes left after stream → length stream < length bytes + 1
 no_longer None after bytes stream is next = absurd (none is)
@@ -50,7 +48,7 @@ module _ {D J : Type 0} (label : List ℕ) (disk : D → DiskState) (source sour
       no_rise first last (faults.1 ∙ quiet.reads ∙ sym faults.0) (omega (arith, faults.0, can.reads)) faults.2
   ends_by (ends.DiskFault first last mark) stands faults calls =
       no_rise first last (calls.after_is ∙ quiet.calls ∙ sym calls.before_is) (omega (arith, calls.before_is, can.calls)) calls.rises
-  ends_by (ends.Closed first last mark) stands faults calls = none_some (first, last) (sym can.sound ∙ sym open_is ∙ stands.1)
+  ends_by (ends.Closed first last mark) stands faults calls = none-some (first, last) (sym can.sound ∙ sym open_is ∙ stands.1)
   ends_by (ends.TooMuch bytes) stands faults calls =
       omega (arith, stands.1.at, no_longer source.left source_after.left can.bytes stream can.told reads.next, can.below)
 
@@ -62,7 +60,7 @@ ends_without_fault {label} disk left_since source source_after before after repo
 
 -- ---- two imports of one stream
 
-all_taken : (left after : Option (List ℕ)) (bytes stream : List ℕ) → left ≡ Some bytes → Consumes left after stream → IsAtEnd after → stream ≡ bytes
+pub all_taken : (left after : Option (List ℕ)) (bytes stream : List ℕ) → left ≡ Some bytes → Consumes left after stream → IsAtEnd after → stream ≡ bytes
 all_taken None after bytes stream is next at_end = absurd (none is)
   where
     none : (let o : Option (List ℕ) = None in o) ≡ Some bytes → ⊥

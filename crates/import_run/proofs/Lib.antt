@@ -2,6 +2,7 @@ pub mod AccountLemmas
 mod AheadLemmas
 pub mod AloneLemmas
 mod AnswerLemmas
+pub mod AnsweredLemmas
 mod ApartLemmas
 mod BesideLemmas
 mod BodyLemmas
@@ -17,8 +18,8 @@ mod CutLemmas
 mod DrawLemmas
 mod DeterminedLemmas
 mod DrainLemmas
-mod EarlyLemmas
-mod EndedLemmas
+pub mod EarlyLemmas
+pub mod EndedLemmas
 mod FollowLemmas
 mod FollowedLists
 mod FrontLemmas

@@ -1,8 +1,8 @@
 -- One more group is settled.
-use Rattle.std.proofs.Common.{◌≡◌, ◌⊎◌, inl, inr, ℕ, List, [], ◌∷◌, ◌++◌, map, Option, None, Some, Result, Ok, Err, refl, sym, ap, ◌∙◌, subst, append_assoc}
+use Rattle.std.proofs.Common.{◌≡◌, ◌⊎◌, inl, inr, ℕ, List, [], ◌∷◌, ◌++◌, map, Option, None, Some, Result, Ok, refl, sym, ap, ◌∙◌, subst, append_assoc}
 use Rattle.std.proofs.lemmas.List.{append-nil}
 use Rattle.std.specs.List.{AllByRecursion, AllZip, cons_option}
-use Rattle.std.specs.Prelude.{IfErr, IsSome, is_none}
+use Rattle.std.specs.Prelude.{IsSome, is_none}
 use Rattle.explorer_model.specs.declared.archive.Batch.{Batch}
 use Rattle.explorer_model.specs.declared.archive.Game.{Game}
 use Rattle.explorer_model.specs.declared.fault.Refusal.{Refusal}
@@ -14,16 +14,11 @@ use Rattle.ingest_desk.specs.Commits.{IsReceiptOf}
 use Rattle.ingest_desk.specs.declared.fault.CommitFault.{CommitFault}
 use Rattle.ingest_desk.specs.declared.receipt.Receipt.{Receipt}
 use Rattle.tally_rows.specs.Tally.{Counted}
-use Rattle.published_index.specs.Changes.{Change}
 use Rattle.import_run.specs.declared.settle.Done.{Done}
 use Rattle.import_run.specs.Committing.{Known, Store}
 use Rattle.import_run.specs.Progress.{AreReceiptsOf, HasNoCandidate, Progress, and_games}
 use Rattle.import_run.specs.Rounds.{IsAnswer, IsBatchOf, MayHaveMore, Settles, stored_by}
 use Rattle.import_run.proofs.HandLemmas.{lacks_still}
-use Rattle.import_run.specs.Importing.{WhereLacking}
-use Rattle.import_run.specs.declared.open_import.Stopped.{Stopped}
-use Rattle.explorer_model.specs.declared.fault.Stop.{Stop}
-use Rattle.explorer_model.specs.declared.fault.Stop.TheVariants as stops
 use Rattle.import_run.specs.Settling.{AreRead, id_of, kept}
 use Rattle.import_run.proofs.TurnLemmas.{games-after, games_more, one_more}
 use Rattle.import_run.proofs.VerdictLemmas.{fewer_read, fresh, kept-left, same_settled, settled_none}
@@ -178,8 +173,3 @@ module _ {J : Type 0} where
       let a = subst P is s.answer in
       let batch : IsBatchOf label known cuts a.0.batch = record { examinations = s.examinations; are_examinations = s.are_examinations; batch_is = a.1.batch } in
       record { new = a.2.new; still = a.2.still; fault = a.2.by.0.fault; journal = inr (a.0.batch, batch, a.2.by.0.stores) }
-
-  pub lacking : {T : Type 0} (result : Result T (Stop (Stopped J))) {P : Type 0} → P → IfErr result (λ stop. WhereLacking stop P)
-  lacking (Ok t) p = tt
-  lacking (Err (stops.Fault stopped)) p = tt
-  lacking (Err stops.OutOfMemory) p = p

@@ -14,7 +14,7 @@ use Rattle.import_run.specs.Beside.{EndsBeside}
 use Rattle.import_run.specs.Committing.{Known, Store, store_of}
 use Rattle.import_run.specs.EndingBeside.{ImportsBeside}
 use Rattle.import_run.specs.Importing.{EndsEarly}
-use Rattle.import_run.specs.Taking.{ComesQuietly, ComesQuietlyBeside, Imports, LacksAtEnd, LacksWithin, StopsAtEnd, StopsWithin}
+use Rattle.import_run.specs.Taking.{ComesQuietly, ComesQuietlyBeside, Imports, LacksAtEnd, LacksWithin, StopsIn}
 use Rattle.import_run.specs.Underway.{LacksReading, StopsReading}
 use Rattle.import_run.proofs.ComeBesideLemmas.{imports_early_beside, lacking_at_end_beside, lacking_within_beside}
 use Rattle.import_run.proofs.ComeLemmas.{lacking_at_end, lacking_within}
@@ -33,37 +33,25 @@ module _ {J : Type 0} (before now : Stream) (import : OpenImport J) (report : Re
   -- ---- a group ended it
 
   module _ (stopped : Stopped J) (early : EndsEarly stopped.end → EndsEarly report.end)
-      (within_beside : (start : Option Store) (stream : List ℕ) (left : Option (List ℕ)) (told : Option Store) → length stream < input_limit → StopsWithin start stream import stopped told → ComesQuietlyBeside import.group.label stream left report)
-      (at_end_beside : (start : Option Store) (stream : List ℕ) (left : Option (List ℕ)) (told : Option Store) → IsAtEnd left → length stream < input_limit → StopsAtEnd start (cuts stream) import stopped told
-      → ComesQuietlyBeside import.group.label stream left report) where
+      (beside : (start : Option Store) (stream : List ℕ) (left : Option (List ℕ)) (told : Option Store) → length stream < input_limit → StopsIn start stream left import stopped told → ComesQuietlyBeside import.group.label stream left report) where
     is_early : (start : Option Store) (s : StopsReading before now start import stopped told) → EndsEarly report.end
     is_early start s = by s.stops
       where
-        by : StopsWithin start s.stream import stopped told ⊎ (IsAtEnd now.left × StopsAtEnd start (cuts s.stream) import stopped told) → EndsEarly report.end
+        by : StopsIn start s.stream now.left import stopped told → EndsEarly report.end
         by (inl w) = early (ends_early import.group.label stopped.end w.stops.behind.beside.left w.stops.behind.beside.ends)
         by (inr (at_end, e)) = early (ends_early import.group.label stopped.end e.behind.beside.left e.behind.beside.ends)
 
     comes_beside : (start : Option Store) (s : StopsReading before now start import stopped told) → ComesQuietlyBeside import.group.label s.stream now.left report
-    comes_beside start s = by s.stops
-      where
-        by : StopsWithin start s.stream import stopped told ⊎ (IsAtEnd now.left × StopsAtEnd start (cuts s.stream) import stopped told) → ComesQuietlyBeside import.group.label s.stream now.left report
-        by (inl w) = within_beside start s.stream now.left told s.below w
-        by (inr (at_end, e)) = at_end_beside start s.stream now.left told at_end s.below e
+    comes_beside start s = beside start s.stream now.left told s.below s.stops
 
     pub stopped_beside : (start : Option Store) → StopsReading before now start import stopped told → ImportsBeside import.group.label before now report
     stopped_beside start s = imports_early_beside before now report s.stream s.reads s.faults (is_early start s) (comes_beside start s)
 
-    pub stopped_told : (within : (start : Known) (stream : List ℕ) (left : Option (List ℕ)) (told : Option Store) → length stream < input_limit → StopsWithin (Some (store_of start)) stream import stopped told
-        → ComesQuietly import.group.label start stream left report told)
-        → (at_end : (start : Known) (stream : List ℕ) (left : Option (List ℕ)) (told : Option Store) → IsAtEnd left → length stream < input_limit → StopsAtEnd (Some (store_of start)) (cuts stream) import stopped told
+    pub stopped_told : ((start : Known) (stream : List ℕ) (left : Option (List ℕ)) (told : Option Store) → length stream < input_limit → StopsIn (Some (store_of start)) stream left import stopped told
         → ComesQuietly import.group.label start stream left report told)
         → (start : Known) → StopsReading before now (Some (store_of start)) import stopped told → Imports import.group.label start before now report told
-    stopped_told within at_end start s =
-        imports_early start before now report told s.stream s.reads s.faults (is_early (Some (store_of start)) s) (by s.stops) (comes_beside (Some (store_of start)) s).comes.reports.repeats
-      where
-        by : StopsWithin (Some (store_of start)) s.stream import stopped told ⊎ (IsAtEnd now.left × StopsAtEnd (Some (store_of start)) (cuts s.stream) import stopped told) → ComesQuietly import.group.label start s.stream now.left report told
-        by (inl w) = within start s.stream now.left told s.below w
-        by (inr (end, e)) = at_end start s.stream now.left told end s.below e
+    stopped_told comes start s =
+        imports_early start before now report told s.stream s.reads s.faults (is_early (Some (store_of start)) s) (comes start s.stream now.left told s.below s.stops) (comes_beside (Some (store_of start)) s).comes.reports.repeats
 
   -- ---- memory was wanting
 

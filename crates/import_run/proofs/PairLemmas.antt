@@ -14,6 +14,7 @@ use Rattle.import_run.specs.Settling.{id_of, left_by, named_by, named_first, pla
 use Rattle.std.proofs.lemmas.Bool.Decides.{nat_tests}
 use Rattle.std.specs.Prelude.{◌==◌}
 use Rattle.std.proofs.Common.{zero}
+use Rattle.plain_laws.specs.Lists.{same_cons}
 
 -- how far the texts are named
 pub record Naming (number : Numbering) (candidates : List Candidate) (rest : List (List ℕ)) (pairs : List Clashing) (at next : ℕ) (refused : List Refusal) (others : List Placed) : Type 0 where
@@ -90,9 +91,6 @@ passed_by at None pairs next more n ahead is = absurd (none_some n is)
     none_some n e = cc
 passed_by at (Some m) pairs next more n ahead is = drop-next pairs next (record { place = at; number = m }) more ahead
 
-same_head : {A : Type 0} (x y : A) (xs ys : List A) → x ∷ xs ≡ y ∷ ys → (x ≡ y) × (xs ≡ ys)
-same_head x y xs ys e = (cc, cc)
-
 named_more : (number : Numbering) (done : List Candidate) (c : Candidate) (o : Option ℕ) → number (id_of c) ≡ o
     → (named_by number (done ++ c ∷ []) ≡ named_by number done ++ filter_map (option_map (repeated c.place)) (o ∷ []))
     × (left_by number (done ++ c ∷ []) ≡ left_by number done ++ cond (is_none o) (c ∷ []) [])
@@ -128,7 +126,7 @@ module _ (number : Numbering) (candidates : List Candidate) (text : List ℕ) (r
             left = left;
             all = all ∙ sym (append_assoc so_far.done (c ∷ []) left);
             count = length-append so_far.done (c ∷ []) ∙ ap (λ k. k + 1) so_far.count;
-            texts = (same_head text c.text rest (map (λ c. c.text) left) texts).1;
+            texts = (same_cons text c.text rest (map (λ c. c.text) left) texts).1;
             named = ap (λ l. l ++ repeated place n ∷ []) so_far.named ∙ ap (λ p. named_by number so_far.done ++ repeated p n ∷ []) at_place ∙ sym more.0;
             unnamed = so_far.unnamed ∙ ap (map placed) (sym (more.1 ∙ append-nil (left_by number so_far.done)));
             ahead = passed_by at (number (id_of c)) pairs next (clashes_from (at + 1) number (map id_of left)) n ahead found;
@@ -147,7 +145,7 @@ module _ (number : Numbering) (candidates : List Candidate) (text : List ℕ) (r
           let more = named_more number so_far.done c None found in
           let at_place : place ≡ c.place = here ∙ ap (λ l. get_or l at 0) (places_are ∙ ap (map (λ (c : Candidate). c.place)) all)
           ∙ ap (λ k. get_or (map (λ (c : Candidate). c.place) (so_far.done ++ c ∷ left)) k 0) (sym so_far.count) ∙ place_of so_far.done c left in
-          let both = same_head text c.text rest (map (λ c. c.text) left) texts in
+          let both = same_cons text c.text rest (map (λ c. c.text) left) texts in
           let same : record { place = place; bytes = text } ≡ placed c = λ i. record { place = at_place i; bytes = both.0 i } in
           record {
             done = so_far.done ++ c ∷ [];

@@ -4,6 +4,7 @@ use Rattle.std.specs.Prelude.{slice_get, bytes_eq}
 use Rattle.std.specs.List.{AllByRecursion, AllZip, Contains}
 use Rattle.std.proofs.lemmas.List.Elements.{All-from_recursion, All-weaker, Contains-append_left, Contains-append_right}
 use Rattle.std.proofs.lemmas.Slice.Eq.{bytes_eq-Decides}
+use Rattle.std.proofs.lemmas.Option.{none-some}
 use Rattle.explorer_model.specs.declared.archive.Batch.{Batch}
 use Rattle.explorer_model.specs.declared.archive.Game.{Game}
 use Rattle.explorer_model.specs.declared.archive.Placed.{Placed}
@@ -25,9 +26,6 @@ use Rattle.import_run.specs.Settling.{lost}
 some_first : (first n : ℕ) → Some first ≡ Some n → n ≡ first
 some_first first n e = cc
 
-none_some : (n : ℕ) → (let o : Option ℕ = None in o) ≡ Some n → ⊥
-none_some n e = cc
-
 -- the text and the game of a number that some id has
 pub record IsFound (texts : List (List ℕ)) (id : List ℕ) (first n : ℕ) : Type 0 where
   pub place : ℕ
@@ -39,7 +37,7 @@ pub record IsFound (texts : List (List ℕ)) (id : List ℕ) (first n : ℕ) : T
   pub has_id : bytes_eq game.classes.id.bytes id ≡ true
 
 found-from : (texts : List (List ℕ)) (games : List Game) (id : List ℕ) (first n : ℕ) → AllZip IsTextOf texts games → number_from first id games ≡ Some n → IsFound texts id first n
-found-from [] [] id first n are e = absurd (none_some n e)
+found-from [] [] id first n are e = absurd (none-some n e)
 found-from [] (game ∷ games) id first n are e = absurd are
 found-from (text ∷ texts) [] id first n are e = absurd are
 found-from (text ∷ texts) (game ∷ games) id first n are e = by_id (bytes_eq game.classes.id.bytes id) refl e (found-from texts games id (first + 1) n are.1)

@@ -5,6 +5,8 @@ use Rattle.std.specs.List.{AllByRecursion, AllZip, cons_option, flat_map}
 use Rattle.std.proofs.lemmas.Grind.{flat_map-append}
 use Rattle.std.proofs.lemmas.List.{append-nil, length-map}
 use Rattle.std.proofs.lemmas.List.Sums.{sum_by-cons}
+use Rattle.std.proofs.Math.Seq.{take-append_seam}
+use Rattle.plain_laws.specs.Lists.{each-front, get-between}
 use Rattle.explorer_model.specs.declared.archive.Batch.{Batch}
 use Rattle.explorer_model.specs.declared.fault.Refusal.{Refusal}
 use Rattle.explorer_model.specs.declared.fault.Why.TheVariants as causes
@@ -234,10 +236,6 @@ last_of g (h ∷ gs) =
     let later = last_of h gs in
     record { before = g ∷ later.before; last = later.last; is = ap (λ (l : List (List Cut)). g ∷ l) later.is }
 
-each_front : (gs more : List (List Cut)) → AllByRecursion IsWhole (gs ++ more) → AllByRecursion IsWhole gs
-each_front [] more each = tt
-each_front (g ∷ gs) more each = (each.0, each_front gs more each.1)
-
 each_last : (gs : List (List Cut)) (group : List Cut) → AllByRecursion IsWhole (gs ++ group ∷ []) → IsWhole group
 each_last [] group each = each.0
 each_last (g ∷ gs) group each = each_last gs group each.1
@@ -253,14 +251,6 @@ groups_last gs group rest each whole none =
     ∙ ap groups (append_assoc (all_cuts gs) group rest)
     ∙ groups_closed gs (group ++ rest) each (omega (arith, texts))
     ∙ ap (λ (l : List (List Cut)). gs ++ l) (groups_one (group ++ rest) (some_cuts (group ++ rest) (omega (arith, texts))) (omega (arith, texts)))
-
-take_all_of : (gs more : List (List Cut)) → take (length gs) (gs ++ more) ≡ gs
-take_all_of [] more = refl
-take_all_of (g ∷ gs) more = ap (λ (l : List (List Cut)). g ∷ l) (take_all_of gs more)
-
-get_at : (gs : List (List Cut)) (group : List Cut) (more : List (List Cut)) → slice_get (gs ++ group ∷ more) (length gs) ≡ Some group
-get_at [] group more = refl
-get_at (g ∷ gs) group more = get_at gs group more
 
 -- some cut stands in a whole group
 pub some_whole : (group : List Cut) → IsWhole group → 0 < length group
@@ -278,7 +268,7 @@ pub record AccountedFront (label : List ℕ) (gs : List (List Cut)) (batches : L
 front_of : {label : List ℕ} (gs more : List (List Cut)) (all : List (List Cut)) (batches : List Batch) (refused unread : List Refusal) → all ≡ gs ++ more → LeftUnreadIn gs unread → AccountedBeside label gs batches (refused ++ unread)
     → AccountedFront label all batches refused
 front_of {label} gs more all batches refused unread is left a =
-    let same : take (length gs) all ≡ gs = ap (λ (l : List (List Cut)). take (length gs) l) is ∙ take_all_of gs more in
+    let same : take (length gs) all ≡ gs = ap (λ (l : List (List Cut)). take (length gs) l) is ∙ take-append_seam gs more in
     let long = ap (λ (l : List (List Cut)). length l) is in
     let P : List (List Cut) → Type 0 = λ l. LeftUnreadIn l unread in
     let Q : List (List Cut) → Type 0 = λ l. AccountedBeside label l batches (refused ++ unread) in
@@ -313,7 +303,7 @@ accounted_front {label} closed rest batches refused each first a = by_texts (non
         let all : AllByRecursion IsWhole (l.before ++ l.last ∷ []) = subst (λ (x : List (List Cut)). AllByRecursion IsWhole x) l.is each in
         let whole = each_last l.before l.last all in
         let is : groups (all_cuts (g ∷ gs) ++ rest) ≡ (l.before ++ (l.last ++ rest) ∷ []) ++ [] =
-        ap (λ (x : List (List Cut)). groups (all_cuts x ++ rest)) l.is ∙ groups_last l.before l.last rest (each_front l.before (l.last ∷ []) all) whole none ∙ sym (append-nil (l.before ++ (l.last ++ rest) ∷ [])) in
+        ap (λ (x : List (List Cut)). groups (all_cuts x ++ rest)) l.is ∙ groups_last l.before l.last rest (each-front IsWhole l.before (l.last ∷ []) all) whole none ∙ sym (append-nil (l.before ++ (l.last ++ rest) ∷ [])) in
         let no_preamble = first (let some = some_whole g each.0 in omega (arith, some, length-append g (all_cuts gs))) in
         let acc : AccountedBeside label (l.before ++ l.last ∷ []) batches refused = subst (λ (x : List (List Cut)). AccountedBeside label x batches refused) l.is a in
         front_of (l.before ++ (l.last ++ rest) ∷ []) [] (groups (all_cuts (g ∷ gs) ++ rest)) batches refused (unread_in rest) is
@@ -348,7 +338,7 @@ accounted_whole {label} closed hand batches refused each few a = by_texts (none_
         let l = last_of g gs in
         let all : AllByRecursion IsWhole (l.before ++ l.last ∷ []) = subst (λ (x : List (List Cut)). AllByRecursion IsWhole x) l.is each in
         let is : groups (all_cuts (g ∷ gs) ++ hand) ≡ l.before ++ (l.last ++ hand) ∷ [] =
-        ap (λ (x : List (List Cut)). groups (all_cuts x ++ hand)) l.is ∙ groups_last l.before l.last hand (each_front l.before (l.last ∷ []) all) (each_last l.before l.last all) none in
+        ap (λ (x : List (List Cut)). groups (all_cuts x ++ hand)) l.is ∙ groups_last l.before l.last hand (each-front IsWhole l.before (l.last ∷ []) all) (each_last l.before l.last all) none in
         let less = beside_less (g ∷ gs) hand batches refused none a in
         let acc : AccountedBeside label (l.before ++ l.last ∷ []) batches less.before = subst (λ (x : List (List Cut)). AccountedBeside label x batches less.before) l.is less.accounted in
         let P : List Refusal → Type 0 = λ x. AccountedBeside label (l.before ++ (l.last ++ hand) ∷ []) batches x in
@@ -381,7 +371,7 @@ module _ {label : List ℕ} (gs : List (List Cut)) (closed : List (List Cut)) (g
     (j : IsJudged group left hand) (some : left ≢ []) (refused_is : refused ≡ before ++ hand) where
   breaks : (rest : List Cut) (more : List (List Cut)) → gs ≡ closed ++ (group ++ rest) ∷ more → texts_in rest ≡ 0 → LeftUnread (group ++ rest) (unread_in rest) → BreaksAt label gs batches refused left
   breaks rest more is none unread =
-      let front : take (length closed) gs ≡ closed = ap (λ (l : List (List Cut)). take (length closed) l) is ∙ take_all_of closed ((group ++ rest) ∷ more) in
+      let front : take (length closed) gs ≡ closed = ap (λ (l : List (List Cut)). take (length closed) l) is ∙ take-append_seam closed ((group ++ rest) ∷ more) in
       let long = ap (λ (l : List (List Cut)). length l) is in
       let Q : List (List Cut) → Type 0 = λ l. AccountedBeside label l batches before in
       record {
@@ -389,7 +379,7 @@ module _ {label : List ℕ} (gs : List (List Cut)) (closed : List (List Cut)) (g
         before = before;
         accounts = record { within = omega (arith, long, length-append closed ((group ++ rest) ∷ more)); accounted = subst Q (sym front) a };
         group = group ++ rest;
-        in_hand = ap (λ (l : List (List Cut)). slice_get l (length closed)) is ∙ get_at closed (group ++ rest) more;
+        in_hand = ap (λ (l : List (List Cut)). slice_get l (length closed)) is ∙ get-between closed (group ++ rest) more;
         hand = hand ++ unread_in rest;
         judged = judged_more group rest left hand none j;
         some_left = some;

@@ -1,5 +1,5 @@
 -- The report of an import in rounds of which nothing is in hand any more.
-use Rattle.std.proofs.Common.{◌≡◌, ◌+◌, ◌<◌, ℕ, List, [], ◌++◌, length, take, Option, None, Some, refl, sym, subst, arith}
+use Rattle.std.proofs.Common.{◌≡◌, ◌<◌, ℕ, List, [], ◌++◌, length, take, Option, None, Some, refl, sym, subst, arith}
 use Rattle.std.proofs.lemmas.List.{append-nil}
 use Rattle.outside.specs.Stream.{Stream}
 use Rattle.explorer_model.specs.Cuts.{Cut, cuts}

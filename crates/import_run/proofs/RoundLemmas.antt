@@ -3,6 +3,7 @@ use Rattle.std.proofs.Common.{◌≡◌, ◌+◌, ◌*◌, ◌^◌, ◌<◌, ◌
 use Rattle.std.specs.List.{All, AllByRecursion, AllZip}
 use Rattle.std.proofs.lemmas.List.{nil_from_length}
 use Rattle.std.proofs.lemmas.List.Elements.{All-cons, All-head, All-nil, All-tail}
+use Rattle.plain_laws.specs.Lists.{each-behind, each-front}
 use Rattle.outside.specs.Stream.{Stream}
 use Rattle.explorer_model.specs.declared.fault.Stop.{Stop}
 use Rattle.explorer_model.specs.declared.fault.Stop.TheVariants as stops
@@ -19,10 +20,12 @@ use Rattle.import_run.specs.Ahead.{HoldsAhead, IsUnder, StandsFor, left_by, left
 use Rattle.import_run.specs.Apart.{CanTally, IsTalliedGroup}
 use Rattle.import_run.specs.Committing.{Store}
 use Rattle.import_run.specs.Grouping.{Ascend, IsGroupOf, IsTallied}
+use Rattle.import_run.specs.Importing.{BreaksBy}
 use Rattle.import_run.specs.Taking.{IsSettledSo, LacksAmong, StopsAmong}
 use Rattle.import_run.specs.Underway.{IsUnderway, LacksReading, StopsReading, Turns}
 use Rattle.import_run.proofs.AheadLemmas.{stands_for}
-use Rattle.import_run.proofs.UnderwayLemmas.{each_back, each_front, given_ascend, lacks_reading, lacks_settled, round_less, stops_reading, tallied_many, tallied_under}
+use Rattle.import_run.proofs.TakingLemmas.{by_stop}
+use Rattle.import_run.proofs.UnderwayLemmas.{given_ascend, lacks_reading, lacks_settled, round_less, stops_reading, tallied_many, tallied_under}
 
 pub can_tally_all : (label : List ℕ) (groups : List TextGroup) → All (IsUnder label) groups → All CanTally groups
 can_tally_all label [] each = All-nil CanTally
@@ -36,7 +39,7 @@ pub turns_lacking : {J : Type 0} (counting : Bool) (result : Result (Unit {0}) (
 turns_lacking counting (Ok done) old new source source' told told' is same lacks ends = absurd is
 turns_lacking {J} counting (Err stop) old new source source' told told' is same lacks ends =
     let P : Stop (Stopped J) → Type 0 = λ s. Turns counting (Err s) old new source source' told told' in
-    subst P (sym is) (record { same = same; ready = tt; settles = tt; reads = tt; stops = tt; lacks = lacks; ends = ends; less = tt; few = tt })
+    subst P (sym is) (record { same = same; ready = tt; settles = lacks; reads = tt; ends = ends; less = tt; few = tt })
 
 -- what a turn left is what its caller has
 pub turns_left : {J : Type 0} {counting : Bool} {result : Result (Unit {0}) (Stop (Stopped J))} {old new new' : Underway J} {source after after' : Stream} {told left left' : Option Store} → Turns counting result old new source after told left
@@ -57,7 +60,7 @@ module _ {J : Type 0} (before now now' : Stream) (start : Option Store) (old : U
   order whole h = given_ascend before now ((u.closed ++ u.waiting) ++ whole) ahead h
 
   waiting_order : (whole : List (List Cut)) → HoldsAhead before now ((u.closed ++ u.waiting) ++ whole) ahead → AllByRecursion Ascend u.waiting
-  waiting_order whole h = each_back Ascend u.closed u.waiting (each_front Ascend (u.closed ++ u.waiting) whole (order whole h))
+  waiting_order whole h = each-behind Ascend u.closed u.waiting (each-front Ascend (u.closed ++ u.waiting) whole (order whole h))
 
   module _ (new : OpenImport J) (ahead' : Ahead)
       (settles : (start : Option Store) (closed groups : List (List Cut)) → AllByRecursion Ascend groups → AllZip (IsTallied old.import.group.label) groups old.counted.items → IsSettledSo start closed old.import told
@@ -70,7 +73,7 @@ module _ {J : Type 0} (before now now' : Stream) (start : Option Store) (old : U
         by : (whole : List (List Cut)) → AllZip IsGroupOf whole groups → HoldsAhead before now ((u.closed ++ u.waiting) ++ whole) ahead → IsUnderway before now' start state told'
         by whole held h =
             let label : state.import.group.label ≡ old.import.group.label = ap (λ (i : OpenImport J). i.group.label) import_is ∙ ap (λ (g : TextGroup). g.label) same in
-            let tallied = tallied_under old.import.group.label whole groups counted held made under (each_back Ascend (u.closed ++ u.waiting) whole (order whole h)) in
+            let tallied = tallied_under old.import.group.label whole groups counted held made under (each-behind Ascend (u.closed ++ u.waiting) whole (order whole h)) in
             record {
               closed = u.closed ++ u.waiting;
               waiting = whole;
@@ -89,24 +92,19 @@ module _ {J : Type 0} (before now now' : Stream) (start : Option Store) (old : U
             (stands_for before now' ((u.closed ++ u.waiting) ++ whole) ahead' below (reads before ((u.closed ++ u.waiting) ++ whole) h))
 
   module _ (new : OpenImport J) (ends : (before : Stream) (given : List (List Cut)) → HoldsAhead before now given ahead → StandsFor before now' given) where
-    pub round_stops : (stopped : Stopped J)
+    pub round_breaks : (stop : Stop (Stopped J))
         → ((start : Option Store) (closed groups : List (List Cut)) → AllByRecursion Ascend groups → AllZip (IsTallied old.import.group.label) groups old.counted.items → IsSettledSo start closed old.import told
-        → StopsAmong start closed groups new stopped told')
-        → StopsReading before now' start new stopped told'
-    round_stops stopped stops = by on.0 on.2
+        → BreaksBy stop (λ stopped. StopsAmong start closed groups new stopped told') (LacksAmong start closed groups new told'))
+        → BreaksBy stop (λ stopped. StopsReading before now' start new stopped told') (LacksReading before now' start new told')
+    round_breaks stop settles = by on.0 on.2
       where
-        by : (whole : List (List Cut)) → HoldsAhead before now ((u.closed ++ u.waiting) ++ whole) ahead → StopsReading before now' start new stopped told'
+        by : (whole : List (List Cut)) → HoldsAhead before now ((u.closed ++ u.waiting) ++ whole) ahead
+            → BreaksBy stop (λ stopped. StopsReading before now' start new stopped told') (LacksReading before now' start new told')
         by whole h =
-            stops_reading before now' start u.closed u.waiting whole new told' stopped (stops start u.closed u.waiting (waiting_order whole h) u.tallied u.settled) (ends before ((u.closed ++ u.waiting) ++ whole) h)
-
-    pub round_lacks : ((start : Option Store) (closed groups : List (List Cut)) → AllByRecursion Ascend groups → AllZip (IsTallied old.import.group.label) groups old.counted.items → IsSettledSo start closed old.import told
-        → LacksAmong start closed groups new told')
-        → LacksReading before now' start new told'
-    round_lacks lacks = by on.0 on.2
-      where
-        by : (whole : List (List Cut)) → HoldsAhead before now ((u.closed ++ u.waiting) ++ whole) ahead → LacksReading before now' start new told'
-        by whole h =
-            lacks_reading before now' start u.closed u.waiting whole new told' (lacks start u.closed u.waiting (waiting_order whole h) u.tallied u.settled) (ends before ((u.closed ++ u.waiting) ++ whole) h)
+            let stands = ends before ((u.closed ++ u.waiting) ++ whole) h in
+            by_stop stop (λ stopped stops. stops_reading before now' start u.closed u.waiting whole new told' stopped stops stands)
+            (λ lacks. lacks_reading before now' start u.closed u.waiting whole new told' lacks stands)
+            (settles start u.closed u.waiting (waiting_order whole h) u.tallied u.settled)
 
 -- ---- how much is to be done behind it
 

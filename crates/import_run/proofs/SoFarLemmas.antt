@@ -1,9 +1,9 @@
 -- The groups of a stream that may go on.
 use Rattle.std.proofs.Common.{◌≡◌, ℕ, ◌-◌, ◌<◌, ◌≤◌, ◌⊎◌, inl, inr, Bool, true, false, nat_lt, List, [], ◌∷◌, ◌++◌, Option, length, take, refl, sym, ap, subst, ◌∙◌, append_assoc, length-append, arith, suc}
-use Rattle.std.specs.List.{AllByRecursion}
 use Rattle.std.proofs.lemmas.Bool.{ltb-true, ltb-false}
 use Rattle.std.proofs.lemmas.List.{append-nil}
 use Rattle.std.proofs.lemmas.Grind.{flat_map-append}
+use Rattle.plain_laws.specs.Lists.{each-append}
 use Rattle.explorer_model.specs.Cuts.{Cut, cuts}
 use Rattle.import_run.specs.declared.open_import.OpenImport.{OpenImport}
 use Rattle.import_run.specs.declared.open_import.Stopped.{Stopped}
@@ -58,10 +58,6 @@ in_groups_behind hand (cut ∷ cuts) few =
 pub in_groups : (cuts : List Cut) → InGroups cuts
 in_groups cuts = in_groups_behind [] cuts (omega arith)
 
-pub each-append : (closed more : List (List Cut)) → AllByRecursion IsWhole closed → AllByRecursion IsWhole more → AllByRecursion IsWhole (closed ++ more)
-each-append [] more h k = k
-each-append (group ∷ closed) more h k = (h.0, each-append closed more h.1 k)
-
 -- ---- the cuts that have ended
 
 pub take_front : (front back : List Cut) → 0 < length back → take (length (front ++ back) - 1) (front ++ back) ≡ front ++ take (length back - 1) back
@@ -113,7 +109,7 @@ module _ {J : Type 0} (start : Option Store) (stream : List ℕ) (left_over : Op
                 ∙ ap (λ (l : List Cut). l ++ take (length w.more - 1) w.more) s.all
                 ∙ ap (λ (l : List Cut). (all_cuts s.closed ++ s.next) ++ l) later.are.all
                 ∙ regroup s.closed s.next later.whole later.hand;
-            each = each-append s.closed (s.next ∷ later.whole) s.each (s.whole, later.are.each);
+            each = each-append IsWhole s.closed (s.next ∷ later.whole) s.each (s.whole, later.are.each);
             few = later.are.few;
           },
         ),
@@ -137,7 +133,7 @@ module _ {J : Type 0} (start : Option Store) (stream : List ℕ) (left_over : Op
                     ∙ ap (λ (k : List Cut). all_cuts l.closed ++ (all_cuts l.others ++ k)) later.are.all
                     ∙ ap (λ (k : List Cut). all_cuts l.closed ++ k) (regroup_all l.others later.whole later.hand)
                     ∙ regroup_all l.closed more later.hand;
-                each = each-append l.closed more l.each (each-append l.others later.whole l.each_other later.are.each);
+                each = each-append IsWhole l.closed more l.each (each-append IsWhole l.others later.whole l.each_other later.are.each);
                 few = later.are.few;
               },
             ),

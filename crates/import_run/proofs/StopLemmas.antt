@@ -1,10 +1,11 @@
 -- A commit ended an import into a store that is known.
 use Rattle.std.proofs.Common.{◌≡◌, inl, ℕ, ◌+◌, ◌<◌, Bool, true, false, ◌||◌, nat_lt, if◌then◌else◌, List, [], ◌∷◌, ◌++◌, Option, None, Some, Err, length, map, sum_by, refl, sym, ap, subst, ◌∙◌, length-append, arith}
 use Rattle.std.specs.List.{All, AllByRecursion}
-use Rattle.std.proofs.lemmas.Bool.{ltb-true, ltb-false}
+use Rattle.std.proofs.lemmas.Bool.{ltb-false, ltb-true}
 use Rattle.std.proofs.lemmas.List.{length-map}
 use Rattle.std.proofs.lemmas.List.Elements.{All-from_recursion}
 use Rattle.std.proofs.lemmas.List.Sums.{sum_by-append, sum_by-cons}
+use Rattle.plain_laws.specs.Options.{some-none}
 use Rattle.outside.specs.Stream.{Stream}
 use Rattle.explorer_model.specs.declared.archive.Batch.{Batch}
 use Rattle.explorer_model.specs.declared.archive.Game.{Game}
@@ -24,6 +25,7 @@ use Rattle.ingest_desk.specs.declared.fault.CommitFault.TheVariants as faults
 use Rattle.ingest_desk.specs.declared.mark.MarkKind.TheVariants as kinds
 use Rattle.ingest_desk.specs.declared.receipt.Receipt.{Receipt}
 use Rattle.ingest_desk.specs.declared.report.End.{End}
+use Rattle.ingest_desk.proofs.RegisterLemmas.{texts_more}
 use Rattle.import_run.specs.declared.open_import.Stopped.{Stopped}
 use Rattle.import_run.specs.Committing.{Known, Store}
 use Rattle.import_run.specs.Ending.{EndsAt, HasRoomFor, ReadFaultsAre, StandsAt, StoresBy}
@@ -33,16 +35,12 @@ use Rattle.import_run.specs.Rounds.{IsDecided, Settles, stored_by}
 use Rattle.import_run.specs.Settling.{id_of, kept}
 use Rattle.import_run.specs.SoFar.{AreGroupsSoFar}
 use Rattle.import_run.proofs.HandLemmas.{batch_texts, counted_ids, kept_none}
-use Rattle.import_run.proofs.TurnLemmas.{texts_more}
 
 -- ---- causes
 
-none_some : {A : Type 0} (x : A) → Some x ≡ None → ⊥
-none_some {A} x e = cc
-
 pub open_cause : (fault : Option (ℕ × ℕ)) (games : List Game) (journal : List Batch) (tally : Counted) → cause fault games journal tally ≡ None → fault ≡ None
 open_cause None games journal tally is = refl
-open_cause (Some counts) games journal tally is = absurd (none_some _ is)
+open_cause (Some counts) games journal tally is = absurd (some-none _ is)
 
 pub closed_cause : (fault : Option (ℕ × ℕ)) (games : List Game) (journal : List Batch) (tally : Counted) (before after : ℕ) → cause fault games journal tally ≡ Some (IsClosed before after) → fault ≡ Some (before, after)
 closed_cause None games journal tally before after is = absurd (by_pairs (clashes_of (numbers_of games) tally.classes) (has_no_room journal tally.batch) is)
@@ -68,11 +66,11 @@ room_cause : (games : List Game) (journal : List Batch) (tally : Counted) → ca
 room_cause games journal tally is = by_pairs (clashes_of (numbers_of games) tally.classes) refl is
   where
     by_over : (b : Bool) → (if b then Some (HasNoRoom (game_count journal) (byte_count journal)) else None) ≡ None → b ≡ false
-    by_over true e = absurd (none_some _ e)
+    by_over true e = absurd (some-none _ e)
     by_over false e = refl
 
     by_pairs : (pairs : List Clashing) → clashes_of (numbers_of games) tally.classes ≡ pairs → cause_by pairs journal tally.batch ≡ None → HasRoomBy games journal tally false
-    by_pairs (pair ∷ pairs) are e = absurd (none_some _ e)
+    by_pairs (pair ∷ pairs) are e = absurd (some-none _ e)
     by_pairs [] are e = record { new = are; room = by_over (has_no_room journal tally.batch) e }
 
 pub record IsFullBy (games : List Game) (journal : List Batch) (tally : Counted) (g b : ℕ) : Type 0 where
@@ -120,7 +118,7 @@ over_false games bytes is = by_tests (nat_lt game_limit games) (nat_lt byte_limi
     by_tests false true a b e = cc
     by_tests false false a b e = (ltb-false game_limit games a, ltb-false byte_limit bytes b)
 
-over_true : (games bytes : ℕ) → is_over games bytes ≡ true → AreWithin games bytes → ⊥
+pub over_true : (games bytes : ℕ) → is_over games bytes ≡ true → AreWithin games bytes → ⊥
 over_true games bytes is within = by_tests (nat_lt game_limit games) (nat_lt byte_limit bytes) refl refl is
   where
     by_tests : (p q : Bool) → nat_lt game_limit games ≡ p → nat_lt byte_limit bytes ≡ q → (p || q) ≡ true → ⊥

@@ -1,10 +1,11 @@
 -- Cuts that are taken one after another, and what becomes of their groups.
-use Rattle.std.proofs.Common.{◌≡◌, ◌<◌, ◌≤◌, List, [], ◌∷◌, ◌++◌, ℕ, Option, Some, Result, Ok, Err, length, refl, sym, ap, subst, ◌∙◌, append_assoc, arith}
-use Rattle.std.specs.Prelude.{IfErr, OnOk}
+use Rattle.std.proofs.Common.{◌≡◌, inl, inr, ◌+◌, ◌<◌, ◌≤◌, List, [], ◌∷◌, ◌++◌, ℕ, Option, Some, Result, Ok, Err, length, refl, sym, ap, subst, ◌∙◌, append_assoc, arith}
+use Rattle.std.specs.Prelude.{IsErrAnd, OnOk, vec_capacity, vec_len}
 use Rattle.std.specs.List.{AllByRecursion}
 use Rattle.std.proofs.lemmas.List.{append-nil}
 use Rattle.std.proofs.lemmas.List.Elements.{All-nil}
 use Rattle.std.proofs.lemmas.Grind.{flat_map-append}
+use Rattle.plain_laws.specs.Lists.{each-append}
 use Rattle.explorer_model.specs.declared.archive.Batch.{Batch}
 use Rattle.explorer_model.specs.declared.archive.Game.{Game}
 use Rattle.explorer_model.specs.declared.fault.Refusal.{Refusal}
@@ -19,15 +20,15 @@ use Rattle.import_run.specs.declared.open_import.Stopped.{Stopped}
 use Rattle.import_run.specs.Beside.{AreRepeats, ProgressBeside}
 use Rattle.import_run.specs.Committing.{Known, Store, store_of}
 use Rattle.import_run.specs.Grouping.{Ascend, IsGroupOf}
-use Rattle.import_run.specs.Importing.{WhereLacking, WhereStopped}
+use Rattle.import_run.specs.Importing.{BreaksBy, ByStop}
 use Rattle.import_run.specs.Progress.{Progress}
-use Rattle.import_run.specs.SoFar.{IsWhole}
-use Rattle.import_run.specs.Taking.{IsSettledSo, LacksAtEnd, LacksBehind, LacksSoFar, StopsAtEnd, StopsBehind, StopsSoFar, TakenAll, TakenSoFar}
+use Rattle.import_run.specs.SoFar.{AreAllGroups, AreInGroups, IsWhole}
+use Rattle.import_run.specs.Taking.{IsSettledSo, LacksAtEnd, LacksBehind, LacksSoFar, StopsAtEnd, StopsBehind, StopsIn, StopsSoFar, TakenAll, TakenSoFar}
 use Rattle.import_run.proofs.GroupLemmas.{all_cuts}
 use Rattle.import_run.proofs.HandLemmas.{lacks_still, stores_more}
 use Rattle.import_run.proofs.HoldLemmas.{holds_texts, is_whole}
 use Rattle.import_run.proofs.PlaceLemmas.{ascend_back}
-use Rattle.import_run.proofs.SoFarLemmas.{each-append, in_groups, regroup_all}
+use Rattle.import_run.proofs.SoFarLemmas.{in_groups, regroup_all}
 
 -- ---- results
 
@@ -35,31 +36,18 @@ pub on_ok : {A E : Type 0} (r : Result A E) (P Q : Type 0) → (P → Q) → OnO
 on_ok (Ok x) P Q step h = step h
 on_ok (Err e) P Q step h = tt
 
-pub on_ok_both : {A E : Type 0} (r : Result A E) (P Q R : Type 0) → (P → Q → R) → OnOk r P → OnOk r Q → OnOk r R
-on_ok_both (Ok x) P Q R step h k = step h k
-on_ok_both (Err e) P Q R step h k = tt
-
 module _ {J : Type 0} where
-  pub where_stopped : (stop : Stop (Stopped J)) (P Q : Stopped J → Type 0) → ((stopped : Stopped J) → P stopped → Q stopped) → WhereStopped stop P → WhereStopped stop Q
-  where_stopped (stops.Fault stopped) P Q step h = step stopped h
-  where_stopped stops.OutOfMemory P Q step h = tt
+  -- memory was wanting
+  pub by_lacking : {T : Type 0} (r : Result T (Stop (Stopped J))) (A : Type 0) (B : Stopped J → Type 0) {C : Type 0} → IsErrAnd r (λ stop. stop ≡ stops.OutOfMemory) → C → ByStop r A B C
+  by_lacking (Ok x) A B is c = absurd is
+  by_lacking {T} (Err stop) A B {C} is c =
+      let P : Stop (Stopped J) → Type 0 = λ s. BreaksBy s B C in
+      subst P (sym is) c
 
-  pub where_lacking : (stop : Stop (Stopped J)) (P Q : Type 0) → (P → Q) → WhereLacking stop P → WhereLacking stop Q
-  where_lacking (stops.Fault stopped) P Q step h = tt
-  where_lacking stops.OutOfMemory P Q step h = step h
-
-  pub lacking_so : (stop : Stop (Stopped J)) (Q : Type 0) → Q → WhereLacking stop Q
-  lacking_so (stops.Fault stopped) Q q = tt
-  lacking_so stops.OutOfMemory Q q = q
-
-  pub stopped_on : {A : Type 0} (r : Result A (Stop (Stopped J))) (P Q : Stopped J → Type 0) → ((stopped : Stopped J) → P stopped → Q stopped)
-      → IfErr r (λ stop. WhereStopped stop P) → IfErr r (λ stop. WhereStopped stop Q)
-  stopped_on (Ok x) P Q step h = tt
-  stopped_on (Err stop) P Q step h = where_stopped stop P Q step h
-
-  pub lacking_on : {A : Type 0} (r : Result A (Stop (Stopped J))) (P Q : Type 0) → (P → Q) → IfErr r (λ stop. WhereLacking stop P) → IfErr r (λ stop. WhereLacking stop Q)
-  lacking_on (Ok x) P Q step h = tt
-  lacking_on (Err stop) P Q step h = where_lacking stop P Q step h
+  -- it didn't go on
+  pub by_stop : (stop : Stop (Stopped J)) {C C' : Type 0} {B B' : Stopped J → Type 0} → ((stopped : Stopped J) → B stopped → B' stopped) → (C → C') → BreaksBy stop B C → BreaksBy stop B' C'
+  by_stop (stops.Fault stopped) breaks lacks h = breaks stopped h
+  by_stop stops.OutOfMemory breaks lacks h = lacks h
 
 -- ---- groups
 
@@ -213,90 +201,71 @@ module _ {J : Type 0} (start : Option Store) where
   module _ (taken : List Cut) (cut : Cut) (old mid : OpenImport J) (told : Option Store) (group : (hand : List Cut) → IsGroupOf hand old.group → IsGroupOf (hand ++ cut ∷ []) mid.group)
       (label_is : mid.group.label ≡ old.group.label) (receipts : mid.receipts.items ≡ old.receipts.items) (refused : mid.refused.items ≡ old.refused.items) (clashes : mid.clashes.items ≡ old.clashes.items)
       (new : OpenImport J) (told' : Option Store) where
-    -- a cut made the group in hand whole, and it was settled
-    pub taken_closed : length old.group.texts.items < 512 → 512 ≤ length mid.group.texts.items → IsGroupOf [] new.group
-        → ((start : Option Store) (closed : List (List Cut)) (hand : List Cut) → Ascend hand → IsGroupOf hand mid.group → IsSettledSo start closed mid told → IsSettledSo start (closed ++ hand ∷ []) new told')
-        → Ascend (taken ++ cut ∷ []) → TakenSoFar start taken old told → TakenSoFar start (taken ++ cut ∷ []) new told'
-    taken_closed few whole none closes ascend so_far =
-        let hand = so_far.hand ++ cut ∷ [] in
-        let holds : IsGroupOf (so_far.hand ++ cut ∷ []) mid.group = group so_far.hand so_far.group in
-        let is = more_cuts taken cut so_far.closed so_far.hand so_far.all in
-        let last : IsWhole (so_far.hand ++ cut ∷ []) = is_whole so_far.hand cut (omega (arith, few, holds_texts so_far.hand old.group so_far.group)) (omega (arith, whole, holds_texts (so_far.hand ++ cut ∷ []) mid.group holds)) in
-        record {
+    -- a cut made the group in hand whole, and it was settled, or not
+    pub taken_closed : {T : Type 0} (r : Result T (Stop (Stopped J))) → length old.group.texts.items < 512 → 512 ≤ length mid.group.texts.items → OnOk r (IsGroupOf [] new.group)
+        → ((start : Option Store) (closed : List (List Cut)) (hand : List Cut) → Ascend hand → IsGroupOf hand mid.group → IsSettledSo start closed mid told
+        → ByStop r (IsSettledSo start (closed ++ hand ∷ []) new told') (λ stopped. StopsBehind start closed hand new stopped told') (LacksBehind start closed (hand ∷ []) new told'))
+        → Ascend (taken ++ cut ∷ []) → TakenSoFar start taken old told
+        → ByStop r (TakenSoFar start (taken ++ cut ∷ []) new told') (λ stopped. StopsSoFar start (taken ++ cut ∷ []) new stopped told') (LacksSoFar start (taken ++ cut ∷ []) new told')
+    taken_closed {T} r few whole none settles ascend so_far =
+        by r none (settles start so_far.closed hand (hand_ascends _ so_far.closed hand is ascend) holds (same_settled so_far.closed old mid told label_is receipts refused clashes so_far.settled))
+      where
+        hand : List Cut
+        hand = so_far.hand ++ cut ∷ []
+
+        holds : IsGroupOf hand mid.group
+        holds = group so_far.hand so_far.group
+
+        is : taken ++ cut ∷ [] ≡ all_cuts so_far.closed ++ hand
+        is = more_cuts taken cut so_far.closed so_far.hand so_far.all
+
+        last : IsWhole hand
+        last = is_whole so_far.hand cut (omega (arith, few, holds_texts so_far.hand old.group so_far.group)) (omega (arith, whole, holds_texts hand mid.group holds))
+
+        by : (r : Result T (Stop (Stopped J))) → OnOk r (IsGroupOf [] new.group)
+            → ByStop r (IsSettledSo start (so_far.closed ++ hand ∷ []) new told') (λ stopped. StopsBehind start so_far.closed hand new stopped told') (LacksBehind start so_far.closed (hand ∷ []) new told')
+            → ByStop r (TakenSoFar start (taken ++ cut ∷ []) new told') (λ stopped. StopsSoFar start (taken ++ cut ∷ []) new stopped told') (LacksSoFar start (taken ++ cut ∷ []) new told')
+        by (Ok x) none settled = record {
           closed = so_far.closed ++ hand ∷ [];
           hand = [];
           all = is ∙ sym (all_cuts-more so_far.closed hand);
           each = all_whole so_far.closed hand so_far.each last;
           group = none;
-          settled = closes start so_far.closed hand (hand_ascends _ so_far.closed hand is ascend) holds (same_settled so_far.closed old mid told label_is receipts refused clashes so_far.settled);
+          settled = settled;
         }
-
-    -- the same where its settling ended the import
-    pub stops_closed : (stopped : Stopped J) → length old.group.texts.items < 512 → 512 ≤ length mid.group.texts.items
-        → ((start : Option Store) (closed : List (List Cut)) (hand : List Cut) → Ascend hand → IsGroupOf hand mid.group → IsSettledSo start closed mid told → StopsBehind start closed hand new stopped told')
-        → Ascend (taken ++ cut ∷ []) → TakenSoFar start taken old told → StopsSoFar start (taken ++ cut ∷ []) new stopped told'
-    stops_closed stopped few whole ends ascend so_far =
-        let hand = so_far.hand ++ cut ∷ [] in
-        let holds : IsGroupOf (so_far.hand ++ cut ∷ []) mid.group = group so_far.hand so_far.group in
-        let is = more_cuts taken cut so_far.closed so_far.hand so_far.all in
-        record {
-          closed = so_far.closed;
-          next = hand;
-          all = is;
-          each = so_far.each;
-          whole = is_whole so_far.hand cut (omega (arith, few, holds_texts so_far.hand old.group so_far.group)) (omega (arith, whole, holds_texts (so_far.hand ++ cut ∷ []) mid.group holds));
-          behind = ends start so_far.closed hand (hand_ascends _ so_far.closed hand is ascend) holds (same_settled so_far.closed old mid told label_is receipts refused clashes so_far.settled);
-        }
-
-    -- the same where memory was wanting
-    pub lacks_closed : length old.group.texts.items < 512 → 512 ≤ length mid.group.texts.items
-        → ((start : Option Store) (closed : List (List Cut)) (hand : List Cut) → Ascend hand → IsGroupOf hand mid.group → IsSettledSo start closed mid told → LacksBehind start closed (hand ∷ []) new told')
-        → Ascend (taken ++ cut ∷ []) → TakenSoFar start taken old told → LacksSoFar start (taken ++ cut ∷ []) new told'
-    lacks_closed few whole lacks ascend so_far =
-        let hand = so_far.hand ++ cut ∷ [] in
-        let holds : IsGroupOf (so_far.hand ++ cut ∷ []) mid.group = group so_far.hand so_far.group in
-        let is = more_cuts taken cut so_far.closed so_far.hand so_far.all in
-        let last : IsWhole (so_far.hand ++ cut ∷ []) = is_whole so_far.hand cut (omega (arith, few, holds_texts so_far.hand old.group so_far.group)) (omega (arith, whole, holds_texts (so_far.hand ++ cut ∷ []) mid.group holds)) in
-        record {
+        by (Err (stops.Fault stopped)) none behind = record { closed = so_far.closed; next = hand; all = is; each = so_far.each; whole = last; behind = behind }
+        by (Err stops.OutOfMemory) none behind = record {
           closed = so_far.closed;
           others = hand ∷ [];
           hand = [];
-          all = is ∙ ap (λ (l : List Cut). all_cuts so_far.closed ++ l) (sym (append-nil ((so_far.hand ++ cut ∷ []) ++ []) ∙ append-nil (so_far.hand ++ cut ∷ [])));
+          all = is ∙ ap (λ (l : List Cut). all_cuts so_far.closed ++ l) (sym (append-nil (hand ++ []) ∙ append-nil hand));
           each = so_far.each;
           each_other = (last, tt);
-          behind = lacks start so_far.closed hand (hand_ascends _ so_far.closed hand is ascend) holds (same_settled so_far.closed old mid told label_is receipts refused clashes so_far.settled);
+          behind = behind;
         }
 
   -- ---- the end of a stream
 
-  module _ (taken : List Cut) (old new : OpenImport J) (told told' : Option Store) where
-    -- the group in hand was settled at the end of the stream
-    pub taken_all : length old.group.texts.items < 512
-        → ((start : Option Store) (closed : List (List Cut)) (hand : List Cut) → Ascend hand → IsGroupOf hand old.group → IsSettledSo start closed old told → IsSettledSo start (closed ++ hand ∷ []) new told')
-        → Ascend taken → TakenSoFar start taken old told → TakenAll start taken new told'
-    taken_all few closes ascend so_far = record {
-      closed = so_far.closed;
-      hand = so_far.hand;
-      in_groups = record { all = so_far.all; each = so_far.each; few = omega (arith, few, holds_texts so_far.hand old.group so_far.group) };
-      settled = closes start so_far.closed so_far.hand (hand_ascends taken so_far.closed so_far.hand so_far.all ascend) so_far.group so_far.settled;
-    }
+  -- at the end of the stream the group in hand was settled, or not
+  pub taken_all : {T : Type 0} (taken : List Cut) (old new : OpenImport J) (told told' : Option Store) (r : Result T (Stop (Stopped J))) → length old.group.texts.items < 512
+      → ((start : Option Store) (closed : List (List Cut)) (hand : List Cut) → Ascend hand → IsGroupOf hand old.group → IsSettledSo start closed old told
+      → ByStop r (IsSettledSo start (closed ++ hand ∷ []) new told') (λ stopped. StopsBehind start closed hand new stopped told') (LacksBehind start closed (hand ∷ []) new told'))
+      → Ascend taken → TakenSoFar start taken old told → ByStop r (TakenAll start taken new told') (λ stopped. StopsAtEnd start taken new stopped told') (LacksAtEnd start taken new told')
+  taken_all {T} taken old new told told' r few settles ascend so_far =
+      by r (settles start so_far.closed so_far.hand (hand_ascends taken so_far.closed so_far.hand so_far.all ascend) so_far.group so_far.settled)
+    where
+      in_groups_all : AreInGroups taken so_far.closed so_far.hand
+      in_groups_all = record { all = so_far.all; each = so_far.each; few = omega (arith, few, holds_texts so_far.hand old.group so_far.group) }
 
-    -- the group that is in hand at the end of the stream ended the import
-    pub stops_here : (stopped : Stopped J) → length old.group.texts.items < 512
-        → ((start : Option Store) (closed : List (List Cut)) (hand : List Cut) → Ascend hand → IsGroupOf hand old.group → IsSettledSo start closed old told → StopsBehind start closed hand new stopped told')
-        → Ascend taken → TakenSoFar start taken old told → StopsAtEnd start taken new stopped told'
-    stops_here stopped few ends ascend so_far = record {
-      done = so_far.closed;
-      next = so_far.hand;
-      rest = [];
-      all = record {
-        whole = so_far.closed;
-        hand = so_far.hand;
-        in_groups = record { all = so_far.all; each = so_far.each; few = omega (arith, few, holds_texts so_far.hand old.group so_far.group) };
-        all_are = refl;
-      };
-      behind = ends start so_far.closed so_far.hand (hand_ascends taken so_far.closed so_far.hand so_far.all ascend) so_far.group so_far.settled;
-    }
+      all : AreAllGroups taken (so_far.closed ++ so_far.hand ∷ [])
+      all = record { whole = so_far.closed; hand = so_far.hand; in_groups = in_groups_all; all_are = refl }
+
+      by : (r : Result T (Stop (Stopped J)))
+          → ByStop r (IsSettledSo start (so_far.closed ++ so_far.hand ∷ []) new told') (λ stopped. StopsBehind start so_far.closed so_far.hand new stopped told') (LacksBehind start so_far.closed (so_far.hand ∷ []) new told')
+          → ByStop r (TakenAll start taken new told') (λ stopped. StopsAtEnd start taken new stopped told') (LacksAtEnd start taken new told')
+      by (Ok x) settled = record { closed = so_far.closed; hand = so_far.hand; in_groups = in_groups_all; settled = settled }
+      by (Err (stops.Fault stopped)) behind = record { done = so_far.closed; next = so_far.hand; rest = []; all = all; behind = behind }
+      by (Err stops.OutOfMemory) behind = record { done = so_far.closed; rest = so_far.hand ∷ []; all = all; behind = behind }
 
   -- the last text of the stream made its group whole, which ended the import
   pub stops_at_last : (taken : List Cut) (import : OpenImport J) (stopped : Stopped J) (told : Option Store) → StopsSoFar start taken import stopped told → StopsAtEnd start taken import stopped told
@@ -334,7 +303,7 @@ module _ {J : Type 0} (start : Option Store) where
                 ∙ ap (λ (l : List Cut). all_cuts so_far.closed ++ (all_cuts so_far.others ++ l)) later.are.all
                 ∙ ap (λ (l : List Cut). all_cuts so_far.closed ++ l) (regroup_all so_far.others later.whole later.hand)
                 ∙ regroup_all so_far.closed more later.hand;
-            each = each-append so_far.closed more so_far.each (each-append so_far.others later.whole so_far.each_other later.are.each);
+            each = each-append IsWhole so_far.closed more so_far.each (each-append IsWhole so_far.others later.whole so_far.each_other later.are.each);
             few = later.are.few;
           };
           all_are =
@@ -344,18 +313,8 @@ module _ {J : Type 0} (start : Option Store) where
         behind = lacks_more so_far.closed so_far.others (later.whole ++ later.hand ∷ []) import told so_far.behind;
       }
 
-  -- memory was wanting for the group that is in hand at the end of the stream
-  pub lacks_here : (taken : List Cut) (old new : OpenImport J) (told told' : Option Store) → length old.group.texts.items < 512
-      → ((start : Option Store) (closed : List (List Cut)) (hand : List Cut) → Ascend hand → IsGroupOf hand old.group → IsSettledSo start closed old told → LacksBehind start closed (hand ∷ []) new told')
-      → Ascend taken → TakenSoFar start taken old told → LacksAtEnd start taken new told'
-  lacks_here taken old new told told' few lacks ascend so_far = record {
-    done = so_far.closed;
-    rest = so_far.hand ∷ [];
-    all = record {
-      whole = so_far.closed;
-      hand = so_far.hand;
-      in_groups = record { all = so_far.all; each = so_far.each; few = omega (arith, few, holds_texts so_far.hand old.group so_far.group) };
-      all_are = refl;
-    };
-    behind = lacks start so_far.closed so_far.hand (hand_ascends taken so_far.closed so_far.hand so_far.all ascend) so_far.group so_far.settled;
-  }
+-- the refusals of the group at which an import ended find room
+pub stops_room : {J : Type 0} (start : Option Store) (stream : List ℕ) (left : Option (List ℕ)) (import : OpenImport J) (stopped : Stopped J) (told : Option Store) → StopsIn start stream left import stopped told
+    → vec_len import.refused + length stopped.refused.items ≤ vec_capacity import.refused
+stops_room start stream left import stopped told (inl w) = w.stops.behind.room
+stops_room start stream left import stopped told (inr (at_end, e)) = e.behind.room

@@ -4,6 +4,7 @@ use Rattle.std.proofs.lemmas.List.{append-nil}
 use Rattle.std.proofs.lemmas.List.Elements.{filter_map-append}
 use Rattle.std.proofs.lemmas.Grind.{flat_map-append}
 use Rattle.std.specs.List.{AllZip, cons_option, flat_map}
+use Rattle.ingest_desk.proofs.RegisterLemmas.{texts_more}
 use Rattle.explorer_model.specs.declared.archive.Batch.{Batch}
 use Rattle.explorer_model.specs.declared.archive.Game.{Game}
 use Rattle.explorer_model.specs.declared.fault.Refusal.{Refusal}
@@ -52,11 +53,6 @@ one_more {label} stored groups batches refused done cuts examinations each =
 read_zip : (cs : List Candidate) → AreRead cs → AllZip IsTextOf (map (λ c. c.text) cs) (map (λ c. c.game) cs)
 read_zip [] read = tt
 read_zip (c ∷ cs) read = (read.0, read_zip cs read.1)
-
-pub texts_more : (journal : List Batch) (batch : Batch) → texts_of (journal ++ batch ∷ []) ≡ texts_of journal ++ batch.texts
-texts_more journal batch =
-    flat_map-append (λ (b : Batch). b.texts) journal (batch ∷ [])
-    ∙ ap (λ (l : List (List ℕ)). texts_of journal ++ l) (append-nil batch.texts)
 
 pub games_more : (label : List ℕ) (journal : List Batch) (games : List Game) (cs : List Candidate) (batch : Batch) → AreGamesOf journal games → AreRead cs → batch_of label cs ≡ Some batch
     → AreGamesOf (journal ++ batch ∷ []) (games ++ map (λ c. c.game) cs)

@@ -4,6 +4,7 @@ use Rattle.std.specs.List.{All, AllByRecursion, AllZip}
 use Rattle.std.proofs.lemmas.List.{append-nil}
 use Rattle.std.proofs.lemmas.List.Elements.{All-cons, All-head, All-nil, All-tail}
 use Rattle.std.specs.Io.KnownBytes.{IsAtEnd}
+use Rattle.plain_laws.specs.Lists.{each-behind, each-front}
 use Rattle.outside.specs.Stream.{Stream}
 use Rattle.explorer_model.specs.Cuts.{Cut, Text, cuts}
 use Rattle.import_run.specs.declared.ahead.Ahead.{Ahead}
@@ -26,14 +27,6 @@ use Rattle.import_run.proofs.SoFarLemmas.{regroup, regroup_all}
 use Rattle.import_run.proofs.TakingLemmas.{lacks_more, lacks_nothing, same_settled}
 
 -- ---- lists of groups
-
-pub each_front : (P : List Cut → Type 0) (groups more : List (List Cut)) → AllByRecursion P (groups ++ more) → AllByRecursion P groups
-each_front P [] more each = tt
-each_front P (group ∷ groups) more each = (each.0, each_front P groups more each.1)
-
-pub each_back : (P : List Cut → Type 0) (groups more : List (List Cut)) → AllByRecursion P (groups ++ more) → AllByRecursion P more
-each_back P [] more each = each
-each_back P (group ∷ groups) more each = each_back P groups more each.1
 
 -- ---- groups that were counted
 
@@ -65,9 +58,9 @@ tallied_many (group ∷ groups) (one ∷ tallied) each = let rest = tallied_many
 -- ---- the order of what was read
 
 ascend_by : (before now : Stream) (given : List (List Cut)) (stream : List ℕ) (ahead : Ahead) (end : Option ReadEnd) → HoldsBy end before now given stream ahead → AllByRecursion Ascend given
-ascend_by before now given stream ahead None h = each_front Ascend given h.1.has.whole h.1.has.ascend
-ascend_by before now given stream ahead (Some Ended) h = each_front Ascend given h.2.whole h.2.ascend
-ascend_by before now given stream ahead (Some (Failed first last)) h = each_front Ascend given h.3.has.whole h.3.has.ascend
+ascend_by before now given stream ahead None h = each-front Ascend given h.1.has.whole h.1.has.ascend
+ascend_by before now given stream ahead (Some Ended) h = each-front Ascend given h.2.whole h.2.ascend
+ascend_by before now given stream ahead (Some (Failed first last)) h = each-front Ascend given h.3.has.whole h.3.has.ascend
 
 pub given_ascend : (before now : Stream) (given : List (List Cut)) (ahead : Ahead) → HoldsAhead before now given ahead → AllByRecursion Ascend given
 given_ascend before now given ahead h = ascend_by before now given h.stream ahead ahead.end h.holds
@@ -104,7 +97,7 @@ module _ {J : Type 0} (before now : Stream) (start : Option Store) (closed waiti
           let rest = s.rest ++ (whole ++ f.behind) in
           let same = one_of closed waiting whole f.behind s.done s.rest s.next s.groups_are in
           let each : AllByRecursion IsWhole ((closed ++ s.done) ++ s.next ∷ (s.rest ++ (whole ++ f.behind))) = subst (λ (l : List (List Cut)). AllByRecursion IsWhole l) same a.each in
-          let here : IsWhole s.next = (each_back IsWhole (closed ++ s.done) (s.next ∷ (s.rest ++ (whole ++ f.behind))) each).0 in
+          let here : IsWhole s.next = (each-behind IsWhole (closed ++ s.done) (s.next ∷ (s.rest ++ (whole ++ f.behind))) each).0 in
           let taken = all_cuts (closed ++ s.done) ++ s.next in
           let back = all_cuts rest ++ a.hand in
           let all : (all_cuts (closed ++ s.done) ++ s.next) ++ (all_cuts (s.rest ++ (whole ++ f.behind)) ++ a.hand) ≡ all_cuts (((closed ++ waiting) ++ whole) ++ f.behind) ++ a.hand =
@@ -121,7 +114,7 @@ module _ {J : Type 0} (before now : Stream) (start : Option Store) (closed waiti
               closed = closed ++ s.done;
               next = s.next;
               all = refl;
-              each = each_front IsWhole (closed ++ s.done) (s.next ∷ rest) each;
+              each = each-front IsWhole (closed ++ s.done) (s.next ∷ rest) each;
               whole = here;
               behind = s.behind;
             };
@@ -159,8 +152,8 @@ module _ {J : Type 0} (before now : Stream) (start : Option Store) (closed waiti
               others = others;
               hand = a.hand;
               all = ap (λ (k : List (List Cut)). all_cuts k ++ a.hand) same ∙ sym (regroup_all (closed ++ l.done) others a.hand);
-              each = each_front IsWhole (closed ++ l.done) others each;
-              each_other = each_back IsWhole (closed ++ l.done) others each;
+              each = each-front IsWhole (closed ++ l.done) others each;
+              each_other = each-behind IsWhole (closed ++ l.done) others each;
               behind = lacks_more start (closed ++ l.done) l.rest (whole ++ f.behind) import told l.behind;
             };
           })

@@ -1,5 +1,6 @@
 -- Beside others too, nothing is stored of texts that have not ended, nor of a group that is not whole.
 use Rattle.std.proofs.Common.{◌≡◌, ◌∙◌, inl, inr, ℕ, ◌<◌, List, [], ◌∷◌, ◌++◌, length, filter_map, Some, refl, sym, ap, subst, arith}
+use Rattle.plain_laws.specs.Lists.{cons-nil}
 use Rattle.explorer_model.specs.declared.archive.Batch.{Batch}
 use Rattle.explorer_model.specs.declared.fault.Refusal.{Refusal}
 use Rattle.explorer_model.specs.Cuts.{Cut}
@@ -14,16 +15,13 @@ use Rattle.import_run.specs.EndingBeside.{BreaksBeside, ComesBeside, LacksBeside
 use Rattle.import_run.specs.SoFar.{AreGroupsSoFar, AreInGroups, ended_cuts}
 use Rattle.import_run.proofs.GroupLemmas.{all_cuts, texts-append, texts_in, texts_whole}
 
-some_none : {A : Type 0} (x : A) (xs : List A) → x ∷ xs ≡ [] → ⊥
-some_none x xs e = cc
-
 front_none : {A : Type 0} (front back : List A) → front ++ back ≡ [] → front ≡ []
 front_none [] back e = refl
-front_none (x ∷ front) back e = absurd (some_none x (front ++ back) e)
+front_none (x ∷ front) back e = absurd (cons-nil x (front ++ back) e)
 
 some_behind : {A : Type 0} (front : List A) (x : A) (back : List A) → front ++ x ∷ back ≡ [] → ⊥
-some_behind [] x back e = some_none x back e
-some_behind (y ∷ front) x back e = some_none y (front ++ x ∷ back) e
+some_behind [] x back e = cons-nil x back e
+some_behind (y ∷ front) x back e = cons-nil y (front ++ x ∷ back) e
 
 -- fewer texts than a group has are no whole group
 no_whole : (ended : List Cut) (whole : List (List Cut)) (hand : List Cut) → AreInGroups ended whole hand → texts_in ended < 512 → whole ≡ []
@@ -54,7 +52,7 @@ unended {label} {J} stream rest byte report below few comes =
   where
     none_so_far : (so_far : List (List Cut)) → AreGroupsSoFar stream (Some (byte ∷ rest)) so_far → so_far ≡ []
     none_so_far so_far (inl (hand, are)) = no_whole (ended_cuts stream) so_far hand are few
-    none_so_far so_far (inr (at_end, all)) = absurd (some_none byte rest at_end)
+    none_so_far so_far (inr (at_end, all)) = absurd (cons-nil byte rest at_end)
 
     of_none : (groups : List (List Cut)) (batches : List Batch) → groups ≡ [] → AccountedBeside label groups batches report.refused.items → batches ≡ []
     of_none groups batches none accounted =
@@ -68,7 +66,7 @@ unended {label} {J} stream rest byte report below few comes =
     lacking batches lacks = of_none lacks.done batches (front_none lacks.done lacks.rest (sym lacks.so_far_is ∙ none_so_far lacks.so_far lacks.are_so_far)) lacks.accounted
 
     by : (end : End J) (batches : List Batch) → StandsBeside label end stream (Some (byte ∷ rest)) batches report.refused.items → batches ≡ []
-    by ends.Whole batches stands = absurd (some_none byte rest stands.0)
+    by ends.Whole batches stands = absurd (cons-nil byte rest stands.0)
     by (ends.ReadFault before after) batches stands =
         let cut = stands.1 in of_none cut.whole batches (no_whole (ended_cuts stream) cut.whole cut.hand cut.in_groups few) cut.accounted
     by (ends.DiskFault before after mark) batches stands = broken batches stands.0 stands.1

@@ -1,69 +1,25 @@
 -- What becomes of a published list as neighbours become one.
-use Rattle.std.proofs.Common.{◌≡◌, ℕ, zero, suc, ◌+◌, ◌<◌, ◌≤◌, List, [], ◌∷◌, length, Option, None, Some, Result, Ok, Err, refl, sym, ap, subst, ◌∙◌, arith}
+use Rattle.std.proofs.Common.{◌≡◌, ℕ, ◌+◌, List, None, Some, Result, Ok, Err, refl, sym, ap, subst, ◌∙◌}
 use Rattle.std.specs.Prelude.{slice_get}
 use Rattle.explorer_model.specs.declared.archive.Batch.{Batch}
-use Rattle.explorer_model.specs.Spans.{Adjoin, Span}
 use Rattle.segment_blocks.specs.Segment.{CountedSpan, IsSegment}
 use Rattle.segment_merge.specs.Merging.{IsMergeOf}
-use Rattle.published_index.specs.Changes.{Change, JoinAt, with_change}
-use Rattle.published_index.specs.Cover.{spans_of}
+use Rattle.published_index.specs.Changes.{JoinAt, with_change}
 use Rattle.published_index.specs.States.{Publishing}
-use Rattle.ingest_desk.specs.Installs.{Installs, IsGone, IsInstalled, caught_up, list_by}
+use Rattle.ingest_desk.specs.Installs.{Installs, IsGone, IsInstalled, list_by}
 use Rattle.ingest_desk.specs.Listing.{JoinsPicked}
 use Rattle.ingest_desk.specs.Picking.{AreAt, IsPicked, NoneDueFrom}
 use Rattle.ingest_desk.specs.Jobs.{Neighbours}
 use Rattle.ingest_desk.specs.declared.fault.InstallFault.{InstallFault}
 use Rattle.ingest_desk.specs.declared.fault.InstallFault.TheVariants as install
 use Rattle.ingest_desk.specs.declared.job.Standing.{Standing}
+use Rattle.ingest_desk.proofs.InstallLemmas.{one_span}
+use Rattle.ingest_desk.proofs.KeptLemmas.{not_behind}
 use Rattle.import_run.specs.Upkeep.{Finds, Merges, merging_by}
 
 -- ---- what is held
 
--- where nothing is held, the list is what it comes to
-pub nothing_held : (index : Publishing) → index.held ≡ None → list_by index ≡ index.list
-nothing_held index none = ap (λ (h : Option Change). caught_up index.list h) none
-
 -- ---- places
-
-some_same : (a b : CountedSpan) → Some a ≡ Some b → a ≡ b
-some_same a b e = cc
-
-none_some : (a : CountedSpan) (P : Type 0) → (let o : Option CountedSpan = None in o) ≡ Some a → P
-none_some a P e = absurd (no a e)
-  where
-    no : (a : CountedSpan) → (let o : Option CountedSpan = None in o) ≡ Some a → ⊥
-    no a e = cc
-
--- a segment begins no earlier than the first
-no_earlier : (first : ℕ) (list : List CountedSpan) (at : ℕ) (one : CountedSpan) → Adjoin first (spans_of list) → slice_get list at ≡ Some one → first ≤ one.span.first
-no_earlier first [] at one adjoin is = none_some one _ is
-no_earlier first (head ∷ list) zero one adjoin is =
-    let same = ap (λ (s : CountedSpan). s.span.first) (some_same head one is) in
-    omega (arith, same, adjoin.0)
-no_earlier first (head ∷ list) (suc at) one adjoin is =
-    let later = no_earlier (first + length head.span.batches) list at one adjoin.1 is in
-    omega (arith, later)
-
--- a span with batches stands at one place
-one_place : (first : ℕ) (list : List CountedSpan) (at other : ℕ) (one two : CountedSpan) → Adjoin first (spans_of list) → slice_get list at ≡ Some one → slice_get list other ≡ Some two
-    → one.span ≡ two.span → 0 < length one.span.batches → at ≡ other
-one_place first [] at other one two adjoin is is' same some = none_some one _ is
-one_place first (head ∷ list) zero zero one two adjoin is is' same some = refl
-one_place first (head ∷ list) zero (suc other) one two adjoin is is' same some =
-    let at_head = ap (λ (s : CountedSpan). s.span.first) (some_same head one is) in
-    let as_head = ap (λ (s : CountedSpan). length s.span.batches) (some_same head one is) in
-    let firsts = ap (λ (s : Span). s.first) same in
-    let later = no_earlier (first + length head.span.batches) list other two adjoin.1 is' in
-    absurd (omega (arith, at_head, as_head, firsts, later, adjoin.0, some))
-one_place first (head ∷ list) (suc at) zero one two adjoin is is' same some =
-    let at_head = ap (λ (s : CountedSpan). s.span.first) (some_same head two is') in
-    let as_head = ap (λ (s : CountedSpan). length s.span.batches) (some_same head two is') in
-    let firsts = ap (λ (s : Span). s.first) same in
-    let sizes = ap (λ (s : Span). length s.batches) same in
-    let later = no_earlier (first + length head.span.batches) list at one adjoin.1 is in
-    absurd (omega (arith, at_head, as_head, firsts, sizes, later, adjoin.0, some))
-one_place first (head ∷ list) (suc at) (suc other) one two adjoin is is' same some =
-    ap suc (one_place (first + length head.span.batches) list at other one two adjoin.1 is is' same some)
 
 -- ---- one step
 
@@ -78,7 +34,7 @@ module _ (old mid : Publishing) (job : Neighbours) (finds : Finds (Some job) old
   list_is = ap (λ (p : Publishing). p.list) finds.caught_up
 
   by_list : list_by mid ≡ mid.list
-  by_list = nothing_held mid (ap (λ (p : Publishing). p.held) finds.caught_up)
+  by_list = not_behind mid (ap (λ (p : Publishing). p.held) finds.caught_up)
 
   picked : IsPicked (list_by old) left right
   picked =
@@ -111,7 +67,7 @@ module _ (old mid : Publishing) (job : Neighbours) (finds : Finds (Some job) old
       let there : slice_get (list_by mid) is.at ≡ Some stood.first = stood.stand.left_is in
       let here : slice_get mid.list is.at ≡ Some stood.first = subst (λ (l : List CountedSpan). slice_get l is.at ≡ Some stood.first) by_list there in
       let place : finds.picks.at ≡ is.at =
-      one_place 0 mid.list finds.picks.at is.at left stood.first finds.list.covers.adjoin finds.picks.stand.left_is here (sym stood.left_is) segment.some in (
+      one_span mid.list 0 finds.picks.at is.at left stood.first finds.list.covers.adjoin finds.picks.stand.left_is here (sym stood.left_is) segment.some in (
         record {
           left = left;
           right = right;

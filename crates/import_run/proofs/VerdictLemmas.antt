@@ -296,7 +296,3 @@ kept-left stored (Accepted c ∷ fs) = by_stored (stored (id_of c)) (kept-left s
     by_stored : (o : Option ℕ) → kept stored fs ≡ left_by stored (candidates fs) → candidates (verdict_if_stored o c ∷ map (verdict_behind stored) fs) ≡ cond (is_none o) (c ∷ left_by stored (candidates fs)) (left_by stored (candidates fs))
     by_stored None later = ap (λ (l : List Candidate). c ∷ l) later
     by_stored (Some n) later = later
-
-pub found_right : (o p : Option ℕ) (n : ℕ) (q : Option ℕ) → (o ≡ Some n → q ≡ Some n) → (p ≡ Some n → q ≡ Some n) → option_or o p ≡ Some n → q ≡ Some n
-found_right None p n q first second e = second e
-found_right (Some m) p n q first second e = first e

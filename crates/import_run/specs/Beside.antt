@@ -24,7 +24,6 @@ use Rattle.import_run.specs.declared.open_import.OpenImport.{OpenImport}
 use Rattle.import_run.specs.declared.open_import.Stopped.{Stopped}
 use Rattle.import_run.specs.declared.settle.Done.{Done}
 use Rattle.import_run.specs.Labelling.{CountsUnder}
-use Rattle.import_run.specs.Rounds.{Rounds}
 use Rattle.import_run.specs.Settling.{kept, lost}
 
 -- ---- one commit
@@ -62,12 +61,6 @@ abbrev pub AreNamed : List (List Batch) → Numbering → Type 0
 AreNamed journals number = (id : List ℕ) (n : ℕ) → number id ≡ Some n
     → (journal : List Batch) × Contains journals journal
     × (games : List Game) × AreGamesOf journal games × (numbers_of games id ≡ Some n)
-
--- the rounds of a group, whose numbers stand in the journals of clashes
-pub record RoundsBeside (label : List ℕ) (cuts : List Cut) (tally : Option Counted)
-    (places : List ℕ) (refused : List Refusal) (clashes : List (List Batch)) : Type 0 where
-  pub rounds : Rounds label None cuts tally places refused None
-  pub named : AreNamed clashes rounds.stored
 
 -- the answer to the commit of the candidates under the label; none where there is no candidate
 abbrev pub AnswersFor : {J : Type 0} → List ℕ → List Candidate

@@ -71,6 +71,10 @@ pub record Lacks (known : Known) (tally : Counted) (new : Store) : Type 0 where
   pub fault : new.fault ≡ known.fault
   pub fails : new.failed ≡ known.failed
 
+-- the games of the journal are those that are known
+abbrev pub AreKnown : Known → List Batch → Type 0
+AreKnown known journal = (games : List Game) → AreGamesOf journal games → games ≡ known.games
+
 -- By the answer. The note of a receipt, and of a full store, has the whole journal.
 abbrev pub CommitsTo : {J : Type 0} → Known → Counted → Store
     → Result (Receipt J) (CommitFault J) → Type 0
@@ -80,7 +84,7 @@ CommitsTo known tally new (Ok receipt) =
 CommitsTo known tally new (Err (faults.Closed before after mark)) =
     Refuses (IsClosed before after) known tally new × IsMark kinds.Closed before after None mark
 CommitsTo known tally new (Err (faults.Clash handed pairs note)) =
-    Refuses (HasIds pairs.items) known tally new × (handed ≡ tally)
+    Refuses (HasIds pairs.items) known tally new × (handed ≡ tally) × AreKnown known note
 CommitsTo known tally new (Err (faults.Full games bytes note)) =
     Refuses (HasNoRoom games bytes) known tally new × (note ≡ new.journal)
 CommitsTo known tally new (Err (faults.DiskFault before after mark)) =
@@ -99,11 +103,9 @@ pub record Commits {J : Type 0} (result : Result (Receipt J) (CommitFault J))
 -- ---- a clash
 
 -- A clash hands the tally back, and some of its ids are stored: those that have a number by the
--- games of the note's journal. Where the store is known, these are its games.
-abbrev pub IsClash : {J : Type 0} → Result (Receipt J) (CommitFault J)
-    → Counted → Option Store → Type 0
-IsClash (Err (faults.Clash handed pairs note)) tally told =
+-- games of the note's journal.
+abbrev pub IsClash : {J : Type 0} → Result (Receipt J) (CommitFault J) → Counted → Type 0
+IsClash (Err (faults.Clash handed pairs note)) tally =
     (handed ≡ tally) × ((pairs.items ≢ []) × ((games : List Game) × (AreGamesOf note games
-    × ((pairs.items ≡ clashes_of (numbers_of games) tally.classes)
-    × ((known : Known) → told ≡ Some (store_of known) → known.games ≡ games)))))
-IsClash _ tally told = Unit {0}
+    × (pairs.items ≡ clashes_of (numbers_of games) tally.classes))))
+IsClash _ tally = Unit {0}

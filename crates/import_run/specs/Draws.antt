@@ -6,8 +6,6 @@ use Rattle.published_index.specs.Places.{Drawing, with_place, with_places}
 use Rattle.ingest_desk.specs.declared.fault.CommitFault.{CommitFault}
 use Rattle.ingest_desk.specs.declared.fault.CommitFault.TheVariants as faults
 use Rattle.ingest_desk.specs.declared.receipt.Receipt.{Receipt}
-use Rattle.import_run.specs.declared.settle.Round.{Round}
-use Rattle.import_run.specs.declared.settle.Round.TheVariants as rounds
 
 -- A commit draws the place of its receipt. Where the batch is stored and has no receipt it draws some
 -- place, and else nothing.
@@ -27,11 +25,6 @@ abbrev pub DrawsAsAnswered : {J : Type 0} → Option (Result (Receipt J) (Commit
     → Drawing → Drawing → Type 0
 DrawsAsAnswered None old new = new ≡ old
 DrawsAsAnswered (Some answer) old new = DrawsPlace answer old new
-
--- a round that finds ids stored draws nothing
-abbrev pub DrawsInRound : {J : Type 0} → Round J → Drawing → Drawing → Type 0
-DrawsInRound (rounds.Ended done) old new = DrawsAsAnswered done.answer old new
-DrawsInRound (rounds.Again state) old new = new ≡ old
 
 -- how many batches a step may have stored without a receipt: one, where memory was wanting
 abbrev pub most_untold_by : {A B : Type 0} → Result A (Stop B) → ℕ

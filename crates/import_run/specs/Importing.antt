@@ -1,5 +1,5 @@
 -- Bridge: how a group ends an import.
-use Rattle.std.specs.Prelude.{◌≡◌, ℕ, List, Option, Some, Err}
+use Rattle.std.specs.Prelude.{◌≡◌, ℕ, List, Option, Some, Result, Ok, Err}
 use Rattle.explorer_model.specs.declared.fault.Stop.{Stop}
 use Rattle.explorer_model.specs.declared.fault.Stop.TheVariants as stops
 use Rattle.explorer_model.specs.Cuts.{Cut}
@@ -19,15 +19,16 @@ IsEndOf (faults.Full games bytes note) end = end ≡ ends.Full games bytes note
 IsEndOf (faults.DiskFault before after mark) end = end ≡ ends.DiskFault before after mark
 IsEndOf (faults.OutOfMemory stored) end = end ≡ ends.OutOfMemory
 
--- the fact holds where a commit ended the import
-abbrev pub WhereStopped : {J : Type 0} → Stop (Stopped J) → (Stopped J → Type 0) → Type 0
-WhereStopped (stops.Fault stopped) P = P stopped
-WhereStopped stops.OutOfMemory P = Unit {0}
+-- a commit ended the import, or memory was wanting
+abbrev pub BreaksBy : {J : Type 0} → Stop (Stopped J) → (Stopped J → Type 0) → Type 0 → Type 0
+BreaksBy (stops.Fault stopped) breaks lacks = breaks stopped
+BreaksBy stops.OutOfMemory breaks lacks = lacks
 
--- the fact holds where memory was wanting
-abbrev pub WhereLacking : {J : Type 0} → Stop (Stopped J) → Type 0 → Type 0
-WhereLacking (stops.Fault stopped) P = Unit {0}
-WhereLacking stops.OutOfMemory P = P
+-- it goes on, or not
+abbrev pub ByStop : {J T : Type 0} → Result T (Stop (Stopped J)) → Type 0
+    → (Stopped J → Type 0) → Type 0 → Type 0
+ByStop (Ok done) goes breaks lacks = goes
+ByStop (Err stop) goes breaks lacks = BreaksBy stop breaks lacks
 
 -- a commit of the group's new texts ended the import
 pub record StopsAt {J : Type 0} (label : List ℕ) (known : Known) (hand : List Cut)

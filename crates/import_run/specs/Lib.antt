@@ -5,9 +5,10 @@ pub mod Settling
 pub mod Hand
 pub mod Apart
 pub mod Committing
-pub mod Rounds
 pub mod Draws
 pub mod Beside
+pub mod Answered
+pub mod Rounds
 pub mod EndingBeside
 pub mod Progress
 pub mod Importing

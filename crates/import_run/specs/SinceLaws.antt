@@ -1,6 +1,7 @@
 -- Laws: what calls that store do to a store on a disk, one after another.
 use Rattle.std.proofs.Common.{◌≡◌, inl, inr, ⊎_elim, ℕ, List, [], ◌∷◌, ◌++◌, Option, None, Some, refl, sym, ap, subst, ◌∙◌, append_assoc, arith}
 use Rattle.std.proofs.lemmas.List.{append-nil}
+use Rattle.plain_laws.specs.Options.{some-none}
 use Rattle.disk_model.specs.Disk.{DiskState, LeavesOnly, MayLeave}
 use Rattle.explorer_model.specs.declared.archive.Batch.{Batch}
 use Rattle.explorer_model.specs.Journal.{IsSound}
@@ -39,9 +40,6 @@ pub one_front : (j : List Batch) (batch : Batch) (image : List ℕ)
     → IsWithOrWithoutBatch j batch image → HasFrontOf j (batch ∷ []) image
 one_front j batch image (inl without) = no_front j (batch ∷ []) image without
 one_front j batch image (inr with_batch) = (batch ∷ [], [], refl, with_batch)
-
-none_some : {A : Type 0} (x : A) → Some x ≡ None → ⊥
-none_some {A} x e = cc
 
 module _ {D : Type 0} (disk : D → DiskState) (left_since : D → ℕ → List ℕ → Type 0) where
   pub weaker : (old new : D) (P Q : List ℕ → Type 0) → ((image : List ℕ) → P image → Q image)
@@ -177,7 +175,7 @@ module _ {D : Type 0} (disk : D → DiskState) (left_since : D → ℕ → List 
   goes_both j first more p q r a b c None None (Some counts) fa fb fc one two =
       open_closes counts j first more r a.disk b.disk c.disk one two
   goes_both j first more p q r a b c None (Some counts) None fa fb fc one two =
-      absurd (none_some counts (sym fb ∙ ap (λ (l : Log D). l.fault) (sym two.0) ∙ fc))
+      absurd (some-none counts (sym fb ∙ ap (λ (l : Log D). l.fault) (sym two.0) ∙ fc))
   goes_both j first more p q r a b c None (Some counts) (Some later) fa fb fc one two =
       let same : Some counts ≡ Some later = sym fb ∙ ap (λ (l : Log D). l.fault) (sym two.0) ∙ fc in
       let is : counts ≡ later = some_same counts later same in
@@ -195,7 +193,7 @@ module _ {D : Type 0} (disk : D → DiskState) (left_since : D → ℕ → List 
       some_same : (x y : ℕ × ℕ) → Some x ≡ Some y → x ≡ y
       some_same x y e = cc
   goes_both j first more p q r a b c (Some counts) None h fa fb fc one two =
-      absurd (none_some counts (sym fa ∙ ap (λ (l : Log D). l.fault) (sym one.0) ∙ fb))
+      absurd (some-none counts (sym fa ∙ ap (λ (l : Log D). l.fault) (sym one.0) ∙ fb))
   goes_both j first more p q r a b c (Some counts) (Some later) h fa fb fc one two =
       (two.0 ∙ one.0, ap (λ (l : List Batch). l ++ more) one.1 ∙ two.1, two.2 ∙ one.2)
 

@@ -1,7 +1,8 @@
 -- Bridge: a stream on its way into a store, as the code holds it. What was told of the store at the
 -- beginning is `start`; where it was known, more is known of each later moment.
-use Rattle.std.specs.Prelude.{◌≡◌, ℕ, ◌+◌, ◌<◌, ◌≤◌, List, [], ◌∷◌, ◌++◌, length, vec_capacity, vec_len, Option, Some}
+use Rattle.std.specs.Prelude.{◌≡◌, ◌⊎◌, ℕ, ◌+◌, ◌<◌, ◌≤◌, List, [], ◌∷◌, ◌++◌, length, vec_capacity, vec_len, Option, Some}
 use Rattle.std.specs.List.{All, AllByRecursion, flat_map}
+use Rattle.std.specs.Io.KnownBytes.{IsAtEnd}
 use Rattle.outside.specs.Stream.{Stream, Reads}
 use Rattle.explorer_model.specs.declared.archive.Batch.{Batch}
 use Rattle.explorer_model.specs.declared.fault.Refusal.{Refusal}
@@ -155,6 +156,12 @@ pub record StopsAtEnd {J : Type 0} (start : Option Store) (taken : List Cut) (im
   pub rest : List (List Cut)
   pub all : AreAllGroups taken (done ++ next ∷ rest)
   pub behind : StopsBehind start done next import stopped told
+
+-- a group that is whole in the bytes ended the import, or any group of a stream that has ended
+abbrev pub StopsIn : {J : Type 0} → Option Store → List ℕ → Option (List ℕ) → OpenImport J
+    → Stopped J → Option Store → Type 0
+StopsIn start stream left import stopped told = StopsWithin start stream import stopped told
+    ⊎ (IsAtEnd left × StopsAtEnd start (cuts stream) import stopped told)
 
 -- some of all groups of cuts are settled, and memory was wanting for the others
 pub record LacksAtEnd {J : Type 0} (start : Option Store) (taken : List Cut) (import : OpenImport J)

@@ -1,5 +1,5 @@
 -- Bridge: an import on its way, whose groups are counted ahead of what is settled.
-use Rattle.std.specs.Prelude.{◌≡◌, ◌⊎◌, ◌+◌, ◌*◌, ◌<◌, ◌≤◌, ℕ, Bool, false, List, [], ◌++◌, length, Option, None, Some, Result, OnErr, OnOk, IfErr}
+use Rattle.std.specs.Prelude.{◌≡◌, ◌⊎◌, ◌+◌, ◌*◌, ◌<◌, ◌≤◌, ℕ, Bool, false, List, [], ◌++◌, length, Option, None, Some, Result, OnErr, OnOk}
 use Rattle.std.specs.List.{All, AllByRecursion, AllZip}
 use Rattle.std.specs.Io.KnownBytes.{IsAtEnd}
 use Rattle.outside.specs.Stream.{Gives, Reads, Stream}
@@ -18,8 +18,8 @@ use Rattle.import_run.specs.Apart.{IsInHand}
 use Rattle.import_run.specs.Committing.{Store}
 use Rattle.import_run.specs.Ending.{MayRise}
 use Rattle.import_run.specs.Grouping.{Ascend, IsTallied}
-use Rattle.import_run.specs.Importing.{WhereLacking, WhereStopped}
-use Rattle.import_run.specs.Taking.{IsSettledSo, LacksAmong, LacksAtEnd, LacksWithin, StopsAmong, StopsAtEnd, StopsWithin}
+use Rattle.import_run.specs.Importing.{ByStop}
+use Rattle.import_run.specs.Taking.{IsSettledSo, LacksAmong, LacksAtEnd, LacksWithin, StopsAmong, StopsIn}
 
 -- all that is in hand can be settled under the label
 pub record CanSettle {J : Type 0} (label : List ℕ) (state : Underway J) : Type 0 where
@@ -70,8 +70,7 @@ pub record StopsReading {J : Type 0} (before now : Stream) (start : Option Store
   pub reads : Reads stream before now
   pub faults : MayRise before.read_faults now.read_faults
   pub below : length stream < input_limit
-  pub stops : StopsWithin start stream import stopped told
-      ⊎ (IsAtEnd now.left × StopsAtEnd start (cuts stream) import stopped told)
+  pub stops : StopsIn start stream now.left import stopped told
 
 -- memory was wanting for what was read
 pub record LacksReading {J : Type 0} (before now : Stream) (start : Option Store)
@@ -92,24 +91,16 @@ pub record Turns {J : Type 0} (counting : Bool) (result : Result (Unit {0}) (Sto
     : Type 0 where
   pub same : new.import.group ≡ old.import.group
   pub ready : OnOk result (CanGoOn old.import.group.label new.ahead)
-  pub settles : OnOk result ((start : Option Store) (closed groups : List (List Cut))
+  pub settles : (start : Option Store) (closed groups : List (List Cut))
       → AllByRecursion Ascend groups
       → AllZip (IsTallied old.import.group.label) groups old.counted.items
       → IsSettledSo start closed old.import told
-      → IsSettledSo start (closed ++ groups) new.import told_after)
+      → ByStop result (IsSettledSo start (closed ++ groups) new.import told_after)
+      (λ stopped. StopsAmong start closed groups new.import stopped told_after)
+      (LacksAmong start closed groups new.import told_after)
   pub reads : OnOk result ((before : Stream) (given : List (List Cut))
       → HoldsAhead before source given old.ahead
       → HoldsAhead before source_after given new.ahead)
-  pub stops : IfErr result (λ stop. WhereStopped stop (λ stopped.
-      (start : Option Store) (closed groups : List (List Cut)) → AllByRecursion Ascend groups
-      → AllZip (IsTallied old.import.group.label) groups old.counted.items
-      → IsSettledSo start closed old.import told
-      → StopsAmong start closed groups new.import stopped told_after))
-  pub lacks : IfErr result (λ stop. WhereLacking stop ((start : Option Store)
-      (closed groups : List (List Cut)) → AllByRecursion Ascend groups
-      → AllZip (IsTallied old.import.group.label) groups old.counted.items
-      → IsSettledSo start closed old.import told
-      → LacksAmong start closed groups new.import told_after))
   pub ends : OnErr result ((before : Stream) (given : List (List Cut))
       → HoldsAhead before source given old.ahead → StandsFor before source_after given)
   pub less : OnOk result (counting ≡ false → old.ahead.whole.items ≡ []

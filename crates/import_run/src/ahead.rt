@@ -11,7 +11,7 @@ ghost use Rattle.import_run.specs.Ahead.{CanGoOn, CanTake, CutAhead, EndsAhead, 
 ghost use Rattle.import_run.specs.Grouping.{Ascend, IsGroupOf, IsShort};
 ghost use Rattle.import_run.specs.declared.ahead.ReadEnd.TheVariants.{Ended};
 
-use crate::text_group::{GROUP_LIMIT, TextGroup, copy_of};
+use crate::text_group::{GROUP_LIMIT, TextGroup};
 use explorer_model::label::Label;
 use outside::Source;
 use pgn_cut::cut::Cut;
@@ -97,7 +97,7 @@ impl Ahead {
         ensures taken { self.new.taken ≡ self.old.taken }
         ensures end { self.new.end ≡ self.old.end }
     {
-        let next = TextGroup::new(alloc, copy_of(&self.group.label));
+        let next = TextGroup::new(alloc, self.group.label.copy());
         let group = mem::replace(&mut self.group, next);
         self.whole.push(group)?;
         Ok(())

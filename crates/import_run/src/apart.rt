@@ -5,7 +5,7 @@ ghost use Rattle.import_run.specs.Apart.{CanTally, IsTalliedGroup};
 
 use crate::text_group::{TalliedGroup, TextGroup};
 use outside::Gate;
-use side_by_side::{Workers, map_each};
+use side_by_side::{Workers, all_made, map_each};
 use std::alloc::{AllocError, Global};
 use std::sync::Wait;
 use std::thread::Threads;
@@ -33,7 +33,7 @@ pub(crate) fn count_each<R: Wait + Threads + Sync, G: Gate>(
         ensures { IfOk result (IsTalliedGroup group) }
     { group.pack(rt, alloc) };
     let results = map_each(rt, alloc, workers.count, groups, &enter, &count)?;
-    all_counted(alloc, results)
+    all_made(alloc, results)
 }
 
 /// Counts a group that is the only one, if there is one.
@@ -50,20 +50,6 @@ fn count_alone<R: Threads + Sync, G: Gate>(
     let mut counted = Vec::with_capacity(alloc, groups.len())?;
     'counting: for group in groups {
         counted.push(group.tally(rt, alloc, workers, gate)?)?;
-    }
-    Ok(counted)
-}
-
-/// What leaves counted, where each of them had the memory for it.
-fn all_counted(
-    alloc: Global,
-    results: Vec<Result<TalliedGroup, AllocError>>,
-) -> Result<Vec<TalliedGroup>, AllocError>
-    ensures { IfOk result (λ counted. map Ok counted.items ≡ results.items) }
-{
-    let mut counted = Vec::with_capacity(alloc, results.len())?;
-    for group in results {
-        counted.push(group?)?;
     }
     Ok(counted)
 }

@@ -1,10 +1,9 @@
 //! Who stores batches: one who stores alone, or one at a desk that others use too.
-ghost use Rattle.std.specs.Prelude.{◌≡◌, Option, Some};
+ghost use Rattle.std.specs.Prelude.{[], ◌∷◌, Option};
 ghost use Rattle.std.specs.Thread.{IsSync};
-ghost use Rattle.import_run.specs.Beside.{AnswersTo};
 ghost use Rattle.published_index.specs.Places.{Drawing};
-ghost use Rattle.import_run.specs.Committing.{Commits, IsClash, Known, Store, store_of};
-ghost use Rattle.import_run.specs.Draws.{DrawsPlace};
+ghost use Rattle.import_run.specs.Answered.{Ran};
+ghost use Rattle.import_run.specs.Committing.{Store};
 
 use ingest_desk::{CommitFault, Handed, Receipt};
 use published_index::Index;
@@ -34,11 +33,8 @@ pub trait Committer<J: Index> {
         workers: Workers,
     ) -> Result<Receipt<J>, CommitFault<J>>
         requires shares { IsSync R.row }
-        ensures told { (known : Known) → told self.old ≡ Some (store_of known)
-            → Commits result known handed (told self.new) }
-        ensures clash { IsClash result handed (told self.old) }
-        ensures answers { AnswersTo result handed }
-        ensures drawn { DrawsPlace result (drawing self.old) (drawing self.new) }
+        ensures ran { Ran (record { handed = handed; answer = result } ∷ [])
+            (told self.old) (told self.new) (drawing self.old) (drawing self.new) }
         ensures since { since self.old self.new };
 
     // Without a call nothing is done.

@@ -14,32 +14,17 @@ use side_by_side::Workers;
 use std::alloc::Global;
 use std::sync::{MutexGuard, Wait};
 use std::thread::Threads;
-use tally_rows::Tally;
 
-/// Stores a batch and publishes it, beside all others that do. No segments become one behind it.
+/// Stores a batch, packed or not, and publishes it, beside all others that do. No segments become one
+/// behind it.
 pub fn store_beside<D: Disk, J: Index, R: Wait + Threads + Sync>(
-    rt: &R,
-    alloc: Global,
-    ingest: &mut Ingest<D, J>,
-    tally: Tally,
-    mine: &mut Drawer<J>,
-) -> Result<Receipt<J>, CommitFault<J>>
-    ensures clash { IsClash result tally None }
-    ensures answers { AnswersTo result tally }
-    ensures drawn { DrawsPlace result mine.old mine.new }
-{
-    store_handed(rt, alloc, ingest, Handed::unpacked(tally), mine)
-}
-
-/// The same of a batch that is packed or not.
-fn store_handed<D: Disk, J: Index, R: Wait + Threads + Sync>(
     rt: &R,
     alloc: Global,
     ingest: &mut Ingest<D, J>,
     handed: Handed,
     mine: &mut Drawer<J>,
 ) -> Result<Receipt<J>, CommitFault<J>>
-    ensures clash { IsClash result handed None }
+    ensures clash { IsClash result handed }
     ensures answers { AnswersTo result handed }
     ensures drawn { DrawsPlace result mine.old mine.new }
 {
@@ -61,12 +46,12 @@ fn store_at<D: Disk, J: Index, R: Wait + Threads + Sync>(
     handed: Handed,
     mine: &mut Drawer<J>,
 ) -> Result<Receipt<J>, CommitFault<J>>
-    ensures clash { IsClash result handed None }
+    ensures clash { IsClash result handed }
     ensures answers { AnswersTo result handed }
     ensures drawn { DrawsPlace result mine.old mine.new }
 {
     let mut ingest = desk.lock(rt);
-    let answer = store_handed(rt, alloc, &mut ingest, handed, mine);
+    let answer = store_beside(rt, alloc, &mut ingest, handed, mine);
     MutexGuard::unlock(ingest);
     answer
 }

@@ -17,7 +17,7 @@ use crate::ends::{EndCounts, ending_of};
 use crate::stream::import_bytes;
 use disk_model::Disk;
 use explorer_model::archive::Bytes;
-use ingest_desk::{Desk, ImportCall, Importer, Ingest, Receipt, Report};
+use ingest_desk::{Desk, ImportCall, Importer, Ingest, Report, count_games};
 use outside::FreeGate;
 use published_index::{Drawer, Index};
 use side_by_side::Workers;
@@ -216,16 +216,4 @@ fn with_call<J: Index>(
     };
     calls.push(call).ok()?;
     Some(calls)
-}
-
-/// How many games the receipts have together.
-fn count_games<J: Index>(receipts: &[Receipt<J>]) -> u32
-    requires { games_of receipts.now < 2 ^ 32 }
-    ensures { result ≡ games_of receipts.now }
-{
-    let mut games = 0;
-    for receipt in receipts {
-        games += receipt.games();
-    }
-    games
 }

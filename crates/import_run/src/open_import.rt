@@ -1,7 +1,7 @@
 //! An import in its stream: cuts are taken into groups, and each group is settled once it is whole.
-ghost use Rattle.std.specs.Prelude.{◌≡◌, ◌≤◌, ◌++◌, ◌∷◌, [], List, Option, length, IfErr, OnOk, ◌+◌, ◌<◌, ◌^◌, ℕ, Some, IfSome};
+ghost use Rattle.std.specs.Prelude.{◌≡◌, ◌≤◌, ◌++◌, ◌∷◌, [], List, Option, length, OnOk, ◌+◌, ◌<◌, ◌^◌, ℕ, Some, IfSome};
 ghost use Rattle.std.specs.List.{All, AllByRecursion, AllZip};
-ghost use Rattle.explorer_model.specs.Cuts.{Cut as ACut, text_limit, cuts};
+ghost use Rattle.explorer_model.specs.Cuts.{Cut as ACut, text_limit};
 ghost use Rattle.explorer_model.specs.Imports.{group_limit};
 ghost use Rattle.published_index.specs.Places.{Drawing};
 ghost use Rattle.ingest_desk.specs.Drawn.{DrawsFor, most_untold};
@@ -10,8 +10,8 @@ ghost use Rattle.import_run.specs.Beside.{last_batches};
 ghost use Rattle.import_run.specs.Committing.{Store, Known, store_of};
 ghost use Rattle.import_run.specs.Draws.{most_untold_by};
 ghost use Rattle.import_run.specs.Grouping.{Ascend, IsGroupOf, IsShort, IsTallied};
-ghost use Rattle.import_run.specs.Importing.{EndsEarly, IsEndOf, WhereLacking, WhereStopped};
-ghost use Rattle.import_run.specs.Taking.{IsSettledSo, LacksAmong, LacksBehind, StopsAmong, StopsBehind, ComesQuietly, ComesQuietlyBeside, CutSoFar, IsReady, IsWholeBeside, IsWholeSettled, LacksAtEnd, LacksSoFar, LacksWithin, StopsAtEnd, StopsSoFar, StopsWithin, TakenAll, TakenSoFar};
+ghost use Rattle.import_run.specs.Importing.{ByStop, EndsEarly, IsEndOf};
+ghost use Rattle.import_run.specs.Taking.{IsSettledSo, LacksAmong, LacksBehind, StopsAmong, StopsBehind, ComesQuietly, ComesQuietlyBeside, CutSoFar, IsReady, IsWholeBeside, IsWholeSettled, LacksAtEnd, LacksSoFar, LacksWithin, StopsAtEnd, StopsIn, StopsSoFar, StopsWithin, TakenAll, TakenSoFar};
 ghost use Rattle.std.specs.Io.KnownBytes.{IsAtEnd};
 ghost use Rattle.explorer_model.specs.Journal.{input_limit};
 ghost use Rattle.pgn_cut.specs.Cut.{meaning, cuts_in};
@@ -20,7 +20,7 @@ ghost use Rattle.ingest_desk.specs.Importers.{ending_of};
 
 use crate::committer::Committer;
 use crate::settle::{Done, settle};
-use crate::text_group::{GROUP_LIMIT, TalliedGroup, TextGroup, copy_of};
+use crate::text_group::{GROUP_LIMIT, TalliedGroup, TextGroup};
 use explorer_model::fault::{Refusal, Stop};
 use explorer_model::label::Label;
 use ingest_desk::{CommitFault, End, Receipt, Report};
@@ -86,18 +86,13 @@ impl<J: Index> OpenImport<J> {
         ensures came { OnOk result (came cutter.new ≡ came cutter.old + length bytes.now) }
         ensures ready { OnOk result (IsReady self.new) }
         ensures label { self.new.group.label ≡ self.old.group.label }
-        ensures cut { OnOk result ((start : Option Store) (past : List ℕ)
+        ensures cut { (start : Option Store) (past : List ℕ)
             → CutSoFar start past (cuts_of_rest cutter.old) self.old (C.told committer.old)
-            → CutSoFar start (past ++ bytes.now) (cuts_of_rest cutter.new) self.new
-            (C.told committer.new)) }
-        ensures stops { IfErr result (λ stop. WhereStopped stop (λ stopped.
-            (start : Option Store) (past : List ℕ)
-            → CutSoFar start past (cuts_of_rest cutter.old) self.old (C.told committer.old)
-            → StopsWithin start (past ++ bytes.now) self.new stopped (C.told committer.new))) }
-        ensures lacks { IfErr result (λ stop. WhereLacking stop ((start : Option Store)
-            (past : List ℕ)
-            → CutSoFar start past (cuts_of_rest cutter.old) self.old (C.told committer.old)
-            → LacksWithin start (past ++ bytes.now) self.new (C.told committer.new))) }
+            → ByStop result (CutSoFar start (past ++ bytes.now) (cuts_of_rest cutter.new) self.new
+            (C.told committer.new))
+            (λ stopped. StopsWithin start (past ++ bytes.now) self.new stopped
+            (C.told committer.new))
+            (LacksWithin start (past ++ bytes.now) self.new (C.told committer.new)) }
         ensures drawn { (before : Drawing)
             → DrawsFor 0 self.old.receipts.items before (C.drawing committer.old)
             → DrawsFor (most_untold_by result) self.new.receipts.items before
@@ -130,18 +125,14 @@ impl<J: Index> OpenImport<J> {
         requires ready { IsReady self.old }
         ensures ready { OnOk result (IsReady self.new) }
         ensures label { self.new.group.label ≡ self.old.group.label }
-        ensures taken { OnOk result ((start : Option Store) (taken : List ACut)
+        ensures taken { (start : Option Store) (taken : List ACut)
             → Ascend (taken ++ cuts_in cut)
             → TakenSoFar start taken self.old (C.told committer.old)
-            → TakenSoFar start (taken ++ cuts_in cut) self.new (C.told committer.new)) }
-        ensures stops { IfErr result (λ stop. WhereStopped stop (λ stopped.
-            (start : Option Store) (taken : List ACut) → Ascend (taken ++ cuts_in cut)
-            → TakenSoFar start taken self.old (C.told committer.old)
-            → StopsSoFar start (taken ++ cuts_in cut) self.new stopped (C.told committer.new))) }
-        ensures lacks { IfErr result (λ stop. WhereLacking stop ((start : Option Store)
-            (taken : List ACut) → Ascend (taken ++ cuts_in cut)
-            → TakenSoFar start taken self.old (C.told committer.old)
-            → LacksSoFar start (taken ++ cuts_in cut) self.new (C.told committer.new))) }
+            → ByStop result
+            (TakenSoFar start (taken ++ cuts_in cut) self.new (C.told committer.new))
+            (λ stopped. StopsSoFar start (taken ++ cuts_in cut) self.new stopped
+            (C.told committer.new))
+            (LacksSoFar start (taken ++ cuts_in cut) self.new (C.told committer.new)) }
         ensures drawn { (before : Drawing)
             → DrawsFor 0 self.old.receipts.items before (C.drawing committer.old)
             → DrawsFor (most_untold_by result) self.new.receipts.items before
@@ -167,19 +158,14 @@ impl<J: Index> OpenImport<J> {
         requires ready { IsReady self.old }
         ensures ready { OnOk result (IsReady self.new) }
         ensures label { self.new.group.label ≡ self.old.group.label }
-        ensures taken { OnOk result ((start : Option Store) (taken : List ACut)
+        ensures taken { (start : Option Store) (taken : List ACut)
             → Ascend (taken ++ meaning cut ∷ [])
             → TakenSoFar start taken self.old (C.told committer.old)
-            → TakenSoFar start (taken ++ meaning cut ∷ []) self.new (C.told committer.new)) }
-        ensures stops { IfErr result (λ stop. WhereStopped stop (λ stopped.
-            (start : Option Store) (taken : List ACut) → Ascend (taken ++ meaning cut ∷ [])
-            → TakenSoFar start taken self.old (C.told committer.old)
-            → StopsSoFar start (taken ++ meaning cut ∷ []) self.new stopped
-            (C.told committer.new))) }
-        ensures lacks { IfErr result (λ stop. WhereLacking stop ((start : Option Store)
-            (taken : List ACut) → Ascend (taken ++ meaning cut ∷ [])
-            → TakenSoFar start taken self.old (C.told committer.old)
-            → LacksSoFar start (taken ++ meaning cut ∷ []) self.new (C.told committer.new))) }
+            → ByStop result
+            (TakenSoFar start (taken ++ meaning cut ∷ []) self.new (C.told committer.new))
+            (λ stopped. StopsSoFar start (taken ++ meaning cut ∷ []) self.new stopped
+            (C.told committer.new))
+            (LacksSoFar start (taken ++ meaning cut ∷ []) self.new (C.told committer.new)) }
         ensures drawn { (before : Drawing)
             → DrawsFor 0 self.old.receipts.items before (C.drawing committer.old)
             → DrawsFor (most_untold_by result) self.new.receipts.items before
@@ -207,27 +193,20 @@ impl<J: Index> OpenImport<J> {
         ensures label { self.new.group.label ≡ self.old.group.label }
         ensures group { OnOk result (IsGroupOf [] self.new.group) }
         ensures none { OnOk result (self.new.group.texts.items ≡ []) }
-        ensures closes { OnOk result ((start : Option Store) (closed : List (List ACut))
-            (hand : List ACut) → Ascend hand → IsGroupOf hand self.old.group
+        ensures settles { (start : Option Store) (closed : List (List ACut)) (hand : List ACut)
+            → Ascend hand → IsGroupOf hand self.old.group
             → IsSettledSo start closed self.old (C.told committer.old)
-            → IsSettledSo start (closed ++ hand ∷ []) self.new (C.told committer.new)) }
-        ensures stops { IfErr result (λ stop. WhereStopped stop (λ stopped.
-            (start : Option Store) (closed : List (List ACut)) (hand : List ACut) → Ascend hand
-            → IsGroupOf hand self.old.group
-            → IsSettledSo start closed self.old (C.told committer.old)
-            → StopsBehind start closed hand self.new stopped (C.told committer.new))) }
-        ensures lacks { IfErr result (λ stop. WhereLacking stop ((start : Option Store)
-            (closed : List (List ACut)) (hand : List ACut) → Ascend hand
-            → IsGroupOf hand self.old.group
-            → IsSettledSo start closed self.old (C.told committer.old)
-            → LacksBehind start closed (hand ∷ []) self.new (C.told committer.new))) }
+            → ByStop result
+            (IsSettledSo start (closed ++ hand ∷ []) self.new (C.told committer.new))
+            (λ stopped. StopsBehind start closed hand self.new stopped (C.told committer.new))
+            (LacksBehind start closed (hand ∷ []) self.new (C.told committer.new)) }
         ensures drawn { (before : Drawing)
             → DrawsFor 0 self.old.receipts.items before (C.drawing committer.old)
             → DrawsFor (most_untold_by result) self.new.receipts.items before
             (C.drawing committer.new) }
         ensures since { C.since committer.old committer.new }
     {
-        let next = TextGroup::new(alloc, copy_of(&self.group.label));
+        let next = TextGroup::new(alloc, self.group.label.copy());
         let group = mem::replace(&mut self.group, next);
         let tallied = group.tally(rt, alloc, workers, gate)?;
         self.settle_tallied(rt, alloc, committer, tallied, workers, gate)
@@ -245,20 +224,13 @@ impl<J: Index> OpenImport<J> {
     ) -> Result<(), Stop<Stopped<J>>>
         requires hand { IsInHand tallied }
         ensures group { self.new.group ≡ self.old.group }
-        ensures closes { OnOk result ((start : Option Store) (closed : List (List ACut))
-            (next : List ACut) → Ascend next → IsTallied self.old.group.label next tallied
+        ensures settles { (start : Option Store) (closed : List (List ACut)) (next : List ACut)
+            → Ascend next → IsTallied self.old.group.label next tallied
             → IsSettledSo start closed self.old (C.told committer.old)
-            → IsSettledSo start (closed ++ next ∷ []) self.new (C.told committer.new)) }
-        ensures stops { IfErr result (λ stop. WhereStopped stop (λ stopped.
-            (start : Option Store) (closed : List (List ACut)) (next : List ACut) → Ascend next
-            → IsTallied self.old.group.label next tallied
-            → IsSettledSo start closed self.old (C.told committer.old)
-            → StopsBehind start closed next self.new stopped (C.told committer.new))) }
-        ensures lacks { IfErr result (λ stop. WhereLacking stop ((start : Option Store)
-            (closed : List (List ACut)) (next : List ACut) → Ascend next
-            → IsTallied self.old.group.label next tallied
-            → IsSettledSo start closed self.old (C.told committer.old)
-            → LacksBehind start closed (next ∷ []) self.new (C.told committer.new))) }
+            → ByStop result
+            (IsSettledSo start (closed ++ next ∷ []) self.new (C.told committer.new))
+            (λ stopped. StopsBehind start closed next self.new stopped (C.told committer.new))
+            (LacksBehind start closed (next ∷ []) self.new (C.told committer.new)) }
         ensures drawn { (before : Drawing)
             → DrawsFor 0 self.old.receipts.items before (C.drawing committer.old)
             → DrawsFor (most_untold_by result) self.new.receipts.items before
@@ -347,18 +319,14 @@ impl<J: Index> OpenImport<J> {
         requires short { IfSome cut (λ cut. IsShort (meaning cut)) }
         requires ready { IsReady self.old }
         ensures label { self.new.group.label ≡ self.old.group.label }
-        ensures done { OnOk result ((start : Option Store) (taken : List ACut)
+        ensures taken { (start : Option Store) (taken : List ACut)
             → Ascend (taken ++ cuts_in cut)
             → TakenSoFar start taken self.old (C.told committer.old)
-            → TakenAll start (taken ++ cuts_in cut) self.new (C.told committer.new)) }
-        ensures stops { IfErr result (λ stop. WhereStopped stop (λ stopped.
-            (start : Option Store) (taken : List ACut) → Ascend (taken ++ cuts_in cut)
-            → TakenSoFar start taken self.old (C.told committer.old)
-            → StopsAtEnd start (taken ++ cuts_in cut) self.new stopped (C.told committer.new))) }
-        ensures lacks { IfErr result (λ stop. WhereLacking stop ((start : Option Store)
-            (taken : List ACut) → Ascend (taken ++ cuts_in cut)
-            → TakenSoFar start taken self.old (C.told committer.old)
-            → LacksAtEnd start (taken ++ cuts_in cut) self.new (C.told committer.new))) }
+            → ByStop result
+            (TakenAll start (taken ++ cuts_in cut) self.new (C.told committer.new))
+            (λ stopped. StopsAtEnd start (taken ++ cuts_in cut) self.new stopped
+            (C.told committer.new))
+            (LacksAtEnd start (taken ++ cuts_in cut) self.new (C.told committer.new)) }
         ensures drawn { (before : Drawing)
             → DrawsFor 0 self.old.receipts.items before (C.drawing committer.old)
             → DrawsFor (most_untold_by result) self.new.receipts.items before
@@ -383,22 +351,13 @@ impl<J: Index> OpenImport<J> {
     ) -> Result<(), Stop<Stopped<J>>>
         requires hand { All IsInHand counted.items }
         ensures group { self.new.group ≡ self.old.group }
-        ensures closes { OnOk result ((start : Option Store) (closed groups : List (List ACut))
+        ensures settles { (start : Option Store) (closed groups : List (List ACut))
             → AllByRecursion Ascend groups
             → AllZip (IsTallied self.old.group.label) groups counted.items
             → IsSettledSo start closed self.old (C.told committer.old)
-            → IsSettledSo start (closed ++ groups) self.new (C.told committer.new)) }
-        ensures stops { IfErr result (λ stop. WhereStopped stop (λ stopped.
-            (start : Option Store) (closed groups : List (List ACut))
-            → AllByRecursion Ascend groups
-            → AllZip (IsTallied self.old.group.label) groups counted.items
-            → IsSettledSo start closed self.old (C.told committer.old)
-            → StopsAmong start closed groups self.new stopped (C.told committer.new))) }
-        ensures lacks { IfErr result (λ stop. WhereLacking stop ((start : Option Store)
-            (closed groups : List (List ACut)) → AllByRecursion Ascend groups
-            → AllZip (IsTallied self.old.group.label) groups counted.items
-            → IsSettledSo start closed self.old (C.told committer.old)
-            → LacksAmong start closed groups self.new (C.told committer.new))) }
+            → ByStop result (IsSettledSo start (closed ++ groups) self.new (C.told committer.new))
+            (λ stopped. StopsAmong start closed groups self.new stopped (C.told committer.new))
+            (LacksAmong start closed groups self.new (C.told committer.new)) }
         ensures drawn { (before : Drawing)
             → DrawsFor 0 self.old.receipts.items before (C.drawing committer.old)
             → DrawsFor (most_untold_by result) self.new.receipts.items before
@@ -434,21 +393,13 @@ impl<J: Index> OpenImport<J> {
 
     /// The report where a commit ended the import. What is refused of the group in hand stands last.
     pub(crate) fn stopped(self, stopped: Stopped<J>) -> Report<J>
-        ensures within { (start : Known) (stream : List ℕ) (left : Option (List ℕ))
+        ensures comes { (start : Known) (stream : List ℕ) (left : Option (List ℕ))
             (told : Option Store) → length stream < input_limit
-            → StopsWithin (Some (store_of start)) stream self stopped told
+            → StopsIn (Some (store_of start)) stream left self stopped told
             → ComesQuietly self.group.label start stream left result told }
-        ensures at_end { (start : Known) (stream : List ℕ) (left : Option (List ℕ))
-            (told : Option Store) → IsAtEnd left → length stream < input_limit
-            → StopsAtEnd (Some (store_of start)) (cuts stream) self stopped told
-            → ComesQuietly self.group.label start stream left result told }
-        ensures beside_within { (start : Option Store) (stream : List ℕ)
-            (left : Option (List ℕ)) (told : Option Store) → length stream < input_limit
-            → StopsWithin start stream self stopped told
-            → ComesQuietlyBeside self.group.label stream left result }
-        ensures beside_at_end { (start : Option Store) (stream : List ℕ)
-            (left : Option (List ℕ)) (told : Option Store) → IsAtEnd left
-            → length stream < input_limit → StopsAtEnd start (cuts stream) self stopped told
+        ensures beside { (start : Option Store) (stream : List ℕ) (left : Option (List ℕ))
+            (told : Option Store) → length stream < input_limit
+            → StopsIn start stream left self stopped told
             → ComesQuietlyBeside self.group.label stream left result }
         ensures early { EndsEarly stopped.end → EndsEarly result.end }
         ensures drawn { (before after : Drawing) → DrawsFor 0 self.receipts.items before after

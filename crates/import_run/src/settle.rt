@@ -1,13 +1,7 @@
 //! A group is settled: its new texts are stored as one batch.
-ghost use Rattle.std.specs.Prelude.{◌≡◌, ◌<◌, ℕ, List, [], ◌∷◌, Option, Some, IfOk, IfSome, OnErr};
-ghost use Rattle.explorer_model.specs.Cuts.{Cut as ACut};
-ghost use Rattle.explorer_model.specs.Timeline.{IsPrefix};
-ghost use Rattle.import_run.specs.Beside.{RoundsBeside, SettlesBeside};
-ghost use Rattle.import_run.specs.Committing.{Known, Store, store_of};
-ghost use Rattle.import_run.specs.Draws.{DrawsAsAnswered, DrawsFew, DrawsInRound};
-ghost use Rattle.import_run.specs.Grouping.{Ascend, IsTallied};
+ghost use Rattle.std.specs.Prelude.{IfSome};
 ghost use Rattle.import_run.specs.Hand.{InHand};
-ghost use Rattle.import_run.specs.Rounds.{AnswerDecided, IsAgain, IsEnded, MayHaveMore, Rounds, Settles, size_of};
+ghost use Rattle.import_run.specs.Rounds.{Comes, ComesOnce};
 
 use crate::committer::Committer;
 use crate::naming::name;
@@ -49,23 +43,11 @@ pub fn settle<C: Committer<J>, J: Index, R: Wait + Threads + Sync, G: Gate>(
     gate: &G,
 ) -> Result<Done<J>, AllocError>
     requires hand { IfSome tallied.tally (λ counted. InHand counted tallied.places.items) }
-    ensures settles { IfOk result (λ done. (label : List ℕ) (known : Known) (cuts : List ACut)
-        → Ascend cuts → IsTallied label cuts tallied → C.told committer.old ≡ Some (store_of known)
-        → Settles label known cuts done (C.told committer.new)) }
-    ensures decided { IfOk result (λ done. AnswerDecided done.answer) }
-    ensures memory { OnErr result ((label : List ℕ) (known : Known) (cuts : List ACut)
-        → Ascend cuts → IsTallied label cuts tallied → C.told committer.old ≡ Some (store_of known)
-        → MayHaveMore label known (cuts ∷ []) (C.told committer.new)) }
-    ensures beside { IfOk result (λ done. (label : List ℕ) (cuts : List ACut) → Ascend cuts
-        → IsTallied label cuts tallied → SettlesBeside label cuts done clashes.new.items) }
-    ensures drawn { IfOk result (λ done. DrawsAsAnswered done.answer
-        (C.drawing committer.old) (C.drawing committer.new)) }
-    ensures drawn_few { OnErr result
-        (DrawsFew 1 (C.drawing committer.old) (C.drawing committer.new)) }
-    ensures notes { IsPrefix clashes.old.items clashes.new.items }
+    ensures comes { Comes result tallied clashes.old.items clashes.new.items
+        (C.told committer.old) (C.told committer.new)
+        (C.drawing committer.old) (C.drawing committer.new) }
     ensures since { C.since committer.old committer.new }
 {
-    game_is_determined();
     let mut state = tallied;
     'settling: loop {
         let TalliedGroup {
@@ -102,39 +84,10 @@ fn commit_once<C: Committer<J>, J: Index, R: Wait + Threads + Sync, G: Gate>(
     gate: &G,
 ) -> Result<Round<J>, AllocError>
     requires hand { InHand counted places.items }
-    ensures again { IfOk result (λ round. IsAgain round (λ state. (told : Option Store)
-        (label : List ℕ) (cuts : List ACut)
-        → Rounds label told cuts (Some counted) places.items refused.items (C.told committer.old)
-        → Rounds label told cuts state.tally state.places.items state.refused.items
-        (C.told committer.new))) }
-    ensures hand { IfOk result (λ round. IsAgain round (λ state. IfSome state.tally (λ next.
-        InHand next state.places.items))) }
-    ensures fewer { IfOk result (λ round.
-        IsAgain round (λ state. size_of state.tally < size_of (Some counted))) }
-    ensures ended { IfOk result (λ round. IsEnded round (λ done. (label : List ℕ) (known : Known)
-        (cuts : List ACut)
-        → Rounds label (Some (store_of known)) cuts (Some counted) places.items refused.items
-        (C.told committer.old)
-        → Settles label known cuts done (C.told committer.new))) }
-    ensures decided { IfOk result (λ round. IsEnded round (λ done. AnswerDecided done.answer)) }
-    ensures memory { OnErr result ((label : List ℕ) (known : Known) (cuts : List ACut)
-        → Rounds label (Some (store_of known)) cuts (Some counted) places.items refused.items
-        (C.told committer.old)
-        → MayHaveMore label known (cuts ∷ []) (C.told committer.new)) }
-    ensures again_beside { IfOk result (λ round. IsAgain round (λ state. (label : List ℕ)
-        (cuts : List ACut)
-        → RoundsBeside label cuts (Some counted) places.items refused.items clashes.old.items
-        → RoundsBeside label cuts state.tally state.places.items state.refused.items
-        clashes.new.items)) }
-    ensures ended_beside { IfOk result (λ round. IsEnded round (λ done. (label : List ℕ)
-        (cuts : List ACut)
-        → RoundsBeside label cuts (Some counted) places.items refused.items clashes.old.items
-        → SettlesBeside label cuts done clashes.new.items)) }
-    ensures drawn { IfOk result (λ round. DrawsInRound round
-        (C.drawing committer.old) (C.drawing committer.new)) }
-    ensures drawn_few { OnErr result
-        (DrawsFew 1 (C.drawing committer.old) (C.drawing committer.new)) }
-    ensures notes { IsPrefix clashes.old.items clashes.new.items }
+    ensures comes { ComesOnce result counted places.items refused.items
+        clashes.old.items clashes.new.items
+        (C.told committer.old) (C.told committer.new)
+        (C.drawing committer.old) (C.drawing committer.new) }
     ensures since { C.since committer.old committer.new }
 {
     game_is_determined();

@@ -178,13 +178,3 @@ pub fn merge(
     all.extend_from_slice(&unread[next..])?;
     Ok(all)
 }
-
-/// The same label again, which takes no memory.
-pub fn copy_of(label: &Label) -> Label
-    ensures { result ≡ label.now }
-{
-    let Some(copy) = Label::of(label.as_str().as_bytes()) else {
-        unreachable!()
-    };
-    copy
-}

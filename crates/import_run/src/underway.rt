@@ -1,9 +1,8 @@
 //! An import in rounds: in each the groups that were read before are counted, while the calling thread
 //! settles those that were counted in the round before, and reads on.
-ghost use Rattle.std.specs.Prelude.{◌≡◌, ◌+◌, ◌<◌, ◌≤◌, [], ℕ, List, Bool, Option, None, Some, false, IfErr, IfOk, IfSome, OnErr, OnOk};
+ghost use Rattle.std.specs.Prelude.{◌≡◌, ◌+◌, ◌<◌, ◌≤◌, [], Bool, Option, None, Some, false, IfOk, IfSome, OnErr, OnOk};
 ghost use Rattle.std.specs.List.{All, AllZip};
 ghost use Rattle.std.specs.Thread.{IsSync};
-ghost use Rattle.explorer_model.specs.Cuts.{Cut as ACut};
 ghost use Rattle.outside.specs.Stream.{Stream};
 ghost use Rattle.published_index.specs.Places.{Drawing};
 ghost use Rattle.explorer_model.specs.Journal.{input_limit};
@@ -13,7 +12,7 @@ ghost use Rattle.import_run.specs.Apart.{CanTally, IsTalliedGroup};
 ghost use Rattle.import_run.specs.Committing.{Known, Store, store_of};
 ghost use Rattle.import_run.specs.EndingBeside.{ImportsBeside};
 ghost use Rattle.import_run.specs.Draws.{most_untold_by};
-ghost use Rattle.import_run.specs.Importing.{WhereLacking, WhereStopped};
+ghost use Rattle.import_run.specs.Importing.{ByStop};
 ghost use Rattle.import_run.specs.Taking.{Imports};
 ghost use Rattle.import_run.specs.Underway.{CanSettle, IsOver, IsUnderway, LacksReading, StopsReading, Turns, work_left};
 
@@ -21,7 +20,7 @@ use crate::ahead::{Ahead, INPUT_LIMIT, ReadEnd};
 use crate::apart::count_each;
 use crate::committer::Committer;
 use crate::open_import::{OpenImport, Stopped};
-use crate::text_group::{TalliedGroup, TextGroup, copy_of};
+use crate::text_group::{TalliedGroup, TextGroup};
 use explorer_model::fault::Stop;
 use explorer_model::label::Label;
 use ingest_desk::{End, Report};
@@ -63,7 +62,7 @@ impl<J: Index> Underway<J> {
         ensures starts { (now : Stream) (start : Option Store)
             → IsUnderway now now start result start }
     {
-        let ahead = Ahead::new(alloc, copy_of(&label));
+        let ahead = Ahead::new(alloc, label.copy());
         Underway {
             import: OpenImport::new(alloc, label),
             counted: Vec::new(alloc),
@@ -208,19 +207,14 @@ impl<J: Index> Underway<J> {
         ensures label { self.new.import.group.label ≡ self.old.import.group.label }
         ensures ready { OnOk result (CanSettle self.old.import.group.label self.new) }
         ensures less { OnOk result (work_left self.new < work_left self.old) }
-        ensures goes { OnOk result ((before : Stream) (start : Option Store)
+        ensures goes { (before : Stream) (start : Option Store)
             → IsUnderway before (S.source source.old) start self.old (C.told committer.old)
-            → IsUnderway before (S.source source.new) start self.new (C.told committer.new)) }
-        ensures stops { IfErr result (λ stop. WhereStopped stop (λ stopped. (before : Stream)
-            (start : Option Store)
-            → IsUnderway before (S.source source.old) start self.old (C.told committer.old)
-            → StopsReading before (S.source source.new) start self.new.import stopped
-            (C.told committer.new))) }
-        ensures lacks { IfErr result (λ stop. WhereLacking stop ((before : Stream)
-            (start : Option Store)
-            → IsUnderway before (S.source source.old) start self.old (C.told committer.old)
-            → LacksReading before (S.source source.new) start self.new.import
-            (C.told committer.new))) }
+            → ByStop result
+            (IsUnderway before (S.source source.new) start self.new (C.told committer.new))
+            (λ stopped. StopsReading before (S.source source.new) start self.new.import stopped
+            (C.told committer.new))
+            (LacksReading before (S.source source.new) start self.new.import
+            (C.told committer.new)) }
         ensures drawn { (before : Drawing)
             → DrawsFor 0 self.old.import.receipts.items before (C.drawing committer.old)
             → DrawsFor (most_untold_by result) self.new.import.receipts.items before

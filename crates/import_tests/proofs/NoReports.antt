@@ -1,6 +1,5 @@
 -- The report of an import that stored and refused nothing.
-use Rattle.std.proofs.Common.{◌≡◌, ◌==◌, ℕ, true, List, [], ◌∷◌, length, refl, sym, subst, arith}
-use Rattle.std.proofs.lemmas.Bool.Decides.{nat_tests}
+use Rattle.std.proofs.Common.{◌≡◌, ℕ, List, [], refl, sym, subst, arith}
 use Rattle.std.proofs.lemmas.List.Elements.{All-nil}
 use Rattle.explorer_model.specs.declared.fault.Refusal.{Refusal}
 use Rattle.explorer_model.specs.Cuts.{Cut, cuts, cuts_from, cuts_of, parted, preamble}
@@ -47,11 +46,6 @@ pub reports-empty : {J : Type 0} (body : List ℕ) (report : Report J) → body 
 reports-empty {J} body report empty receipts refused end =
     let whole : AccountedBeside no_label (groups (cuts body)) [] [] = rw (empty, no-groups) none-beside in
     reports (cuts body) report receipts refused (subst (λ (e : End J). AccountsTo no_label e (groups (cuts body)) [] []) (sym end) whole)
-
-pub empty-list : (xs : List ℕ) → (length xs == 0) ≡ true → xs ≡ []
-empty-list [] empty = refl
-empty-list (x ∷ xs) empty =
-    let none : length (x ∷ xs) ≡ 0 = grind (arith, nat_tests) in absurd (omega arith)
 
 -- where nothing is stored nothing is drawn
 pub draws-nothing : {J : Type 0} (most : ℕ) (receipts : List (Receipt J)) → receipts ≡ []

@@ -1,8 +1,9 @@
 use denote.Param.Send.{sendable}
 use denote.Param.SendFields.{as_row_send, declared_send, variants_send}
 use Rattle.std.proofs.Common.{rules, IfOk, slice_index_or, sym, subst}
+use Rattle.std.proofs.lemmas.Result.{IfOk-weaker}
 use Rattle.std.proofs.Crossing.{crosses}
-use Rattle.batch_tally.proofs.LeafLemmas.{if-ok, made-each}
+use Rattle.batch_tally.proofs.LeafLemmas.{made-each}
 use Rattle.import_run.specs.Apart.{CanTally, IsTalliedGroup}
 use Rattle.import_run.specs.declared.text_group.TextGroup.{TextGroup}
 use Rattle.import_run.proofs.SendLemmas.{tallied_send}
@@ -18,10 +19,10 @@ pub returns : goal.returns
 returns g c =
     let groups = c.args.groups.items in
     let results = c.in_ok-results.results in
-    if-ok _ _ c.all_counted.result
+    IfOk-weaker c.all_made.result _ _
     (λ counted made.
     made-each IsTalliedGroup groups results.items counted.items made c.in_ok-results.ensures.len
     (λ n d group below.
     let given = (c.in_ok-results.ensures.each n d below).1 in
     subst (λ (own : TextGroup). IfOk (slice_index_or results.items n d) (IsTalliedGroup own)) (sym (given.job_is group)) given.call.met))
-    c.all_counted.ensures
+    c.all_made.ensures

@@ -1,4 +1,4 @@
-use Rattle.std.proofs.Common.{◌<◌, [], ◌∙◌, Option, Some, length, refl, sym, subst, arith}
+use Rattle.std.proofs.Common.{inl, ◌<◌, [], ◌∙◌, Option, Some, length, refl, sym, subst, arith}
 use Rattle.pgn_cut.specs.Cutter.{cuts_of_rest}
 use Rattle.explorer_model.specs.Journal.{input_limit}
 use Rattle.import_run.specs.Committing.{Store, store_of}
@@ -26,10 +26,10 @@ returns-in-Err-Fault-clause-beside g c =
     let below : length c.args.bytes.now < input_limit = omega (arith, c.requires.few) in
     let start : CutSoFar told [] (cuts_of_rest c.new-cutter.result) c.new-import.result told =
     record { taken = []; cut = c.new-cutter.ensures.cuts; begun = λ some. absurd (omega (arith, some)); so_far = taken_none told c.new-import.result c.new-import.ensures.group c.new-import.ensures.receipts c.new-import.ensures.refused } in
-    let stops : StopsWithin told c.args.bytes.now c.feed.new.self c.in-Err-Fault.stopped told' = (rw c.in-Err-Fault.field-0-is at c.in-Err-Fault.ensures.stops) told [] start in
+    let stops : StopsWithin told c.args.bytes.now c.feed.new.self c.in-Err-Fault.stopped told' = (rw c.in-Err-Fault.field-0-is at c.in-Err-Fault.ensures.cut) told [] start in
     quietly_beside_as (c.feed.ensures.label ∙ c.new-import.ensures.label ∙ c.none.ensures)
-    (c.stopped.ensures.beside_within told c.args.bytes.now (Some []) told' below
-    (subst (λ stopped. StopsWithin told c.args.bytes.now c.feed.new.self stopped told') (sym c.in-Err-Fault.stopped-is) stops))
+    (c.stopped.ensures.beside told c.args.bytes.now (Some []) told' below
+    (inl (subst (λ stopped. StopsWithin told c.args.bytes.now c.feed.new.self stopped told') (sym c.in-Err-Fault.stopped-is) stops)))
 
 pub returns-clause-beside : goal.returns-clause-beside
 returns-clause-beside g c =
@@ -38,7 +38,7 @@ returns-clause-beside g c =
     let below : length c.args.bytes.now < input_limit = omega (arith, c.requires.few) in
     let start : CutSoFar told [] (cuts_of_rest c.new-cutter.result) c.new-import.result told =
     record { taken = []; cut = c.new-cutter.ensures.cuts; begun = λ some. absurd (omega (arith, some)); so_far = taken_none told c.new-import.result c.new-import.ensures.group c.new-import.ensures.receipts c.new-import.ensures.refused } in
-    let lacks : LacksWithin told c.args.bytes.now c.feed.new.self told' = (rw c.in-Err-OutOfMemory.field-0-is at c.in-Err-OutOfMemory.ensures.lacks) told [] start in
+    let lacks : LacksWithin told c.args.bytes.now c.feed.new.self told' = (rw c.in-Err-OutOfMemory.field-0-is at c.in-Err-OutOfMemory.ensures.cut) told [] start in
     quietly_beside_as (c.feed.ensures.label ∙ c.new-import.ensures.label ∙ c.none.ensures)
     (lacking_within_beside c.args.bytes.now (Some []) c.report.result c.feed.new.self c.report.ensures.receipts c.report.ensures.clashes below c.report.ensures.refused told told' c.report.ensures.end lacks)
 
@@ -60,11 +60,11 @@ returns-in-Err-Fault-clause-told g c = λ start is.
     let below : length c.args.bytes.now < input_limit = omega (arith, c.requires.few) in
     let begin : CutSoFar told [] (cuts_of_rest c.new-cutter.result) c.new-import.result told =
     record { taken = []; cut = c.new-cutter.ensures.cuts; begun = λ some. absurd (omega (arith, some)); so_far = taken_none told c.new-import.result c.new-import.ensures.group c.new-import.ensures.receipts c.new-import.ensures.refused } in
-    let stops : StopsWithin told c.args.bytes.now c.feed.new.self c.in-Err-Fault.stopped told' = (rw c.in-Err-Fault.field-0-is at c.in-Err-Fault.ensures.stops) told [] begin in
+    let stops : StopsWithin told c.args.bytes.now c.feed.new.self c.in-Err-Fault.stopped told' = (rw c.in-Err-Fault.field-0-is at c.in-Err-Fault.ensures.cut) told [] begin in
     let P : Option Store → Type 0 = λ s. StopsWithin s c.args.bytes.now c.feed.new.self c.in-Err-Fault.stopped told' in
     quietly_as (c.feed.ensures.label ∙ c.new-import.ensures.label ∙ c.none.ensures)
-    (c.stopped.ensures.within start c.args.bytes.now (Some []) told' below
-    (subst (λ stopped. StopsWithin (Some (store_of start)) c.args.bytes.now c.feed.new.self stopped told') (sym c.in-Err-Fault.stopped-is) (subst P is stops)))
+    (c.stopped.ensures.comes start c.args.bytes.now (Some []) told' below
+    (inl (subst (λ stopped. StopsWithin (Some (store_of start)) c.args.bytes.now c.feed.new.self stopped told') (sym c.in-Err-Fault.stopped-is) (subst P is stops))))
 
 pub returns-clause-told : goal.returns-clause-told
 returns-clause-told g c = λ start is.
@@ -73,7 +73,7 @@ returns-clause-told g c = λ start is.
     let below : length c.args.bytes.now < input_limit = omega (arith, c.requires.few) in
     let begin : CutSoFar told [] (cuts_of_rest c.new-cutter.result) c.new-import.result told =
     record { taken = []; cut = c.new-cutter.ensures.cuts; begun = λ some. absurd (omega (arith, some)); so_far = taken_none told c.new-import.result c.new-import.ensures.group c.new-import.ensures.receipts c.new-import.ensures.refused } in
-    let lacks : LacksWithin told c.args.bytes.now c.feed.new.self told' = (rw c.in-Err-OutOfMemory.field-0-is at c.in-Err-OutOfMemory.ensures.lacks) told [] begin in
+    let lacks : LacksWithin told c.args.bytes.now c.feed.new.self told' = (rw c.in-Err-OutOfMemory.field-0-is at c.in-Err-OutOfMemory.ensures.cut) told [] begin in
     let P : Option Store → Type 0 = λ s. LacksWithin s c.args.bytes.now c.feed.new.self told' in
     quietly_as (c.feed.ensures.label ∙ c.new-import.ensures.label ∙ c.none.ensures)
     (lacking_within start c.report.result c.args.bytes.now (Some []) told' c.feed.new.self c.report.ensures.end c.report.ensures.receipts c.report.ensures.refused below (subst P is lacks))

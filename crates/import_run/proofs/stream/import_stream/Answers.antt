@@ -134,9 +134,9 @@ returns-in-Err-Fault-clause-told g c = λ start is.
     let goes = c.in-Ok-None.ensures.goes c.in-Ok-None.field-0-is source (Some (store_of start)) told (subst P is before.goes) in
     let told' = g.C.Committer.told c.round.new.committer in
     let stops : StopsReading source (g.S.Source.source c.round.new.source) (Some (store_of start)) c.round.new.self.import c.in-Err-Fault.stopped told' =
-    (rw c.in-Err-Fault.field-0-is at c.in-Err-Fault.ensures.stops) source (Some (store_of start)) goes in
+    (rw c.in-Err-Fault.field-0-is at c.in-Err-Fault.ensures.goes) source (Some (store_of start)) goes in
     imports_as (c.round.ensures.label ∙ same_label c.args.label c.rounds.state c.end.new.self c.end.ensures.import before.ready)
-    (stopped_told source (g.S.Source.source c.round.new.source) c.round.new.self.import c.stopped.result told' _ stopped.early stopped.beside_within stopped.beside_at_end stopped.within stopped.at_end start
+    (stopped_told source (g.S.Source.source c.round.new.source) c.round.new.self.import c.stopped.result told' _ stopped.early stopped.beside stopped.comes start
     (subst (λ stopped. StopsReading source (g.S.Source.source c.round.new.source) (Some (store_of start)) c.round.new.self.import stopped told') (sym c.in-Err-Fault.stopped-is) stops))
 
 pub returns-in-Err-Fault-clause-beside : goal.returns-in-Err-Fault-clause-beside
@@ -149,9 +149,9 @@ returns-in-Err-Fault-clause-beside g c =
     let goes = c.in-Ok-None.ensures.goes c.in-Ok-None.field-0-is source start told before.goes in
     let told' = g.C.Committer.told c.round.new.committer in
     let stops : StopsReading source (g.S.Source.source c.round.new.source) start c.round.new.self.import c.in-Err-Fault.stopped told' =
-    (rw c.in-Err-Fault.field-0-is at c.in-Err-Fault.ensures.stops) source start goes in
+    (rw c.in-Err-Fault.field-0-is at c.in-Err-Fault.ensures.goes) source start goes in
     imports_beside_as (c.round.ensures.label ∙ same_label c.args.label c.rounds.state c.end.new.self c.end.ensures.import before.ready)
-    (stopped_beside source (g.S.Source.source c.round.new.source) c.round.new.self.import c.stopped.result told' _ stopped.early stopped.beside_within stopped.beside_at_end start
+    (stopped_beside source (g.S.Source.source c.round.new.source) c.round.new.self.import c.stopped.result told' _ stopped.early stopped.beside start
     (subst (λ stopped. StopsReading source (g.S.Source.source c.round.new.source) start c.round.new.self.import stopped told') (sym c.in-Err-Fault.stopped-is) stops))
 
 pub returns-in-Err-Fault-clause-drawn : goal.returns-in-Err-Fault-clause-drawn
@@ -173,7 +173,7 @@ returns-in-Err-OutOfMemory-clause-told g c = λ start is.
     let goes = c.in-Ok-None.ensures.goes c.in-Ok-None.field-0-is source (Some (store_of start)) told (subst P is before.goes) in
     imports_as (c.round.ensures.label ∙ same_label c.args.label c.rounds.state c.end.new.self c.end.ensures.import before.ready)
     (lacking_told source (g.S.Source.source c.round.new.source) c.round.new.self.import c.report-in-Err-OutOfMemory.result (g.C.Committer.told c.round.new.committer)
-    report.end report.receipts report.refused report.clashes start ((rw c.in-Err-OutOfMemory.field-0-is at c.in-Err-OutOfMemory.ensures.lacks) source (Some (store_of start)) goes))
+    report.end report.receipts report.refused report.clashes start ((rw c.in-Err-OutOfMemory.field-0-is at c.in-Err-OutOfMemory.ensures.goes) source (Some (store_of start)) goes))
 
 pub returns-in-Err-OutOfMemory-clause-beside : goal.returns-in-Err-OutOfMemory-clause-beside
 returns-in-Err-OutOfMemory-clause-beside g c =
@@ -185,7 +185,7 @@ returns-in-Err-OutOfMemory-clause-beside g c =
     let goes = c.in-Ok-None.ensures.goes c.in-Ok-None.field-0-is source start told before.goes in
     imports_beside_as (c.round.ensures.label ∙ same_label c.args.label c.rounds.state c.end.new.self c.end.ensures.import before.ready)
     (lacking_beside source (g.S.Source.source c.round.new.source) c.round.new.self.import c.report-in-Err-OutOfMemory.result (g.C.Committer.told c.round.new.committer)
-    report.end report.receipts report.refused report.clashes start ((rw c.in-Err-OutOfMemory.field-0-is at c.in-Err-OutOfMemory.ensures.lacks) source start goes))
+    report.end report.receipts report.refused report.clashes start ((rw c.in-Err-OutOfMemory.field-0-is at c.in-Err-OutOfMemory.ensures.goes) source start goes))
 
 pub returns-in-Err-OutOfMemory-clause-drawn : goal.returns-in-Err-OutOfMemory-clause-drawn
 returns-in-Err-OutOfMemory-clause-drawn g c =

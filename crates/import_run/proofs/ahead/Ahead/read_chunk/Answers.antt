@@ -1,6 +1,7 @@
 use Rattle.std.proofs.Common.{refl, arith}
+use Rattle.plain_laws.specs.Results.{OnErr-from}
 use Rattle.import_run.specs.declared.ahead.ReadEnd.TheVariants.{Ended, Failed}
-use Rattle.import_run.proofs.ChunkLemmas.{chunk_ended, chunk_failed, chunk_lacks_last, left_ended, left_reading, on_err, ready_ended}
+use Rattle.import_run.proofs.ChunkLemmas.{chunk_ended, chunk_failed, chunk_lacks_last, left_ended, left_reading, ready_ended}
 use Rattle.import_run.proofs.ahead.Ahead.read_chunk.Goals as goal
 
 pub returns-in_default-clause-ready : goal.returns-in_default-clause-ready
@@ -20,7 +21,7 @@ pub returns-in_default-clause-few : goal.returns-in_default-clause-few
 returns-in_default-clause-few g c = omega arith
 
 pub returns-in_err-finish-clause-lacks : goal.returns-in_err-finish-clause-lacks
-returns-in_err-finish-clause-lacks g c = on_err c.from_residual.result _ (λ before given h.
+returns-in_err-finish-clause-lacks g c = OnErr-from c.from_residual.result _ (λ before given h.
     chunk_lacks_last before (g.S.Source.source c.args.source.now) (g.S.Source.source c.read.new.self) given c.args.self.now c.requires.reading h
     c.in-Ok.count c.read.new.into c.in-Ok.ensures.gives (omega arith) c.requires.ready.below)
 

@@ -1,5 +1,6 @@
 use Rattle.std.proofs.Common.{◌<◌, ℕ, length-take, arith}
-use Rattle.import_run.proofs.ChunkLemmas.{chunk_fed_on, chunk_lacks, on_err}
+use Rattle.plain_laws.specs.Results.{OnErr-from}
+use Rattle.import_run.proofs.ChunkLemmas.{chunk_fed_on, chunk_lacks}
 use Rattle.import_run.proofs.ahead.Ahead.read_once.Goals as goal
 
 pub returns-clause-holds : goal.returns-clause-holds
@@ -10,7 +11,7 @@ returns-clause-holds g c = λ before given h.
     c.read_chunk.new.self c.feed.new.self (once.still some) c.feed.ensures.end c.feed.ensures.taken c.in_ok-feed.ensures.cut
 
 pub returns-in_err-feed-clause-lacks : goal.returns-in_err-feed-clause-lacks
-returns-in_err-feed-clause-lacks g c = on_err c.from_residual-in_err-feed.result _ (λ before given h.
+returns-in_err-feed-clause-lacks g c = OnErr-from c.from_residual-in_err-feed.result _ (λ before given h.
     let once = c.in_ok-count.ensures in
     let some : 0 < c.in_ok-count.count = omega (arith, c.if-count-eq0.false) in
     let gives = once.gives some in

@@ -1,13 +1,10 @@
-use Rattle.std.proofs.Common.{◌≡◌, ◌+◌, ◌-◌, ℕ, List, Option, [], ◌++◌, take, drop, length, length-drop, refl, ap, sym, ◌∙◌, arith}
+use Rattle.std.proofs.Common.{◌≡◌, ◌+◌, ◌-◌, [], ◌++◌, take, drop, length, length-drop, refl, ap, sym, ◌∙◌, arith}
 use Rattle.std.proofs.lemmas.List.{append-nil, take_rest}
 use Rattle.pgn_cut.specs.Cut.{cuts_in}
 use Rattle.pgn_cut.specs.Cutter.{cuts_of_rest}
-use Rattle.import_run.specs.Committing.{Store}
-use Rattle.import_run.specs.Taking.{CutSoFar}
 use Rattle.import_run.proofs.CutLemmas.{cut_ascends, cut_bytes, cut_whole, lacks_within, next_cut, opens_more, some_taken, stops_within}
-use Rattle.import_run.proofs.NextLemmas.{lacking}
 use Rattle.import_run.proofs.ShortLemmas.{short_first}
-use Rattle.import_run.proofs.TakingLemmas.{lacks_now, where_lacking, where_stopped}
+use Rattle.import_run.proofs.TakingLemmas.{by_lacking, by_stop, lacks_now}
 use Rattle.import_run.proofs.DrawLemmas.{draws-within}
 use Rattle.import_run.proofs.open_import.OpenImport.feed.Goals as goal
 
@@ -52,30 +49,24 @@ feeding-preserved g c =
 pub returns-clause-cut : goal.returns-clause-cut
 returns-clause-cut g c = λ start past began. cut_whole start _ past c.args.bytes.now c.feeding.at (cuts_of_rest c.feeding.cutter) c.feeding.self c.feeding-test.false (c.feeding.invariant.cut start past began)
 
-pub returns-in_err-fed-clause-lacks : goal.returns-in_err-fed-clause-lacks
-returns-in_err-fed-clause-lacks g c =
+pub returns-in_err-fed-clause-cut : goal.returns-in_err-fed-clause-cut
+returns-in_err-fed-clause-cut g c = λ start past began.
     let told = g.C.Committer.told c.feeding.committer in
-    lacking c.from_residual.result
-    (λ (start : Option Store) (past : List ℕ) (began : CutSoFar start past (cuts_of_rest c.args.cutter.now) c.args.self.now (g.C.Committer.told c.args.committer.now)).
     let so_far = c.feeding.invariant.cut start past began in
-    lacks_within start told past c.args.bytes.now c.feeding.at so_far.taken (cuts_of_rest c.feeding.cutter) c.feeding.self so_far.cut so_far.begun (lacks_now start so_far.taken c.feeding.self told so_far.so_far))
+    by_lacking c.from_residual.result _ _ c.from_residual.ensures.1
+    (lacks_within start told past c.args.bytes.now c.feeding.at so_far.taken (cuts_of_rest c.feeding.cutter) c.feeding.self so_far.cut so_far.begun (lacks_now start so_far.taken c.feeding.self told so_far.so_far))
 
-pub returns-in-Err-clause-stops : goal.returns-in-Err-clause-stops
-returns-in-Err-clause-stops g c = where_stopped c.in-Err.stop _ _ (λ stopped ends start past began.
-    let so_far = c.feeding.invariant.cut start past began in
-    let cut = next_cut past c.args.bytes.now c.feeding.at c.in_ok-fed.fed.taken so_far.taken (cuts_in c.in_ok-fed.fed.cut) (cuts_of_rest c.feeding.cutter) (cuts_of_rest c.feed.new.self) so_far.cut c.in_ok-fed.ensures.cuts in
-    let stops = ends start so_far.taken (cut_ascends _ (cuts_of_rest c.feed.new.self) _ cut) so_far.so_far in
+pub returns-in-Err-clause-cut : goal.returns-in-Err-clause-cut
+returns-in-Err-clause-cut g c = λ start past began.
     let told = g.C.Committer.told c.take.new.committer in
-    stops_within start told past c.args.bytes.now (c.feeding.at + c.in_ok-fed.fed.taken) so_far.taken c.in_ok-fed.fed.cut c.feed.new.self c.take.new.self stopped cut
-    (opens_more c.in_ok-fed.fed.cut c.feed.new.self so_far.taken (cuts_of_rest c.feeding.cutter) _ c.in_ok-fed.ensures.cuts c.in_ok-fed.ensures.stops so_far.begun (some_taken start told _ c.take.new.self stopped stops)) stops) c.in-Err.ensures.stops
-
-pub returns-in-Err-clause-lacks : goal.returns-in-Err-clause-lacks
-returns-in-Err-clause-lacks g c = where_lacking c.in-Err.stop _ _ (λ lacks start past began.
     let so_far = c.feeding.invariant.cut start past began in
     let cut = next_cut past c.args.bytes.now c.feeding.at c.in_ok-fed.fed.taken so_far.taken (cuts_in c.in_ok-fed.fed.cut) (cuts_of_rest c.feeding.cutter) (cuts_of_rest c.feed.new.self) so_far.cut c.in_ok-fed.ensures.cuts in
-    lacks_within start (g.C.Committer.told c.take.new.committer) past c.args.bytes.now (c.feeding.at + c.in_ok-fed.fed.taken) (so_far.taken ++ cuts_in c.in_ok-fed.fed.cut) (cuts_of_rest c.feed.new.self) c.take.new.self cut
-    (opens_more c.in_ok-fed.fed.cut c.feed.new.self so_far.taken (cuts_of_rest c.feeding.cutter) _ c.in_ok-fed.ensures.cuts c.in_ok-fed.ensures.stops so_far.begun)
-    (lacks start so_far.taken (cut_ascends _ (cuts_of_rest c.feed.new.self) _ cut) so_far.so_far)) c.in-Err.ensures.lacks
+    let opens = opens_more c.in_ok-fed.fed.cut c.feed.new.self so_far.taken (cuts_of_rest c.feeding.cutter) _ c.in_ok-fed.ensures.cuts c.in_ok-fed.ensures.stops so_far.begun in
+    by_stop c.in-Err.stop
+    (λ stopped stops. stops_within start told past c.args.bytes.now (c.feeding.at + c.in_ok-fed.fed.taken) so_far.taken c.in_ok-fed.fed.cut c.feed.new.self c.take.new.self stopped cut
+    (opens (some_taken start told _ c.take.new.self stopped stops)) stops)
+    (λ lacks. lacks_within start told past c.args.bytes.now (c.feeding.at + c.in_ok-fed.fed.taken) (so_far.taken ++ cuts_in c.in_ok-fed.fed.cut) (cuts_of_rest c.feed.new.self) c.take.new.self cut opens lacks)
+    (c.in-Err.ensures.taken start so_far.taken (cut_ascends _ (cuts_of_rest c.feed.new.self) _ cut) so_far.so_far)
 
 pub returns-in_err-fed-clause-label : goal.returns-in_err-fed-clause-label
 returns-in_err-fed-clause-label g c = c.feeding.invariant.label

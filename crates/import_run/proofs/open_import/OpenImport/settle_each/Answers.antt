@@ -1,4 +1,4 @@
-use Rattle.std.proofs.Common.{◌∙◌, ◌∷◌, List, [], refl, sym, subst}
+use Rattle.std.proofs.Common.{◌∙◌, ◌∷◌, List, refl, sym, subst}
 use Rattle.std.specs.List.{AllZip}
 use Rattle.std.proofs.lemmas.List.{nil_from_length}
 use Rattle.std.proofs.lemmas.List.Elements.{All-head, All-rest, All-same}
@@ -6,8 +6,7 @@ use Rattle.import_run.specs.Apart.{IsInHand}
 use Rattle.import_run.specs.Grouping.{IsTallied}
 use Rattle.import_run.specs.declared.text_group.TalliedGroup.{TalliedGroup}
 use Rattle.import_run.specs.declared.text_group.TextGroup.{TextGroup}
-use Rattle.import_run.proofs.FrontLemmas.{front_all, front_first, front_lacks, front_next, front_stops}
-use Rattle.import_run.proofs.TakingLemmas.{where_lacking, where_stopped}
+use Rattle.import_run.proofs.FrontLemmas.{front_all, front_breaks, front_first, front_next}
 use Rattle.import_run.proofs.open_import.OpenImport.settle_each.Goals as goal
 
 pub settling-init : goal.settling-init
@@ -39,32 +38,23 @@ settling-preserved g c =
       settled = λ start closed groups ascend tallied s.
           front_next c.args.self.now.group.label start closed groups l.tallied-iterator.rest.items c.next.new.self.rest.items c.in-Some.tallied c.in-Some.ensures.steps.0 l.self c.settle_tallied.new.self told told'
           (before.settled start closed groups ascend tallied s)
-          (λ closed next ascend tallied s. c.in-Ok.ensures.closes start closed next ascend (subst (λ (group : TextGroup). IsTallied group.label next c.in-Some.tallied) (sym before.group) tallied) s);
+          (λ closed next ascend tallied s. c.in-Ok.ensures.settles start closed next ascend (subst (λ (group : TextGroup). IsTallied group.label next c.in-Some.tallied) (sym before.group) tallied) s);
       drawn = λ first h. c.in-Ok.ensures.drawn first (before.drawn first h);
       since = g.met.C.Committer.since_before c.args.committer.now l.committer c.settle_tallied.new.committer before.since c.settle_tallied.ensures.since;
     }
 
-pub returns-clause-closes : goal.returns-clause-closes
-returns-clause-closes g c = λ start closed groups ascend tallied s.
+pub returns-clause-settles : goal.returns-clause-settles
+returns-clause-settles g c = λ start closed groups ascend tallied s.
     let l = c.settling in
     front_all c.args.self.now.group.label start closed groups l.tallied-iterator.rest.items l.self (g.C.Committer.told l.committer)
     (nil_from_length l.tallied-iterator.rest.items (sym l.tallied-iterator.rest.ok.0 ∙ c.in-None.ensures.steps.0)) (l.invariant.settled start closed groups ascend tallied s)
 
-pub returns-in-Err-clause-stops : goal.returns-in-Err-clause-stops
-returns-in-Err-clause-stops g c =
+pub returns-in-Err-clause-settles : goal.returns-in-Err-clause-settles
+returns-in-Err-clause-settles g c = λ start closed groups ascend tallied s.
     let l = c.settling in
-    where_stopped c.in-Err.stop _ _ (λ stopped ends start closed groups ascend tallied s.
-    front_stops c.args.self.now.group.label start closed groups l.tallied-iterator.rest.items c.next.new.self.rest.items c.in-Some.tallied c.in-Some.ensures.steps.0 l.self c.settle_tallied.new.self
-    (g.C.Committer.told l.committer) (g.C.Committer.told c.settle_tallied.new.committer) (l.invariant.settled start closed groups ascend tallied s) stopped
-    (λ closed next ascend tallied s. ends start closed next ascend (subst (λ (group : TextGroup). IsTallied group.label next c.in-Some.tallied) (sym l.invariant.group) tallied) s)) c.in-Err.ensures.stops
-
-pub returns-in-Err-clause-lacks : goal.returns-in-Err-clause-lacks
-returns-in-Err-clause-lacks g c =
-    let l = c.settling in
-    where_lacking c.in-Err.stop _ _ (λ lacks start closed groups ascend tallied s.
-    front_lacks c.args.self.now.group.label start closed groups l.tallied-iterator.rest.items c.next.new.self.rest.items c.in-Some.tallied c.in-Some.ensures.steps.0 l.self c.settle_tallied.new.self
-    (g.C.Committer.told l.committer) (g.C.Committer.told c.settle_tallied.new.committer) (l.invariant.settled start closed groups ascend tallied s)
-    (λ closed next ascend tallied s. lacks start closed next ascend (subst (λ (group : TextGroup). IsTallied group.label next c.in-Some.tallied) (sym l.invariant.group) tallied) s)) c.in-Err.ensures.lacks
+    front_breaks c.args.self.now.group.label start closed groups l.tallied-iterator.rest.items c.next.new.self.rest.items c.in-Some.tallied c.in-Some.ensures.steps.0 l.self c.settle_tallied.new.self
+    (g.C.Committer.told l.committer) (g.C.Committer.told c.settle_tallied.new.committer) (l.invariant.settled start closed groups ascend tallied s) c.in-Err.stop
+    (λ closed next ascend tallied s. c.in-Err.ensures.settles start closed next ascend (subst (λ (group : TextGroup). IsTallied group.label next c.in-Some.tallied) (sym l.invariant.group) tallied) s)
 
 pub returns-clause-group : goal.returns-clause-group
 returns-clause-group g c = c.settling.invariant.group

@@ -1,7 +1,6 @@
-use Rattle.std.proofs.Common.{◌≡◌, ◌+◌, ◌<◌, ◌≤◌, length, refl, ap, arith}
+use Rattle.std.proofs.Common.{length, refl, ap, arith}
 use Rattle.import_run.specs.Ahead.{left_of}
 use Rattle.import_run.specs.declared.ahead.Ahead.{Ahead}
-use Rattle.import_run.specs.declared.underway.Underway.{Underway}
 use Rattle.import_run.proofs.ClosingLemmas.{lacks_over, last_left, one_left, over_bound, own_label, reading_less, settle_on, some_on, underway_on}
 use Rattle.import_run.proofs.HandLemmas.{on_err}
 use Rattle.import_run.proofs.underway.Underway.last_byte.Goals as goal

@@ -1,4 +1,3 @@
-use Rattle.import_run.specs.Taking.{IsReady}
 use Rattle.std.proofs.Common.{refl}
 use Rattle.import_run.proofs.DrawLemmas.{draws-same}
 use Rattle.import_run.proofs.ReportOverLemmas.{bound_over, bound_over_beside, fault_over, fault_over_beside, whole_over, whole_over_beside}

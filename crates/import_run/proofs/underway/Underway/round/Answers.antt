@@ -1,9 +1,8 @@
 use Rattle.std.proofs.Common.{refl, ap, arith}
 use Rattle.import_run.specs.declared.text_group.TextGroup.{TextGroup}
 use Rattle.import_run.proofs.DrawLemmas.{draws-within}
-use Rattle.import_run.proofs.NextLemmas.{lacking}
-use Rattle.import_run.proofs.RoundLemmas.{can_tally_all, counting_lacks, round_goes, round_lacks, round_stops, rounds_less}
-use Rattle.import_run.proofs.TakingLemmas.{where_lacking, where_stopped}
+use Rattle.import_run.proofs.RoundLemmas.{can_tally_all, counting_lacks, round_breaks, round_goes, rounds_less}
+use Rattle.import_run.proofs.TakingLemmas.{by_lacking}
 use Rattle.import_run.proofs.UnderwayLemmas.{tallied_in_hand}
 use Rattle.import_run.proofs.underway.Underway.round.Goals as goal
 
@@ -20,25 +19,12 @@ both-counted-requires-clause-tallies g c κs within =
 
 -- ---- a group ended it, or memory was wanting for one, or for what was to be read
 
-pub returns-in-Err-clause-stops : goal.returns-in-Err-clause-stops
-returns-in-Err-clause-stops g c =
+pub returns-in-Err-clause-goes : goal.returns-in-Err-clause-goes
+returns-in-Err-clause-goes g c = λ before start u.
     let t = rw c.in-Err.is at c.both-counted.ensures.turns.2 in
     let taken = c.take_whole-groups in
-    where_stopped c.in-Err.stop _ _
-    (λ stopped ends before start u.
-    round_stops before (g.S.Source.source c.args.source.now) (g.S.Source.source c.both-counted.new.source) start c.args.self.now taken.result.items taken.new.self (g.C.Committer.told c.args.committer.now) (g.C.Committer.told c.both-counted.new.committer)
-    taken.ensures.holds u c.both-counted.new.state.import t.ends stopped ends)
-    t.stops
-
-pub returns-in-Err-clause-lacks : goal.returns-in-Err-clause-lacks
-returns-in-Err-clause-lacks g c =
-    let t = rw c.in-Err.is at c.both-counted.ensures.turns.2 in
-    let taken = c.take_whole-groups in
-    where_lacking c.in-Err.stop _ _
-    (λ lacks before start u.
-    round_lacks before (g.S.Source.source c.args.source.now) (g.S.Source.source c.both-counted.new.source) start c.args.self.now taken.result.items taken.new.self (g.C.Committer.told c.args.committer.now) (g.C.Committer.told c.both-counted.new.committer)
-    taken.ensures.holds u c.both-counted.new.state.import t.ends lacks)
-    t.lacks
+    round_breaks before (g.S.Source.source c.args.source.now) (g.S.Source.source c.both-counted.new.source) start c.args.self.now taken.result.items taken.new.self (g.C.Committer.told c.args.committer.now) (g.C.Committer.told c.both-counted.new.committer)
+    taken.ensures.holds u c.both-counted.new.state.import t.ends c.in-Err.stop t.settles
 
 pub returns-in-Err-clause-drawn : goal.returns-in-Err-clause-drawn
 returns-in-Err-clause-drawn g c = rw c.in-Err.is at c.both-counted.ensures.drawn
@@ -48,13 +34,13 @@ returns-in-Err-clause-label g c = ap (λ (group : TextGroup). group.label) c.bot
 
 -- ---- memory was wanting for what was to be counted
 
-pub returns-in_err-self-clause-lacks : goal.returns-in_err-self-clause-lacks
-returns-in_err-self-clause-lacks g c =
+pub returns-in_err-self-clause-goes : goal.returns-in_err-self-clause-goes
+returns-in_err-self-clause-goes g c =
     let t = rw c.in-Ok.is at c.both-counted.ensures.turns.2 in
     let taken = c.take_whole-groups in
-    lacking c.from_residual.result
-    (λ before start u.
-    counting_lacks before (g.S.Source.source c.args.source.now) (g.S.Source.source c.both-counted.new.source) start c.args.self.now taken.result.items taken.new.self (g.C.Committer.told c.args.committer.now) (g.C.Committer.told c.both-counted.new.committer)
+    λ before start u.
+    by_lacking c.from_residual.result _ _ c.from_residual.ensures.1
+    (counting_lacks before (g.S.Source.source c.args.source.now) (g.S.Source.source c.both-counted.new.source) start c.args.self.now taken.result.items taken.new.self (g.C.Committer.told c.args.committer.now) (g.C.Committer.told c.both-counted.new.committer)
     taken.ensures.holds u c.both-counted.new.state.import c.both-counted.new.state.ahead t.settles t.reads t.ready.below)
 
 pub returns-in_err-self-clause-drawn : goal.returns-in_err-self-clause-drawn

@@ -18,10 +18,8 @@ pub returns-in-Err-clause-turns : goal.returns-in-Err-clause-turns
 returns-in-Err-clause-turns g c = record {
   same = c.settle_each.ensures.group;
   ready = tt;
-  settles = tt;
+  settles = rw c.replace-counted.ensures.value at c.in-Err.ensures.settles;
   reads = tt;
-  stops = rw c.replace-counted.ensures.value at c.in-Err.ensures.stops;
-  lacks = rw c.replace-counted.ensures.value at c.in-Err.ensures.lacks;
   ends = λ before given h. stands_for before (g.S.Source.source c.args.source.now) given c.args.self.now.ahead c.requires.ready.ahead.below h;
   less = tt;
   few = tt;
@@ -34,7 +32,7 @@ returns-in_err-read_on-clause-turns g c =
     let source = g.S.Source.source c.args.source.now in
     let source' = g.S.Source.source c.read_on.new.source in
     let told' = g.C.Committer.told c.settle_each.new.committer in
-    let closes = rw c.replace-counted.ensures.value at c.in-Ok.ensures.closes in
+    let closes = rw c.replace-counted.ensures.value at c.in-Ok.ensures.settles in
     turns_lacking c.args.counting c.from_residual.result c.args.self.now _ source source' (g.C.Committer.told c.args.committer.now) told' c.from_residual.ensures.1 c.settle_each.ensures.group
     (λ start closed groups ascend tallied s. lacks_settled source source' start closed groups [] c.settle_each.new.self told' (closes start closed groups ascend tallied s)) c.in_err-read_on.ensures.lacks
 
@@ -44,10 +42,8 @@ pub returns-clause-turns : goal.returns-clause-turns
 returns-clause-turns g c = record {
   same = c.settle_each.ensures.group;
   ready = own_back c.args.self.now.import.group.label c.args.self.now.ahead c.read_on.new.self c.requires.ready.ahead c.in_ok-read_on.ensures.ready;
-  settles = rw c.replace-counted.ensures.value at c.in-Ok.ensures.closes;
+  settles = rw c.replace-counted.ensures.value at c.in-Ok.ensures.settles;
   reads = c.in_ok-read_on.ensures.holds;
-  stops = tt;
-  lacks = tt;
   ends = tt;
   less = c.in_ok-read_on.ensures.less;
   few = c.in_ok-read_on.ensures.few;

@@ -1,11 +1,12 @@
 use Rattle.std.proofs.Common.{◌≡◌, ◌∙◌, sym}
-use Rattle.import_tests.proofs.NoReports.{draws-nothing, empty-list, reports-empty, reports-nothing}
+use Rattle.plain_laws.specs.Lists.{length-zero}
+use Rattle.import_tests.proofs.NoReports.{draws-nothing, reports-empty, reports-nothing}
 use Rattle.import_tests.proofs.tests.doors.RoomForNoneImporter.import.Goals as goal
 
 pub returns-then-is_empty-clause-reports : goal.returns-then-is_empty-clause-reports
 returns-then-is_empty-clause-reports g c =
     let r = c.report_of.ensures in
-    let empty = empty-list c.args.body.now (sym c.is_empty.ensures ∙ c.if-is_empty.true) in
+    let empty = length-zero c.args.body.now (sym c.is_empty.ensures ∙ c.if-is_empty.true) in
     reports-empty c.args.body.now c.report_of.result empty r.receipts r.refused r.end
 
 pub returns-clause-reports : goal.returns-clause-reports
