@@ -3,6 +3,8 @@ use Rattle.std.proofs.Common.{◌≡◌, inl, inr, ℕ, ◌+◌, ◌<◌, ◌≤
 use Rattle.std.specs.Prelude.{IfSome}
 use Rattle.std.proofs.lemmas.List.Sums.{sum_by-cons}
 use Rattle.std.proofs.lemmas.Grind.{flat_map-append}
+use Rattle.std.proofs.lemmas.Option.{none-some}
+use Rattle.plain_laws.specs.Options.{IfSome-from}
 use Rattle.disk_model.specs.Disk.{DiskState, MayLeave}
 use Rattle.outside.specs.Stream.{Rises, Stream, Writes}
 use Rattle.explorer_model.specs.declared.archive.Batch.{Batch}
@@ -32,10 +34,6 @@ use Rattle.explorer.specs.Imported.{FaultsBy, HoldsBy, ImportedIn, StandsBy, Sto
 use Rattle.explorer.specs.ImportStore.{IsTold, OutcomeBy, totals}
 use Rattle.explorer.specs.Lines.{Ending, Stopped}
 use Rattle.explorer.specs.Report.{report}
-use Rattle.explorer.proofs.StoreLemmas.{told_has}
-
-none_some : {A : Type 0} (x : A) → None ≡ Some x → ⊥
-none_some {A} x e = cc
 
 -- ---- receipts
 
@@ -60,7 +58,7 @@ holds_open : {D : Type 0} (disk : D → DiskState) (left_since : D → ℕ → L
     → (after : Stored D) → Keeps disk left_since (journal after) after.manifest after.failed → after.manifest.fault ≡ None → IfSome (disk after.manifest.disk).content (HasJournal (journal after))
 holds_open {D} disk left_since told after keeps none =
     let kept = sound_manifest disk left_since after.failed (journal after) after.manifest keeps none in
-    told_has (HasJournal (journal after)) (disk after.manifest.disk).content (λ bytes is. kept.images bytes (told after.manifest.disk bytes is))
+    IfSome-from (HasJournal (journal after)) (disk after.manifest.disk).content (λ bytes is. kept.images bytes (told after.manifest.disk bytes is))
 
 -- ---- by the end
 
@@ -71,7 +69,7 @@ module _ {J : Type 0} (start : Known) (open_is : start.fault ≡ None) where
   stands_by label (ends.ReadFault first last) stream left batches refused new s = s
   stands_by label (ends.TooMuch bytes) stream left batches refused new s = s.1
   stands_by label (ends.DiskFault first last mark) stream left batches refused new s = s.2
-  stands_by label (ends.Closed first last mark) stream left batches refused new s = none_some (first, last) (sym open_is ∙ s.1)
+  stands_by label (ends.Closed first last mark) stream left batches refused new s = none-some (first, last) (sym open_is ∙ s.1)
   stands_by label (ends.Full games bytes note) stream left batches refused new s =
       let P : List Batch → Type 0 = λ j. FindsNoRoom j games bytes s.2.0.left in
       (s.2.0, subst P s.1 s.2.1)
@@ -107,7 +105,7 @@ module _ {J : Type 0} (start : Known) (open_is : start.fault ≡ None) where
     holds_by : (end : End J) (j : List Batch) → StoresBy end j start.fault (stored_in after) → IfSome (disk after.manifest.disk).content (HoldsBy (ending_of end) (journal after) after.failed)
     holds_by (ends.DiskFault first last mark) j s =
         let kept = left_broken disk left_since after.failed (first, last) (journal after) after.manifest keeps s.1 in
-        told_has (HoldsBy (endings.DiskFault first last) (journal after) after.failed) (disk after.manifest.disk).content
+        IfSome-from (HoldsBy (endings.DiskFault first last) (journal after) after.failed) (disk after.manifest.disk).content
         (λ bytes is. (kept.batch, kept.is_failed, kept.sound, kept.images bytes (told after.manifest.disk bytes is)))
     holds_by ends.Whole j s = holds_open disk left_since told after keeps (s.1 ∙ open_is)
     holds_by (ends.ReadFault first last) j s = holds_open disk left_since told after keeps (s.1 ∙ open_is)

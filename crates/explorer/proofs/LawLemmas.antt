@@ -1,4 +1,24 @@
 -- What is determined of a run: what is stored and refused of groups, and the answer.
+pub mod Apart
+pub mod NoRoom
+pub mod OneEnding
+pub mod Run
+pub mod Openings
+pub mod Count
+pub mod Drawn
+pub mod ToldStore
+pub mod Creation
+pub mod Migrate
+pub mod KeptStore
+pub mod Question
+pub mod Spill
+pub mod Listing
+pub mod ImportHost
+pub mod Import
+pub mod Serve
+pub mod Door
+pub mod Trial
+pub mod StoreRun
 use Rattle.std.proofs.Common.{◌≡◌, ℕ, ◌⊎◌, inl, inr, List, [], ◌∷◌, ◌++◌, Option, None, Some, refl, sym, ap, ap₂, subst, ◌∙◌}
 use Rattle.std.specs.Prelude.{IsSome}
 use Rattle.std.specs.Io.KnownBytes.{Consumes, IsAtEnd}
@@ -29,7 +49,7 @@ use Rattle.explorer.specs.Answer.{IsNamingOf}
 use Rattle.explorer.specs.Count.{Answers}
 use Rattle.explorer.specs.Imported.{new_store}
 use Rattle.explorer.specs.World.{World}
-use Rattle.explorer.proofs.NoRoomLemmas.{OneAccount, accounted_by, lost_is, not_stored}
+use Rattle.explorer.proofs.LawLemmas.NoRoom.{OneAccount, accounted_by, lost_is, not_stored}
 
 -- ---- imports that break off
 

@@ -4,6 +4,7 @@ use Rattle.std.specs.Prelude.{◌≢◌, IfSome, IsSome, String, string_bytes}
 use Rattle.std.specs.Global.{Global}
 use Rattle.std.specs.List.{flat_map}
 use Rattle.std.proofs.lemmas.List.Elements.{All-weaker}
+use Rattle.plain_laws.specs.Options.{IfSome-from}
 use Rattle.outside.specs.Stream.{FailsToTake, Rises, Stream, Takes}
 use Rattle.disk_model.specs.Disk.{DiskState, IsQuiet, LeavesOnly, MayLeave, StaysTold}
 use Rattle.disk_model.proofs.Moments.{now_has}
@@ -29,7 +30,7 @@ use Rattle.explorer.specs.Migrate.{Begins, BreaksOff, CannotHave, CannotRead, Fa
 use Rattle.explorer.specs.Opened.{FailsUnread, IsUnchanged}
 use Rattle.explorer.specs.Stores.{IsSized, OnlyHost, UsesDisk}
 use Rattle.explorer.specs.World.{World, world}
-use Rattle.explorer.proofs.StoreLemmas.{rose, told_has, uses}
+use Rattle.explorer.proofs.StoreLemmas.{rose, uses}
 
 -- ---- what is stored
 
@@ -97,7 +98,7 @@ module _ {D : Type 0} (disk : D → DiskState) (left_since : D → ℕ → List 
       record {
         was_empty = begins.was_empty;
         told = λ is. stores.adds.told (begins.told is);
-        has = told_has (HasJournal journal) (disk new.disk).content (λ bytes tells. holds.images bytes (told_left new.disk bytes tells));
+        has = IfSome-from (HasJournal journal) (disk new.disk).content (λ bytes tells. holds.images bytes (told_left new.disk bytes tells));
         no_fault = stores.adds.no_fault ∙ begins.no_fault;
       }
 
@@ -106,7 +107,7 @@ module _ {D : Type 0} (disk : D → DiskState) (left_since : D → ℕ → List 
     front told = record {
       was_empty = begins.was_empty;
       told = λ is. told (begins.told is);
-      has = told_has (HasFrontOf [] journal) (disk new.disk).content
+      has = IfSome-from (HasFrontOf [] journal) (disk new.disk).content
           (λ bytes tells. now_has disk left_since made.disk new.disk (HasFrontOf [] journal) (counts_now new.disk) leaves bytes (told_left new.disk bytes tells));
     }
 

@@ -1,4 +1,5 @@
 -- What a query over a store comes to.
+pub mod Spilled
 use Rattle.std.proofs.Common.{◌≡◌, inl, inr, ℕ, List, Option, Ok, Err, Result, refl, sym, ap, ◌∙◌, subst}
 use Rattle.std.specs.Prelude.{IfOk, Vec}
 use Rattle.std.specs.Global.{Global}
@@ -23,7 +24,7 @@ use Rattle.explorer.specs.Answer.{IsAnswer, IsLineOf}
 use Rattle.explorer.specs.Faults.{fault_of_opening, fault_of_query}
 use Rattle.explorer.specs.Lines.{Stopped}
 use Rattle.explorer.specs.Opened.{FailsUnread, IsRefusedBy, IsUnchanged, OpensTo}
-use Rattle.explorer.specs.QueryStore.{Answers, Asking, AsksBy, LooksAt, LooksIn, QueriesBy}
+use Rattle.explorer.specs.Query.Store.{Answers, Asking, AsksBy, LooksAt, LooksIn, QueriesBy}
 use Rattle.explorer.specs.Stores.{IsSized}
 use Rattle.explorer.specs.World.{World, world}
 use Rattle.explorer.proofs.StoreLemmas.{rose, unchanged, uses}

@@ -8,7 +8,7 @@ use Rattle.explorer.specs.declared.fault.Fault.TheVariants as faults
 use Rattle.command_line.specs.Words.{EndsLine}
 use Rattle.explorer.specs.Lines.{Done, Ending, IsTold, Stopped, Tells, TellsOf, status_of}
 use Rattle.explorer.specs.Run.{Ends, Meets, Runs}
-use Rattle.explorer.specs.Served.{Service}
+use Rattle.explorer.specs.Serve.Served.{Service}
 use Rattle.command_line.specs.Task.{Task, task_of}
 use Rattle.explorer.specs.World.{World, world}
 

@@ -1,4 +1,11 @@
 -- A run of the command `serve`, from the moments between its calls.
+pub mod Brackets
+pub mod Handed
+pub mod HostCalls
+pub mod Served
+pub mod WorkerLists
+pub mod Drawers
+pub mod Send
 use Rattle.std.proofs.Common.{◌≡◌, ◌⊎◌, Bool, true, false, ℕ, zero, suc, replicate, ◌+◌, ◌-◌, ◌<◌, ◌≤◌, List, [], ◌∷◌, ◌++◌, Option, None, Some, IfSome, length, map, slice_get, refl, sym, ap, subst, ◌∙◌, append_assoc, append-nil, inl, inr, arith, string_bytes}
 use Rattle.std.proofs.lemmas.Bool.{cases_Bool}
 use Rattle.std.specs.Prelude.{if◌then◌else◌, ◌≢◌, Result, Ok, Err, unwrap_or}
@@ -7,12 +14,13 @@ use Rattle.std.specs.Option.{option_map, option_or}
 use Rattle.std.specs.Str.{bytes_eq}
 use Rattle.std.proofs.lemmas.List.Elements.{All-weaker}
 use Rattle.std.proofs.lemmas.List.Concat.{flat_map-append}
+use Rattle.plain_laws.specs.Bytes.{bytes_eq-is, bytes_eq-self}
+use Rattle.plain_laws.specs.Options.{IfSome-from}
 use Rattle.disk_model.specs.Disk.{DiskState, MayLeave}
 use Rattle.outside.specs.Doors.{Connections}
 use Rattle.outside.specs.Stream.{Rises, Stream, Writes, Wrote, source_alone}
 use Rattle.outside.proofs.StreamLemmas.{takes-faults, writes-fails, writes-takes}
 use Rattle.host.specs.Hosts.{ADisk, ADoor, AFile, APort, AreFresh, DiskBack, DiskOut, DiskRefused, DoorBack, DoorsOut, GivesBack, HandsDisk, HostCall, HostState, IsOut, RefusesDisk, TakesDisk, Thing, added, handed, noted, one_if, out, returned}
-use Rattle.host.proofs.Things.{bytes_same, same_bytes}
 use Rattle.explorer_model.specs.declared.archive.Batch.{Batch}
 use Rattle.explorer_model.specs.declared.fault.Refusal.{Refusal}
 use Rattle.explorer_model.specs.declared.fault.Why.{Why}
@@ -33,11 +41,11 @@ use Rattle.published_index.specs.Places.{Drawing, new_drawing}
 use Rattle.published_index.specs.States.{Watching, watching}
 use Rattle.ingest_desk.specs.Drawn.{most_untold}
 use Rattle.ingest_desk.specs.Stored.{Nameless, Stored, journal, stored_by}
-use Rattle.explorer.specs.declared.serving.Done as came
-use Rattle.explorer.specs.declared.serving.Outcome.{Outcome}
-use Rattle.explorer.specs.declared.serving.Unserved.{Unserved}
-use Rattle.explorer.specs.declared.serving.Unserved.TheVariants as whys
-use Rattle.explorer.specs.declared.serving.Outcome.TheVariants as outcomes
+use Rattle.explorer.specs.declared.serve.serving.Done as came
+use Rattle.explorer.specs.declared.serve.serving.Outcome.{Outcome}
+use Rattle.explorer.specs.declared.serve.serving.Unserved.{Unserved}
+use Rattle.explorer.specs.declared.serve.serving.Unserved.TheVariants as whys
+use Rattle.explorer.specs.declared.serve.serving.Outcome.TheVariants as outcomes
 use Rattle.explorer.specs.Faults.{fault_of_opening}
 use Rattle.record_log.specs.Log.{Log}
 use Rattle.manifest.specs.Manifest.{HasJournal, IsWithOrWithoutBatch}
@@ -51,15 +59,14 @@ use Rattle.session.specs.Imports.{DrewPlacesOf, HasStoredBody, IsRepeatOf}
 use Rattle.session.proofs.FrontLemmas.{get-prefix}
 use Rattle.explorer.specs.declared.fault.Fault.{Fault}
 use Rattle.explorer.specs.declared.fault.Fault.TheVariants as faults
-use Rattle.explorer.specs.Concluding.{Concludes, EndsBy, TellsLonger, cause}
+use Rattle.explorer.specs.Serve.Concluding.{Concludes, EndsBy, TellsLonger, cause}
 use Rattle.explorer.specs.Lines.{Ending, Stopped}
 use Rattle.explorer.specs.Serve.{FailsBy, GoesOn, HasNoStore, HasStore, IsServed, IsWorkedTo, Listens, MayReport, RefusesAddress, RefusesOneFile, Reports, Serves, ServesAll, ServesBy, listening_line}
-use Rattle.explorer.specs.Served.{DoorRun, FileRun, FindsFull, IsFullBy, IsGivenUp, IsImported, IsKeptIn, IsSeenIn, IsServedIn, IsStoredIn, IsWorked, KeepsOthers, Service, fault_of_door, fault_of_doors, fault_of_import, file_at, files_back, files_out, first_fault, opening_calls, serve_report}
-use Rattle.explorer.specs.Serving.{AreCounted, FilesServed, HasGivenUp, HasWorked, IsGivenUpSo, IsToldBy, ListensSo, WroteLine, lines_told}
-use Rattle.explorer.specs.Workers.{name_at}
+use Rattle.explorer.specs.Serve.Served.{DoorRun, FileRun, FindsFull, IsFullBy, IsGivenUp, IsImported, IsKeptIn, IsSeenIn, IsServedIn, IsStoredIn, IsWorked, KeepsOthers, Service, fault_of_door, fault_of_doors, fault_of_import, file_at, files_back, files_out, first_fault, opening_calls, serve_report}
+use Rattle.explorer.specs.Serve.Serving.{AreCounted, FilesServed, HasGivenUp, HasWorked, IsGivenUpSo, IsToldBy, ListensSo, WroteLine, lines_told}
+use Rattle.explorer.specs.Serve.Workers.{name_at}
 use Rattle.explorer.specs.World.{World, world}
-use Rattle.explorer.proofs.BracketLemmas.{added-both}
-use Rattle.explorer.proofs.StoreLemmas.{told_has}
+use Rattle.explorer.proofs.ServeLemmas.Brackets.{added-both}
 
 -- ---- a disk that is out, and comes back
 
@@ -145,13 +152,13 @@ pub content-back : (name : List ℕ) (disk : DiskState) (before after : HostStat
     → after.disks name ≡ disk.content
 content-back name disk before after takes =
     ap (λ (h : HostState). h.disks name) takes.rest
-    ∙ ap (λ (b : Bool). if b then disk.content else before.disks name) (same_bytes name)
+    ∙ ap (λ (b : Bool). if b then disk.content else before.disks name) (bytes_eq-self name)
 
 different_bytes : (name other : List ℕ) → name ≢ other → bytes_eq name other ≡ false
 different_bytes name other differs = by (cases_Bool (bytes_eq name other))
   where
     by : (bytes_eq name other ≡ true) ⊎ (bytes_eq name other ≡ false) → bytes_eq name other ≡ false
-    by (inl same) = absurd (differs (bytes_same name other same))
+    by (inl same) = absurd (differs (bytes_eq-is name other same))
     by (inr apart) = apart
 
 -- ---- a store whose disk was out meanwhile
@@ -513,7 +520,7 @@ kept-by : {D : Type 0} (disk : D → DiskState) (left_since : D → ℕ → List
     → IsSound journal → KeepsBy disk left_since journal manifest fault failed → TellsLonger journal (disk manifest.disk)
 kept-by disk left_since journal manifest None None told sound k =
     without journal (disk manifest.disk) sound
-    (told_has (HasJournal journal) (disk manifest.disk).content (λ bytes is. k.images bytes (told manifest.disk bytes is)))
+    (IfSome-from (HasJournal journal) (disk manifest.disk).content (λ bytes is. k.images bytes (told manifest.disk bytes is)))
 kept-by disk left_since journal manifest None (Some batch) told sound k = absurd k
 kept-by disk left_since journal manifest (Some counts) None told sound k = absurd k
 kept-by disk left_since journal manifest (Some counts) (Some batch) told sound k =

@@ -1,6 +1,6 @@
 -- What commands do with the disk of a store.
-use Rattle.std.proofs.Common.{◌≡◌, ◌<◌, ℕ, List, length, Option, None, Some, refl, sym, ap, subst, ◌∙◌, arith}
-use Rattle.std.specs.Prelude.{IfSome}
+use Rattle.std.proofs.Common.{◌≡◌, ◌<◌, ℕ, List, length, Some, sym, ap, subst, ◌∙◌, arith}
+use Rattle.plain_laws.specs.Options.{IfSome-from}
 use Rattle.outside.specs.Stream.{Rises}
 use Rattle.disk_model.specs.Disk.{DiskState, MayLeave}
 use Rattle.explorer_model.specs.declared.archive.Batch.{Batch}
@@ -13,12 +13,6 @@ use Rattle.host.specs.Hosts.{HandsDisk, HostState, TakesDisk}
 use Rattle.explorer.specs.Create.{IsNotMade, Makes}
 use Rattle.explorer.specs.Opened.{IsUnchanged, OpensTo}
 use Rattle.explorer.specs.Stores.{IsSized, UsesDisk}
-
--- what is told has P
-pub told_has : (P : List ℕ → Type 0) (content : Option (List ℕ)) → ((bytes : List ℕ) → content ≡ Some bytes → P bytes)
-    → IfSome content P
-told_has P None each = tt
-told_has P (Some bytes) each = each bytes refl
 
 pub uses : (name : List ℕ) (Does : DiskState → DiskState → Type 0) (handed returned : DiskState) (before middle after : HostState)
     → IsSized handed → HandsDisk name handed before middle → Does handed returned → TakesDisk name returned middle after
@@ -52,7 +46,7 @@ pub made_by : {D : Type 0} (disk : D → DiskState) (left_since : D → ℕ → 
 made_by {D} disk left_since told before after log created no_fault is =
     subst (λ (d : D). Makes (disk before) (disk d)) (sym is) (record {
       was_empty = created.was_empty;
-      bytes = told_has (λ bytes. bytes ≡ empty_file store_format) (disk log.disk).content
+      bytes = IfSome-from (λ bytes. bytes ≡ empty_file store_format) (disk log.disk).content
           (λ bytes tells. created.file bytes (told log.disk bytes tells));
       no_fault = no_fault;
     })
@@ -69,7 +63,7 @@ not_made disk (creation.DiskFault from to) before after n = record {
 
 pub is_sized : {D : Type 0} (disk : D → DiskState)
     → ((it : D) (file : List ℕ) → (disk it).content ≡ Some file → length file ≡ (disk it).size) → (it : D) → IsSized (disk it)
-is_sized disk told it = told_has (λ bytes. length bytes ≡ (disk it).size) (disk it).content (told it)
+is_sized disk told it = IfSome-from (λ bytes. length bytes ≡ (disk it).size) (disk it).content (told it)
 
 -- a store that was opened is left as it was
 pub unchanged : {D : Type 0} (disk : D → DiskState) (old : DiskState) (new out : D) (journal : List Batch) → out ≡ new

@@ -1,7 +1,12 @@
 -- How a run of `trial` ends.
+pub mod Bytes
+pub mod Samples
+pub mod NewGame
+pub mod LastGame
+pub mod DefaultQuery
+pub mod Segments
+pub mod Sizes
 use Rattle.std.proofs.Common.{◌≡◌, ℕ, ◌<◌, ◌-◌, ◌^◌, ◌≤◌, List, [], ◌∷◌, ◌++◌, Option, None, Some, Ok, length, map, refl, sym, ap, subst, ◌∙◌, arith}
-use Rattle.std.specs.Io.KnownBytes.{Consumes, IsAtEnd}
-use Rattle.std.proofs.lemmas.List.{append-nil}
 use Rattle.disk_model.specs.Disk.{DiskState}
 use Rattle.outside.specs.Stream.{Stream}
 use Rattle.explorer_model.specs.declared.answer.Found.{Found}
@@ -31,6 +36,7 @@ use Rattle.import_run.specs.Committing.{Known, Store}
 use Rattle.import_run.specs.Ending.{StandsAt, StoresBy}
 use Rattle.import_run.specs.Faultless.{StoresAll}
 use Rattle.import_run.specs.Upkeep.{Follows}
+use Rattle.import_run.proofs.LawLemmas.{all_taken}
 use Rattle.published_index.specs.Changes.{Change, with_held}
 use Rattle.published_index.specs.Cover.{journal_of}
 use Rattle.published_index.specs.States.{Publishing}
@@ -40,14 +46,14 @@ use Rattle.sample_games.specs.Samples.{HasGame, IsSample}
 use Rattle.sample_games.specs.Streams.{generator, joined}
 use Rattle.explorer.specs.declared.trial.Tried.{Tried}
 use Rattle.explorer.specs.Imported.{new_store}
-use Rattle.explorer.specs.Segments.{AreJoined, GoAllBehind}
+use Rattle.explorer.specs.Trial.Segments.{AreJoined, GoAllBehind}
 use Rattle.explorer.specs.Trial.{StoresTexts, TellsTrial, batch_sizes, position_behind, segment_sizes, summary}
-use Rattle.explorer.specs.Trying.{AreDrawn, IsLastOf, IsReadable, IsStreamOf, IsTriedOf}
-use Rattle.explorer.proofs.LastGameLemmas.{last_readable}
-use Rattle.explorer.proofs.NewGameLemmas.{bytes_placed, placed_at}
+use Rattle.explorer.specs.Trial.Trying.{AreDrawn, IsLastOf, IsReadable, IsStreamOf, IsTriedOf}
+use Rattle.explorer.proofs.TrialLemmas.LastGame.{last_readable}
+use Rattle.explorer.proofs.TrialLemmas.NewGame.{bytes_placed, placed_at}
 use Rattle.explorer.proofs.NewStoreLemmas.{known_is_new}
-use Rattle.explorer.proofs.SegmentLemmas.{joined_more, joined_none}
-use Rattle.explorer.proofs.SizeLemmas.{sizes_apart, sizes_behind, sizes_join}
+use Rattle.explorer.proofs.TrialLemmas.Segments.{joined_more, joined_none}
+use Rattle.explorer.proofs.TrialLemmas.Sizes.{sizes_apart, sizes_behind, sizes_join}
 
 -- ---- the end of an import
 
@@ -87,13 +93,6 @@ module _ {J : Type 0} where
   is_whole ends.OutOfMemory is = cc
 
 -- ---- what is stored
-
-all_taken : (left after : Option (List ℕ)) (bytes stream : List ℕ) → left ≡ Some bytes → Consumes left after stream → IsAtEnd after → stream ≡ bytes
-all_taken None after bytes stream told next at_end = cc
-all_taken (Some xs) None bytes stream told next at_end = absurd next
-all_taken (Some xs) (Some rest) bytes stream told next at_end =
-    let same : xs ≡ bytes = cc in
-    sym (append-nil stream) ∙ ap (λ (l : List ℕ). stream ++ l) (sym at_end) ∙ sym next ∙ same
 
 module _ {D J : Type 0} (disk : D → DiskState) (left_since : D → ℕ → List ℕ → Type 0) (source source_after : Stream) (before after : Stored D) (report : Report J)
     (is : ImportsAlone no_label disk left_since source before source_after after report) (stream : List ℕ) (told : source.left ≡ Some stream) (open_is : before.manifest.fault ≡ None) (empty : journal before ≡ [])

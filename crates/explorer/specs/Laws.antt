@@ -27,7 +27,7 @@ use Rattle.explorer.specs.declared.fault.Fault.{Fault}
 use Rattle.explorer.specs.Book.{LacksBook}
 use Rattle.explorer.specs.Imported.{new_store}
 use Rattle.explorer.specs.Serve.{GoesOn, Listens}
-use Rattle.explorer.specs.Served.{DoorRun, FileRun, IsSeenIn, IsWorked, Service, new_importer, serve_calls}
+use Rattle.explorer.specs.Serve.Served.{DoorRun, FileRun, IsSeenIn, IsWorked, Service, new_importer, serve_calls}
 use Rattle.explorer.specs.World.{World, SameStreams}
 
 -- all bytes are told, of an input below the bound, and no count stands at its greatest number

@@ -9,8 +9,8 @@ use Rattle.explorer.specs.ImportStore.{ImportsBy}
 use Rattle.explorer.specs.Lines.{Ending, Stopped, Tells, status_of}
 use Rattle.explorer.specs.ListBatches.{ListsBy}
 use Rattle.explorer.specs.Migrate.{MigratesBy}
-use Rattle.explorer.specs.QuerySpilled.{SpillsBy}
-use Rattle.explorer.specs.QueryStore.{AsksBy, QueriesBy}
+use Rattle.explorer.specs.Query.Spilled.{SpillsBy}
+use Rattle.explorer.specs.Query.Store.{AsksBy, QueriesBy}
 use Rattle.explorer.specs.Serve.{Serves}
 use Rattle.explorer.specs.Trial.{TriesBy}
 use Rattle.command_line.specs.Task.{Task, Batches, Count, Create, Import, Migrate, Query, Serve, Trial, task_of}

@@ -1,4 +1,8 @@
 -- Statement: how a run of the command `serve` ends.
+pub mod Served
+pub mod Serving
+pub mod Workers
+pub mod Concluding
 use Rattle.std.specs.Prelude.{◌≡◌, ◌⊎◌, ℕ, ◌≤◌, List, [], ◌∷◌, ◌++◌, length, map, string_bytes, Option, None, Some, IfSome, codes}
 use Rattle.std.specs.List.{AllZip}
 use Rattle.outside.specs.Stream.{Rises, Writes}
@@ -13,7 +17,7 @@ use Rattle.ingest_desk.specs.Openings.{IsWrong}
 use Rattle.explorer.specs.declared.fault.Fault.{Fault}
 use Rattle.explorer.specs.declared.fault.Fault.TheVariants.{CannotAccept, CannotOpen, Damaged, DiskFault, Full, NotAStore, OtherFormat, OutOfMemory, ReadFault, TooMuchInput, WriteFault}
 use Rattle.explorer.specs.Lines.{Ending, Done, Stopped}
-use Rattle.explorer.specs.Served.{DoorRun, DrewFrom, FileRun, FindsFull, IsGivenUp, IsKeptIn, IsSeenIn, IsServedIn, IsStoredIn, IsWorked, Service, drawn_in, file_at, first_fault, serve_report}
+use Rattle.explorer.specs.Serve.Served.{DoorRun, DrewFrom, FileRun, FindsFull, IsGivenUp, IsKeptIn, IsSeenIn, IsServedIn, IsStoredIn, IsWorked, Service, drawn_in, file_at, first_fault, serve_report}
 use Rattle.explorer.specs.World.{World, IsFaultless, WriteFails}
 
 -- ---- what is written

@@ -1,4 +1,7 @@
 -- Statement: how a run of the command `trial` ends.
+pub mod Bytes
+pub mod Segments
+pub mod Trying
 use Rattle.std.specs.Prelude.{◌≡◌, ℕ, List, [], ◌∷◌, ◌++◌, Ok, length, map, codes}
 use Rattle.std.specs.Fmt.{decimal}
 use Rattle.outside.specs.Stream.{FailsToTake, Takes}
@@ -24,7 +27,7 @@ use Rattle.ingest_desk.specs.Picking.{HasNoneDue}
 use Rattle.sample_games.specs.Streams.{AreSamples, generator, joined}
 use Rattle.explorer.specs.declared.fault.Fault.TheVariants.{OutOfMemory, WriteFault}
 use Rattle.explorer.specs.Lines.{Ending, Done, Stopped}
-use Rattle.explorer.specs.Segments.{AreDrained}
+use Rattle.explorer.specs.Trial.Segments.{AreDrained}
 use Rattle.explorer.specs.World.{World}
 
 -- ---- what a trial comes to

@@ -1,6 +1,5 @@
 //! An import into a store that is open.
 ghost use Rattle.std.specs.Prelude.{◌≡◌, ◌<◌, ◌^◌, None};
-ghost use Rattle.ingest_desk.specs.Reporting.{games_of};
 ghost use Rattle.ingest_desk.specs.Stored.{journal};
 ghost use Rattle.explorer.specs.Faults.{fault_at, fault_by};
 ghost use Rattle.explorer.specs.Imported.{ImportedIn};
@@ -10,7 +9,7 @@ use disk_model::Disk;
 use explorer_model::fault::Refusal;
 use explorer_model::label::Label;
 use import_run::{ending_of, import_alone};
-use ingest_desk::{ImportEnding, Ingest, Receipt};
+use ingest_desk::{ImportEnding, Ingest, count_games};
 use outside::{FreeGate, Source};
 use published_index::{Drawer, Index};
 use side_by_side::Workers;
@@ -79,21 +78,9 @@ pub fn import_into<J: Index, R: AllocGlobal + Wait + Threads + Sync, S: Source, 
     );
     Came {
         ending: ending_of(&report.end),
-        games: count_games(report.receipts.as_slice()),
+        games: u64::from(count_games(report.receipts.as_slice())),
         batches: report.receipts.len() as u64,
         refused: report.refused,
         journal: ingest.batches(),
     }
-}
-
-/// How many games the receipts have together.
-fn count_games<J: Index>(receipts: &[Receipt<J>]) -> u64
-    requires { games_of receipts.now < 2 ^ 32 }
-    ensures { result ≡ games_of receipts.now }
-{
-    let mut games: u64 = 0;
-    for receipt in receipts {
-        games += u64::from(receipt.games());
-    }
-    games
 }

@@ -29,11 +29,11 @@ ghost use Rattle.explorer.specs.Laws.{CountsAtMost, CountsSpills, GoesWell, HasM
 ghost use Rattle.explorer.specs.Lines.{Ending, status_of};
 ghost use Rattle.explorer.specs.ListBatches.{ListsBy};
 ghost use Rattle.explorer.specs.Migrate.{MigratesBy};
-ghost use Rattle.explorer.specs.QuerySpilled.{SpillsBy};
-ghost use Rattle.explorer.specs.QueryStore.{AsksBy, QueriesBy};
+ghost use Rattle.explorer.specs.Query.Spilled.{SpillsBy};
+ghost use Rattle.explorer.specs.Query.Store.{AsksBy, QueriesBy};
 ghost use Rattle.explorer.specs.Run.{Runs};
 ghost use Rattle.explorer.specs.Serve.{GoesOn, Serves};
-ghost use Rattle.explorer.specs.Served.{DoorRun, IsWorked, Service};
+ghost use Rattle.explorer.specs.Serve.Served.{DoorRun, IsWorked, Service};
 ghost use Rattle.explorer.specs.Trial.{TriesBy};
 ghost use Rattle.explorer.specs.World.{World, IsFaultless};
 

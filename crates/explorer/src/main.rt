@@ -5,8 +5,6 @@ ghost use Rattle.std.specs.Prelude.{◌≡◌, ◌⊎◌, IfErr};
 ghost use Rattle.explorer.specs.declared.fault.Fault.{Fault as AFault};
 
 mod answer;
-mod byte_source;
-mod cabinet;
 mod count;
 mod create;
 mod fault;
@@ -14,23 +12,18 @@ mod import_store;
 mod importing;
 mod laws;
 mod list_batches;
-mod listening;
 mod migrate;
 mod opening;
 mod openings;
 mod order;
 mod program;
-mod query_spilled;
-mod query_store;
+mod query;
 mod report;
-mod returning;
 mod serve;
-mod serving;
 mod status;
 #[cfg(test)]
 mod tests;
 mod trial;
-mod workers;
 
 use fault::Fault;
 use host::RealHost;

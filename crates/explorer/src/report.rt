@@ -2,7 +2,7 @@
 ghost use Rattle.std.specs.Prelude.{◌≡◌, ◌∷◌, ◌++◌, [], IfOk, MatchResult, OnOk, OnErr};
 ghost use Rattle.outside.specs.Stream.{Takes, FailsToTake, Writes};
 ghost use Rattle.explorer.specs.Report.{report, report_line};
-ghost use Rattle.explorer.specs.Served.{file_lines};
+ghost use Rattle.explorer.specs.Serve.Served.{file_lines};
 
 use answer_json::refusal::why_text;
 use explorer_model::fault::{Refusal, Why};

@@ -13,15 +13,17 @@ ghost use Rattle.ingest_desk.specs.Picking.{HasNoneDue};
 ghost use Rattle.ingest_desk.specs.Stored.{journal};
 ghost use Rattle.import_run.specs.Upkeep.{Follows, StoresSame};
 ghost use Rattle.explorer.specs.Lines.{ending_of};
-ghost use Rattle.explorer.specs.Segments.{AreJoined, GoAllBehind};
+ghost use Rattle.explorer.specs.Trial.Segments.{AreJoined, GoAllBehind};
 ghost use Rattle.explorer.specs.Trial.{StoresTexts, TellsTrial, TriesBy, batch_sizes, line, position_behind, segment_sizes, summary};
-ghost use Rattle.explorer.specs.Trying.{AreDrawn, IsOfSamples, IsReadable, IsStreamOf, IsTriedOf, IsTriedOver};
+ghost use Rattle.explorer.specs.Trial.Trying.{AreDrawn, IsOfSamples, IsReadable, IsStreamOf, IsTriedOf, IsTriedOver};
 ghost use Rattle.explorer.specs.World.{world};
 
+mod byte_source;
+
 use crate::answer::found_in;
-use crate::byte_source::ByteSource;
 use crate::fault::Fault;
 use crate::opening::new_store;
+use crate::trial::byte_source::ByteSource;
 use arrayvec::ArrayVec;
 use disk_model::Unkept;
 use explorer_model::answer::Totals;

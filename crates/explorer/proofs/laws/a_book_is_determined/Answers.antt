@@ -1,4 +1,4 @@
-use Rattle.explorer.proofs.OpeningsLawLemmas.{not_either, one_book, one_fault}
+use Rattle.explorer.proofs.LawLemmas.Openings.{not_either, one_book, one_fault}
 use Rattle.explorer.proofs.laws.a_book_is_determined.Goals as goal
 
 pub returns : goal.returns

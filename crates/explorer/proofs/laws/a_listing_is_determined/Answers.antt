@@ -1,4 +1,4 @@
-use Rattle.explorer.proofs.ListLawLemmas.{one_listing}
+use Rattle.explorer.proofs.LawLemmas.Listing.{one_listing}
 use Rattle.explorer.proofs.laws.a_listing_is_determined.Goals as goal
 
 pub returns : goal.returns

@@ -1,4 +1,4 @@
-use Rattle.explorer.proofs.MigrateLawLemmas.{one_migration}
+use Rattle.explorer.proofs.LawLemmas.Migrate.{one_migration}
 use Rattle.explorer.proofs.laws.a_migration_is_determined.Goals as goal
 
 pub returns : goal.returns

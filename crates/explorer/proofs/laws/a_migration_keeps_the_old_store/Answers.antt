@@ -1,4 +1,4 @@
-use Rattle.explorer.proofs.KeptStoreLemmas.{old_is_kept}
+use Rattle.explorer.proofs.LawLemmas.KeptStore.{old_is_kept}
 use Rattle.explorer.proofs.laws.a_migration_keeps_the_old_store.Goals as goal
 
 pub returns : goal.returns

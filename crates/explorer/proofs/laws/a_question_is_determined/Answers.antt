@@ -1,4 +1,4 @@
-use Rattle.explorer.proofs.QuestionLemmas.{one_question}
+use Rattle.explorer.proofs.LawLemmas.Question.{one_question}
 use Rattle.explorer.proofs.laws.a_question_is_determined.Goals as goal
 
 pub returns : goal.returns

@@ -1,5 +1,5 @@
-use Rattle.explorer.proofs.RunLawLemmas.{one_run}
-use Rattle.explorer.proofs.NoRoomLemmas.{accounts_from}
+use Rattle.explorer.proofs.LawLemmas.Run.{one_run}
+use Rattle.explorer.proofs.LawLemmas.NoRoom.{accounts_from}
 use Rattle.explorer.proofs.laws.a_run_is_determined.Goals as goal
 
 pub returns : goal.returns

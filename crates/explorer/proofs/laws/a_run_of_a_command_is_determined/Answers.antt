@@ -1,5 +1,5 @@
-use Rattle.explorer.proofs.StoreRunLemmas.{one_asking, one_creating, one_importing, one_listed, one_migrating, one_refusing, one_serving, one_spilled, one_trying}
-use Rattle.explorer.proofs.NoRoomLemmas.{accounts_from}
+use Rattle.explorer.proofs.LawLemmas.StoreRun.{one_asking, one_creating, one_importing, one_listed, one_migrating, one_refusing, one_serving, one_spilled, one_trying}
+use Rattle.explorer.proofs.LawLemmas.NoRoom.{accounts_from}
 use Rattle.explorer.proofs.laws.a_run_of_a_command_is_determined.Goals as goal
 
 pub returns-clause-creates : goal.returns-clause-creates

@@ -1,4 +1,4 @@
-use Rattle.explorer.proofs.ServeLawLemmas.{both_refused, both_served, refused_too}
+use Rattle.explorer.proofs.LawLemmas.Serve.{both_refused, both_served, refused_too}
 use Rattle.explorer.proofs.laws.a_serving_is_determined.Goals as goal
 
 pub returns-clause-refused : goal.returns-clause-refused

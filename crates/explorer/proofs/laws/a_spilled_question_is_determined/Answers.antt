@@ -1,4 +1,4 @@
-use Rattle.explorer.proofs.SpillLawLemmas.{one_spilling}
+use Rattle.explorer.proofs.LawLemmas.Spill.{one_spilling}
 use Rattle.explorer.proofs.laws.a_spilled_question_is_determined.Goals as goal
 
 pub returns : goal.returns

@@ -1,5 +1,5 @@
 use Rattle.explorer.proofs.LawLemmas.{one_answer}
-use Rattle.explorer.proofs.NoRoomLemmas.{accounts_from}
+use Rattle.explorer.proofs.LawLemmas.NoRoom.{accounts_from}
 use Rattle.explorer.proofs.laws.a_told_input_has_one_answer.Goals as goal
 
 pub returns : goal.returns

@@ -1,5 +1,5 @@
-use Rattle.explorer.proofs.TrialLawLemmas.{one_trial}
-use Rattle.explorer.proofs.NoRoomLemmas.{accounts_from}
+use Rattle.explorer.proofs.LawLemmas.Trial.{one_trial}
+use Rattle.explorer.proofs.LawLemmas.NoRoom.{accounts_from}
 use Rattle.explorer.proofs.laws.a_trial_is_determined.Goals as goal
 
 pub returns : goal.returns

@@ -1,5 +1,5 @@
-use Rattle.explorer.proofs.ImportLawLemmas.{one_import}
-use Rattle.explorer.proofs.NoRoomLemmas.{accounts_from}
+use Rattle.explorer.proofs.LawLemmas.Import.{one_import}
+use Rattle.explorer.proofs.LawLemmas.NoRoom.{accounts_from}
 use Rattle.explorer.proofs.laws.an_import_is_determined.Goals as goal
 
 pub returns : goal.returns

@@ -1,4 +1,4 @@
-use Rattle.explorer.proofs.DoorLawLemmas.{one_body, one_player_body, over_journal}
+use Rattle.explorer.proofs.LawLemmas.Door.{one_body, one_player_body, over_journal}
 use Rattle.session.specs.Replies.{Answer, PlayerAnswer}
 use Rattle.explorer.proofs.laws.answers_at_doors_agree.Goals as goal
 

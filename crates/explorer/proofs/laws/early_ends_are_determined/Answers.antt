@@ -1,7 +1,7 @@
 use Rattle.std.proofs.Common.{refl}
 use Rattle.explorer.specs.Imported.{new_store}
 use Rattle.explorer.proofs.LawLemmas.{one_cut_off, one_full_behind, one_too_much}
-use Rattle.explorer.proofs.NoRoomLemmas.{accounts_from}
+use Rattle.explorer.proofs.LawLemmas.NoRoom.{accounts_from}
 use Rattle.explorer.proofs.laws.early_ends_are_determined.Goals as goal
 
 pub returns-clause-cut_off : goal.returns-clause-cut_off

@@ -1,10 +1,10 @@
 use Rattle.std.proofs.Common.{ℕ, List, inl, inr, map, option_map, refl, rules, subst, string_bytes}
 use Rattle.explorer.specs.Count.{Counts}
 use Rattle.explorer.specs.Lines.{ending_of}
-use Rattle.explorer.specs.QuerySpilled.{SpillsBy}
-use Rattle.explorer.specs.QueryStore.{AsksBy, QueriesBy}
+use Rattle.explorer.specs.Query.Spilled.{SpillsBy}
+use Rattle.explorer.specs.Query.Store.{AsksBy, QueriesBy}
 use Rattle.explorer.specs.Serve.{Serves}
-use Rattle.explorer.specs.Served.{Service}
+use Rattle.explorer.specs.Serve.Served.{Service}
 use Rattle.explorer.specs.World.{world}
 use Rattle.explorer.proofs.BookLemmas.{stops_by}
 use Rattle.explorer.proofs.RunLemmas.{same_service}

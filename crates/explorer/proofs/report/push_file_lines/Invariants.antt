@@ -1,5 +1,5 @@
 use Rattle.std.proofs.Common.{◌≡◌, ◌++◌, take}
-use Rattle.explorer.specs.Served.{file_lines}
+use Rattle.explorer.specs.Serve.Served.{file_lines}
 use Rattle.explorer.proofs.report.push_file_lines.Given as goal
 
 abbrev pub invariant-loop-refusal : goal.invariant-loop-refusal

@@ -1,6 +1,6 @@
 use Rattle.std.proofs.Common.{refl, ap}
 use Rattle.disk_model.specs.Disk.{DiskState}
-use Rattle.explorer.specs.Serving.{service_of}
+use Rattle.explorer.specs.Serve.Serving.{service_of}
 use Rattle.explorer.proofs.ServeLemmas.{breaks, not-opened, refuses-store}
 use Rattle.explorer.proofs.serve.serve.Goals as goal
 

@@ -8,7 +8,7 @@ use Rattle.published_index.specs.Cover.{journal_of}
 use Rattle.published_index.specs.Places.{HasDrawn}
 use Rattle.explorer.specs.Lines.{ending_of}
 use Rattle.explorer.specs.Serve.{listening_line}
-use Rattle.explorer.specs.Serving.{lines_told, service_of}
+use Rattle.explorer.specs.Serve.Serving.{lines_told, service_of}
 use Rattle.explorer.proofs.ServeLemmas.{all-watching, content-of, faults-of, files-given-up, files-worked, given-up-so, gives-up-so, is-still-out, journal-named, listens-so, nameless-disk, served-so, silent-so, starves, stored-disk}
 use Rattle.explorer.proofs.serve.serve_store.Goals as goal
 

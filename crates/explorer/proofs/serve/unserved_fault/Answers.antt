@@ -1,5 +1,5 @@
 use Rattle.std.proofs.Common.{string_bytes, refl, sym, ap, ◌∙◌}
-use Rattle.explorer.proofs.HostCalls.{name_is}
+use Rattle.explorer.proofs.ServeLemmas.HostCalls.{name_is}
 use Rattle.explorer.proofs.serve.unserved_fault.Goals as goal
 
 pub returns-in-NoFile : goal.returns-in-NoFile

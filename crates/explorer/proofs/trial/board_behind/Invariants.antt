@@ -1,4 +1,4 @@
-use Rattle.explorer.proofs.LastGameLemmas.{Playing}
+use Rattle.explorer.proofs.TrialLemmas.LastGame.{Playing}
 use Rattle.explorer.proofs.trial.board_behind.Given as goal
 
 abbrev pub invariant-loop-step : goal.invariant-loop-step

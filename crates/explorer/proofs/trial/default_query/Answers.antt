@@ -1,4 +1,4 @@
-use Rattle.explorer.proofs.DefaultQueryLemmas.{none_malformed}
+use Rattle.explorer.proofs.TrialLemmas.DefaultQuery.{none_malformed}
 use Rattle.explorer.proofs.trial.default_query.Goals as goal
 
 pub unreachable-requires : goal.unreachable-requires

@@ -1,5 +1,5 @@
 use Rattle.std.proofs.Common.{rules, ◌≡◌, ◌++◌}
-use Rattle.explorer.proofs.SampleLemmas.{goes_on}
+use Rattle.explorer.proofs.TrialLemmas.Samples.{goes_on}
 use Rattle.explorer.proofs.trial.draw_samples.Goals as goal
 
 pub loop-index-preserved : goal.loop-index-preserved

@@ -1,4 +1,4 @@
-use Rattle.explorer.specs.Trying.{AreDrawn}
+use Rattle.explorer.specs.Trial.Trying.{AreDrawn}
 use Rattle.explorer.proofs.trial.draw_samples.Given as goal
 
 abbrev pub invariant-loop-index : goal.invariant-loop-index

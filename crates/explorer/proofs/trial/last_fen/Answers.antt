@@ -5,7 +5,7 @@ use Rattle.explorer_model.specs.Chess.{IsValid}
 use Rattle.explorer_model.specs.Visits.{AreLegalFrom}
 use Rattle.explorer_model.proofs.LegalGames.{game-legal}
 use Rattle.explorer.specs.Trial.{position_behind}
-use Rattle.explorer.proofs.LastGameLemmas.{answers_no_fault, tells_end, writes_end}
+use Rattle.explorer.proofs.TrialLemmas.LastGame.{answers_no_fault, tells_end, writes_end}
 use Rattle.explorer.proofs.trial.last_fen.Goals as goal
 
 pub unreachable-requires : goal.unreachable-requires

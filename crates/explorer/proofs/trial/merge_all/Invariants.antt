@@ -1,7 +1,7 @@
 use Rattle.std.proofs.Common.{◌≡◌, ℕ, List, length}
 use Rattle.ingest_desk.specs.Installs.{list_by}
 use Rattle.ingest_desk.specs.Stored.{journal}
-use Rattle.explorer.specs.Segments.{AreJoined}
+use Rattle.explorer.specs.Trial.Segments.{AreJoined}
 use Rattle.explorer.specs.Trial.{segment_sizes}
 use Rattle.explorer.proofs.trial.merge_all.Given as goal
 

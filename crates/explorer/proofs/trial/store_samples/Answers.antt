@@ -5,8 +5,8 @@ use Rattle.explorer_model.specs.Visits.{AreGamesOf}
 use Rattle.ingest_desk.specs.Stored.{journal}
 use Rattle.ingest_desk.specs.declared.report.ImportEnding.{ImportEnding}
 use Rattle.import_run.specs.Faultless.{FindRoom, StoresAll}
-use Rattle.explorer.specs.Bytes.{BytesLeft}
-use Rattle.explorer.proofs.NewGameLemmas.{below_limit, find_room, new_games}
+use Rattle.explorer.specs.Trial.Bytes.{BytesLeft}
+use Rattle.explorer.proofs.TrialLemmas.NewGame.{below_limit, find_room, new_games}
 use Rattle.explorer.proofs.TrialLemmas.{IsWholeOrLacks, ends_so, other_end, stores_texts, zero_fits}
 use Rattle.explorer.proofs.trial.store_samples.Goals as goal
 

@@ -2,7 +2,7 @@ use Rattle.std.proofs.Common.{◌∙◌, ℕ, List, ap, subst, sym}
 use Rattle.std.proofs.lemmas.Result.{IfOk-weaker}
 use Rattle.explorer_model.specs.Visits.{IsTextOf}
 use Rattle.explorer.specs.Trial.{summary}
-use Rattle.explorer.specs.Trying.{IsReadable}
+use Rattle.explorer.specs.Trial.Trying.{IsReadable}
 use Rattle.explorer.proofs.TrialLemmas.{drawn_readable, drawn_stream, tells_trial}
 use Rattle.explorer.proofs.trial.trial_lines.Goals as goal
 

@@ -1,4 +1,0 @@
-use Rattle.explorer.proofs.query_spilled.spill_at.Given as goal
-
-abbrev pub ghosts-line_by : goal.ghosts-line_by
-ghosts-line_by g a = record { name = a.blank.name; parts = a.blank.parts }

@@ -1,8 +1,0 @@
-use Rattle.std.proofs.Common.{◌≡◌, ◌++◌, drop, map, string_bytes}
-use Rattle.explorer.specs.Workers.{lines_in}
-use Rattle.explorer.proofs.workers.report_lines.Given as goal
-
-abbrev pub invariant-loop-at : goal.invariant-loop-at
-invariant-loop-at g l =
-    l.lines.items ++ lines_in (drop l.at (map string_bytes l.names)) (drop l.at l.workers)
-    ≡ lines_in (map string_bytes l.names) l.workers

@@ -1,0 +1,3 @@
+-- Statement: what `query` does.
+pub mod Store
+pub mod Spilled
