@@ -258,7 +258,7 @@ class Crates(unittest.TestCase):
         inside = collections.Counter(path.parts[-3] for path in CRATES.glob("*/must-fail/*.edit"))
         outside = collections.Counter(path.parent.name for path in (TOP / "bench/wrong").glob("*/*.edit"))
         self.assertEqual((sum(inside.values()), len(inside)), (18, 13))
-        self.assertEqual({name for name, count in (inside + outside).items() if count >= 6}, {name for name in crates() if not name.endswith("_tests")})
+        self.assertEqual({name for name, count in (inside + outside).items() if count >= 6}, {name for name in crates() if not name.endswith("_tests")} - {"plain_laws"})
 
 
 class Statement(unittest.TestCase):
