@@ -2,7 +2,7 @@
 use Rattle.std.proofs.Common.{◌≡◌, ◌∙◌, ◌<◌, ℕ, Bool, List, [], ◌∷◌, ◌++◌, append-nil, append_assoc, Option, None, Some, Result, Ok, Err, refl, sym, ap, subst}
 use Rattle.std.specs.List.{AllByRecursion, Contains, cons_option}
 use Rattle.std.specs.Prelude.{IfSome, IsErrAnd, MatchOption, ⊤}
-use Rattle.std.proofs.lemmas.List.Elements.{All-contains, All-from_recursion, Contains-append_right}
+use Rattle.std.proofs.lemmas.List.Elements.{All-contains, All-from_recursion}
 use Rattle.plain_laws.specs.Lists.{each-append}
 use Rattle.explorer_model.specs.declared.archive.Batch.{Batch}
 use Rattle.explorer_model.specs.declared.archive.Game.{Game}
@@ -23,11 +23,12 @@ use Rattle.import_run.specs.declared.settle.Round.TheVariants.{Again, Ended}
 use Rattle.import_run.specs.declared.text_group.TalliedGroup.{TalliedGroup}
 use Rattle.import_run.specs.Answered.{Allows, Clashes, Committed, DrawsEach, Ran, Runs, Tells, note_of, notes_of}
 use Rattle.import_run.specs.Beside.{AnswersFor, AnswersTo, AreNamed, SettlesBeside}
+use Rattle.import_run.specs.Settled.{AreNoted, GroupCommits, IsCommittedBy, commits_in}
 use Rattle.import_run.specs.Committing.{AreKnown, Commits, IsClash, Known, Store, store_of}
 use Rattle.import_run.specs.Draws.{DrawsAsAnswered, DrawsFew, DrawsPlace}
 use Rattle.import_run.specs.Grouping.{Ascend, IsTallied}
 use Rattle.import_run.specs.Hand.{InHand}
-use Rattle.import_run.specs.Rounds.{AnswerDecided, Comes, ComesOnce, GroupBy, IsDecided, LacksFor, LacksOnce, MayHaveMore, Rounds, Settles, SettlesBy, answer_in, handed_in, size_of, stored_by}
+use Rattle.import_run.specs.Rounds.{AnswerDecided, Comes, ComesOnce, GroupBy, IsDecided, LacksFor, LacksOnce, MayHaveMore, Rounds, Settles, answer_in, handed_in, size_of, stored_by}
 use Rattle.import_run.specs.Settling.{kept}
 use Rattle.import_run.proofs.DrawLemmas.{few-answered, few-none}
 use Rattle.import_run.proofs.HandLemmas.{AreRight, lacks_commit, lacks_still, settles, settles_none}
@@ -272,27 +273,24 @@ module _ {J : Type 0} (known : Known) where
       let more = clashes_keep clashes rest tells.0 after one.0 clashed.1 tells.2 in
       record { told = more.told; still = more.still; tells = more.tells; journals = each-append (IsItsJournal known) (note_of commit.answer) (notes_of clashes) one.1 more.journals }
 
+  module _ {label : List ℕ} (cuts : List Cut) (group : GroupCommits J) (g : IsCommittedBy label cuts group) {told : Option Store} (told' : Option Store)
+      (tells : Tells told (commits_in group) told') (still : told ≡ Some (store_of known)) where
+    -- Alone the answers are those of commits to the store that is known.
+    pub group_alone : AnswerDecided (answer_in group.last) → Settles label known cuts group.refused (answer_in group.last) told'
+    group_alone decided = by group.last g.by decided (clashes_keep group.clashes (cons_option group.last []) told told' still g.clashed tells)
+      where
+        by : (last : Option (Committed J)) → GroupBy label cuts (handed_in last) group.refused group.clashes → AnswerDecided (answer_in last)
+            → Behind (cons_option last []) (notes_of group.clashes) told' → Settles label known cuts group.refused (answer_in last) told'
+        by None b never h = settles_none known cuts group.refused group.clashes b told' (are_right known (notes_of group.clashes) b.number h.journals b.named) (h.tells ∙ h.still)
+        by (Some commit) b never h =
+            settles known cuts group.refused commit.handed group.clashes b commit.answer told' (are_right known (notes_of group.clashes) b.number h.journals b.named) never
+            (subst (λ (t : Option Store). Commits commit.answer known commit.handed t) (sym h.tells.2) (h.tells.1 known h.still))
+
   module _ {label : List ℕ} (cuts : List Cut) (tallied : TalliedGroup) (ascend : Ascend cuts) (holds : IsTallied label cuts tallied)
       {notes notes' : List (List Batch)} {told told' : Option Store} {drawing drawing' : Drawing} (runs : Runs J notes notes' told told' drawing drawing') (still : told ≡ Some (store_of known)) where
-    behind : Behind (cons_option runs.last []) (notes_of runs.clashes) told'
-    behind = clashes_keep runs.clashes (cons_option runs.last []) told told' still runs.clashed runs.ran.tells
-
-    -- the group is settled as a store that is known says
-    pub settled_alone : (done : Done J) → SettlesBy tallied done runs.clashes runs.last → Settles label known cuts done told'
-    settled_alone done s = by runs.last s.answer (s.group label cuts ascend holds) behind
-      where
-        by : (last : Option (Committed J)) → done.answer ≡ answer_in last → GroupBy label cuts (handed_in last) done.refused.items runs.clashes
-            → Behind (cons_option last []) (notes_of runs.clashes) told' → Settles label known cuts done told'
-        by None is b h =
-            settles_none known cuts done.refused.items runs.clashes b done told' (are_right known (notes_of runs.clashes) b.number h.journals b.named) (h.tells ∙ h.still) is refl
-        by (Some commit) is b h =
-            settles known cuts done.refused.items commit.handed runs.clashes b commit.answer done told' (are_right known (notes_of runs.clashes) b.number h.journals b.named)
-            (subst (λ a. AnswerDecided a) is s.decided)
-            (subst (λ (t : Option Store). Commits commit.answer known commit.handed t) (sym h.tells.2) (h.tells.1 known h.still)) is refl
-
     -- memory was wanting, and the store is as it was, or has the batch
     pub lacked_alone : MatchOption runs.last ⊤ (LacksFor tallied runs.clashes) → MayHaveMore label known (cuts ∷ []) told'
-    lacked_alone lacks = by runs.last lacks behind
+    lacked_alone lacks = by runs.last lacks (clashes_keep runs.clashes (cons_option runs.last []) told told' still runs.clashed runs.ran.tells)
       where
         by : (last : Option (Committed J)) → MatchOption last ⊤ (LacksFor tallied runs.clashes) → Behind (cons_option last []) (notes_of runs.clashes) told' → MayHaveMore label known (cuts ∷ []) told'
         by None l h = lacks_still label known (cuts ∷ []) told' (h.tells ∙ h.still)
@@ -303,31 +301,29 @@ module _ {J : Type 0} (known : Known) where
 
 -- ---- whoever else stores there
 
+-- Beside others each has what a desk allows.
+pub group_beside : {J : Type 0} {label : List ℕ} (cuts : List Cut) (group : GroupCommits J) (notes : List (List Batch)) → IsCommittedBy label cuts group → AllByRecursion Allows (commits_in group)
+    → AreNoted notes (notes_of group.clashes) → SettlesBeside label cuts group.refused (answer_in group.last) notes
+group_beside {J} {label} cuts group notes g allows noted = record {
+  examinations = g.by.examinations;
+  are_examinations = g.by.are_examinations;
+  number = g.by.number;
+  named = λ id n e.
+      let N : List Batch → Type 0 = λ journal. Contains notes journal in
+      let at = g.by.named id n e in
+      (at.0, All-contains N (notes_of group.clashes) at.0 (All-from_recursion N (notes_of group.clashes) noted) at.1, at.2, at.3, at.4);
+  refused_are = g.by.refused_are;
+  answered = by group.last g.by allows;
+}
+  where
+    by : (last : Option (Committed J)) (b : GroupBy label cuts (handed_in last) group.refused group.clashes) → AllByRecursion Allows (group.clashes ++ cons_option last [])
+        → AnswersFor label (kept b.number (verdicts b.examinations)) (answer_in last)
+    by None b all = b.made
+    by (Some commit) b all = (commit.handed, b.made, (last_of Allows group.clashes commit all).answers)
+
 module _ {J : Type 0} {notes notes' : List (List Batch)} {told told' : Option Store} {drawing drawing' : Drawing} (runs : Runs J notes notes' told told' drawing drawing') where
   pub notes_of_group : IsPrefix notes notes'
   notes_of_group = record { rest = notes_of runs.clashes; is = runs.noted }
-
-  -- the group is settled as its answers say
-  pub settled_beside : {label : List ℕ} (cuts : List Cut) (tallied : TalliedGroup) (done : Done J) → Ascend cuts → IsTallied label cuts tallied → SettlesBy tallied done runs.clashes runs.last
-      → SettlesBeside label cuts done notes'
-  settled_beside {label} cuts tallied done ascend holds s =
-      let b = s.group label cuts ascend holds in
-      let vs = verdicts b.examinations in
-      record {
-        examinations = b.examinations;
-        are_examinations = b.are_examinations;
-        number = b.number;
-        named = λ id n e.
-            let at = b.named id n e in
-            (at.0, subst (λ (l : List (List Batch)). Contains l at.0) (sym runs.noted) (Contains-append_right notes (notes_of runs.clashes) at.0 at.1), at.2, at.3, at.4);
-        refused = b.refused_are;
-        answer = subst (λ a. AnswersFor label (kept b.number vs) a) (sym s.answer) (by runs.last b runs.ran.allows);
-      }
-    where
-      by : (last : Option (Committed J)) (b : GroupBy label cuts (handed_in last) done.refused.items runs.clashes) → AllByRecursion Allows (runs.clashes ++ cons_option last [])
-          → AnswersFor label (kept b.number (verdicts b.examinations)) (answer_in last)
-      by None b all = b.made
-      by (Some commit) b all = (commit.handed, b.made, (last_of Allows runs.clashes commit all).answers)
 
   -- ---- what is drawn
 
@@ -364,15 +360,18 @@ module _ {J : Type 0} {notes notes' : List (List Batch)} {told told' : Option St
 -- ---- a group that was settled
 
 module _ {J E : Type 0} {tallied : TalliedGroup} {notes notes' : List (List Batch)} {told told' : Option Store} {drawing drawing' : Drawing} where
-  -- Alone the answers are those of commits to the store that is known.
-  pub comes_alone : (label : List ℕ) (done : Done J) → Comes {E = E} (Ok done) tallied notes notes' told told' drawing drawing'
-      → (known : Known) (cuts : List Cut) → Ascend cuts → IsTallied label cuts tallied → told ≡ Some (store_of known) → Settles label known cuts done told'
-  comes_alone label done c known cuts ascend holds is = settled_alone known cuts tallied ascend holds c.runs is done c.comes
+  module _ (label : List ℕ) (done : Done J) (c : Comes {E = E} (Ok done) tallied notes notes' told told' drawing drawing') where
+    abbrev pub comes_commits : GroupCommits J
+    comes_commits = record { refused = done.refused.items; clashes = c.runs.clashes; last = c.runs.last }
 
-  -- Beside others each has what a desk allows.
-  pub comes_beside : (label : List ℕ) (done : Done J) → Comes {E = E} (Ok done) tallied notes notes' told told' drawing drawing'
-      → (cuts : List Cut) → Ascend cuts → IsTallied label cuts tallied → SettlesBeside label cuts done notes'
-  comes_beside label done c cuts ascend holds = settled_beside c.runs cuts tallied done ascend holds c.comes
+    pub comes_committed : (cuts : List Cut) → Ascend cuts → IsTallied label cuts tallied → IsCommittedBy label cuts comes_commits
+    comes_committed cuts ascend holds = record { by = c.comes.group label cuts ascend holds; clashed = c.runs.clashed }
+
+    pub comes_alone : (answer : Option (Result (Receipt J) (CommitFault J))) → done.answer ≡ answer → (known : Known) (cuts : List Cut) → Ascend cuts → IsTallied label cuts tallied → told ≡ Some (store_of known)
+        → Settles label known cuts done.refused.items answer told'
+    comes_alone answer is known cuts ascend holds still =
+        subst (λ a. Settles label known cuts done.refused.items a told') (sym c.comes.answer ∙ is)
+        (group_alone known cuts comes_commits (comes_committed cuts ascend holds) told' c.runs.ran.tells still (subst (λ a. AnswerDecided a) c.comes.answer c.comes.decided))
 
   pub comes_lacking : (label : List ℕ) (fault : E) → Comes {J = J} (Err fault) tallied notes notes' told told' drawing drawing'
       → (known : Known) (cuts : List Cut) → Ascend cuts → IsTallied label cuts tallied → told ≡ Some (store_of known) → MayHaveMore label known (cuts ∷ []) told'

@@ -1,7 +1,7 @@
 -- Groups that are settled, whoever else stores beside.
 use Rattle.std.proofs.Common.{◌≡◌, ◌≢◌, ◌∙◌, ◌+◌, ◌<◌, ◌≤◌, ◌||◌, ℕ, Bool, true, false, List, [], ◌∷◌, ◌++◌, length, map, filter_map, Option, None, Some, Result, Ok, Err, refl, sym, ap, subst, suc, arith, nat_lt, length-append}
 use Rattle.std.specs.Prelude.{sum_by}
-use Rattle.std.specs.List.{All, AllZip, Contains, cons_option, flat_map}
+use Rattle.std.specs.List.{AllZip, Contains, cons_option, flat_map}
 use Rattle.std.proofs.lemmas.Bool.Decides.{nat_tests}
 use Rattle.std.proofs.lemmas.Grind.{flat_map-append}
 use Rattle.std.proofs.lemmas.List.{append-nil, length-map}
@@ -12,9 +12,9 @@ use Rattle.explorer_model.specs.declared.fault.Refusal.{Refusal}
 use Rattle.explorer_model.specs.Cuts.{Cut}
 use Rattle.explorer_model.specs.Imports.{AccountedBeside, AreExaminations, Candidate, Examination, IsExaminationOf, Numbering, Verdict, batch_of, candidates, numbers_of, refusals, verdicts, verdicts_behind, verdicts_by}
 use Rattle.explorer_model.specs.Journal.{AreWithin, byte_count, game_count}
-use Rattle.explorer_model.specs.Timeline.{IsPrefix}
 use Rattle.explorer_model.specs.Visits.{texts_of}
 use Rattle.explorer_model.proofs.Lists.{zip-append}
+use Rattle.explorer_model.proofs.Timelines.{prefix-self}
 use Rattle.tally_rows.specs.Tally.{Counted}
 use Rattle.tally_rows.proofs.Sums.{sum_by-map}
 use Rattle.ingest_desk.specs.Causes.{is_over}
@@ -27,10 +27,8 @@ use Rattle.ingest_desk.specs.declared.mark.MarkKind.TheVariants as kinds
 use Rattle.ingest_desk.specs.declared.receipt.Receipt.{Receipt}
 use Rattle.ingest_desk.specs.declared.report.End.{End}
 use Rattle.ingest_desk.proofs.RegisterLemmas.{texts_more}
-use Rattle.import_run.specs.declared.open_import.OpenImport.{OpenImport}
 use Rattle.import_run.specs.declared.open_import.Stopped.{Stopped}
-use Rattle.import_run.specs.declared.settle.Done.{Done}
-use Rattle.import_run.specs.Beside.{AnswersFor, AnswersTo, AreRepeats, EndsBeside, IsFullFor, ProgressBeside, SettlesBeside, StopsBeside, last_batches}
+use Rattle.import_run.specs.Beside.{AnswersTo, AreRepeats, EndsBeside, IsFullFor, ProgressBeside, SettlesBeside, StopsBeside, last_batches}
 use Rattle.import_run.specs.Importing.{IsEndOf}
 use Rattle.import_run.specs.Labelling.{CountsUnder}
 use Rattle.import_run.specs.Rounds.{IsDecided}
@@ -100,49 +98,44 @@ module _ {J : Type 0} where
 all_cuts_more : (groups : List (List Cut)) (cuts : List Cut) → flat_map (λ (g : List Cut). g) (groups ++ cuts ∷ []) ≡ flat_map (λ (g : List Cut). g) groups ++ cuts
 all_cuts_more groups cuts = flat_map-append (λ (g : List Cut). g) groups (cuts ∷ []) ∙ ap (λ (l : List Cut). flat_map (λ (g : List Cut). g) groups ++ l) (append-nil cuts)
 
-module _ {J : Type 0} (groups : List (List Cut)) (old new : OpenImport J) (cuts : List Cut) (done : Done J) (p : ProgressBeside groups old) (s : SettlesBeside old.group.label cuts done new.clashes.items)
-    (label_is : new.group.label ≡ old.group.label) (grew : IsPrefix old.clashes.items new.clashes.items) (refused_is : new.refused.items ≡ old.refused.items ++ done.refused.items) where
-  more_repeats : AreRepeats (flat_map (λ group. group) (groups ++ cuts ∷ [])) new.clashes.items new.refused.items
-  more_repeats =
+module _ {J : Type 0} {label : List ℕ} (groups : List (List Cut)) (receipts receipts' : List (Receipt J)) (refused here : List Refusal) (clashes : List (List Batch)) (cuts : List Cut) (p : ProgressBeside label groups receipts refused clashes) where
+  more_repeats : {answer : Option (Result (Receipt J) (CommitFault J))} → SettlesBeside label cuts here answer clashes → AreRepeats (flat_map (λ group. group) (groups ++ cuts ∷ [])) clashes (refused ++ here)
+  more_repeats {answer} s =
       let all = flat_map (λ (g : List Cut). g) (groups ++ cuts ∷ []) in
       let before = flat_map (λ (g : List Cut). g) groups in
       let same = all_cuts_more groups cuts in
       let C : Cut → List Cut → Type 0 = λ cut l. Contains l cut in
-      let P : Refusal → Type 0 = λ r. RepeatsBy all new.clashes.items r.place r.why in
-      let earlier = all-repeats-grow before all old.clashes.items new.clashes.items old.refused.items
-      (λ cut c. subst (C cut) (sym same) (Contains-append_left before cuts cut c)) grew p.repeats in
-      let Q : List Refusal → Type 0 = λ l. AreRepeats cuts new.clashes.items l in
-      let here = subst Q (sym s.refused) (repeats cuts new.clashes.items s.number s.examinations s.named s.are_examinations) in
-      let mine = all-repeats-grow cuts all new.clashes.items new.clashes.items done.refused.items
-      (λ cut c. subst (C cut) (sym same) (Contains-append_right before cuts cut c)) (record { rest = []; is = sym (append-nil new.clashes.items) }) here in
-      subst (λ (l : List Refusal). All P l) (sym refused_is) (All-append P old.refused.items done.refused.items earlier mine)
+      let P : Refusal → Type 0 = λ r. RepeatsBy all clashes r.place r.why in
+      let earlier = all-repeats-grow before all clashes clashes refused (λ cut c. subst (C cut) (sym same) (Contains-append_left before cuts cut c)) (prefix-self clashes) p.repeats in
+      let Q : List Refusal → Type 0 = λ l. AreRepeats cuts clashes l in
+      let now = subst Q (sym s.refused_are) (repeats cuts clashes s.number s.examinations s.named s.are_examinations) in
+      let mine = all-repeats-grow cuts all clashes clashes here (λ cut c. subst (C cut) (sym same) (Contains-append_right before cuts cut c)) (prefix-self clashes) now in
+      All-append P refused here earlier mine
 
-  step : (o : Option Batch) → batch_of old.group.label (kept s.number (verdicts s.examinations)) ≡ o → AreReceipts 0 new.receipts.items (p.batches ++ cons_option o []) → ProgressBeside (groups ++ cuts ∷ []) new
-  step o is receipts = record {
+  step : {answer : Option (Result (Receipt J) (CommitFault J))} (s : SettlesBeside label cuts here answer clashes) (o : Option Batch) → batch_of label (kept s.number (verdicts s.examinations)) ≡ o → AreReceipts 0 receipts' (p.batches ++ cons_option o [])
+      → ProgressBeside label (groups ++ cuts ∷ []) receipts' (refused ++ here) clashes
+  step {answer} s o is are_receipts = record {
     batches = p.batches ++ cons_option o [];
-    are_receipts = receipts;
-    accounted = subst (λ (l : List ℕ). AccountedBeside l (groups ++ cuts ∷ []) (p.batches ++ cons_option o []) new.refused.items) (sym label_is) (accounted_more groups p.batches (p.batches ++ cons_option o []) old.refused.items new.refused.items p.accounted cuts s.examinations s.number s.are_examinations
-        (ap (λ (o : Option Batch). p.batches ++ cons_option o []) (sym is))
-        (refused_is ∙ ap (λ (l : List Refusal). old.refused.items ++ l) s.refused));
-    repeats = more_repeats;
+    are_receipts = are_receipts;
+    accounted = accounted_more groups p.batches (p.batches ++ cons_option o []) refused (refused ++ here) p.accounted cuts s.examinations s.number s.are_examinations
+        (ap (λ (o : Option Batch). p.batches ++ cons_option o []) (sym is)) (ap (λ (l : List Refusal). refused ++ l) s.refused_are);
+    repeats = more_repeats s;
   }
 
-  pub none_beside : done.answer ≡ None → new.receipts.items ≡ old.receipts.items → ProgressBeside (groups ++ cuts ∷ []) new
-  none_beside answer_is receipts_are =
-      let P : Option (Result (Receipt J) (CommitFault J)) → Type 0 = λ a. AnswersFor old.group.label (kept s.number (verdicts s.examinations)) a in
-      let a = subst P answer_is s.answer in
+  pub none_beside : SettlesBeside {J = J} label cuts here None clashes → receipts' ≡ receipts → ProgressBeside label (groups ++ cuts ∷ []) receipts' (refused ++ here) clashes
+  none_beside s is =
       let Q : List (Receipt J) → Type 0 = λ r. AreReceipts 0 r (p.batches ++ []) in
-      let R : List Batch → Type 0 = λ b. AreReceipts 0 old.receipts.items b in
-      step None (ap (batch_of old.group.label) a) (subst Q (sym receipts_are) (subst R (sym (append-nil p.batches)) p.are_receipts))
+      let R : List Batch → Type 0 = λ b. AreReceipts 0 receipts b in
+      step s None (ap (batch_of label) s.answered) (subst Q (sym is) (subst R (sym (append-nil p.batches)) p.are_receipts))
 
-  pub one_beside : (receipt : Receipt J) → done.answer ≡ Some (Ok receipt) → last_batches 0 old.receipts.items < receipt.batches → new.receipts.items ≡ old.receipts.items ++ receipt ∷ [] → ProgressBeside (groups ++ cuts ∷ []) new
-  one_beside receipt answer_is above receipts_are =
-      let P : Option (Result (Receipt J) (CommitFault J)) → Type 0 = λ a. AnswersFor old.group.label (kept s.number (verdicts s.examinations)) a in
-      let a = subst P answer_is s.answer in
+  pub one_beside : (receipt : Receipt J) → SettlesBeside label cuts here (Some (Ok receipt)) clashes → last_batches 0 receipts < receipt.batches → receipts' ≡ receipts ++ receipt ∷ []
+      → ProgressBeside label (groups ++ cuts ∷ []) receipts' (refused ++ here) clashes
+  one_beside receipt s above receipts_are =
+      let a = s.answered in
       let is = a.2.is in
-      let place : last_batches 0 old.receipts.items ≤ a.2.place = (let e = is.batches in omega (arith, e, above)) in
+      let place : last_batches 0 receipts ≤ a.2.place = (let e = is.batches in omega (arith, e, above)) in
       let Q : List (Receipt J) → Type 0 = λ r. AreReceipts 0 r (p.batches ++ a.0.batch ∷ []) in
-      step (Some a.0.batch) a.1.batch (subst Q (sym receipts_are) (receipts_more 0 old.receipts.items p.batches receipt a.0.batch a.2.place p.are_receipts is place))
+      step s (Some a.0.batch) a.1.batch (subst Q (sym receipts_are) (receipts_more 0 receipts p.batches receipt a.0.batch a.2.place p.are_receipts is place))
 
 -- ---- a group that ended an import
 
@@ -206,12 +199,10 @@ module _ {J : Type 0} where
   ends_beside {label} (faults.Clash handed pairs note) end cs counted counts answers is never = absurd never
   ends_beside {label} (faults.OutOfMemory out) end cs counted counts answers is never = absurd never
 
-  pub stops_beside : {label : List ℕ} (cuts : List Cut) (done : Done J) (clashes : List (List Batch)) (s : SettlesBeside label cuts done clashes) (fault : CommitFault J) (stopped : Stopped J)
-      → done.answer ≡ Some (Err fault) → IsDecided {J = J} (Err fault) → IsEndOf fault stopped.end → stopped.refused ≡ done.refused → StopsBeside label cuts clashes stopped
-  stops_beside {label} cuts done clashes s fault stopped answer_is never is_end same =
-      let P : Option (Result (Receipt J) (CommitFault J)) → Type 0 = λ a. AnswersFor label (kept s.number (verdicts s.examinations)) a in
-      let a = subst P answer_is s.answer in
-      let refused = ap (λ r. r.items) same ∙ s.refused in
+  pub stops_beside : {label : List ℕ} (cuts : List Cut) (clashes : List (List Batch)) (fault : CommitFault J) (stopped : Stopped J) → SettlesBeside label cuts stopped.refused.items (Some (Err fault)) clashes
+      → IsDecided {J = J} (Err fault) → IsEndOf fault stopped.end → StopsBeside label cuts clashes stopped
+  stops_beside {label} cuts clashes fault stopped s never is_end =
+      let a = s.answered in
       let Q : List Refusal → Type 0 = λ l. AreRepeats cuts clashes l in
       record {
         left = kept s.number (verdicts s.examinations);
@@ -220,9 +211,9 @@ module _ {J : Type 0} where
           are_examinations = s.are_examinations;
           number = s.number;
           left_are = refl;
-          refused_are = refused;
+          refused_are = s.refused_are;
         };
         some_left = some_candidates label (kept s.number (verdicts s.examinations)) a.0.batch a.1.batch;
         ends = ends_beside fault stopped.end (kept s.number (verdicts s.examinations)) a.0 a.1 a.2 is_end never;
-        repeats = subst Q (sym refused) (repeats cuts clashes s.number s.examinations s.named s.are_examinations);
+        repeats = subst Q (sym s.refused_are) (repeats cuts clashes s.number s.examinations s.named s.are_examinations);
       }

@@ -8,32 +8,26 @@ use Rattle.explorer_model.specs.declared.archive.Batch.{Batch}
 use Rattle.explorer_model.specs.declared.archive.Game.{Game}
 use Rattle.explorer_model.specs.declared.fault.Refusal.{Refusal}
 use Rattle.explorer_model.specs.Cuts.{Cut}
-use Rattle.explorer_model.specs.Imports.{AccountedBeside, Accepted, Candidate, Examination, IsExaminationOf, Numbering, Refused, Verdict, and_candidate, candidates, numbers_of, refusals, verdict_behind, verdict_if_stored, verdict_of, verdicts, verdicts_from}
+use Rattle.explorer_model.specs.Imports.{Accepted, Candidate, Examination, IsExaminationOf, Numbering, Refused, Verdict, and_candidate, candidates, numbers_of, refusals, verdict_behind, verdict_if_stored, verdict_of, verdicts, verdicts_from}
 use Rattle.explorer_model.specs.Timeline.{IsPrefix}
 use Rattle.explorer_model.specs.Visits.{AreGamesOf}
-use Rattle.ingest_desk.specs.Reporting.{AreReceipts}
 use Rattle.ingest_desk.specs.declared.receipt.Receipt.{Receipt}
 use Rattle.import_run.specs.declared.open_import.OpenImport.{OpenImport}
 use Rattle.import_run.specs.declared.open_import.Stopped.{Stopped}
 use Rattle.import_run.specs.declared.text_group.TalliedGroup.{TalliedGroup}
-use Rattle.import_run.specs.Beside.{AreNamed, AreRepeats, ProgressBeside, StopsBeside, last_batches}
+use Rattle.import_run.specs.Beside.{AreNamed, last_batches}
 use Rattle.import_run.specs.Committing.{Known, Store, store_of}
 use Rattle.import_run.specs.Grouping.{IsTallied}
-use Rattle.import_run.specs.Importing.{StopsAt}
-use Rattle.import_run.specs.Progress.{Progress}
 use Rattle.import_run.specs.Rounds.{MayHaveMore}
 use Rattle.import_run.specs.Settling.{lost}
-use Rattle.import_run.specs.Taking.{IsSettledSo, LacksBehind, StopsBehind}
-use Rattle.import_run.proofs.GroupLemmas.{all_cuts}
-use Rattle.import_run.proofs.RepeatLemmas.{all-repeats-grow}
+use Rattle.import_run.specs.Settled.{IsSettledSo, IsStoppedBy}
+use Rattle.import_run.specs.Taking.{LacksBehind, StopsBehind}
+use Rattle.import_run.proofs.SettledLemmas.{settled_grown}
 
 -- ---- notes of clashes
 
 pub notes_same : (old new : List (List Batch)) → new ≡ old → IsPrefix old new
 notes_same old new is = record { rest = []; is = is ∙ sym (append-nil old) }
-
-pub notes_one : (old new : List (List Batch)) (note : List Batch) → new ≡ old ++ note ∷ [] → IsPrefix old new
-notes_one old new note is = record { rest = note ∷ []; is = is }
 
 -- what is stored in the journal of a clash is named by its note
 pub clash_names : (old new : List (List Batch)) (note : List Batch) (games : List Game) → new ≡ old ++ note ∷ [] → AreGamesOf note games → AreNamed new (numbers_of games)
@@ -44,58 +38,16 @@ clash_names old new note games is are id n e =
 -- ---- what stays settled
 
 module _ {J : Type 0} (start : Option Store) (groups : List (List Cut)) (old new : OpenImport J) (receipts : new.receipts.items ≡ old.receipts.items) (refused : new.refused.items ≡ old.refused.items)
-    (label_is : new.group.label ≡ old.group.label) (grew : IsPrefix old.clashes.items new.clashes.items) where
-  beside_grown : ProgressBeside groups old → ProgressBeside groups new
-  beside_grown p =
-      let P : List (Receipt J) → Type 0 = λ l. AreReceipts 0 l p.batches in
-      let L : List ℕ → Type 0 = λ l. AccountedBeside l groups p.batches old.refused.items in
-      let Q : List Refusal → Type 0 = λ l. AccountedBeside new.group.label groups p.batches l in
-      let S : List Refusal → Type 0 = λ l. AreRepeats (all_cuts groups) new.clashes.items l in
-      record {
-        batches = p.batches;
-        are_receipts = subst P (sym receipts) p.are_receipts;
-        accounted = subst Q (sym refused) (subst L (sym label_is) p.accounted);
-        repeats = subst S (sym refused) (all-repeats-grow (all_cuts groups) (all_cuts groups) old.clashes.items new.clashes.items old.refused.items (λ cut c. c) grew p.repeats);
-      }
-
-  settled_grown : (told : Option Store) → IsSettledSo start groups old told → IsSettledSo start groups new told
-  settled_grown told s = record {
-    beside = beside_grown s.beside;
-    alone = λ known is.
-        let L : List ℕ → Type 0 = λ l. Progress l known groups old.receipts.items old.refused.items told in
-        let P : List Refusal → Type 0 = λ l. Progress new.group.label known groups new.receipts.items l told in
-        let Q : List (Receipt J) → Type 0 = λ l. Progress new.group.label known groups l old.refused.items told in
-        subst P (sym refused) (subst Q (sym receipts) (subst L (sym label_is) (s.alone known is)));
+    (label_is : new.group.label ≡ old.group.label) (grew : IsPrefix old.clashes.items new.clashes.items) (told told' : Option Store) (next : List Cut) (s : IsSettledSo start groups old told) where
+  pub lacks_behind : ((known : Known) → told ≡ Some (store_of known) → MayHaveMore old.group.label known (next ∷ []) told') → LacksBehind start groups (next ∷ []) new told'
+  lacks_behind lacks = record {
+    before = told;
+    settled = settled_grown new label_is receipts refused grew s;
+    lacks = λ known is. let M : List ℕ → Type 0 = λ l. MayHaveMore l known (next ∷ []) told' in subst M (sym label_is) (lacks known is);
   }
 
-  pub lacks_behind : (told told' : Option Store) (next : List Cut) → IsSettledSo start groups old told → ((known : Known) → told ≡ Some (store_of known) → MayHaveMore old.group.label known (next ∷ []) told')
-      → LacksBehind start groups (next ∷ []) new told'
-  lacks_behind told told' next s lacks =
-      let now = settled_grown told s in
-      record {
-        before = told;
-        settled = now;
-        alone = λ known is.
-            let p = now.alone known is in
-            let M : List ℕ → Type 0 = λ l. MayHaveMore l p.known (next ∷ []) told' in
-            subst M (sym label_is) (lacks p.known p.still);
-      }
-
-  pub stops_behind : (told told' : Option Store) (next : List Cut) (stopped : Stopped J) → IsSettledSo start groups old told → StopsBeside old.group.label next new.clashes.items stopped
-      → ((known : Known) → told ≡ Some (store_of known) → StopsAt old.group.label known next stopped told')
-      → vec_len new.refused + length stopped.refused.items ≤ vec_capacity new.refused → StopsBehind start groups next new stopped told'
-  stops_behind told told' next stopped s beside stops room =
-      let now = settled_grown told s in
-      record {
-        before = told;
-        settled = now;
-        beside = subst (λ (l : List ℕ). StopsBeside l next new.clashes.items stopped) (sym label_is) beside;
-        alone = λ known is.
-            let p = now.alone known is in
-            let S : List ℕ → Type 0 = λ l. StopsAt l p.known next stopped told' in
-            subst S (sym label_is) (stops p.known p.still);
-        room = room;
-      }
+  pub stops_behind : (stopped : Stopped J) → IsStoppedBy new.group.label next new.clashes.items told stopped told' → vec_len new.refused + length stopped.refused.items ≤ vec_capacity new.refused → StopsBehind start groups next new stopped told'
+  stops_behind stopped stops room = record { before = told; settled = settled_grown new label_is receipts refused grew s; stops = stops; room = room }
 
 -- ---- vectors and numbers
 

@@ -17,7 +17,7 @@ use Rattle.import_run.specs.Ahead.{CanGoOn, HoldsAhead, StandsFor, left_by, left
 use Rattle.import_run.specs.Apart.{IsInHand}
 use Rattle.import_run.specs.Committing.{Store}
 use Rattle.import_run.specs.Grouping.{IsTallied}
-use Rattle.import_run.specs.Taking.{IsSettledSo}
+use Rattle.import_run.specs.Settled.{IsSettledSo}
 use Rattle.import_run.specs.Underway.{CanSettle, IsOver, IsUnderway, LacksReading}
 use Rattle.import_run.proofs.UnderwayLemmas.{holds_closed, lacks_reading, lacks_waiting}
 

@@ -34,6 +34,7 @@ use Rattle.import_run.proofs.HoldLemmas.{holds_texts}
 use Rattle.import_run.proofs.ReadLemmas.{early_faults, longer, no_fault, one_byte, read_more}
 use Rattle.import_run.proofs.RepeatLemmas.{all-repeats-grow}
 use Rattle.import_run.proofs.ReportLemmas.{AccountedFront, NotPreamble, accounted_front, accounted_whole, all_cuts-last, breaks_last, breaks_within, front_of_all, games_within, some_whole}
+use Rattle.import_run.proofs.SettledLemmas.{settled_beside, stop_beside}
 use Rattle.import_run.proofs.SoFarLemmas.{BeginSoFar, ended_taken, lacking_so_far, stopped_so_far}
 use Rattle.import_run.proofs.StreamCutLemmas.{cuts_few, no_preamble}
 
@@ -92,6 +93,9 @@ behind_closed stream closed rest is some = no_preamble stream (all_cuts closed) 
 
 -- ---- reports
 
+abbrev Beside : {J : Type 0} → List (List Cut) → OpenImport J → Type 0
+Beside groups import = ProgressBeside import.group.label groups import.receipts.items import.refused.items import.clashes.items
+
 module _ {J : Type 0} (stream : List ℕ) (left_over : Option (List ℕ)) where
   -- what is said of an end
   record EndsSo (label : List ℕ) (end : End J) (batches : List Batch) (refused : List Refusal) : Type 0 where
@@ -125,17 +129,17 @@ module _ {J : Type 0} (stream : List ℕ) (left_over : Option (List ℕ)) where
   ends_stopped {label} ends.OutOfMemory batches refused left so breaks beside = absurd so
 
   module _ (report : Report J) (import : OpenImport J) (receipts : report.receipts.items ≡ import.receipts.items) (clashes : report.clashes.items ≡ import.clashes.items) (below : length stream < input_limit) where
-    front_receipts : (gs : List (List Cut)) (p : ProgressBeside gs import) → AreReceipts 0 report.receipts.items p.batches
+    front_receipts : (gs : List (List Cut)) (p : Beside gs import) → AreReceipts 0 report.receipts.items p.batches
     front_receipts gs p = let P : List (Receipt J) → Type 0 = λ l. AreReceipts 0 l p.batches in subst P (sym receipts) p.are_receipts
 
-    front_few : (gs : List (List Cut)) (rest : List Cut) (p : ProgressBeside gs import) → cuts stream ≡ all_cuts gs ++ rest → games_of report.receipts.items ≤ length (cuts stream)
+    front_few : (gs : List (List Cut)) (rest : List Cut) (p : Beside gs import) → cuts stream ≡ all_cuts gs ++ rest → games_of report.receipts.items ≤ length (cuts stream)
     front_few gs rest p is =
         let within = games_within gs import.receipts.items p.batches import.refused.items p.are_receipts p.accounted in
         let long = ap (λ (l : List Cut). length l) is in
         let same = ap games_of receipts in
         omega (arith, within, long, same, length-append (all_cuts gs) rest)
 
-    front_repeats : (gs : List (List Cut)) (rest : List Cut) (p : ProgressBeside gs import) → cuts stream ≡ all_cuts gs ++ rest → AreRepeats (cuts stream) report.clashes.items import.refused.items
+    front_repeats : (gs : List (List Cut)) (rest : List Cut) (p : Beside gs import) → cuts stream ≡ all_cuts gs ++ rest → AreRepeats (cuts stream) report.clashes.items import.refused.items
     front_repeats gs rest p is =
         let C : Cut → List Cut → Type 0 = λ cut l. Contains l cut in
         let P : List (List Batch) → Type 0 = λ l. AreRepeats (cuts stream) l import.refused.items in
@@ -143,7 +147,7 @@ module _ {J : Type 0} (stream : List ℕ) (left_over : Option (List ℕ)) where
         (prefix-self import.clashes.items) p.repeats)
 
     -- a commit of a group ended the import
-    comes_stopped : (stopped : Stopped J) (closed : List (List Cut)) (next more : List Cut) (rest : List (List Cut)) (p : ProgressBeside closed import) (b : StopsBeside import.group.label next import.clashes.items stopped) → report.end ≡ stopped.end
+    comes_stopped : (stopped : Stopped J) (closed : List (List Cut)) (next more : List Cut) (rest : List (List Cut)) (p : Beside closed import) (b : StopsBeside import.group.label next import.clashes.items stopped) → report.end ≡ stopped.end
         → report.refused.items ≡ import.refused.items ++ stopped.refused.items → AreGroupsSoFar stream left_over (closed ++ next ∷ rest) → cuts stream ≡ all_cuts closed ++ (next ++ more)
         → BreaksAt import.group.label (groups (cuts stream)) p.batches report.refused.items b.left → ComesQuietlyBeside import.group.label stream left_over report
     comes_stopped stopped closed next more rest p b end refused are is breaks =
@@ -174,8 +178,8 @@ module _ {J : Type 0} (stream : List ℕ) (left_over : Option (List ℕ)) where
         → StopsWithin start stream import stopped told → ComesQuietlyBeside import.group.label stream left_over report
     stopped_within_beside start stopped told end refused w =
         let s = w.stops in
-        let p = s.behind.settled.beside in
-        let b = s.behind.beside in
+        let p = settled_beside s.behind.settled in
+        let b = stop_beside s.behind.stops in
         let is : cuts stream ≡ all_cuts s.closed ++ (s.next ++ w.more) = sym w.cut ∙ ap (λ (l : List Cut). l ++ w.more) s.all ∙ append_assoc (all_cuts s.closed) s.next w.more in
         let some = some_whole s.next s.whole in
         let first = no_preamble stream (all_cuts s.closed ++ s.next) w.more (sym w.cut ∙ ap (λ (l : List Cut). l ++ w.more) s.all) (omega (arith, some, length-append (all_cuts s.closed) s.next)) in
@@ -189,12 +193,12 @@ module _ {J : Type 0} (stream : List ℕ) (left_over : Option (List ℕ)) where
     stopped_at_end_beside start stopped told end refused at_end s = by (split_next s.done s.next s.rest s.all.whole s.all.hand s.all.all_are)
       where
         G : List Cut → Type 0
-        G l = BreaksAt import.group.label (groups l) s.behind.settled.beside.batches report.refused.items s.behind.beside.left
+        G l = BreaksAt import.group.label (groups l) (settled_beside s.behind.settled).batches report.refused.items (stop_beside s.behind.stops).left
 
         by : ((s.done ≡ s.all.whole) × (s.next ≡ s.all.hand)) ⊎ ((more : List (List Cut)) × (s.all.whole ≡ s.done ++ s.next ∷ more)) → ComesQuietlyBeside import.group.label stream left_over report
         by (inl same) =
-            let p = s.behind.settled.beside in
-            let b = s.behind.beside in
+            let p = settled_beside s.behind.settled in
+            let b = stop_beside s.behind.stops in
             let is : cuts stream ≡ all_cuts s.done ++ s.next = s.all.in_groups.all ∙ (λ i. all_cuts (sym same.0 i) ++ sym same.1 i) in
             let W : List (List Cut) → Type 0 = λ l. AllByRecursion IsWhole l in
             let T : List Cut → Type 0 = λ l. texts_in l ≤ 512 in
@@ -203,8 +207,8 @@ module _ {J : Type 0} (stream : List ℕ) (left_over : Option (List ℕ)) where
             comes_stopped stopped s.done s.next [] s.rest p b end refused (inr (at_end, s.all)) is'
             (subst G (sym is) (breaks_last s.done s.next p.batches import.refused.items stopped.refused.items report.refused.items b.left p.accounted b.judged b.some_left refused (subst W (sym same.0) s.all.in_groups.each) few))
         by (inr (more, whole)) =
-            let p = s.behind.settled.beside in
-            let b = s.behind.beside in
+            let p = settled_beside s.behind.settled in
+            let b = stop_beside s.behind.stops in
             let behind = all_cuts more ++ s.all.hand in
             let each : AllByRecursion IsWhole (s.done ++ s.next ∷ more) = subst (λ (l : List (List Cut)). AllByRecursion IsWhole l) whole s.all.in_groups.each in
             let is : cuts stream ≡ all_cuts s.done ++ (s.next ++ (all_cuts more ++ s.all.hand)) =
@@ -228,13 +232,13 @@ module _ {J : Type 0} (stream : List ℕ) (left_over : Option (List ℕ)) where
     -- ---- an import that nothing was refused of but what is settled
 
     module _ (refused : report.refused.items ≡ import.refused.items) where
-      settled_repeats : (gs : List (List Cut)) (rest : List Cut) (p : ProgressBeside gs import) → cuts stream ≡ all_cuts gs ++ rest → AreRepeats (cuts stream) report.clashes.items report.refused.items
+      settled_repeats : (gs : List (List Cut)) (rest : List Cut) (p : Beside gs import) → cuts stream ≡ all_cuts gs ++ rest → AreRepeats (cuts stream) report.clashes.items report.refused.items
       settled_repeats gs rest p is =
           let Q : List Refusal → Type 0 = λ l. AreRepeats (cuts stream) report.clashes.items l in
           subst Q (sym refused) (front_repeats gs rest p is)
 
       -- memory was wanting
-      comes_lacking : (gs : List (List Cut)) (rest : List Cut) (p : ProgressBeside gs import) → report.end ≡ ends.OutOfMemory → BeginSoFar stream left_over gs [] → cuts stream ≡ all_cuts gs ++ rest
+      comes_lacking : (gs : List (List Cut)) (rest : List Cut) (p : Beside gs import) → report.end ≡ ends.OutOfMemory → BeginSoFar stream left_over gs [] → cuts stream ≡ all_cuts gs ++ rest
           → AccountedFront import.group.label (groups (cuts stream)) p.batches import.refused.items → ComesQuietlyBeside import.group.label stream left_over report
       comes_lacking gs rest p end so_far is front =
           let P : List Refusal → Type 0 = λ l. EndsSo import.group.label ends.OutOfMemory p.batches l in
@@ -244,7 +248,7 @@ module _ {J : Type 0} (stream : List ℕ) (left_over : Option (List ℕ)) where
           (subst P (sym refused) (record { accounts = (front.finished, (front.unread, front.left_unread, front.accounts)); stands = lacks; quiet = λ old new same. inl same }))
           (front_receipts gs p) (settled_repeats gs rest p is) (front_few gs rest p is)
 
-      lacks_front : (gs : List (List Cut)) (rest : List Cut) (p : ProgressBeside gs import) → report.end ≡ ends.OutOfMemory → BeginSoFar stream left_over gs [] → AllByRecursion IsWhole gs → cuts stream ≡ all_cuts gs ++ rest
+      lacks_front : (gs : List (List Cut)) (rest : List Cut) (p : Beside gs import) → report.end ≡ ends.OutOfMemory → BeginSoFar stream left_over gs [] → AllByRecursion IsWhole gs → cuts stream ≡ all_cuts gs ++ rest
           → ComesQuietlyBeside import.group.label stream left_over report
       lacks_front gs rest p end so_far each is =
           let P : List Cut → Type 0 = λ l. AccountedFront import.group.label (groups l) p.batches import.refused.items in
@@ -254,7 +258,7 @@ module _ {J : Type 0} (stream : List ℕ) (left_over : Option (List ℕ)) where
       lacking_within_beside start told end w =
           let l = w.lacks in
           let front = lacking_so_far start stream left_over import told w in
-          lacks_front l.closed ((all_cuts l.others ++ l.hand) ++ w.more) l.behind.settled.beside end (l.others ++ front.0, front.1) l.each
+          lacks_front l.closed ((all_cuts l.others ++ l.hand) ++ w.more) (settled_beside l.behind.settled) end (l.others ++ front.0, front.1) l.each
           (sym w.cut ∙ ap (λ (k : List Cut). k ++ w.more) l.all ∙ append_assoc (all_cuts l.closed) (all_cuts l.others ++ l.hand) w.more)
 
       pub lacking_at_end_beside : (start : Option Store) (told : Option Store) → report.end ≡ ends.OutOfMemory → IsAtEnd left_over → LacksAtEnd start (cuts stream) import told → ComesQuietlyBeside import.group.label stream left_over report
@@ -262,7 +266,7 @@ module _ {J : Type 0} (stream : List ℕ) (left_over : Option (List ℕ)) where
         where
           by : (l.done ≡ l.all.whole ++ l.all.hand ∷ []) ⊎ ((more : List (List Cut)) × (l.all.whole ≡ l.done ++ more)) → ComesQuietlyBeside import.group.label stream left_over report
           by (inl all) =
-              let p = l.behind.settled.beside in
+              let p = settled_beside l.behind.settled in
               let A : List (List Cut) → Type 0 = λ g. AccountedBeside import.group.label g p.batches import.refused.items in
               let few : texts_in l.all.hand ≤ 512 = (let f = l.all.in_groups.few in omega (arith, f)) in
               let whole = accounted_whole l.all.whole l.all.hand p.batches import.refused.items l.all.in_groups.each few (subst A all p.accounted) in
@@ -270,7 +274,7 @@ module _ {J : Type 0} (stream : List ℕ) (left_over : Option (List ℕ)) where
               let is : cuts stream ≡ all_cuts l.done ++ [] = l.all.in_groups.all ∙ sym (ap all_cuts all ∙ all_cuts-last l.all.whole l.all.hand) ∙ sym (append-nil (all_cuts l.done)) in
               comes_lacking l.done [] p end (l.rest, inr (at_end, l.all)) is (front_of_all (groups (cuts stream)) p.batches import.refused.items (subst B (sym l.all.in_groups.all) whole))
           by (inr (more, whole)) =
-              let p = l.behind.settled.beside in
+              let p = settled_beside l.behind.settled in
               let each : AllByRecursion IsWhole (l.done ++ more) = subst (λ (g : List (List Cut)). AllByRecursion IsWhole g) whole l.all.in_groups.each in
               lacks_front l.done (all_cuts more ++ l.all.hand) p end (l.rest, inr (at_end, l.all)) (each-front IsWhole l.done more each)
               (l.all.in_groups.all ∙ ap (λ (g : List (List Cut)). all_cuts g ++ l.all.hand) whole ∙ ap (λ (k : List Cut). k ++ l.all.hand) (all_cuts-append l.done more)
@@ -278,7 +282,7 @@ module _ {J : Type 0} (stream : List ℕ) (left_over : Option (List ℕ)) where
 
       pub whole_beside : (start : Option Store) (told : Option Store) → report.end ≡ ends.Whole → IsAtEnd left_over → TakenAll start (cuts stream) import told → ComesQuietlyBeside import.group.label stream left_over report
       whole_beside start told end at_end t =
-          let p = t.settled.beside in
+          let p = settled_beside t.settled in
           let few : texts_in t.hand ≤ 512 = (let f = t.in_groups.few in omega (arith, f)) in
           let whole = accounted_whole t.closed t.hand p.batches import.refused.items t.in_groups.each few p.accounted in
           let B : List Cut → Type 0 = λ k. AccountedBeside import.group.label (groups k) p.batches import.refused.items in
@@ -299,7 +303,7 @@ cut_off_beside {J} start stream after last import told report is few ready so_fa
     let long = ap (λ (l : List Cut). length l) is in
     let ended = ended_taken stream so_far.taken last all few (λ some. let begun = so_far.begun some [] in omega (arith, begun, long)) in
     let t = so_far.so_far in
-    let p = t.settled.beside in
+    let p = settled_beside t.settled in
     let P : List (Receipt J) → Type 0 = λ l. AreReceipts 0 l p.batches in
     let Q : List Refusal → Type 0 = λ l. AccountedBeside import.group.label t.closed p.batches l in
     let R : List Refusal → Type 0 = λ l. AreRepeats (all_cuts t.closed) report.clashes.items l in

@@ -22,6 +22,7 @@ use Rattle.import_run.specs.SoFar.{AreAllGroups, AreGroupsSoFar, AreInGroups}
 use Rattle.import_run.specs.Taking.{ComesQuietly, ComesTo, CutSoFar, IsReady, IsWholeSettled, LacksAtEnd, LacksBehind, LacksWithin, StopsAtEnd, StopsBehind, StopsIn, StopsWithin, TakenAll}
 use Rattle.import_run.proofs.AccountLemmas.{alike}
 use Rattle.import_run.proofs.HoldLemmas.{holds_texts}
+use Rattle.import_run.proofs.SettledLemmas.{settled_alone, stop_alone}
 use Rattle.import_run.proofs.SoFarLemmas.{ended_taken, lacking_so_far, stopped_so_far}
 use Rattle.import_run.proofs.StopLemmas.{EndsSo, ends_so}
 use Rattle.import_run.proofs.TakingLemmas.{lacks_more}
@@ -90,7 +91,7 @@ module _ {J : Type 0} (start : Known) (report : Report J) (stream : List ℕ) (l
   pub comes_whole : (import : OpenImport J) → report.end ≡ ends.Whole → report.receipts.items ≡ import.receipts.items → report.refused.items ≡ import.refused.items → IsAtEnd left_over → length stream < input_limit
       → (taken : List Cut) → taken ≡ cuts stream → TakenAll (Some (store_of start)) taken import told → ComesQuietly import.group.label start stream left_over report told
   comes_whole import is receipts refused at_end below taken all done =
-      let p = done.settled.alone start refl in
+      let p = settled_alone done.settled start refl in
       let R : List (Receipt J) → Type 0 = λ l. AreReceiptsOf start.journal l p.batches in
       let S : List Refusal → Type 0 = λ l. AreSettled import.group.label start (groups (cuts stream)) p.batches l in
       let G : List Cut → Type 0 = λ l. AreInGroups l done.closed done.hand in
@@ -105,8 +106,8 @@ module _ {J : Type 0} (start : Known) (report : Report J) (stream : List ℕ) (l
       (below : length stream < input_limit) where
     comes_lacking : (so_far done rest : List (List Cut)) → AreGroupsSoFar stream left_over so_far → so_far ≡ done ++ rest → LacksBehind (Some (store_of start)) done rest import told → ComesQuietly import.group.label start stream left_over report told
     comes_lacking so_far done rest are so_far_is b =
-        let p = b.settled.alone start refl in
-        let m = b.alone start refl in
+        let p = settled_alone b.settled start refl in
+        let m = b.lacks p.known p.still in
         let R : List (Receipt J) → Type 0 = λ l. AreReceiptsOf start.journal l p.batches in
         let S : List Refusal → Type 0 = λ l. AreSettled import.group.label start done p.batches l in
         let M : List Batch → Type 0 = λ j. HasMaybeOneMore j m.new.journal in
@@ -147,10 +148,10 @@ module _ {J : Type 0} (start : Known) (report : Report J) (stream : List ℕ) (l
     comes_stopped : (so_far done rest : List (List Cut)) (next : List Cut) → AreGroupsSoFar stream left_over so_far → so_far ≡ done ++ next ∷ rest → StopsBehind (Some (store_of start)) done next import stopped told
         → ComesQuietly import.group.label start stream left_over report told
     comes_stopped so_far done rest next are so_far_is b =
-        let p = b.settled.alone start refl in
+        let p = settled_alone b.settled start refl in
         let R : List (Receipt J) → Type 0 = λ l. AreReceiptsOf start.journal l p.batches in
         let S : List Refusal → Type 0 = λ l. EndsSo import.group.label start stream left_over p.batches l told stopped.end in
-        let so = subst S (sym refused) (ends_so start stream left_over done rest next import.receipts.items import.refused.items b.before p stopped told so_far below are so_far_is (b.alone start refl)) in
+        let so = subst S (sym refused) (ends_so start stream left_over done rest next import.receipts.items import.refused.items b.before p stopped told so_far below are so_far_is (stop_alone b.stops p.known p.still)) in
         quietly stopped.end is so.quiet
         (comes_by stopped.end is p.batches (subst R (sym receipts) p.receipts_are) so.new so.still so.stands so.stores)
 
@@ -186,5 +187,5 @@ whole_settled {J} start stream after last import told receipts refused is few re
       whole = t.closed;
       hand = t.hand;
       in_groups = record { all = ended ∙ t.all; each = t.each; few = omega (arith, ready.few, holds_texts t.hand import.group t.group) };
-      progress = subst P (sym refused_are) (subst Q (sym receipts_are) (t.settled.alone start refl));
+      progress = subst P (sym refused_are) (subst Q (sym receipts_are) (settled_alone t.settled start refl));
     }

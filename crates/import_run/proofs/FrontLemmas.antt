@@ -10,7 +10,8 @@ use Rattle.import_run.specs.declared.text_group.TalliedGroup.{TalliedGroup}
 use Rattle.import_run.specs.Committing.{Store}
 use Rattle.import_run.specs.Grouping.{Ascend, IsTallied}
 use Rattle.import_run.specs.Importing.{BreaksBy}
-use Rattle.import_run.specs.Taking.{IsSettledSo, LacksAmong, LacksBehind, StopsAmong, StopsBehind}
+use Rattle.import_run.specs.Settled.{IsSettledSo}
+use Rattle.import_run.specs.Taking.{LacksAmong, LacksBehind, StopsAmong, StopsBehind}
 use Rattle.import_run.proofs.TakingLemmas.{by_stop, lacks_more}
 
 -- some of these groups are settled, and the others are tallied and left

@@ -22,7 +22,6 @@ use Rattle.ingest_desk.specs.declared.clashing.Clashing.{Clashing}
 use Rattle.ingest_desk.specs.declared.fault.CommitFault.{CommitFault}
 use Rattle.ingest_desk.specs.declared.fault.CommitFault.TheVariants as faults
 use Rattle.ingest_desk.specs.declared.receipt.Receipt.{Receipt}
-use Rattle.import_run.specs.declared.settle.Done.{Done}
 use Rattle.import_run.specs.declared.text_group.TalliedGroup.{TalliedGroup}
 use Rattle.import_run.specs.Answered.{Committed, notes_of}
 use Rattle.import_run.specs.Beside.{AreNamed}
@@ -30,7 +29,7 @@ use Rattle.import_run.specs.Committing.{Commits, CommitsTo, Known, Store, cause_
 use Rattle.import_run.specs.Grouping.{Ascend, IsTallied, merged}
 use Rattle.import_run.specs.Hand.{InHand}
 use Rattle.import_run.specs.Labelling.{CountsUnder, IsTallyUnder, under}
-use Rattle.import_run.specs.Rounds.{GroupBy, IsAnswer, IsBatchOf, IsDecided, IsLacking, IsStill, MayHaveMore, MayStore, Rounds, Settles, size_of, stored_by}
+use Rattle.import_run.specs.Rounds.{GroupBy, IsBatchOf, IsDecided, IsLacking, IsStill, MayHaveMore, MayStore, Rounds, Settles, size_of, stored_by}
 use Rattle.import_run.specs.Settling.{AreRead, Fresh, id_of, kept, left_by, lost, named_by, placed}
 use Rattle.import_run.proofs.LabelLemmas.{counts_own, made_under}
 use Rattle.import_run.proofs.RepeatLemmas.{named-grow}
@@ -264,33 +263,31 @@ module _ {J : Type 0} where
   -- ---- the end of a group
 
   pub settles : {label : List ℕ} (known : Known) (cuts : List Cut) (refused : List Refusal) (counted : Counted) (clashes : List (Committed J)) (b : GroupBy label cuts (Some counted) refused clashes)
-      (answer : Result (Receipt J) (CommitFault J)) (done : Done J) (now' : Option Store) → AreRight known b.number → IsDecided answer
-      → Commits answer known counted now' → done.answer ≡ Some answer → done.refused.items ≡ refused → Settles label known cuts done now'
-  settles {label} known cuts refused counted clashes b answer done now' right never commits answer_is refused_is =
+      (answer : Result (Receipt J) (CommitFault J)) (now' : Option Store) → AreRight known b.number → IsDecided answer
+      → Commits answer known counted now' → Settles label known cuts refused (Some answer) now'
+  settles {label} known cuts refused counted clashes b answer now' right never commits =
       let N = stored_by known.fault known.games in
       let none = kept_unnamed known.fault known.games known.journal counted (kept b.number (verdicts b.examinations)) b.made (no_ids known counted commits.new answer never commits.by) in
       let same = same_settled b.number N (verdicts b.examinations) (exact b.number N (verdicts b.examinations) right none) in
       let P : List Candidate → Type 0 = λ cs. CountsUnder label cs counted in
-      let Q : Option (Result (Receipt J) (CommitFault J)) → Type 0 = λ a. IsAnswer label known (kept N (verdicts b.examinations)) a now' in
       record {
         examinations = b.examinations;
         are_examinations = b.are_examinations;
-        refused = refused_is ∙ b.refused_are ∙ ap refusals same;
-        answer = subst Q (sym answer_is) (counted, subst P (ap candidates same) b.made, commits);
+        refused_are = b.refused_are ∙ ap refusals same;
+        answered = (counted, subst P (ap candidates same) b.made, commits);
       }
 
-  pub settles_none : {label : List ℕ} (known : Known) (cuts : List Cut) (refused : List Refusal) (clashes : List (Committed J)) (b : GroupBy label cuts None refused clashes) (done : Done J) (now : Option Store) → AreRight known b.number
-      → IsStill known now → done.answer ≡ None → done.refused.items ≡ refused → Settles label known cuts done now
-  settles_none {label} known cuts refused clashes b done now right still answer_is refused_is =
+  pub settles_none : {label : List ℕ} (known : Known) (cuts : List Cut) (refused : List Refusal) (clashes : List (Committed J)) (b : GroupBy label cuts None refused clashes) (now : Option Store) → AreRight known b.number
+      → IsStill known now → Settles {J = J} label known cuts refused None now
+  settles_none {label} known cuts refused clashes b now right still =
       let N = stored_by known.fault known.games in
       let R : List Candidate → Type 0 = λ cs. AllByRecursion (λ c. N (id_of c) ≡ None) cs in
       let same = same_settled b.number N (verdicts b.examinations) (exact b.number N (verdicts b.examinations) right (subst R (sym b.made) tt)) in
-      let Q : Option (Result (Receipt J) (CommitFault J)) → Type 0 = λ a. IsAnswer label known (kept N (verdicts b.examinations)) a now in
       record {
         examinations = b.examinations;
         are_examinations = b.are_examinations;
-        refused = refused_is ∙ b.refused_are ∙ ap refusals same;
-        answer = subst Q (sym answer_is) (sym (ap candidates same) ∙ b.made, still);
+        refused_are = b.refused_are ∙ ap refusals same;
+        answered = (sym (ap candidates same) ∙ b.made, still);
       }
 
   -- ---- want of memory

@@ -2,19 +2,15 @@
 use Rattle.std.proofs.Common.{◌≡◌, ℕ, List, [], ◌∷◌, Option, None, Some, option_map, sym, ap, subst}
 use Rattle.std.proofs.lemmas.Option.{none-some, same_Some}
 use Rattle.explorer_model.specs.declared.archive.Batch.{Batch}
-use Rattle.explorer_model.specs.declared.fault.Refusal.{Refusal}
-use Rattle.explorer_model.specs.Cuts.{Cut}
 use Rattle.explorer_model.specs.Labels.{no_label}
 use Rattle.explorer_model.specs.Imports.{Candidate, batch_of}
 use Rattle.tally_rows.specs.Tally.{Counted}
 use Rattle.batch_tally.specs.Tallying.{Counts, IsTallyMade}
 use Rattle.outside.specs.Stream.{Stream}
-use Rattle.ingest_desk.specs.declared.receipt.Receipt.{Receipt}
 use Rattle.ingest_desk.specs.declared.report.Report.{Report}
 use Rattle.import_run.specs.Committing.{Known, Store}
 use Rattle.import_run.specs.EndingBeside.{ImportsBeside}
 use Rattle.import_run.specs.Labelling.{CountsUnder, IsTallyUnder, under}
-use Rattle.import_run.specs.Progress.{Progress}
 use Rattle.import_run.specs.Taking.{ComesQuietly, ComesQuietlyBeside, Imports}
 
 -- the batch of candidates has the label
@@ -58,10 +54,6 @@ counts_own label cs counted counts =
 -- ---- what is said of an import, under a label that is the same
 
 module _ {J : Type 0} {label other : List ℕ} (same : label ≡ other) where
-  pub progress_as : {start : Known} {groups : List (List Cut)} {receipts : List (Receipt J)} {refused : List Refusal} {told : Option Store} → Progress label start groups receipts refused told
-      → Progress other start groups receipts refused told
-  progress_as {start} {groups} {receipts} {refused} {told} said = subst (λ (l : List ℕ). Progress l start groups receipts refused told) same said
-
   pub imports_as : {start : Known} {old new : Stream} {report : Report J} {told : Option Store} → Imports label start old new report told → Imports other start old new report told
   imports_as {start} {old} {new} {report} {told} said = subst (λ (l : List ℕ). Imports l start old new report told) same said
 

@@ -42,6 +42,7 @@ mod ReportOverLemmas
 mod RoundLemmas
 pub mod SameGroups
 mod SendLemmas
+mod SettledLemmas
 mod ShortLemmas
 mod SinceLemmas
 pub mod SoFarLemmas

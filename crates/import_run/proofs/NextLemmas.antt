@@ -1,5 +1,5 @@
 -- One more group is settled.
-use Rattle.std.proofs.Common.{◌≡◌, ◌⊎◌, inl, inr, ℕ, List, [], ◌∷◌, ◌++◌, map, Option, None, Some, Result, Ok, refl, sym, ap, ◌∙◌, subst, append_assoc}
+use Rattle.std.proofs.Common.{◌≡◌, ◌⊎◌, inl, inr, ℕ, List, [], ◌∷◌, ◌++◌, map, Option, None, Some, Ok, refl, sym, ap, ◌∙◌, subst, append_assoc}
 use Rattle.std.proofs.lemmas.List.{append-nil}
 use Rattle.std.specs.List.{AllByRecursion, AllZip, cons_option}
 use Rattle.std.specs.Prelude.{IsSome, is_none}
@@ -11,13 +11,11 @@ use Rattle.explorer_model.specs.Imports.{Accounted, Candidate, Examination, IsEx
 use Rattle.explorer_model.specs.Visits.{AreGamesOf}
 use Rattle.ingest_desk.specs.Causes.{Cause, IsClosed, cause}
 use Rattle.ingest_desk.specs.Commits.{IsReceiptOf}
-use Rattle.ingest_desk.specs.declared.fault.CommitFault.{CommitFault}
 use Rattle.ingest_desk.specs.declared.receipt.Receipt.{Receipt}
 use Rattle.tally_rows.specs.Tally.{Counted}
-use Rattle.import_run.specs.declared.settle.Done.{Done}
 use Rattle.import_run.specs.Committing.{Known, Store}
 use Rattle.import_run.specs.Progress.{AreReceiptsOf, HasNoCandidate, Progress, and_games}
-use Rattle.import_run.specs.Rounds.{IsAnswer, IsBatchOf, MayHaveMore, Settles, stored_by}
+use Rattle.import_run.specs.Rounds.{IsBatchOf, MayHaveMore, Settles, stored_by}
 use Rattle.import_run.proofs.HandLemmas.{lacks_still}
 use Rattle.import_run.specs.Settling.{AreRead, id_of, kept}
 use Rattle.import_run.proofs.TurnLemmas.{games-after, games_more, one_more}
@@ -125,34 +123,32 @@ module _ {J : Type 0} {label : List ℕ} (start : Known) (groups : List (List Cu
         closed = λ some. none_more p.accounted.examinations examinations (p.closed some) (closed some);
       }
 
-  pub no_batch : (done : Done J) → Settles label p.known cuts done told' → done.answer ≡ None → refused' ≡ refused ++ done.refused.items → receipts' ≡ receipts
+  pub no_batch : (here : List Refusal) → Settles {J = J} label p.known cuts here None told' → refused' ≡ refused ++ here → receipts' ≡ receipts
       → Progress label start (groups ++ cuts ∷ []) receipts' refused' told'
-  no_batch done s is refused_is receipts_is =
+  no_batch here s refused_is receipts_is =
       let vs = verdicts s.examinations in
-      let P : Option (Result (Receipt J) (CommitFault J)) → Type 0 = λ a. IsAnswer label p.known (kept (stored_by p.known.fault p.known.games) vs) a told' in
-      let a = subst P is s.answer in
+      let a = s.answered in
       let same = same_behind p.known.fault p.known.games vs (inr a.0) in
       let Q : List (Receipt J) → List Batch → Type 0 = λ r b. AreReceiptsOf start.journal r b in
       let C : List (Receipt J) → Type 0 = λ r. AreReceiptsOf start.journal r (p.batches ++ []) in
       let D : List Batch → Type 0 = λ b. AreReceiptsOf start.journal receipts b in
       step s.examinations s.are_examinations (λ some. none_kept p.known.fault p.known.games vs (is_some_by start.fault p.known.fault p.fault some) a.0)
-      (refused_is ∙ ap (λ (l : List Refusal). refused ++ l) (s.refused ∙ ap refusals same))
+      (refused_is ∙ ap (λ (l : List Refusal). refused ++ l) (s.refused_are ∙ ap refusals same))
       None (ap (λ (v : List Verdict). batch_of label (candidates v)) (sym same) ∙ ap (batch_of label) a.0)
       (subst C (sym receipts_is) (subst D (sym (append-nil p.batches)) p.receipts_are))
       (a.1 ∙ ap (λ (j : List Batch). Some (record { journal = j; fault = p.known.fault; failed = p.known.failed })) (sym (append-nil p.known.journal)))
 
-  pub one_batch : (done : Done J) (receipt : Receipt J) → Settles label p.known cuts done told' → done.answer ≡ Some (Ok receipt) → refused' ≡ refused ++ done.refused.items
+  pub one_batch : (here : List Refusal) (receipt : Receipt J) → Settles label p.known cuts here (Some (Ok receipt)) told' → refused' ≡ refused ++ here
       → receipts' ≡ receipts ++ receipt ∷ [] → Progress label start (groups ++ cuts ∷ []) receipts' refused' told'
-  one_batch done receipt s is refused_is receipts_is =
+  one_batch here receipt s refused_is receipts_is =
       let vs = verdicts s.examinations in
-      let P : Option (Result (Receipt J) (CommitFault J)) → Type 0 = λ a. IsAnswer label p.known (kept (stored_by p.known.fault p.known.games) vs) a told' in
-      let a = subst P is s.answer in
+      let a = s.answered in
       let commits = a.2 in
       let same = same_behind p.known.fault p.known.games vs (inl (not_closed p.known.fault p.known.games p.known.journal a.0 commits.by.0.refused)) in
       let C : List (Receipt J) → Type 0 = λ r. AreReceiptsOf start.journal r (p.batches ++ a.0.batch ∷ []) in
       let I : List Batch → Type 0 = λ j. IsReceiptOf receipt j a.0.batch in
       step s.examinations s.are_examinations (λ some. absurd (none_some p.known.fault (is_some_by start.fault p.known.fault p.fault some) (not_closed p.known.fault p.known.games p.known.journal a.0 commits.by.0.refused)))
-      (refused_is ∙ ap (λ (l : List Refusal). refused ++ l) (s.refused ∙ ap refusals same))
+      (refused_is ∙ ap (λ (l : List Refusal). refused ++ l) (s.refused_are ∙ ap refusals same))
       (Some a.0.batch) (ap (λ (v : List Verdict). batch_of label (candidates v)) (sym same) ∙ a.1.batch)
       (subst C (sym receipts_is) (receipts_more start.journal receipts p.batches receipt a.0.batch p.receipts_are (subst I p.journal commits.by.1)
       (commits.by.2 ∙ commits.by.0.stores ∙ ap (λ (j : List Batch). j ++ a.0.batch ∷ []) p.journal)))
@@ -161,15 +157,11 @@ module _ {J : Type 0} {label : List ℕ} (start : Known) (groups : List (List Cu
 -- ---- want of memory
 
 module _ {J : Type 0} where
-  pub lacks_none : {label : List ℕ} (known : Known) (cuts : List Cut) (done : Done J) (told' : Option Store) → Settles label known cuts done told' → done.answer ≡ None → MayHaveMore label known (cuts ∷ []) told'
-  lacks_none {label} known cuts done told' s is =
-      let P : Option (Result (Receipt J) (CommitFault J)) → Type 0 = λ a. IsAnswer label known (kept (stored_by known.fault known.games) (verdicts s.examinations)) a told' in
-      let a = subst P is s.answer in
-      lacks_still label known (cuts ∷ []) told' a.1
+  pub lacks_none : {label : List ℕ} (known : Known) (cuts : List Cut) (refused : List Refusal) (told' : Option Store) → Settles {J = J} label known cuts refused None told' → MayHaveMore label known (cuts ∷ []) told'
+  lacks_none {label} known cuts refused told' s = lacks_still label known (cuts ∷ []) told' s.answered.1
 
-  pub lacks_one : {label : List ℕ} (known : Known) (cuts : List Cut) (done : Done J) (receipt : Receipt J) (told' : Option Store) → Settles label known cuts done told' → done.answer ≡ Some (Ok receipt) → MayHaveMore label known (cuts ∷ []) told'
-  lacks_one {label} known cuts done receipt told' s is =
-      let P : Option (Result (Receipt J) (CommitFault J)) → Type 0 = λ a. IsAnswer label known (kept (stored_by known.fault known.games) (verdicts s.examinations)) a told' in
-      let a = subst P is s.answer in
+  pub lacks_one : {label : List ℕ} (known : Known) (cuts : List Cut) (refused : List Refusal) (receipt : Receipt J) (told' : Option Store) → Settles label known cuts refused (Some (Ok receipt)) told' → MayHaveMore label known (cuts ∷ []) told'
+  lacks_one {label} known cuts refused receipt told' s =
+      let a = s.answered in
       let batch : IsBatchOf label known cuts a.0.batch = record { examinations = s.examinations; are_examinations = s.are_examinations; batch_is = a.1.batch } in
       record { new = a.2.new; still = a.2.still; fault = a.2.by.0.fault; journal = inr (a.0.batch, batch, a.2.by.0.stores) }

@@ -19,6 +19,7 @@ use Rattle.import_run.specs.Underway.{LacksReading, StopsReading}
 use Rattle.import_run.proofs.ComeBesideLemmas.{imports_early_beside, lacking_at_end_beside, lacking_within_beside}
 use Rattle.import_run.proofs.ComeLemmas.{lacking_at_end, lacking_within}
 use Rattle.import_run.proofs.ReadLemmas.{imports_early}
+use Rattle.import_run.proofs.SettledLemmas.{stop_beside}
 
 pub ends_early : {J : Type 0} (label : List ℕ) (end : End J) (left : List Candidate) → EndsBeside label end left → EndsEarly end
 ends_early label ends.Whole left so = absurd so
@@ -38,8 +39,8 @@ module _ {J : Type 0} (before now : Stream) (import : OpenImport J) (report : Re
     is_early start s = by s.stops
       where
         by : StopsIn start s.stream now.left import stopped told → EndsEarly report.end
-        by (inl w) = early (ends_early import.group.label stopped.end w.stops.behind.beside.left w.stops.behind.beside.ends)
-        by (inr (at_end, e)) = early (ends_early import.group.label stopped.end e.behind.beside.left e.behind.beside.ends)
+        by (inl w) = early (ends_early import.group.label stopped.end (stop_beside w.stops.behind.stops).left (stop_beside w.stops.behind.stops).ends)
+        by (inr (at_end, e)) = early (ends_early import.group.label stopped.end (stop_beside e.behind.stops).left (stop_beside e.behind.stops).ends)
 
     comes_beside : (start : Option Store) (s : StopsReading before now start import stopped told) → ComesQuietlyBeside import.group.label s.stream now.left report
     comes_beside start s = beside start s.stream now.left told s.below s.stops

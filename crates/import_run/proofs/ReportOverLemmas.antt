@@ -16,7 +16,8 @@ use Rattle.import_run.specs.declared.underway.Underway.{Underway}
 use Rattle.import_run.specs.Ahead.{CutAhead, HoldsBy}
 use Rattle.import_run.specs.Committing.{Known, Store, store_of}
 use Rattle.import_run.specs.EndingBeside.{ImportsBeside}
-use Rattle.import_run.specs.Taking.{CutSoFar, Imports, IsSettledSo, IsWholeBeside, IsWholeSettled, TakenAll}
+use Rattle.import_run.specs.Settled.{IsSettledSo}
+use Rattle.import_run.specs.Taking.{CutSoFar, Imports, IsWholeBeside, IsWholeSettled, TakenAll}
 use Rattle.import_run.specs.Underway.{IsOver}
 use Rattle.import_run.proofs.ComeBesideLemmas.{imports_bound_beside, imports_fault_beside, imports_quietly_beside, whole_beside, whole_repeats}
 use Rattle.import_run.proofs.ComeLemmas.{comes_cut_off, comes_whole}

@@ -21,7 +21,8 @@ use Rattle.import_run.specs.Apart.{CanTally, IsTalliedGroup}
 use Rattle.import_run.specs.Committing.{Store}
 use Rattle.import_run.specs.Grouping.{Ascend, IsGroupOf, IsTallied}
 use Rattle.import_run.specs.Importing.{BreaksBy}
-use Rattle.import_run.specs.Taking.{IsSettledSo, LacksAmong, StopsAmong}
+use Rattle.import_run.specs.Settled.{IsSettledSo}
+use Rattle.import_run.specs.Taking.{LacksAmong, StopsAmong}
 use Rattle.import_run.specs.Underway.{IsUnderway, LacksReading, StopsReading, Turns}
 use Rattle.import_run.proofs.AheadLemmas.{stands_for}
 use Rattle.import_run.proofs.TakingLemmas.{by_stop}

@@ -152,7 +152,7 @@ pub record EndsSo {J : Type 0} (label : List ℕ) (start : Known) (stream : List
 module _ {J : Type 0} {label : List ℕ} (start : Known) (stream : List ℕ) (left_over : Option (List ℕ)) (done rest : List (List Cut)) (next : List Cut) (receipts : List (Receipt J)) (refused : List Refusal) (before : Option Store)
     (p : Progress label start done receipts refused before) (stopped : Stopped J) (told : Option Store) (so_far : List (List Cut)) (below : length stream < input_limit)
     (are : AreGroupsSoFar stream left_over so_far) (so_far_is : so_far ≡ done ++ next ∷ rest) where
-  ends_at : (fault : CommitFault J) → Settles label p.known next (record { answer = Some (Err fault); refused = stopped.refused }) told → EndsAt label start stream left_over p.batches (refused ++ stopped.refused.items)
+  ends_at : (fault : CommitFault J) → Settles label p.known next stopped.refused.items (Some (Err fault)) told → EndsAt label start stream left_over p.batches (refused ++ stopped.refused.items)
   ends_at fault s = record {
     below = below;
     so_far = so_far;
@@ -171,37 +171,37 @@ module _ {J : Type 0} {label : List ℕ} (start : Known) (stream : List ℕ) (le
       examinations = s.examinations;
       are_examinations = s.are_examinations;
       left_are = refl;
-      some_left = some_left label (kept (stored_by p.known.fault p.known.games) (verdicts s.examinations)) s.answer.0.batch s.answer.1.batch;
-      refused_are = ap (λ (l : List Refusal). refused ++ l) s.refused;
+      some_left = some_left label (kept (stored_by p.known.fault p.known.games) (verdicts s.examinations)) s.answered.0.batch s.answered.1.batch;
+      refused_are = ap (λ (l : List Refusal). refused ++ l) s.refused_are;
     };
   }
 
   same_store : (new : Store) → new.journal ≡ p.known.journal → new.fault ≡ p.known.fault → (new.journal ≡ start.journal ++ p.batches) × (new.fault ≡ start.fault)
   same_store new journal fault = (journal ∙ p.journal, fault ∙ p.fault)
 
-  ends_by : (fault : CommitFault J) → IsEndOf fault stopped.end → IsDecided {J = J} (Err fault) → Settles label p.known next (record { answer = Some (Err fault); refused = stopped.refused }) told
+  ends_by : (fault : CommitFault J) → IsEndOf fault stopped.end → IsDecided {J = J} (Err fault) → Settles label p.known next stopped.refused.items (Some (Err fault)) told
       → EndsSo label start stream left_over p.batches (refused ++ stopped.refused.items) told stopped.end
   unfolding ends_at
   ends_by (faults.Clash handed pairs note) is decided s = absurd decided
   ends_by (faults.OutOfMemory stored) is decided s = absurd decided
   ends_by (faults.Closed before' after mark) is decided s =
-      let commits = s.answer.2 in
+      let commits = s.answered.2 in
       let P : End J → Type 0 = λ e. EndsSo label start stream left_over p.batches (refused ++ stopped.refused.items) told e in
       subst P (sym is) (record {
-        stands = (commits.by.1, sym p.fault ∙ closed_cause p.known.fault p.known.games p.known.journal s.answer.0 before' after commits.by.0.refused, ends_at (faults.Closed before' after mark) s);
+        stands = (commits.by.1, sym p.fault ∙ closed_cause p.known.fault p.known.games p.known.journal s.answered.0 before' after commits.by.0.refused, ends_at (faults.Closed before' after mark) s);
         quiet = λ old new same. inl same;
         new = commits.new;
         still = commits.still;
         stores = same_store commits.new commits.by.0.stores commits.by.0.fault;
       })
   ends_by (faults.DiskFault before' after mark) is decided s =
-      let commits = s.answer.2 in
-      let opens = open_cause p.known.fault p.known.games p.known.journal s.answer.0 commits.by.0.refused in
-      let K : Option (ℕ × ℕ) → Type 0 = λ f. cause f p.known.games p.known.journal s.answer.0 ≡ None in
-      let room = room_cause p.known.games p.known.journal s.answer.0 (subst K opens commits.by.0.refused) in
+      let commits = s.answered.2 in
+      let opens = open_cause p.known.fault p.known.games p.known.journal s.answered.0 commits.by.0.refused in
+      let K : Option (ℕ × ℕ) → Type 0 = λ f. cause f p.known.games p.known.journal s.answered.0 ≡ None in
+      let room = room_cause p.known.games p.known.journal s.answered.0 (subst K opens commits.by.0.refused) in
       let left = kept (stored_by p.known.fault p.known.games) (verdicts s.examinations) in
       let within = over_false (game_count p.known.journal + length left) (byte_count p.known.journal + sum_by (λ (candidate : Candidate). length candidate.text) left)
-      (sym (over_with label p.known.journal left s.answer.0.batch s.answer.1.batch) ∙ room.room) in
+      (sym (over_with label p.known.journal left s.answered.0.batch s.answered.1.batch) ∙ room.room) in
       let P : End J → Type 0 = λ e. EndsSo label start stream left_over p.batches (refused ++ stopped.refused.items) told e in
       let H : List Batch → Type 0 = λ j. HasRoomFor j left in
       let M : Option Batch → Type 0 = λ failed. IsMark kinds.DiskFault before' after failed mark in
@@ -209,7 +209,7 @@ module _ {J : Type 0} {label : List ℕ} (start : Known) (stream : List ℕ) (le
         stands = (
           subst M (sym commits.by.0.fails) commits.by.1,
           sym p.fault ∙ opens,
-          (ends_at (faults.DiskFault before' after mark) s, subst H p.journal within, commits.by.0.fails ∙ sym s.answer.1.batch),
+          (ends_at (faults.DiskFault before' after mark) s, subst H p.journal within, commits.by.0.fails ∙ sym s.answered.1.batch),
         );
         quiet = λ old new same. inl same;
         new = commits.new;
@@ -217,12 +217,12 @@ module _ {J : Type 0} {label : List ℕ} (start : Known) (stream : List ℕ) (le
         stores = (commits.by.0.stores ∙ p.journal, commits.by.0.fault);
       })
   ends_by (faults.Full games bytes note) is decided s =
-      let commits = s.answer.2 in
-      let full = full_cause p.known.fault p.known.games p.known.journal s.answer.0 games bytes commits.by.0.refused in
+      let commits = s.answered.2 in
+      let full = full_cause p.known.fault p.known.games p.known.journal s.answered.0 games bytes commits.by.0.refused in
       let left = kept (stored_by p.known.fault p.known.games) (verdicts s.examinations) in
-      let ids = counted_ids left s.answer.0 s.answer.1 in
+      let ids = counted_ids left s.answered.0 s.answered.1 in
       let new = kept_none (numbers_of p.known.games) 0 left (ap (clashes_from 0 (numbers_of p.known.games)) (sym ids) ∙ full.1.by.new) in
-      let over = sym (over_with label p.known.journal left s.answer.0.batch s.answer.1.batch) ∙ full.1.by.room in
+      let over = sym (over_with label p.known.journal left s.answered.0.batch s.answered.1.batch) ∙ full.1.by.room in
       let passes = over_true (game_count p.known.journal + length left) (byte_count p.known.journal + sum_by (λ (candidate : Candidate). length candidate.text) left) over in
       let told_is : note ≡ p.known.journal = commits.by.1 ∙ commits.by.0.stores in
       let P : End J → Type 0 = λ e. EndsSo label start stream left_over p.batches (refused ++ stopped.refused.items) told e in

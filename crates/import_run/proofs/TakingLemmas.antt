@@ -1,33 +1,26 @@
 -- Cuts that are taken one after another, and what becomes of their groups.
-use Rattle.std.proofs.Common.{◌≡◌, inl, inr, ◌+◌, ◌<◌, ◌≤◌, List, [], ◌∷◌, ◌++◌, ℕ, Option, Some, Result, Ok, Err, length, refl, sym, ap, subst, ◌∙◌, append_assoc, arith}
+use Rattle.std.proofs.Common.{◌≡◌, inl, inr, ◌+◌, ◌<◌, ◌≤◌, List, [], ◌∷◌, ◌++◌, ℕ, Option, Result, Ok, Err, length, refl, sym, ap, subst, ◌∙◌, append_assoc, arith}
 use Rattle.std.specs.Prelude.{IsErrAnd, OnOk, vec_capacity, vec_len}
 use Rattle.std.specs.List.{AllByRecursion}
 use Rattle.std.proofs.lemmas.List.{append-nil}
-use Rattle.std.proofs.lemmas.List.Elements.{All-nil}
 use Rattle.std.proofs.lemmas.Grind.{flat_map-append}
 use Rattle.plain_laws.specs.Lists.{each-append}
-use Rattle.explorer_model.specs.declared.archive.Batch.{Batch}
-use Rattle.explorer_model.specs.declared.archive.Game.{Game}
-use Rattle.explorer_model.specs.declared.fault.Refusal.{Refusal}
 use Rattle.explorer_model.specs.declared.fault.Stop.{Stop}
 use Rattle.explorer_model.specs.declared.fault.Stop.TheVariants as stops
 use Rattle.explorer_model.specs.Cuts.{Cut}
-use Rattle.explorer_model.specs.Imports.{Accounted, AccountedBeside, verdicts_in_turn}
-use Rattle.ingest_desk.specs.Reporting.{AreReceipts}
-use Rattle.ingest_desk.specs.declared.receipt.Receipt.{Receipt}
 use Rattle.import_run.specs.declared.open_import.OpenImport.{OpenImport}
 use Rattle.import_run.specs.declared.open_import.Stopped.{Stopped}
-use Rattle.import_run.specs.Beside.{AreRepeats, ProgressBeside}
-use Rattle.import_run.specs.Committing.{Known, Store, store_of}
+use Rattle.import_run.specs.Committing.{Store}
 use Rattle.import_run.specs.Grouping.{Ascend, IsGroupOf}
 use Rattle.import_run.specs.Importing.{BreaksBy, ByStop}
-use Rattle.import_run.specs.Progress.{Progress}
+use Rattle.import_run.specs.Settled.{IsSettledSo}
 use Rattle.import_run.specs.SoFar.{AreAllGroups, AreInGroups, IsWhole}
-use Rattle.import_run.specs.Taking.{IsSettledSo, LacksAtEnd, LacksBehind, LacksSoFar, StopsAtEnd, StopsBehind, StopsIn, StopsSoFar, TakenAll, TakenSoFar}
+use Rattle.import_run.specs.Taking.{LacksAtEnd, LacksBehind, LacksSoFar, StopsAtEnd, StopsBehind, StopsIn, StopsSoFar, TakenAll, TakenSoFar}
 use Rattle.import_run.proofs.GroupLemmas.{all_cuts}
 use Rattle.import_run.proofs.HandLemmas.{lacks_still, stores_more}
 use Rattle.import_run.proofs.HoldLemmas.{holds_texts, is_whole}
 use Rattle.import_run.proofs.PlaceLemmas.{ascend_back}
+use Rattle.import_run.proofs.SettledLemmas.{same_settled, settled_none}
 use Rattle.import_run.proofs.SoFarLemmas.{in_groups, regroup_all}
 
 -- ---- results
@@ -65,78 +58,15 @@ pub all_cuts-more : (closed : List (List Cut)) (hand : List Cut) → all_cuts (c
 all_cuts-more closed hand =
     append-nil (all_cuts (closed ++ hand ∷ [])) ∙ flat_map-append (λ (group : List Cut). group) closed (hand ∷ []) ∙ ap (λ (l : List Cut). all_cuts closed ++ l) (append-nil hand)
 
-unfoldable accounted_none : (label : List ℕ) (stored : List Game) → Accounted label stored [] [] []
-unfolding verdicts_in_turn
-accounted_none label stored = record { examinations = []; are_examinations = tt; yields = record { batches_are = refl; refused_are = refl } }
-
 module _ {J : Type 0} (start : Option Store) where
   -- ---- what is settled
-
-  progress_none : (label : List ℕ) (known : Known) (told : Option Store) → told ≡ Some (store_of known) → Progress {J = J} label known [] [] [] told
-  unfolding accounted_none
-  progress_none label known told still = record {
-    batches = [];
-    accounted = accounted_none label known.games;
-    receipts_are = tt;
-    known = known;
-    still = still;
-    journal = sym (append-nil known.journal);
-    games = refl;
-    fault = refl;
-    closed = λ some. tt;
-  }
-
-  same_progress : (label : List ℕ) (known : Known) (groups : List (List Cut)) (receipts receipts' : List (Receipt J)) (refused refused' : List Refusal) (told : Option Store) → receipts' ≡ receipts → refused' ≡ refused
-      → Progress label known groups receipts refused told → Progress label known groups receipts' refused' told
-  same_progress label known groups receipts receipts' refused refused' told is also p =
-      let P : List Refusal → Type 0 = λ l. Progress label known groups receipts' l told in
-      let Q : List (Receipt J) → Type 0 = λ l. Progress label known groups l refused told in
-      subst P (sym also) (subst Q (sym is) p)
-
-  beside_none : (import : OpenImport J) → import.receipts.items ≡ [] → import.refused.items ≡ [] → ProgressBeside [] import
-  unfolding verdicts_in_turn
-  beside_none import receipts refused =
-      let P : List (Receipt J) → Type 0 = λ l. AreReceipts 0 l [] in
-      let Q : List Refusal → Type 0 = λ l. AccountedBeside import.group.label [] [] l in
-      let S : List Refusal → Type 0 = λ l. AreRepeats [] import.clashes.items l in
-      record {
-        batches = [];
-        are_receipts = subst P (sym receipts) tt;
-        accounted = subst Q (sym refused) (record { examinations = []; are_examinations = tt; numbers = []; one_each = refl; yields = record { batches_are = refl; refused_are = refl } });
-        repeats = subst S (sym refused) (All-nil _);
-      }
-
-  same_beside : (groups : List (List Cut)) (old new : OpenImport J) → new.group.label ≡ old.group.label → new.receipts.items ≡ old.receipts.items → new.refused.items ≡ old.refused.items → new.clashes.items ≡ old.clashes.items
-      → ProgressBeside groups old → ProgressBeside groups new
-  same_beside groups old new label_is receipts refused clashes p =
-      let P : List (Receipt J) → Type 0 = λ l. AreReceipts 0 l p.batches in
-      let Q : List Refusal → Type 0 = λ l. AccountedBeside new.group.label groups p.batches l in
-      let L : List ℕ → Type 0 = λ l. AccountedBeside l groups p.batches old.refused.items in
-      let S : List Refusal → Type 0 = λ l. AreRepeats (all_cuts groups) new.clashes.items l in
-      let T : List (List Batch) → Type 0 = λ l. AreRepeats (all_cuts groups) l old.refused.items in
-      record {
-        batches = p.batches;
-        are_receipts = subst P (sym receipts) p.are_receipts;
-        accounted = subst Q (sym refused) (subst L (sym label_is) p.accounted);
-        repeats = subst S (sym refused) (subst T (sym clashes) p.repeats);
-      }
-
-  -- what is settled stays where a cut is put into the group in hand
-  pub same_settled : (groups : List (List Cut)) (old new : OpenImport J) (told : Option Store) → new.group.label ≡ old.group.label → new.receipts.items ≡ old.receipts.items → new.refused.items ≡ old.refused.items → new.clashes.items ≡ old.clashes.items
-      → IsSettledSo start groups old told → IsSettledSo start groups new told
-  same_settled groups old new told label_is receipts refused clashes s = record {
-    beside = same_beside groups old new label_is receipts refused clashes s.beside;
-    alone = λ known is.
-        let L : List ℕ → Type 0 = λ l. Progress l known groups old.receipts.items old.refused.items told in
-        same_progress new.group.label known groups old.receipts.items new.receipts.items old.refused.items new.refused.items told receipts refused (subst L (sym label_is) (s.alone known is));
-  }
 
   -- memory was wanting, and nothing was done
   pub lacks_nothing : (groups : List (List Cut)) (import : OpenImport J) (told : Option Store) → IsSettledSo start groups import told → LacksBehind start groups [] import told
   lacks_nothing groups import told s = record {
     before = told;
     settled = s;
-    alone = λ known is. lacks_still import.group.label (s.alone known is).known [] told (s.alone known is).still;
+    lacks = λ known is. lacks_still import.group.label known [] told is;
   }
 
   -- the same of more groups
@@ -144,22 +74,16 @@ module _ {J : Type 0} (start : Option Store) where
   lacks_more groups others more import told b = record {
     before = b.before;
     settled = b.settled;
-    alone = λ known is.
-        let m = b.alone known is in
-        record { new = m.new; still = m.still; fault = m.fault; journal = stores_more import.group.label (b.settled.alone known is).known others more m.new.journal m.journal };
+    lacks = λ known is.
+        let m = b.lacks known is in
+        record { new = m.new; still = m.still; fault = m.fault; journal = stores_more import.group.label known others more m.new.journal m.journal };
   }
 
   -- ---- steps
 
-  pub settled_none : (import : OpenImport J) → import.receipts.items ≡ [] → import.refused.items ≡ [] → IsSettledSo start [] import start
-  settled_none import receipts refused = record {
-    beside = beside_none import receipts refused;
-    alone = λ known is. same_progress import.group.label known [] [] import.receipts.items [] import.refused.items start receipts refused (progress_none import.group.label known start is);
-  }
-
   pub taken_none : (import : OpenImport J) → IsGroupOf [] import.group → import.receipts.items ≡ [] → import.refused.items ≡ [] → TakenSoFar start [] import start
   taken_none import group receipts refused =
-      record { closed = []; hand = []; all = refl; each = tt; group = group; settled = settled_none import receipts refused }
+      record { closed = []; hand = []; all = refl; each = tt; group = group; settled = settled_none start import receipts refused }
 
   -- a cut was put into the group in hand
   pub taken_open : (taken : List Cut) (cut : Cut) (old new : OpenImport J) (told : Option Store) → ((hand : List Cut) → IsGroupOf hand old.group → IsGroupOf (hand ++ cut ∷ []) new.group)
@@ -171,7 +95,7 @@ module _ {J : Type 0} (start : Option Store) where
     all = more_cuts taken cut so_far.closed so_far.hand so_far.all;
     each = so_far.each;
     group = group so_far.hand so_far.group;
-    settled = same_settled so_far.closed old new told label_is receipts refused clashes so_far.settled;
+    settled = same_settled start so_far.closed old new told label_is receipts refused clashes so_far.settled;
   }
 
   -- memory was wanting for the next cut
@@ -184,7 +108,7 @@ module _ {J : Type 0} (start : Option Store) where
     all = ap (λ (l : List Cut). l ++ more) so_far.all ∙ append_assoc (all_cuts so_far.closed) so_far.hand more;
     each = so_far.each;
     each_other = tt;
-    behind = lacks_nothing so_far.closed new told (same_settled so_far.closed old new told label_is receipts refused clashes so_far.settled);
+    behind = lacks_nothing so_far.closed new told (same_settled start so_far.closed old new told label_is receipts refused clashes so_far.settled);
   }
 
   pub lacks_now : (taken : List Cut) (import : OpenImport J) (told : Option Store) → TakenSoFar start taken import told → LacksSoFar start taken import told
@@ -208,7 +132,7 @@ module _ {J : Type 0} (start : Option Store) where
         → Ascend (taken ++ cut ∷ []) → TakenSoFar start taken old told
         → ByStop r (TakenSoFar start (taken ++ cut ∷ []) new told') (λ stopped. StopsSoFar start (taken ++ cut ∷ []) new stopped told') (LacksSoFar start (taken ++ cut ∷ []) new told')
     taken_closed {T} r few whole none settles ascend so_far =
-        by r none (settles start so_far.closed hand (hand_ascends _ so_far.closed hand is ascend) holds (same_settled so_far.closed old mid told label_is receipts refused clashes so_far.settled))
+        by r none (settles start so_far.closed hand (hand_ascends _ so_far.closed hand is ascend) holds (same_settled start so_far.closed old mid told label_is receipts refused clashes so_far.settled))
       where
         hand : List Cut
         hand = so_far.hand ++ cut ∷ []

@@ -20,11 +20,13 @@ use Rattle.import_run.specs.Apart.{IsInHand, IsTalliedGroup}
 use Rattle.import_run.specs.Committing.{Store}
 use Rattle.import_run.specs.Grouping.{Ascend, IsGroupOf, IsTallied}
 use Rattle.import_run.specs.SoFar.{AreAllGroups, IsWhole}
-use Rattle.import_run.specs.Taking.{CutSoFar, IsSettledSo, LacksAmong, LacksAtEnd, LacksWithin, StopsAmong, StopsAtEnd, StopsWithin, TakenAll}
+use Rattle.import_run.specs.Settled.{IsSettledSo}
+use Rattle.import_run.specs.Taking.{CutSoFar, LacksAmong, LacksAtEnd, LacksWithin, StopsAmong, StopsAtEnd, StopsWithin, TakenAll}
 use Rattle.import_run.specs.Underway.{IsUnderway, LacksReading, StopsReading}
 use Rattle.import_run.proofs.GroupLemmas.{all_cuts}
 use Rattle.import_run.proofs.SoFarLemmas.{regroup, regroup_all}
-use Rattle.import_run.proofs.TakingLemmas.{lacks_more, lacks_nothing, same_settled}
+use Rattle.import_run.proofs.SettledLemmas.{same_settled}
+use Rattle.import_run.proofs.TakingLemmas.{lacks_more, lacks_nothing}
 
 -- ---- lists of groups
 

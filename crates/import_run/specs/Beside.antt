@@ -20,9 +20,7 @@ use Rattle.ingest_desk.specs.declared.mark.MarkKind.TheVariants as kinds
 use Rattle.ingest_desk.specs.declared.receipt.Receipt.{Receipt}
 use Rattle.ingest_desk.specs.declared.report.End.{End}
 use Rattle.ingest_desk.specs.declared.report.End.TheVariants as ends
-use Rattle.import_run.specs.declared.open_import.OpenImport.{OpenImport}
 use Rattle.import_run.specs.declared.open_import.Stopped.{Stopped}
-use Rattle.import_run.specs.declared.settle.Done.{Done}
 use Rattle.import_run.specs.Labelling.{CountsUnder}
 use Rattle.import_run.specs.Settling.{kept, lost}
 
@@ -71,14 +69,15 @@ AnswersFor label candidates (Some answer) =
 
 -- The texts whose ids were found to be stored are refused with their numbers, and the others are
 -- handed over as one batch under the label.
-pub record SettlesBeside {J : Type 0} (label : List ℕ) (cuts : List Cut) (done : Done J)
-    (clashes : List (List Batch)) : Type 0 where
+pub record SettlesBeside {J : Type 0} (label : List ℕ) (cuts : List Cut) (refused : List Refusal)
+    (answer : Option (Result (Receipt J) (CommitFault J))) (clashes : List (List Batch))
+    : Type 0 where
   pub examinations : List Examination
   pub are_examinations : AllZip IsExaminationOf cuts examinations
   pub number : Numbering
   pub named : AreNamed clashes number
-  pub refused : done.refused.items ≡ lost number (verdicts examinations)
-  pub answer : AnswersFor label (kept number (verdicts examinations)) done.answer
+  pub refused_are : refused ≡ lost number (verdicts examinations)
+  pub answered : AnswersFor label (kept number (verdicts examinations)) answer
 
 -- ---- an import
 
@@ -93,13 +92,13 @@ AreRepeats cuts clashes refused =
     All (λ refusal. RepeatsBy cuts clashes refusal.place refusal.why) refused
 
 -- the groups are accounted under the label by the batches of the receipts and by the refusals
-pub record ProgressBeside {J : Type 0} (groups : List (List Cut)) (import : OpenImport J)
+pub record ProgressBeside {J : Type 0} (label : List ℕ) (groups : List (List Cut))
+    (receipts : List (Receipt J)) (refused : List Refusal) (clashes : List (List Batch))
     : Type 0 where
   pub batches : List Batch
-  pub are_receipts : AreReceipts 0 import.receipts.items batches
-  pub accounted : AccountedBeside import.group.label groups batches import.refused.items
-  pub repeats :
-      AreRepeats (flat_map (λ group. group) groups) import.clashes.items import.refused.items
+  pub are_receipts : AreReceipts 0 receipts batches
+  pub accounted : AccountedBeside label groups batches refused
+  pub repeats : AreRepeats (flat_map (λ group. group) groups) clashes refused
 
 -- the mark is that of the end, where what is left is the batch that failed, or the note has no room
 -- for what is left

@@ -36,8 +36,7 @@ pub record StopsAt {J : Type 0} (label : List ℕ) (known : Known) (hand : List 
   pub fault : CommitFault J
   pub is_end : IsEndOf fault stopped.end
   pub decided : IsDecided {J = J} (Err fault)
-  pub settled : Settles label known hand
-      (record { answer = Some (Err fault); refused = stopped.refused }) told
+  pub settled : Settles label known hand stopped.refused.items (Some (Err fault)) told
 
 -- the import ended at a group, whatever stands behind it
 abbrev pub EndsEarly : {J : Type 0} → End J → Type 0

@@ -17,6 +17,7 @@ pub mod Since
 pub mod SinceLaws
 pub mod Upkeep
 pub mod UpkeepLaws
+pub mod Settled
 pub mod Taking
 pub mod Ahead
 pub mod Underway

@@ -168,14 +168,14 @@ IsAnswer label known candidates (Some answer) told =
 
 -- The texts whose ids are stored are refused with their numbers, and the others are handed over as
 -- one batch under the label.
-pub record Settles {J : Type 0} (label : List ℕ) (known : Known) (cuts : List Cut) (done : Done J)
+pub record Settles {J : Type 0} (label : List ℕ) (known : Known) (cuts : List Cut)
+    (refused : List Refusal) (answer : Option (Result (Receipt J) (CommitFault J)))
     (told : Option Store) : Type 0 where
   pub examinations : List Examination
   pub are_examinations : AllZip IsExaminationOf cuts examinations
-  pub refused :
-      done.refused.items ≡ lost (stored_by known.fault known.games) (verdicts examinations)
-  pub answer : IsAnswer label known
-      (kept (stored_by known.fault known.games) (verdicts examinations)) done.answer told
+  pub refused_are : refused ≡ lost (stored_by known.fault known.games) (verdicts examinations)
+  pub answered : IsAnswer label known
+      (kept (stored_by known.fault known.games) (verdicts examinations)) answer told
 
 -- ---- want of memory
 

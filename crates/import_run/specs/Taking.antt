@@ -13,14 +13,14 @@ use Rattle.ingest_desk.specs.declared.receipt.Receipt.{Receipt}
 use Rattle.ingest_desk.specs.declared.report.Report.{Report}
 use Rattle.import_run.specs.declared.open_import.OpenImport.{OpenImport}
 use Rattle.import_run.specs.declared.open_import.Stopped.{Stopped}
-use Rattle.import_run.specs.Beside.{AreRepeats, ProgressBeside, StopsBeside}
+use Rattle.import_run.specs.Beside.{AreRepeats}
 use Rattle.import_run.specs.Committing.{Known, Store, store_of}
 use Rattle.import_run.specs.Ending.{ReadFaultsAre, StandsAt, StoresBy}
 use Rattle.import_run.specs.EndingBeside.{ComesBeside}
 use Rattle.import_run.specs.Grouping.{IsGroupOf}
-use Rattle.import_run.specs.Importing.{StopsAt}
 use Rattle.import_run.specs.Progress.{AreReceiptsOf, Progress}
 use Rattle.import_run.specs.Rounds.{MayHaveMore}
+use Rattle.import_run.specs.Settled.{IsSettledSo, IsStoppedBy}
 use Rattle.import_run.specs.SoFar.{AreAllGroups, AreInGroups, IsWhole, ended_cuts}
 
 -- the group in hand is not whole, and can be read
@@ -30,22 +30,13 @@ pub record IsReady {J : Type 0} (import : OpenImport J) : Type 0 where
 
 -- ---- groups that are settled, and how the settling of one ended
 
--- the groups are settled
-pub record IsSettledSo {J : Type 0} (start : Option Store) (groups : List (List Cut))
-    (import : OpenImport J) (told : Option Store) : Type 0 where
-  pub beside : ProgressBeside groups import
-  pub alone : (known : Known) → start ≡ Some (store_of known)
-      → Progress import.group.label known groups import.receipts.items import.refused.items told
-
 -- the groups are settled, and the next one ended the import
 pub record StopsBehind {J : Type 0} (start : Option Store) (done : List (List Cut))
     (next : List Cut) (import : OpenImport J) (stopped : Stopped J) (told : Option Store)
     : Type 0 where
   pub before : Option Store
   pub settled : IsSettledSo start done import before
-  pub beside : StopsBeside import.group.label next import.clashes.items stopped
-  pub alone : (known : Known) → (is : start ≡ Some (store_of known))
-      → StopsAt import.group.label (settled.alone known is).known next stopped told
+  pub stops : IsStoppedBy import.group.label next import.clashes.items before stopped told
   -- the refusals of the group find room behind the others
   pub room : vec_len import.refused + length stopped.refused.items ≤ vec_capacity import.refused
 
@@ -55,8 +46,8 @@ pub record LacksBehind {J : Type 0} (start : Option Store) (done others : List (
     (import : OpenImport J) (told : Option Store) : Type 0 where
   pub before : Option Store
   pub settled : IsSettledSo start done import before
-  pub alone : (known : Known) → (is : start ≡ Some (store_of known))
-      → MayHaveMore import.group.label (settled.alone known is).known others told
+  pub lacks : (known : Known) → before ≡ Some (store_of known)
+      → MayHaveMore import.group.label known others told
 
 -- one of these groups, which follow those that are settled, ended the import
 pub record StopsAmong {J : Type 0} (start : Option Store) (closed groups : List (List Cut))

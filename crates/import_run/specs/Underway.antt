@@ -19,7 +19,8 @@ use Rattle.import_run.specs.Committing.{Store}
 use Rattle.import_run.specs.Ending.{MayRise}
 use Rattle.import_run.specs.Grouping.{Ascend, IsTallied}
 use Rattle.import_run.specs.Importing.{ByStop}
-use Rattle.import_run.specs.Taking.{IsSettledSo, LacksAmong, LacksAtEnd, LacksWithin, StopsAmong, StopsIn}
+use Rattle.import_run.specs.Settled.{IsSettledSo}
+use Rattle.import_run.specs.Taking.{LacksAmong, LacksAtEnd, LacksWithin, StopsAmong, StopsIn}
 
 -- all that is in hand can be settled under the label
 pub record CanSettle {J : Type 0} (label : List ℕ) (state : Underway J) : Type 0 where

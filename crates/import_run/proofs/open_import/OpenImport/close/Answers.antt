@@ -3,7 +3,8 @@ use Rattle.import_run.specs.Grouping.{IsGroupOf, IsTallied}
 use Rattle.import_run.specs.declared.text_group.TextGroup.{TextGroup}
 use Rattle.import_run.proofs.CloseLemmas.{lacks_behind, notes_same}
 use Rattle.import_run.proofs.HandLemmas.{lacks_still}
-use Rattle.import_run.proofs.TakingLemmas.{by_lacking, same_settled}
+use Rattle.import_run.proofs.SettledLemmas.{same_settled}
+use Rattle.import_run.proofs.TakingLemmas.{by_lacking}
 use Rattle.import_run.proofs.DrawLemmas.{draws-within}
 use Rattle.import_run.proofs.open_import.OpenImport.close.Goals as goal
 

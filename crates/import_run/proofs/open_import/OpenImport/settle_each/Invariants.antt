@@ -6,7 +6,7 @@ use Rattle.ingest_desk.specs.Drawn.{DrawsFor}
 use Rattle.import_run.specs.Apart.{IsInHand}
 use Rattle.import_run.specs.Committing.{Store}
 use Rattle.import_run.specs.Grouping.{Ascend, IsTallied}
-use Rattle.import_run.specs.Taking.{IsSettledSo}
+use Rattle.import_run.specs.Settled.{IsSettledSo}
 use Rattle.import_run.proofs.FrontLemmas.{SettledFront}
 use Rattle.import_run.proofs.open_import.OpenImport.settle_each.Given as goal
 

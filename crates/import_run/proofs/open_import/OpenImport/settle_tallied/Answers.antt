@@ -1,16 +1,15 @@
-use Rattle.std.proofs.Common.{◌∷◌, [], ◌∙◌, ◌<◌, ◌-◌, List, Some, ap, sym, subst, refl, arith, length}
+use Rattle.std.proofs.Common.{◌∷◌, [], ◌∙◌, ◌<◌, ◌-◌, List, None, Some, Ok, ap, sym, subst, refl, arith, length}
 use Rattle.explorer_model.specs.declared.fault.Refusal.{Refusal}
 use Rattle.import_run.specs.Beside.{last_batches}
-use Rattle.import_run.specs.Rounds.{AnswerDecided, Settles}
-use Rattle.import_run.proofs.AnsweredLemmas.{comes_alone, comes_beside, comes_drawn, comes_lacking, draws_one, notes_of_group}
-use Rattle.import_run.proofs.BesideLemmas.{none_beside, one_beside, stops_beside}
+use Rattle.import_run.specs.Rounds.{AnswerDecided}
+use Rattle.import_run.proofs.AnsweredLemmas.{comes_alone, comes_drawn, comes_lacking, draws_one, notes_of_group}
 use Rattle.import_run.proofs.CloseLemmas.{above_last, extended, few_left, lacks_behind, notes_same, stops_behind}
 use Rattle.import_run.proofs.HandLemmas.{lacks_still}
-use Rattle.import_run.proofs.LabelLemmas.{progress_as}
-use Rattle.import_run.proofs.NextLemmas.{lacks_none, lacks_one, no_batch, one_batch}
+use Rattle.import_run.proofs.NextLemmas.{lacks_none, lacks_one}
 use Rattle.ingest_desk.specs.Drawn.{DrawsFor}
 use Rattle.import_run.specs.Draws.{DrawsAsAnswered, most_untold_by}
 use Rattle.import_run.proofs.DrawLemmas.{draws-few, draws-lacking, draws-receipt, draws-same, few-one, stopped-draws}
+use Rattle.import_run.proofs.SettledLemmas.{settled_more, settled_stopped, settled_stored}
 use Rattle.import_run.proofs.TakingLemmas.{by_lacking}
 use Rattle.import_run.proofs.open_import.OpenImport.settle_tallied.Goals as goal
 
@@ -40,97 +39,64 @@ returns-in_err-answer-clause-settles g c =
 pub returns-in_err-extend_from_slice-clause-settles : goal.returns-in_err-extend_from_slice-clause-settles
 returns-in_err-extend_from_slice-clause-settles g c =
     let d = c.in_ok-answer in
-    let settles = comes_alone c.args.self.now.group.label d.field-0 d.ensures.comes in
+    let settles = comes_alone c.args.self.now.group.label d.field-0 d.ensures.comes None c.in_default.is in
     let told = g.C.Committer.told c.args.committer.now in
     let told' = g.C.Committer.told c.settle.new.committer in
     λ start closed hand ascend holds s.
     by_lacking c.from_residual-in_err-extend_from_slice.result _ _ c.from_residual-in_err-extend_from_slice.ensures.1
     (lacks_behind start closed c.args.self.now _ c.reserve.ensures.items (c.in_err-extend_from_slice.ensures.items ∙ c.reserve-2.ensures.items) refl (notes_of_group c.settle.ensures.comes.runs) told told' hand s
-    (λ known is. lacks_none known hand d.field-0 told' (settles known hand ascend holds is) c.in_default.is))
+    (λ known is. lacks_none known hand d.field-0.refused.items told' (settles known hand ascend holds is)))
 
 pub returns-in_default-clause-settles : goal.returns-in_default-clause-settles
 returns-in_default-clause-settles g c = λ start closed hand ascend holds s.
     let d = c.in_ok-answer in
-    let settles = comes_alone c.args.self.now.group.label d.field-0 d.ensures.comes in
-    let beside = comes_beside c.args.self.now.group.label d.field-0 d.ensures.comes in
     let old = c.args.self.now in
-    let told = g.C.Committer.told c.args.committer.now in
-    let told' = g.C.Committer.told c.settle.new.committer in
     let refused = extended c.extend_from_slice.new.self.items c.reserve-2.new.self.items c.as_slice.result.now old.refused.items d.field-0.refused.items c.in_ok-extend_from_slice.ensures.items c.reserve-2.ensures.items c.as_slice.ensures.value in
-    record {
-      beside = none_beside closed old _ hand d.field-0 s.beside (beside hand ascend holds) refl (notes_of_group c.settle.ensures.comes.runs) refused c.in_default.is c.reserve.ensures.items;
-      alone = λ known is.
-          let p = s.alone known is in
-          progress_as refl
-          (no_batch known closed old.receipts.items c.reserve.new.self.items old.refused.items c.extend_from_slice.new.self.items told told' hand p
-          d.field-0 (settles p.known hand ascend holds p.still) c.in_default.is refused c.reserve.ensures.items);
-    }
+    settled_more old _ s hand d.field-0 d.ensures.comes ascend holds refl c.in_default.is refused c.reserve.ensures.items
 
 pub returns-then-batches-last_batches-clause-settles : goal.returns-then-batches-last_batches-clause-settles
 returns-then-batches-last_batches-clause-settles g c =
     let d = c.in_ok-answer in
-    let settles = comes_alone c.args.self.now.group.label d.field-0 d.ensures.comes in
+    let settles = comes_alone c.args.self.now.group.label d.field-0 d.ensures.comes (Some (Ok c.in-Ok.receipt)) (c.in-Some.is ∙ ap Some c.in-Ok.is) in
     let told = g.C.Committer.told c.args.committer.now in
     let told' = g.C.Committer.told c.settle.new.committer in
     λ start closed hand ascend holds s.
     lacks_behind start closed c.args.self.now _ c.reserve.ensures.items c.reserve-2.ensures.items refl (notes_of_group c.settle.ensures.comes.runs) told told' hand s
-    (λ known is. lacks_one known hand d.field-0 c.in-Ok.receipt told' (settles known hand ascend holds is) (c.in-Some.is ∙ ap Some c.in-Ok.is))
+    (λ known is. lacks_one known hand d.field-0.refused.items c.in-Ok.receipt told' (settles known hand ascend holds is))
 
 pub returns-in_err-extend_from_slice-in-Ok-clause-settles : goal.returns-in_err-extend_from_slice-in-Ok-clause-settles
 returns-in_err-extend_from_slice-in-Ok-clause-settles g c =
     let d = c.in_ok-answer in
-    let settles = comes_alone c.args.self.now.group.label d.field-0 d.ensures.comes in
+    let settles = comes_alone c.args.self.now.group.label d.field-0 d.ensures.comes (Some (Ok c.in-Ok.receipt)) (c.in-Some.is ∙ ap Some c.in-Ok.is) in
     let told = g.C.Committer.told c.args.committer.now in
     let told' = g.C.Committer.told c.settle.new.committer in
     λ start closed hand ascend holds s.
     by_lacking c.from_residual-in_err-extend_from_slice-in-Ok.result _ _ c.from_residual-in_err-extend_from_slice-in-Ok.ensures.1
     (lacks_behind start closed c.args.self.now _ c.reserve.ensures.items (c.in_err-extend_from_slice-in-Ok.ensures.items ∙ c.reserve-2.ensures.items) refl (notes_of_group c.settle.ensures.comes.runs) told told' hand s
-    (λ known is. lacks_one known hand d.field-0 c.in-Ok.receipt told' (settles known hand ascend holds is) (c.in-Some.is ∙ ap Some c.in-Ok.is)))
+    (λ known is. lacks_one known hand d.field-0.refused.items c.in-Ok.receipt told' (settles known hand ascend holds is)))
 
 pub returns-in-Ok-clause-settles : goal.returns-in-Ok-clause-settles
 returns-in-Ok-clause-settles g c = λ start closed hand ascend holds s.
     let d = c.in_ok-answer in
-    let settles = comes_alone c.args.self.now.group.label d.field-0 d.ensures.comes in
-    let beside = comes_beside c.args.self.now.group.label d.field-0 d.ensures.comes in
     let old = c.args.self.now in
-    let told = g.C.Committer.told c.args.committer.now in
-    let told' = g.C.Committer.told c.settle.new.committer in
     let answer = c.in-Some.is ∙ ap Some c.in-Ok.is in
     let refused = extended c.extend_from_slice-in-Ok.new.self.items c.reserve-2.new.self.items c.as_slice-in-Ok-2.result.now old.refused.items d.field-0.refused.items c.in_ok-extend_from_slice-in-Ok.ensures.items c.reserve-2.ensures.items c.as_slice-in-Ok-2.ensures.value in
     let receipts = extended c.push_reserved.new.self.items c.reserve.new.self.items (c.in-Ok.receipt ∷ []) old.receipts.items (c.in-Ok.receipt ∷ []) c.push_reserved.ensures.items c.reserve.ensures.items refl in
     let last = c.last_batches.ensures ∙ ap (λ l. last_batches 0 l) (c.as_slice-in-Ok.ensures.value ∙ c.reserve.ensures.items) in
     let above : last_batches 0 old.receipts.items < c.in-Ok.receipt.batches = above_last c.batches.result c.last_batches.result c.in-Ok.receipt.batches (last_batches 0 old.receipts.items) c.if-batches-last_batches.false c.batches.ensures last in
-    record {
-      beside = one_beside closed old _ hand d.field-0 s.beside (beside hand ascend holds) refl (notes_of_group c.settle.ensures.comes.runs) refused c.in-Ok.receipt answer above receipts;
-      alone = λ known is.
-          let p = s.alone known is in
-          progress_as refl
-          (one_batch known closed old.receipts.items c.push_reserved.new.self.items old.refused.items c.extend_from_slice-in-Ok.new.self.items told told' hand p
-          d.field-0 c.in-Ok.receipt (settles p.known hand ascend holds p.still) answer refused receipts);
-    }
+    settled_stored old _ s hand d.field-0 d.ensures.comes ascend holds refl c.in-Ok.receipt answer refused receipts above
 
 pub returns-clause-settles : goal.returns-clause-settles
 returns-clause-settles g c = λ start closed hand ascend holds s.
     let d = c.in_ok-answer in
-    let settles = comes_alone c.args.self.now.group.label d.field-0 d.ensures.comes in
-    let beside = comes_beside c.args.self.now.group.label d.field-0 d.ensures.comes in
     let answer = c.in-Some.is ∙ ap Some c.in-Err.is in
     let told = g.C.Committer.told c.args.committer.now in
     let told' = g.C.Committer.told c.settle.new.committer in
-    let judged = beside hand ascend holds in
-    let decided = subst (λ a. AnswerDecided a) answer d.ensures.comes.comes.decided in
-    let few = few_left c.args.self.now.group.label hand c.args.tallied judged.examinations judged.number holds judged.are_examinations in
-    let long = ap (λ (l : List Refusal). length l) judged.refused in
-    stops_behind start closed c.args.self.now _ c.reserve.ensures.items c.reserve-2.ensures.items refl (notes_of_group c.settle.ensures.comes.runs) told told' hand _ s
-    (stops_beside hand d.field-0 c.settle.new.clashes.items judged c.in-Err.fault _ answer decided c.end_of.ensures refl)
-    (λ known is.
-    let settled = settles known hand ascend holds is in
-    record {
-      fault = c.in-Err.fault;
-      is_end = c.end_of.ensures;
-      decided = decided;
-      settled = subst (λ a. Settles c.args.self.now.group.label known hand (record { answer = a; refused = d.field-0.refused }) told') answer settled;
-    })
+    let by = d.ensures.comes.comes.group c.args.self.now.group.label hand ascend holds in
+    let few = few_left c.args.self.now.group.label hand c.args.tallied by.examinations by.number holds by.are_examinations in
+    let long = ap (λ (l : List Refusal). length l) by.refused_are in
+    stops_behind start closed c.args.self.now _ c.reserve.ensures.items c.reserve-2.ensures.items refl (notes_of_group c.settle.ensures.comes.runs) told told' hand s _
+    (settled_stopped hand d.field-0 d.ensures.comes ascend holds c.in-Err.fault _ answer c.end_of.ensures refl)
     (omega (arith, few, long, c.in_ok-reserve-2.ensures.ok, c.len.ensures, c.len-2.ensures, c.args.tallied.places.ok.0, c.args.tallied.refused.ok.0))
 
 -- ---- what is drawn

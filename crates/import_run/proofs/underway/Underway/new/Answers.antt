@@ -1,5 +1,5 @@
 use Rattle.std.proofs.Common.{[], rules}
-use Rattle.import_run.proofs.TakingLemmas.{settled_none}
+use Rattle.import_run.proofs.SettledLemmas.{settled_none}
 use Rattle.import_run.proofs.UnderwayLemmas.{underway_closed}
 use Rattle.import_run.proofs.underway.Underway.new.Goals as goal
 
