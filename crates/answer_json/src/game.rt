@@ -67,6 +67,7 @@ pub fn push_game(alloc: Global, body: &mut Vec<u8>, game: Option<&Listed>) -> Re
     push_value(alloc, body, b",\"game\":", &value)
 }
 
+/// The JSON array of listed games.
 pub fn games_value(alloc: Global, games: &[Listed]) -> Result<Value, AllocError>
     requires { All HasPlainId games.now }
     ensures { IfOk result (λ value. view value ≡ array_by listed_value games.now) }

@@ -16,6 +16,7 @@ pub fn text_of(bytes: &[u8]) -> &str
     }
 }
 
+/// The name of a speed, as parameters and answers write it.
 pub fn speed_text(speed: Speed) -> &'static str
     ensures { result.now ≡ speed_text speed }
 {
@@ -29,6 +30,7 @@ pub fn speed_text(speed: Speed) -> &'static str
     }
 }
 
+/// `rated` or `casual`.
 pub fn mode_text(mode: Mode) -> &'static str
     ensures { result.now ≡ mode_text mode }
 {

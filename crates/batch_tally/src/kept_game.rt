@@ -46,12 +46,14 @@ impl KeptGame {
         }
     }
 
+    /// What the game's tags say.
     pub fn classes(&self) -> &Classes
         ensures { result.now ≡ self.now.classes }
     {
         &self.classes
     }
 
+    /// What the game's tags say, taken out.
     pub fn into_classes(self) -> Classes
         ensures { result ≡ self.classes }
     {

@@ -7,7 +7,7 @@ ghost use Rattle.explorer_model.specs.Keys.{packed};
 ghost use Rattle.explorer_model.specs.Tidy.{IsTidyKey};
 ghost use Rattle.batch_tally.specs.KeyedBoard.{moved};
 
-use explorer_model::chess::{Move, Piece, Position, Role, arriving, piece_of};
+use explorer_model::chess::{Move, Piece, Position, Role, arriving_piece, piece_of};
 use explorer_model::square::{Square, halfway};
 use legal_moves::board::Board;
 use packed_keys::{PositionKey, key_of, pack_squares, write_square};
@@ -136,7 +136,7 @@ fn move_packed(bytes: &mut [u8; 32], position: &Position, m: Move)
         → bytes.old ≡ packed squares → bytes.new ≡ packed (moved squares m.from.index m.to.index
         (arriving (piece_at position.now.squares m.from.index) m.promotion)) }
 {
-    let arrives = arriving(position.piece_at(m.from), m.promotion);
+    let arrives = arriving_piece(position.piece_at(m.from), m.promotion);
     write_square(bytes, m.from.index, None);
     write_square(bytes, m.to.index, arrives);
 }

@@ -57,12 +57,14 @@ pub struct Count {
 }
 
 impl Count {
+    /// The singles of the game.
     pub fn singles(&self) -> &[Single]
         ensures { result.now ≡ singles_of self.now }
     {
         part_of(self.of_run.singles.as_slice(), self.from, self.number)
     }
 
+    /// The words by which the game's singles are sorted first.
     pub fn words(&self) -> &[u64]
         ensures { result.now ≡ words_of self.now }
     {

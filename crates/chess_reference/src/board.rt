@@ -8,6 +8,7 @@ use crate::geometry::{
 use explorer_model::chess::{Color, Piece, Role, is_of_color, is_piece, piece_at};
 use explorer_model::square::rank_of;
 
+/// No piece stands there.
 pub fn is_empty(occupant: Option<Piece>) -> bool
     ensures { IsTrue result ↔ IsEmpty occupant }
 {
@@ -17,6 +18,7 @@ pub fn is_empty(occupant: Option<Piece>) -> bool
     }
 }
 
+/// Square `b` is one rank ahead of `a`, as a pawn of the colour goes (FIDE 3.7.1).
 pub fn is_rank_ahead(color: Color, a: u8, b: u8) -> bool
     ensures { IsTrue result ↔ IsRankAhead color a b }
 {
@@ -26,12 +28,14 @@ pub fn is_rank_ahead(color: Color, a: u8, b: u8) -> bool
     }
 }
 
+/// A pawn of the colour on `a` attacks `b` (FIDE 3.7.3).
 pub fn is_pawn_diagonal(color: Color, a: u8, b: u8) -> bool
     ensures { IsTrue result ↔ PawnDiagonal color a b }
 {
     is_rank_ahead(color, a, b) && files_apart(a, b) == 1
 }
 
+/// No piece stands between two squares.
 pub fn is_open(squares: &[Option<Piece>; 64], a: u8, b: u8) -> bool
     ensures { IsTrue result ↔ IsOpen squares.now a b }
 {
@@ -43,6 +47,7 @@ pub fn is_open(squares: &[Option<Piece>; 64], a: u8, b: u8) -> bool
     true
 }
 
+/// The piece, were it on `a`, would attack `b` (FIDE 3.1 to 3.8).
 pub fn role_attacks(squares: &[Option<Piece>; 64], piece: Piece, a: u8, b: u8) -> bool
     ensures { IsTrue result ↔ RoleAttacks squares.now piece.color piece.role a b }
 {
@@ -56,6 +61,7 @@ pub fn role_attacks(squares: &[Option<Piece>; 64], piece: Piece, a: u8, b: u8) -
     }
 }
 
+/// The piece on `a` attacks `b`; an empty square attacks none.
 pub fn attacks(squares: &[Option<Piece>; 64], a: u8, b: u8) -> bool
     requires { a < 64 }
     ensures { IsTrue result ↔ Attacks squares.now a b }
@@ -66,6 +72,7 @@ pub fn attacks(squares: &[Option<Piece>; 64], a: u8, b: u8) -> bool
     }
 }
 
+/// A piece of the colour attacks the square.
 pub fn is_attacked(squares: &[Option<Piece>; 64], color: Color, s: u8) -> bool
     ensures { IsTrue result ↔ IsAttacked squares.now color s }
 {
@@ -77,6 +84,7 @@ pub fn is_attacked(squares: &[Option<Piece>; 64], color: Color, s: u8) -> bool
     false
 }
 
+/// A king of the colour is attacked (FIDE 3.9).
 pub fn in_check(squares: &[Option<Piece>; 64], color: Color) -> bool
     ensures { IsTrue result ↔ InCheck squares.now color }
 {

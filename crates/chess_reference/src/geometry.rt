@@ -4,12 +4,14 @@ ghost use Rattle.explorer_model.specs.Board.{files_apart, ranks_apart, RookLine,
 
 use explorer_model::square::{file_of, rank_of};
 
+/// How many files lie from one square to another, 0 to 7.
 pub fn files_apart(a: u8, b: u8) -> u8
     ensures { result ≡ files_apart a b }
 {
     file_of(a).abs_diff(file_of(b))
 }
 
+/// How many ranks lie from one square to another.
 pub fn ranks_apart(a: u8, b: u8) -> u8
     ensures { result ≡ ranks_apart a b }
 {
@@ -30,6 +32,7 @@ pub fn is_bishop_line(a: u8, b: u8) -> bool
     a != b && files_apart(a, b) == ranks_apart(a, b)
 }
 
+/// A knight goes from one square to the other (FIDE 3.6).
 pub fn is_knight_step(a: u8, b: u8) -> bool
     ensures { IsTrue result ↔ KnightStep a b }
 {
@@ -37,6 +40,7 @@ pub fn is_knight_step(a: u8, b: u8) -> bool
     (files == 1 && ranks == 2) || (files == 2 && ranks == 1)
 }
 
+/// The squares are neighbours (FIDE 3.8.1).
 pub fn is_king_step(a: u8, b: u8) -> bool
     ensures { IsTrue result ↔ KingStep a b }
 {

@@ -10,6 +10,7 @@ use crate::pseudo_legal::{castles, is_pseudo_legal};
 use explorer_model::chess::{Move, Piece, Position, Role, is_piece};
 use explorer_model::square::{Square, halfway};
 
+/// The move is legal (FIDE 3.10).
 pub fn is_legal(position: &Position, m: Move) -> bool
     ensures { IsTrue result ↔ Legal position.now m }
 {

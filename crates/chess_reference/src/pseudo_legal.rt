@@ -9,6 +9,7 @@ use explorer_model::chess::{
 };
 use explorer_model::square::{Square, file_of, halfway, rank_of};
 
+/// The square, if there is one, has this index.
 pub fn is_square(square: Option<Square>, s: u8) -> bool
     ensures { IsTrue result ↔ IsSquare square s }
 {
@@ -39,6 +40,7 @@ pub fn promotes(color: Color, m: Move) -> bool
     }
 }
 
+/// A pawn goes one square ahead (FIDE 3.7.1).
 pub fn pawn_steps(position: &Position, m: Move) -> bool
     ensures { IsTrue result ↔ PawnSteps position.now m }
 {
@@ -47,6 +49,7 @@ pub fn pawn_steps(position: &Position, m: Move) -> bool
         && is_empty(position.piece_at(m.to))
 }
 
+/// A pawn goes two squares ahead from its first rank (FIDE 3.7.2).
 pub fn pawn_double_steps(position: &Position, m: Move) -> bool
     ensures { IsTrue result ↔ PawnDoubleSteps position.now m }
 {
@@ -58,6 +61,7 @@ pub fn pawn_double_steps(position: &Position, m: Move) -> bool
         && is_empty(piece_at(&position.squares, to))
 }
 
+/// A pawn captures, also in passing (FIDE 3.7.3).
 pub fn pawn_captures(position: &Position, m: Move) -> bool
     ensures { IsTrue result ↔ PawnCaptures position.now m }
 {
@@ -67,6 +71,7 @@ pub fn pawn_captures(position: &Position, m: Move) -> bool
             || is_square(position.en_passant, to))
 }
 
+/// The king castles to that side (FIDE 3.8.2).
 pub fn castles_to(side: Side, position: &Position, m: Move) -> bool
     ensures { IsTrue result ↔ CastlesTo side position.now m }
 {
@@ -78,6 +83,7 @@ pub fn castles_to(side: Side, position: &Position, m: Move) -> bool
         && is_open(&position.squares, color.king_home(), color.rook_home(side))
 }
 
+/// The king castles.
 pub fn castles(position: &Position, m: Move) -> bool
     ensures { IsTrue result ↔ Castles position.now m }
 {
@@ -104,6 +110,7 @@ pub fn role_moves(position: &Position, role: Role, m: Move) -> bool
     }
 }
 
+/// What stands on the first square may make the move, check aside.
 pub fn piece_moves(position: &Position, occupant: Option<Piece>, m: Move) -> bool
     ensures { IsTrue result ↔ PieceMoves position.now occupant m }
 {
@@ -113,6 +120,7 @@ pub fn piece_moves(position: &Position, occupant: Option<Piece>, m: Move) -> boo
     }
 }
 
+/// The move is one of the side to move that may leave its king attacked.
 pub fn is_pseudo_legal(position: &Position, m: Move) -> bool
     ensures { IsTrue result ↔ PseudoLegal position.now m }
 {

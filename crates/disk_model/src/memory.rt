@@ -384,7 +384,7 @@ fn tear(mut piece: Vec<u8>, inside: usize, number: u64) -> Vec<u8>
 {
     tear_bytes(&mut piece, number);
     let grown = piece.len().saturating_sub(inside);
-    piece.truncate(inside.saturating_add(kept(number / 512 % 4, grown)));
+    piece.truncate(inside.saturating_add(kept_length(number / 512 % 4, grown)));
     piece
 }
 
@@ -398,7 +398,7 @@ fn tear_bytes(piece: &mut [u8], number: u64)
     }
 }
 
-fn kept(cut: u64, grown: usize) -> usize
+fn kept_length(cut: u64, grown: usize) -> usize
     ensures { result ≡ kept_by cut grown }
 {
     match cut {

@@ -29,6 +29,7 @@ pub struct MoveLine {
     pub game: Option<Listed>,
 }
 
+/// The games of one month.
 #[derive(Debug, Drop)]
 pub struct MonthLine {
     pub month: Month,

@@ -38,6 +38,7 @@ pub enum Ending {
     Unknown,
 }
 
+/// Whether a game counted for ratings.
 #[derive(Clone, Copy, Debug, PartialEq, Eq)]
 pub enum Mode {
     Rated,

@@ -11,6 +11,7 @@ ghost use Rattle.explorer_model.specs.Chess.{is_of_color, takes_en_passant, is_c
 use crate::square::Square;
 use std::cmp::Ordering;
 
+/// The colour of a side and of its pieces.
 #[derive(Clone, Copy, Debug, PartialEq, Eq)]
 pub enum Color {
     White,
@@ -18,6 +19,7 @@ pub enum Color {
 }
 
 impl Color {
+    /// The other side.
     pub fn opponent(self) -> Color
         ensures { result ≡ opponent self }
     {
@@ -143,6 +145,7 @@ impl PartialOrd for Role {
     }
 }
 
+/// A piece of one side.
 #[derive(Clone, Copy, Debug, PartialEq, Eq)]
 pub struct Piece {
     pub color: Color,
@@ -167,6 +170,7 @@ pub struct Rights {
 }
 
 impl Rights {
+    /// Whether the side may still castle that way.
     pub fn has(self, color: Color, side: Side) -> bool
         ensures { result ≡ has_right self color side }
     {
@@ -284,7 +288,7 @@ pub fn is_piece(color: Color, role: Role, occupant: Option<Piece>) -> bool
 }
 
 /// What arrives where a piece goes: the piece itself, or what the pawn becomes.
-pub fn arriving(occupant: Option<Piece>, promotion: Option<Role>) -> Option<Piece>
+pub fn arriving_piece(occupant: Option<Piece>, promotion: Option<Role>) -> Option<Piece>
     ensures { result ≡ arriving occupant promotion }
 {
     match (occupant, promotion) {

@@ -64,6 +64,7 @@ impl Label {
         Label { text }
     }
 
+    /// The label's text, of at most 64 bytes.
     pub fn as_str(&self) -> &str
         ensures text { result.now ≡ self.now }
         ensures label { is_label self.now ≡ true }

@@ -23,6 +23,7 @@ impl Name {
         Name { text }
     }
 
+    /// The text.
     pub fn as_str(&self) -> &str
         ensures { result.now ≡ self.now }
     {

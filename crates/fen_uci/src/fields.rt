@@ -19,6 +19,7 @@ pub fn field(text: &[u8], number: usize) -> &[u8]
     first
 }
 
+/// How many fields a text has between its spaces.
 pub fn count_fields(text: &[u8]) -> usize
     ensures { result ≡ length (fields text.now) }
 {
@@ -40,11 +41,11 @@ fn split_field(text: &[u8]) -> (&[u8], &[u8])
     ensures rest { fields result.1.now ≡ drop 1 (fields text.now) }
     ensures shorter { length result.0.now + length result.1.now ≤ length text.now }
 {
-    split_before(trimmed(text), b' ')
+    split_before(trim_spaces(text), b' ')
 }
 
 /// The text without the spaces that it begins with.
-fn trimmed(text: &[u8]) -> &[u8]
+fn trim_spaces(text: &[u8]) -> &[u8]
     ensures same { fields result.now ≡ fields text.now }
     ensures trimmed { IsTrimmed result.now }
     ensures shorter { length result.now ≤ length text.now }

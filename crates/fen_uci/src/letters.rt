@@ -9,6 +9,7 @@ use explorer_model::chess::Role;
 use explorer_model::letters::{file_named, rank_named};
 use explorer_model::square::{file_of, rank_of};
 
+/// The small letter of a piece.
 pub fn small_letter(role: Role) -> u8
     ensures { result ≡ small_letter role }
 {

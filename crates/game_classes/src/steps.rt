@@ -9,7 +9,7 @@ ghost use Rattle.explorer_model.specs.Stop.{Gives, GivesBy};
 use crate::event::mode_of;
 use crate::rating::{group_of, rating_of};
 use crate::site::id_of;
-use crate::tags::{agrees_on_set_up, is_standard, required, value_of};
+use crate::tags::{agrees_on_set_up, is_standard, required_value, value_of};
 use crate::time::{control_of, month_of};
 use explorer_model::archive::{Classes, GameId, Month, Outcome, Player, Speed, Tag, Tags};
 use explorer_model::bytes::utf8_of;
@@ -30,11 +30,11 @@ pub fn classes(alloc: Global, tags: &Tags) -> Result<Classes, Stop<TagFault>>
     if !agrees_on_set_up(tags) {
         return Err(Stop::Fault(TagFault::SetUp));
     }
-    let mode = mode_of(required(TagName::Event, tags)?);
+    let mode = mode_of(required_value(TagName::Event, tags)?);
     let id = site_id(tags)?;
     let white = player_name(TagName::White, tags)?;
     let black = player_name(TagName::Black, tags)?;
-    let outcome = outcome_of(required(TagName::Result, tags)?)?;
+    let outcome = outcome_of(required_value(TagName::Result, tags)?)?;
     let white_rating = player_rating(TagName::WhiteElo, tags)?;
     let black_rating = player_rating(TagName::BlackElo, tags)?;
     let speed = speed(tags)?;
@@ -54,7 +54,7 @@ pub fn classes(alloc: Global, tags: &Tags) -> Result<Classes, Stop<TagFault>>
 }
 
 /// What a tag's value stands for, where its rule allows it.
-fn asked<T: Copy>(name: TagName, meaning: Option<T>) -> Result<T, Stop<TagFault>>
+fn value_or_fault<T: Copy>(name: TagName, meaning: Option<T>) -> Result<T, Stop<TagFault>>
     ensures { Gives result (ok_or meaning (Bad name)) }
 {
     match meaning {
@@ -66,13 +66,13 @@ fn asked<T: Copy>(name: TagName, meaning: Option<T>) -> Result<T, Stop<TagFault>
 fn site_id(tags: &[Tag]) -> Result<GameId, Stop<TagFault>>
     ensures { Gives result (asked Site id_of tags.now) }
 {
-    asked(TagName::Site, id_of(required(TagName::Site, tags)?))
+    value_or_fault(TagName::Site, id_of(required_value(TagName::Site, tags)?))
 }
 
 fn player_name(name: TagName, tags: &[Tag]) -> Result<&str, Stop<TagFault>>
     ensures { GivesBy (λ text. text.now) result (asked name name_of tags.now) }
 {
-    match utf8_of(required(name, tags)?) {
+    match utf8_of(required_value(name, tags)?) {
         Some(text) => Ok(text),
         None => Err(Stop::Fault(TagFault::Bad { name })),
     }
@@ -81,21 +81,21 @@ fn player_name(name: TagName, tags: &[Tag]) -> Result<&str, Stop<TagFault>>
 fn player_rating(name: TagName, tags: &[Tag]) -> Result<u16, Stop<TagFault>>
     ensures { Gives result (asked name rating_of tags.now) }
 {
-    asked(name, rating_of(required(name, tags)?))
+    value_or_fault(name, rating_of(required_value(name, tags)?))
 }
 
 fn speed(tags: &[Tag]) -> Result<Speed, Stop<TagFault>>
     ensures { Gives result (asked TimeControl control_of tags.now) }
 {
     let name = TagName::TimeControl;
-    asked(name, control_of(required(name, tags)?))
+    value_or_fault(name, control_of(required_value(name, tags)?))
 }
 
 fn month(tags: &[Tag]) -> Result<Month, Stop<TagFault>>
     ensures { Gives result (asked (date_name tags.now) month_of tags.now) }
 {
     let name = date_name(tags);
-    asked(name, month_of(required(name, tags)?))
+    value_or_fault(name, month_of(required_value(name, tags)?))
 }
 
 fn player(alloc: Global, name: &str, rating: u16) -> Result<Player, AllocError>

@@ -23,7 +23,7 @@ pub fn value_of<'a>(name: &[u8], tags: &'a [Tag]) -> Option<&'a [u8]>
 }
 
 /// The value of a tag that has to be there.
-pub fn required(name: TagName, tags: &[Tag]) -> Result<&[u8], Stop<TagFault>>
+pub fn required_value(name: TagName, tags: &[Tag]) -> Result<&[u8], Stop<TagFault>>
     ensures { GivesBy (λ value. value.now) result (required name tags.now) }
 {
     match value_of(name.as_str().as_bytes(), tags) {

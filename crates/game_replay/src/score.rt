@@ -7,7 +7,7 @@ ghost use Rattle.explorer_model.specs.Stop.{Answers, GivesBy};
 ghost use Rattle.pgn_lex.specs.Span.{IsWithin};
 ghost use Rattle.game_replay.specs.Replay.{GivesScore, score_as, tagged_as};
 
-use crate::tagged::{TaggedText, tagged};
+use crate::tagged::{TaggedText, tagged_text};
 use explorer_model::archive::{Classes, Ending, Outcome, Tags};
 use explorer_model::fault::{GameFault, Stop};
 use fen_uci::read_fen;
@@ -36,7 +36,7 @@ pub fn score(alloc: Global, text: &[u8]) -> Result<Scored, Stop<GameFault>>
     ensures within { IfOk result
         (λ scored. All (IsWithin (length text.now)) scored.spans.items) }
 {
-    let tagged = tagged(alloc, text)?;
+    let tagged = tagged_text(alloc, text)?;
     let root = root_of(&tagged.spanned.tags)?;
     score_of(tagged, root)
 }

@@ -26,7 +26,7 @@ pub struct TaggedText {
 
 /// The parts and the classes of a text, or the first fault of its layout or its tags.
 #[tactic(auto, unfolding(explorer_model::specs::Games::tagged))]
-pub fn tagged(alloc: Global, text: &[u8]) -> Result<TaggedText, Stop<GameFault>>
+pub fn tagged_text(alloc: Global, text: &[u8]) -> Result<TaggedText, Stop<GameFault>>
     requires { length text.now ≤ 65536 }
     ensures tagged { GivesBy (tagged_as text.now) result (tagged text.now) }
     ensures within { IfOk result

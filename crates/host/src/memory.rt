@@ -29,6 +29,7 @@ pub struct Named<T> {
 }
 
 impl<T> Named<T> {
+    /// A thing under its name.
     pub fn new(name: String, it: T) -> Self
         ensures { result ≡ record { name = name; it = it } }
     {

@@ -53,6 +53,7 @@ impl<
     'a,
     R: AllocGlobal + Files<File = File> + Net<Stream = TcpStream, Listener = TcpListener>,
 > RealHost<'a, R> {
+    /// The host of the process, which has handed out nothing.
     pub fn new(rt: &'a R) -> Self
         ensures { result ≡ record { own = 0; disks = 0; files = 0; doors = 0; ports = 0 } }
     {

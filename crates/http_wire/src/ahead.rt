@@ -25,6 +25,7 @@ impl Model for ReadAhead {
 }
 
 impl ReadAhead {
+    /// Nothing is read ahead.
     pub fn new() -> Self
         ensures { result ≡ [] }
     {
@@ -35,6 +36,7 @@ impl ReadAhead {
         }
     }
 
+    /// The bytes that are read and not taken, at most 8,192.
     pub fn as_slice(&self) -> &[u8]
         ensures items { result.now ≡ self.now }
         ensures room { length self.now ≤ 8192 }

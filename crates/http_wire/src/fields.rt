@@ -47,11 +47,11 @@ pub(crate) fn has_close(value: &[u8]) -> bool
 {
     value
         .split(|b| *b == b',')
-        .any(|word| is_same_word(b"close", trimmed(word)))
+        .any(|word| is_same_word(b"close", trim_ows(word)))
 }
 
 /// The bytes without the spaces and tabs at both ends.
-fn trimmed(bytes: &[u8]) -> &[u8]
+fn trim_ows(bytes: &[u8]) -> &[u8]
     ensures { result.now ≡ trim_ows bytes.now }
 {
     let mut start = 0;

@@ -150,8 +150,11 @@ fn own_body(reply: &Reply) -> ArrayVec<u8, 128>
         Reply::NotAllowed { .. } => body_from(b"{\"error\":\"method not allowed\"}"),
         Reply::TooLarge => body_from(b"{\"error\":\"body too large\"}"),
         Reply::HeadTooLarge => body_from(b"{\"error\":\"head too large\"}"),
-        Reply::DiskFault { stored } => counted(b"{\"error\":\"disk fault\",\"stored\":", *stored),
-        Reply::Closed { stored } => counted(b"{\"error\":\"closed\",\"stored\":", *stored),
+        Reply::DiskFault { stored } => body_with_number(
+            b"{\"error\":\"disk fault\",\"stored\":",
+            *stored,
+        ),
+        Reply::Closed { stored } => body_with_number(b"{\"error\":\"closed\",\"stored\":", *stored),
         Reply::Full {
             games,
             bytes,
@@ -184,7 +187,7 @@ fn parameter_body(name: &str) -> ArrayVec<u8, 128>
 }
 
 /// The body that begins with these bytes and ends with a number.
-fn counted(bytes: &[u8], number: u32) -> ArrayVec<u8, 128>
+fn body_with_number(bytes: &[u8], number: u32) -> ArrayVec<u8, 128>
     requires { length bytes.now ≤ 64 }
     ensures { result.items ≡ bytes.now ++ decimal number ++ codes "}" }
 {

@@ -34,7 +34,7 @@ impl EndCounts {
                 self.marks.add(mark);
             }
             End::Closed { mark, .. } => {
-                let _before = self.marks.closed();
+                let _before = self.marks.closed_stores();
                 self.marks.add(mark);
             }
             End::Full { .. } => self.full = self.full.saturating_add(1),

@@ -139,6 +139,7 @@ impl<D: Disk, J: Index> OwnIngest<D, J> {
         self.lacked
     }
 
+    /// The ingest and its drawer, taken out.
     pub fn into_ingest(self) -> (Ingest<D, J>, Drawer<J>)
         ensures ingest { result.0 ≡ self.ingest }
         ensures drawer { result.1 ≡ self.drawer }

@@ -42,7 +42,7 @@ pub fn merge_due<D: Disk, J: Index, R: Wait + Threads + Sync>(
     let Some(job) = found else {
         return Merging::Left(DrainEnd::Idle);
     };
-    let Ok(segment) = merged(rt, alloc, &job, workers) else {
+    let Ok(segment) = merge_job(rt, alloc, &job, workers) else {
         return Merging::Left(DrainEnd::OutOfMemory);
     };
     merging_of(ingest.install(rt, alloc, job, segment))
@@ -62,7 +62,7 @@ pub(crate) fn merge_due_beside<D: Disk, J: Index, R: Wait + Threads + Sync>(
     let Some(job) = found else {
         return Merging::Left(DrainEnd::Idle);
     };
-    let Ok(segment) = merged(rt, alloc, &job, workers) else {
+    let Ok(segment) = merge_job(rt, alloc, &job, workers) else {
         return Merging::Left(DrainEnd::OutOfMemory);
     };
     merging_of(desk.install(rt, alloc, job, segment))
@@ -83,7 +83,7 @@ fn next_job<D: Disk, J: Index, R: Wait>(
 }
 
 /// The segment that the two of a job become.
-fn merged<J: Index, R: Threads + Sync>(
+fn merge_job<J: Index, R: Threads + Sync>(
     rt: &R,
     alloc: Global,
     job: &Job<J>,

@@ -302,7 +302,7 @@ impl<J: Index> OpenImport<J> {
         let mut import = self;
         match import.finish(rt, alloc, committer, cutter.end(), workers, gate) {
             Ok(()) => import.report(End::Whole),
-            Err(Stop::Fault(stopped)) => import.stopped(stopped),
+            Err(Stop::Fault(stopped)) => import.report_stop(stopped),
             Err(Stop::OutOfMemory) => import.report(End::OutOfMemory),
         }
     }
@@ -393,7 +393,7 @@ impl<J: Index> OpenImport<J> {
     }
 
     /// The report where a commit ended the import. What is refused of the group in hand stands last.
-    pub(crate) fn stopped(self, stopped: Stopped<J>) -> Report<J>
+    pub(crate) fn report_stop(self, stopped: Stopped<J>) -> Report<J>
         ensures comes { (start : Known) (stream : List ℕ) (left : Option (List ℕ))
             (told : Option Store) → length stream < input_limit
             → StopsIn (Some (store_of start)) stream left self stopped told

@@ -5,7 +5,7 @@ ghost use Rattle.import_run.specs.Rounds.{Comes, ComesOnce};
 
 use crate::committer::Committer;
 use crate::naming::name;
-use crate::text_group::{TalliedGroup, labelled, merge};
+use crate::text_group::{TalliedGroup, merge, with_label};
 use explorer_model::archive::Batch;
 use explorer_model::fault::Refusal;
 use game_replay::laws::game_is_determined;
@@ -114,7 +114,7 @@ fn commit_once<C: Committer<J>, J: Index, R: Wait + Threads + Sync, G: Gate>(
             let refused = merge(alloc, refused.as_slice(), named.refused.as_slice())?;
             let again = batch_tally::tally(rt, alloc, named.rest, workers.count, gate)?;
             Ok(Round::Again(TalliedGroup {
-                tally: labelled(again.tally, label),
+                tally: with_label(again.tally, label),
                 places: again.places,
                 refused,
             }))

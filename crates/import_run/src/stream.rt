@@ -49,7 +49,7 @@ pub fn import_stream<S: Source, C: Committer<J>, J: Index, G: Gate, R: Wait + Th
         }
         match state.round(rt, alloc, source, committer, workers, gate) {
             Ok(()) => {}
-            Err(Stop::Fault(stopped)) => return state.import.stopped(stopped),
+            Err(Stop::Fault(stopped)) => return state.import.report_stop(stopped),
             Err(Stop::OutOfMemory) => return state.import.report(End::OutOfMemory),
         }
     }
@@ -76,7 +76,7 @@ pub fn import_bytes<C: Committer<J>, J: Index, G: Gate, R: Wait + Threads + Sync
     let mut import = OpenImport::new(alloc, Label::none());
     match import.feed(rt, alloc, committer, &mut cutter, bytes, workers, gate) {
         Ok(()) => import.end(rt, alloc, committer, cutter, workers, gate),
-        Err(Stop::Fault(stopped)) => import.stopped(stopped),
+        Err(Stop::Fault(stopped)) => import.report_stop(stopped),
         Err(Stop::OutOfMemory) => import.report(End::OutOfMemory),
     }
 }

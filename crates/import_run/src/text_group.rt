@@ -105,7 +105,7 @@ impl TextGroup {
         let tallying = tally(rt, alloc, texts, workers.count, gate)?;
         let refused = merge(alloc, tallying.refused.as_slice(), unread.as_slice())?;
         Ok(TalliedGroup {
-            tally: labelled(tallying.tally, label),
+            tally: with_label(tallying.tally, label),
             places: tallying.places,
             refused,
         })
@@ -121,13 +121,13 @@ impl TextGroup {
         ensures { IfOk result (IsTalliedGroup self) }
     {
         self.tally(rt, alloc, Workers { count: 1 }, &FreeGate)?
-            .packed(alloc)
+            .pack(alloc)
     }
 }
 
 impl TalliedGroup {
     /// The same with its batch packed, which contracts don't see.
-    fn packed(self, alloc: Global) -> Result<TalliedGroup, AllocError>
+    fn pack(self, alloc: Global) -> Result<TalliedGroup, AllocError>
         ensures { IfOk result (λ same. same ≡ self) }
     {
         let TalliedGroup {
@@ -136,7 +136,7 @@ impl TalliedGroup {
             refused,
         } = self;
         let tally = match tally {
-            Some(handed) => Some(Handed::packed(handed.into_ready(alloc)?)),
+            Some(handed) => Some(Handed::of_ready(handed.into_ready(alloc)?)),
             None => None,
         };
         Ok(TalliedGroup {
@@ -148,10 +148,10 @@ impl TalliedGroup {
 }
 
 /// The tally under the label, to be handed to a commit.
-pub fn labelled(tally: Option<Tally>, label: Label) -> Option<Handed>
+pub fn with_label(tally: Option<Tally>, label: Label) -> Option<Handed>
     ensures { result ≡ option_map (under label) tally }
 {
-    Some(Handed::unpacked(tally?.labelled(label)))
+    Some(Handed::of_tally(tally?.labelled(label)))
 }
 
 /// Two lists of refusals in one, where each has them by their places.

@@ -58,7 +58,7 @@ impl<D: Disk, J: Index> Ingest<D, J> {
             → cause self.old.manifest.fault games (journal self.old) tally ≡ None
             → IsSound (journal self.old ++ tally.batch ∷ []) }
     {
-        self.commit_handed(rt, alloc, Handed::unpacked(tally), mine)
+        self.commit_handed(rt, alloc, Handed::of_tally(tally), mine)
     }
 
     /// Stores a batch that is packed already, as `commit` does, and hands it back where ids of it are
@@ -82,7 +82,7 @@ impl<D: Disk, J: Index> Ingest<D, J> {
             → cause self.old.manifest.fault games (journal self.old) ready ≡ None
             → IsSound (journal self.old ++ ready.batch ∷ []) }
     {
-        self.commit_handed(rt, alloc, Handed::packed(ready), mine)
+        self.commit_handed(rt, alloc, Handed::of_ready(ready), mine)
     }
 
     /// Stores and publishes a batch, packed or not. It packs one only if it is not packed yet.
@@ -105,12 +105,12 @@ impl<D: Disk, J: Index> Ingest<D, J> {
             → cause self.old.manifest.fault games (journal self.old) handed ≡ None
             → IsSound (journal self.old ++ handed.batch ∷ []) }
     {
-        self.known(&handed);
+        self.stays_sound(&handed);
         if let Some((before, after)) = self.fault() {
             return Err(CommitFault::Closed {
                 before,
                 after,
-                mark: Mark::closed(before, after),
+                mark: Mark::closed_store(before, after),
             });
         }
         if self.catch_up(rt).is_err() {
@@ -144,7 +144,7 @@ impl<D: Disk, J: Index> Ingest<D, J> {
 
     /// What is true of each ingest: its journal is sound, and so it is with a batch that nothing is
     /// against; a crash leaves it; and its list is short.
-    fn known(&self, handed: &Handed)
+    fn stays_sound(&self, handed: &Handed)
         ensures sound { IsSound (journal self.now) }
         ensures behind { (games : List Game) → AreGamesOf (journal self.now) games
             → cause self.now.manifest.fault games (journal self.now) handed.now ≡ None
@@ -196,7 +196,7 @@ impl<D: Disk, J: Index> Ingest<D, J> {
             self.old.manifest.disk self.new.manifest.disk
             (IsWithOrWithoutBatch (journal self.old) handed.batch) }
     {
-        self.known(&handed);
+        self.stays_sound(&handed);
         match handed.into_ready(alloc) {
             Ok(ready) => self.store(rt, alloc, ready, mine),
             Err(_) => Err(CommitFault::OutOfMemory { stored: false }),
@@ -280,7 +280,7 @@ fn fault_of<J: Index>(fault: AppendFault, batch: &Batch) -> CommitFault<J>
         AppendFault::Closed { before, after } => CommitFault::Closed {
             before,
             after,
-            mark: Mark::closed(before, after),
+            mark: Mark::closed_store(before, after),
         },
         AppendFault::DiskFault { before, after } => CommitFault::DiskFault {
             before,

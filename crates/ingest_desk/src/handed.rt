@@ -32,7 +32,7 @@ impl Model for Handed {
 
 impl Handed {
     /// A tally, which is packed at its commit.
-    pub fn unpacked(tally: Tally) -> Handed
+    pub fn of_tally(tally: Tally) -> Handed
         ensures { result ≡ tally }
     {
         Handed {
@@ -41,7 +41,7 @@ impl Handed {
     }
 
     /// A batch that is packed.
-    pub fn packed(ready: Ready) -> Handed
+    pub fn of_ready(ready: Ready) -> Handed
         ensures { result ≡ ready }
     {
         Handed {
@@ -49,6 +49,7 @@ impl Handed {
         }
     }
 
+    /// The batch, packed or not.
     pub fn batch(&self) -> &Batch
         ensures batch { result.now ≡ self.now.batch }
         ensures counted { IsCounted self.now }

@@ -60,7 +60,7 @@ impl<J: Index> Mark<J> {
     }
 
     /// The mark of a closed store.
-    pub(crate) fn closed(before: u64, after: u64) -> Mark<J>
+    pub(crate) fn closed_store(before: u64, after: u64) -> Mark<J>
         ensures { result ≡ record {
           kind = MarkKind.Closed;
           before = before;
@@ -77,6 +77,7 @@ impl<J: Index> Mark<J> {
         }
     }
 
+    /// What the commit met.
     pub fn kind(&self) -> MarkKind
         ensures { result ≡ self.now.kind }
     {
@@ -127,13 +128,15 @@ impl Marks {
         }
     }
 
+    /// How many commits met a disk fault.
     pub fn disk_faults(&self) -> u64
         ensures { result ≡ self.now.disk_faults }
     {
         self.disk_faults
     }
 
-    pub fn closed(&self) -> u64
+    /// How many commits met a closed store.
+    pub fn closed_stores(&self) -> u64
         ensures { result ≡ self.now.closed }
     {
         self.closed

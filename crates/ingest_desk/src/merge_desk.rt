@@ -20,6 +20,7 @@ pub struct MergeDesk<'a, D: Disk, J: Index> {
 }
 
 impl<'a, D: Disk, J: Index> MergeDesk<'a, D, J> {
+    /// The steps of merging at a desk.
     pub fn of(desk: &'a Desk<D, J>) -> Self {
         MergeDesk { desk }
     }

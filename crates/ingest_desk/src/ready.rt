@@ -51,6 +51,7 @@ impl Ready {
         })
     }
 
+    /// The batch that is packed.
     pub fn batch(&self) -> &Batch
         ensures batch { result.now ≡ self.now.batch }
         ensures counted { IsCounted self.now }

@@ -44,7 +44,7 @@ pub(crate) fn recount<R: Threads + Wait + Sync>(
     let mut segments = Vec::new(alloc);
     let mut gate = 12;
     for CountedBatch { size, segment } in count_each(rt, alloc, journal, workers)? {
-        let Some(segment) = fitting(&mut register, segment)? else {
+        let Some(segment) = put_in_if_sound(&mut register, segment)? else {
             return Err(Stop::Fault(gate));
         };
         segments.reserve(1)?;
@@ -57,7 +57,7 @@ pub(crate) fn recount<R: Threads + Wait + Sync>(
 
 /// The segment of one batch more, which is put in. There is none where the journal is not sound
 /// with the batch.
-fn fitting(
+fn put_in_if_sound(
     register: &mut Register,
     segment: Option<SharedSegment>,
 ) -> Result<Option<SharedSegment>, AllocError>

@@ -95,6 +95,7 @@ impl Board {
         }
     }
 
+    /// The position on the board, a valid one.
     pub fn position(&self) -> Position
         ensures same { result ≡ self.now }
         ensures valid { IsValid result }

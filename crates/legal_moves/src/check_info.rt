@@ -27,6 +27,7 @@ pub struct CheckInfo {
 }
 
 impl CheckInfo {
+    /// The checks of a position, by the sets of its pieces.
     #[inline(always)]
     pub fn of(position: &Position, sets: &PieceSets) -> CheckInfo
         requires { IsKept position.now sets.now }
@@ -111,20 +112,20 @@ impl CheckInfo {
         if position.takes_en_passant(m) {
             return self
                 .enemy_sets
-                .emptied(m.captured_en_passant())
-                .emptied(from)
-                .filled(to);
+                .clear_square(m.captured_en_passant())
+                .clear_square(from)
+                .fill_square(to);
         }
         if position.is_castling(m) {
             let home = position.turn.rook_home(m.castling_side());
             return self
                 .enemy_sets
-                .filled(halfway(from, to))
-                .emptied(home)
-                .emptied(from)
-                .filled(to);
+                .fill_square(halfway(from, to))
+                .clear_square(home)
+                .clear_square(from)
+                .fill_square(to);
         }
-        self.enemy_sets.emptied(from).filled(to)
+        self.enemy_sets.clear_square(from).fill_square(to)
     }
 
     /// Where the king of the side to move stands after a pseudo-legal move.

@@ -21,6 +21,7 @@ pub struct CheckMasks {
 }
 
 impl CheckMasks {
+    /// The masks of a position, by the sets of its pieces.
     pub fn of(position: &Position, sets: &PieceSets) -> CheckMasks
         requires { IsKept position.now sets.now }
         ensures { AreMasksOf position.now result }

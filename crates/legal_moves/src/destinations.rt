@@ -15,7 +15,7 @@ use explorer_model::chess::{Color, Piece, Position, Role, Side};
 use explorer_model::square::{Square, rank_of};
 use step_tables::{
     Bitboard, bishop_targets, black_pawn_targets, contains, king_targets, knight_targets, only,
-    queen_targets, rook_targets, unblocked, white_pawn_targets,
+    open_targets, queen_targets, rook_targets, white_pawn_targets,
 };
 
 /// Where the piece on a square may go.
@@ -125,9 +125,9 @@ fn attacks(position: &Position, info: &CheckInfo, piece: Piece, from: u8) -> Bit
     match piece.role {
         Role::Pawn => except(pawn_diagonals(piece.color, from), own),
         Role::Knight => except(knight_targets(from), own),
-        Role::Bishop => unblocked(from, except(bishop_targets(from), own), occupied),
-        Role::Rook => unblocked(from, except(rook_targets(from), own), occupied),
-        Role::Queen => unblocked(from, except(queen_targets(from), own), occupied),
+        Role::Bishop => open_targets(from, except(bishop_targets(from), own), occupied),
+        Role::Rook => open_targets(from, except(rook_targets(from), own), occupied),
+        Role::Queen => open_targets(from, except(queen_targets(from), own), occupied),
         Role::King => except(king_targets(from), own),
     }
 }

@@ -72,7 +72,7 @@ impl EnemySets {
     }
 
     /// The bitboards where nothing stands on the square.
-    pub fn emptied(&self, square: u8) -> EnemySets
+    pub fn clear_square(&self, square: u8) -> EnemySets
         requires { square < 64 }
         ensures { IsEmptied self.now square result }
     {
@@ -87,13 +87,13 @@ impl EnemySets {
     }
 
     /// The bitboards where a piece that is no enemy stands on the square.
-    pub fn filled(&self, square: u8) -> EnemySets
+    pub fn fill_square(&self, square: u8) -> EnemySets
         requires { square < 64 }
         ensures { IsFilled self.now square result }
     {
         EnemySets {
             occupied: self.occupied | only(square),
-            ..self.emptied(square)
+            ..self.clear_square(square)
         }
     }
 }

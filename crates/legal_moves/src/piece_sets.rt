@@ -25,6 +25,7 @@ pub struct PieceSets {
 }
 
 impl PieceSets {
+    /// The sets of what stands on these squares.
     pub fn of(squares: &[Option<Piece>; 64]) -> PieceSets
         ensures { result ≡ sets_in squares.now }
     {
@@ -71,14 +72,14 @@ impl PieceSets {
         requires { square < 64 }
         ensures { AreWritten self.old square occupant self.new }
     {
-        self.white = written(self.white, square, is_of_color(Color::White, occupant));
-        self.black = written(self.black, square, is_of_color(Color::Black, occupant));
-        self.pawns = written(self.pawns, square, is_of(Role::Pawn, occupant));
-        self.knights = written(self.knights, square, is_of(Role::Knight, occupant));
-        self.bishops = written(self.bishops, square, is_of(Role::Bishop, occupant));
-        self.rooks = written(self.rooks, square, is_of(Role::Rook, occupant));
-        self.queens = written(self.queens, square, is_of(Role::Queen, occupant));
-        self.kings = written(self.kings, square, is_of(Role::King, occupant));
+        self.white = write_square(self.white, square, is_of_color(Color::White, occupant));
+        self.black = write_square(self.black, square, is_of_color(Color::Black, occupant));
+        self.pawns = write_square(self.pawns, square, is_of(Role::Pawn, occupant));
+        self.knights = write_square(self.knights, square, is_of(Role::Knight, occupant));
+        self.bishops = write_square(self.bishops, square, is_of(Role::Bishop, occupant));
+        self.rooks = write_square(self.rooks, square, is_of(Role::Rook, occupant));
+        self.queens = write_square(self.queens, square, is_of(Role::Queen, occupant));
+        self.kings = write_square(self.kings, square, is_of(Role::King, occupant));
     }
 
     /// Puts what stands on a square onto another one.
@@ -87,14 +88,14 @@ impl PieceSets {
         requires to_on_board { to < 64 }
         ensures { AreCarried self.old from to self.new }
     {
-        self.white = carried(self.white, from, to);
-        self.black = carried(self.black, from, to);
-        self.pawns = carried(self.pawns, from, to);
-        self.knights = carried(self.knights, from, to);
-        self.bishops = carried(self.bishops, from, to);
-        self.rooks = carried(self.rooks, from, to);
-        self.queens = carried(self.queens, from, to);
-        self.kings = carried(self.kings, from, to);
+        self.white = carry_square(self.white, from, to);
+        self.black = carry_square(self.black, from, to);
+        self.pawns = carry_square(self.pawns, from, to);
+        self.knights = carry_square(self.knights, from, to);
+        self.bishops = carry_square(self.bishops, from, to);
+        self.rooks = carry_square(self.rooks, from, to);
+        self.queens = carry_square(self.queens, from, to);
+        self.kings = carry_square(self.kings, from, to);
     }
 }
 
@@ -132,7 +133,7 @@ fn is_of(role: Role, occupant: Option<Piece>) -> bool
 }
 
 /// The set with the square or without it.
-fn written(bitboard: Bitboard, square: u8, there: bool) -> Bitboard
+fn write_square(bitboard: Bitboard, square: u8, there: bool) -> Bitboard
     requires { square < 64 }
     ensures { IsSetWritten bitboard square there result }
 {
@@ -148,11 +149,11 @@ fn only_if(there: bool, square: u8) -> Bitboard
 }
 
 /// The set once what stands on a square is put onto another one.
-fn carried(bitboard: Bitboard, from: u8, to: u8) -> Bitboard
+fn carry_square(bitboard: Bitboard, from: u8, to: u8) -> Bitboard
     requires from_on_board { from < 64 }
     requires to_on_board { to < 64 }
     ensures { IsSetCarried bitboard from to result }
 {
     let there = contains(bitboard, from);
-    written(written(bitboard, from, false), to, there)
+    write_square(write_square(bitboard, from, false), to, there)
 }

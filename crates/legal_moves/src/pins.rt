@@ -10,7 +10,7 @@ use crate::enemy_sets::EnemySets;
 use explorer_model::chess::{Color, Position};
 use step_tables::{
     Bitboard, between, bishop_targets, black_pawn_targets, king_targets, knight_targets, lowest,
-    only, rook_targets, unblocked, white_pawn_targets, without,
+    only, open_targets, rook_targets, white_pawn_targets, without,
 };
 
 /// The own pieces that stand alone between their king and an enemy bishop, rook or queen whose line
@@ -97,7 +97,7 @@ fn attackers(enemy_sets: &EnemySets, enemy: Color, square: u8) -> Bitboard
     let king = enemy_sets.king & king_targets(square);
     let straight = enemy_sets.straights & rook_targets(square);
     let diagonal = enemy_sets.diagonals & bishop_targets(square);
-    let sliders = unblocked(square, straight | diagonal, enemy_sets.occupied);
+    let sliders = open_targets(square, straight | diagonal, enemy_sets.occupied);
     pawns | (knights | (king | sliders))
 }
 

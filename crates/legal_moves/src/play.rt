@@ -5,7 +5,9 @@ ghost use Rattle.explorer_model.specs.Chess.{squares_after, after, is_double_ste
 ghost use Rattle.legal_moves.specs.PieceSets.{IsKept, IsPlain, is_home, sets_in};
 
 use crate::piece_sets::PieceSets;
-use explorer_model::chess::{Color, Move, Piece, Position, Rights, Role, Side, arriving, piece_of};
+use explorer_model::chess::{
+    Color, Move, Piece, Position, Rights, Role, Side, arriving_piece, piece_of,
+};
 use explorer_model::square::{Square, halfway};
 
 /// Plays a move in place.
@@ -57,7 +59,7 @@ fn write_pieces(position: &mut Position, sets: &mut PieceSets, m: Move)
     let taking = position.takes_en_passant(m);
     let castles = position.is_castling(m);
     let turn = position.turn;
-    let arrives = arriving(position.squares[from as usize], m.promotion);
+    let arrives = arriving_piece(position.squares[from as usize], m.promotion);
     let squares = &mut position.squares;
     if taking {
         write(squares, sets, m.captured_en_passant(), None);

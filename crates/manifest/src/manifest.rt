@@ -40,6 +40,7 @@ impl<D: Disk> Manifest<D> {
         self.log.fault()
     }
 
+    /// The disk, taken out.
     pub fn into_disk(self) -> D
         ensures { result ≡ self.disk }
     {

@@ -75,7 +75,7 @@ pub fn lend_names<'a>(
     requires moves { AllByRecursion (λ m. Legal query.now.at m) played.now }
     ensures { IfOk result (λ lent. IsNaming book.now query.now played.now (naming_lent lent)) }
 {
-    let way = walked(book, board_of(&query.root), query.plays.as_slice());
+    let way = walk(book, board_of(&query.root), query.plays.as_slice());
     let moves = openings_behind(alloc, book, &way.board, played)?;
     Ok(LentNaming {
         whole: way.opening,
@@ -90,7 +90,7 @@ struct Way<'a> {
     opening: Option<&'a Opening>,
 }
 
-fn walked<'a>(book: &'a Book, root: Board, plays: &[Move]) -> Way<'a>
+fn walk<'a>(book: &'a Book, root: Board, plays: &[Move]) -> Way<'a>
     requires { AreLegalFrom root plays.now }
     ensures opening { LastOpening book.now (positions_on root plays.now)
         (option_map (λ opening. opening.now) result.opening) }

@@ -78,7 +78,7 @@ fn read_columns(alloc: Global, cut: Cut<'_>) -> Result<NamedLine, Stop<BookCause
         return Err(Stop::Fault(BookCause::BadMove));
     };
     let opening = new_opening(alloc, eco, name)?;
-    Ok(named(&board, opening))
+    Ok(line_to(&board, opening))
 }
 
 /// The columns between two tabs, or None where a line has not just two.
@@ -104,7 +104,7 @@ pub fn new_opening(alloc: Global, eco: &str, name: &str) -> Result<Opening, Allo
 }
 
 /// The line of an opening that leads to the board.
-fn named(board: &Board, opening: Opening) -> NamedLine
+fn line_to(board: &Board, opening: Opening) -> NamedLine
     ensures line { named_line result ≡ record { position = board.now; opening = opening } }
     ensures keyed { IsKeyed result }
 {

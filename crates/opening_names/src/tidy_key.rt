@@ -6,7 +6,7 @@ ghost use Rattle.explorer_model.specs.Keys.{packed};
 ghost use Rattle.explorer_model.specs.Tidy.{IsTidyKey};
 ghost use Rattle.opening_names.specs.Hashed.{ArePacked, alike, as_one, equal_bytes};
 
-use explorer_model::chess::{Move, Position, arriving};
+use explorer_model::chess::{Move, Position, arriving_piece};
 use legal_moves::board::Board;
 use packed_keys::laws::equal_keys_mean_equal_positions;
 use packed_keys::{PositionKey, key_of, pack, pack_squares, write_square};
@@ -76,7 +76,7 @@ fn moved_squares(squares: &[u8; 32], position: &Position, m: Move) -> [u8; 32]
     ensures { result ≡ packed (squares_after position.now m) }
 {
     let mut moved = *squares;
-    let arrives = arriving(position.piece_at(m.from), m.promotion);
+    let arrives = arriving_piece(position.piece_at(m.from), m.promotion);
     write_square(&mut moved, m.from.index, None);
     write_square(&mut moved, m.to.index, arrives);
     moved

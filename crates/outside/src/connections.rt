@@ -28,6 +28,7 @@ impl Model for MemLink {
 }
 
 impl MemLink {
+    /// A connection that reads from the one and writes to the other.
     pub fn new(source: MemSource, sink: MemSink) -> Self
         ensures { result ≡ record { source = source; sink = sink } }
     {

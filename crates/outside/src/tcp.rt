@@ -29,6 +29,7 @@ impl Model for TcpLink {
 }
 
 impl TcpLink {
+    /// The connection over a stream.
     pub fn new(stream: TcpStream) -> Self
         ensures { result ≡ link_of (source_alone None 0 0) (sink_alone None 0) }
     {

@@ -28,6 +28,7 @@ pub fn piece_code(occupant: Option<Piece>) -> u8
     }
 }
 
+/// What stands on a square of this code, 0 to 12.
 pub fn piece_of_code(code: u8) -> Option<Piece>
     requires { code ≤ 12 }
     ensures { piece_code result ≡ code }
@@ -60,6 +61,7 @@ pub fn state_code(turn: Color, rights: Rights) -> u8
     black_moves + white + black
 }
 
+/// The side to move, by the lowest bit.
 pub fn turn_of_code(state: u8) -> Color
     ensures { turn_code result ≡ state % 2 }
 {
@@ -70,6 +72,7 @@ pub fn turn_of_code(state: u8) -> Color
     }
 }
 
+/// The rights to castle, by the four bits above the lowest.
 pub fn rights_of_code(state: u8) -> Rights
     requires { state < 32 }
     ensures { (turn : Color) → turn_code turn ≡ state % 2 → state_code turn result ≡ state }
@@ -92,6 +95,7 @@ pub fn en_passant_code(square: Option<Square>) -> u8
     }
 }
 
+/// The en passant square of a code, 0 for none to 64.
 pub fn en_passant_of_code(code: u8) -> Option<Square>
     requires { code ≤ 64 }
     ensures { en_passant_code result ≡ code }

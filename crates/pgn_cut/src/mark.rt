@@ -25,6 +25,7 @@ impl MarkPrefix {
     ghost use Rattle.pgn_cut.specs.Front.{refusal_of};
     ghost use Rattle.pgn_cut.specs.Mark.{cuts_of_mark, Marks, IsWithoutMark};
 
+    /// Looks for the rest of the mark in the next piece.
     pub fn feed(self, piece: &[u8]) -> Marked
         ensures { Marks self.count piece.now result }
     {

@@ -13,6 +13,7 @@ pub struct ByteTable {
 }
 
 impl ByteTable {
+    /// Whether the byte is one of the class.
     pub fn has(&self, byte: u8) -> bool
         ensures { result ≡ is_of self.now.class byte }
     {

@@ -35,6 +35,7 @@ impl Class {
     }
 }
 
+/// White space, as texts have it between tokens.
 pub fn is_white(byte: u8) -> bool
     ensures { result ≡ is_white byte }
 {

@@ -57,7 +57,7 @@ fn entries_between(alloc: Global, from: u32, to: u32) -> Result<Vec<Entry>, Allo
 }
 
 /// Both lists in one. Each of `more` is looked for among the others, which are copied in runs.
-pub fn merged<L: Ledger>(
+pub fn merge_entries<L: Ledger>(
     alloc: Global,
     segments: &[Arc<Segment>],
     entries: &[Entry],

@@ -9,7 +9,7 @@ ghost use Rattle.player_index.specs.Entries.{numbers_where};
 ghost use Rattle.player_index.specs.Index.{AreClassesOf, IsIndexed};
 
 use crate::entry::Entry;
-use crate::extending::{merged, sorted_entries};
+use crate::extending::{merge_entries, sorted_entries};
 use crate::order::Place;
 use crate::search::ends_of;
 use explorer_model::chess::Color;
@@ -103,7 +103,7 @@ impl PlayerIndex {
         let segments = snapshot.segments();
         let games = count_games(segments);
         let more = sorted_entries(alloc, segments, self.games, games)?;
-        let entries = merged(
+        let entries = merge_entries(
             alloc,
             segments,
             self.entries.as_slice(),

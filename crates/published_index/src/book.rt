@@ -38,8 +38,10 @@ impl Gain<Batch, u64> for Nothing {
     ghost after = { λ names about answer. ftrue };
 }
 
+/// The word that stands for a history of batches.
 pub type BookWord = Word<Batch, u64, Law>;
 
+/// A prefix of that history that was seen.
 pub type BookSeen = Seen<Batch, u64, Law>;
 
 type BookOffer = Offer<Batch, u64, Law, Nothing>;

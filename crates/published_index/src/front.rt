@@ -24,6 +24,7 @@ impl Model for Front {
 }
 
 impl Front {
+    /// How many batches there are.
     pub fn count(&self) -> u32
         ensures { result ≡ length self.now.log }
     {

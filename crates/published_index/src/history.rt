@@ -56,6 +56,7 @@ impl History {
         self.front.again()
     }
 
+    /// How many batches the history has.
     pub fn count(&self) -> u32
         ensures { result ≡ length self.now.log }
     {

@@ -68,7 +68,7 @@ impl List {
         ensures { IfOk result (λ list. list ≡ self.now) }
     {
         Ok(List {
-            segments: shared(self.segments.as_slice(), room)?,
+            segments: share_segments(self.segments.as_slice(), room)?,
             end: self.end,
         })
     }
@@ -115,7 +115,7 @@ impl List {
 }
 
 /// One more share of each of the segments.
-fn shared(
+fn share_segments(
     segments: &[SharedSegment],
     mut room: Vec<SharedSegment>,
 ) -> Result<Vec<SharedSegment>, AllocError>

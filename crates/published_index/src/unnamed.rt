@@ -49,7 +49,7 @@ impl Model for Unnamed {
 impl Unnamed {
     /// The publisher, the passes, and the drawer that drew the places of the list's batches, of the
     /// index whose name this one has. It is as before where there is no room for the passes.
-    pub fn named<J: Index>(self, alloc: Global) -> Result<Named<J>, Unnamed>
+    pub fn into_named<J: Index>(self, alloc: Global) -> Result<Named<J>, Unnamed>
         requires { self.name ≡ J.name }
         ensures publisher { IfOk result (λ index. index.0 ≡ publishing self.list) }
         ensures passes { IfOk result (λ index.
@@ -71,7 +71,7 @@ impl Unnamed {
                 of: PhantomData,
             });
         }
-        let (places, drawer) = places.named::<J>();
+        let (places, drawer) = places.into_named::<J>();
         let publisher = Publisher {
             writer,
             places,
@@ -106,7 +106,7 @@ pub fn open_list<R: Wait>(
     let seats = Vec::with_capacity(alloc, readers)?;
     let places = UnnamedPlaces::of(rt, alloc, list.batches())?;
     let mut writer = ListWriter::open(rt, alloc, &list, readers)?;
-    match seated(&mut writer, seats, readers) {
+    match seat_readers(&mut writer, seats, readers) {
         Ok(seats) => Ok(Unnamed {
             writer,
             seats,
@@ -120,7 +120,7 @@ pub fn open_list<R: Wait>(
 }
 
 /// So many places of readers.
-fn seated(
+fn seat_readers(
     writer: &mut ListWriter,
     mut seats: Vec<Seat>,
     readers: usize,

@@ -86,6 +86,8 @@ impl Split<View> for One {
     ghost right = { λ v. holder 1 [] };
 }
 
+/// The cell over which places are drawn.
 pub type Cell = RuledSeqCell<[u64; 1], View, InOrder, 1>;
 
+/// A pass to the cell: what its holder knows of the places.
 pub type Token = Pass<[u64; 1], View>;

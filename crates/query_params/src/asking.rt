@@ -39,11 +39,11 @@ fn query_in(alloc: Global, pairs: &[Pair]) -> Result<Result<Query, BadParameter>
 {
     let root = root_of(pairs);
     let line = line_of(alloc, &root, pairs)?;
-    Ok(judged(pairs, root, line))
+    Ok(judge_parameters(pairs, root, line))
 }
 
 /// The parameters in their order.
-fn judged(
+fn judge_parameters(
     pairs: &[Pair],
     root: Result<Board, BadParameter>,
     line: Result<Line, BadParameter>,

@@ -9,12 +9,14 @@ use crate::pairs::{Pair, value_named};
 use explorer_model::player::{BadPlayerParameter, PlayerParameter};
 use explorer_model::query::{BadParameter, Parameter};
 
+/// A parameter that is not well formed.
 pub fn bad(name: Parameter) -> BadParameter
     ensures { result ≡ bad name }
 {
     BadParameter { name }
 }
 
+/// A parameter of a player's games that is not well formed.
 pub fn bad_player(name: PlayerParameter) -> BadPlayerParameter
     ensures { result ≡ bad_player name }
 {
@@ -40,7 +42,7 @@ fn given_once<'a, F: Copy>(pairs: &'a [Pair], name: &str, fault: F) -> Result<Op
 
 /// The value of a parameter, where it is given and not empty.
 #[tactic(auto, unfolding(explorer_model::specs::Query::value_in))]
-pub fn given(pairs: &[Pair], name: Parameter) -> Result<Option<&str>, BadParameter>
+pub fn given_value(pairs: &[Pair], name: Parameter) -> Result<Option<&str>, BadParameter>
     ensures { result_map_both (λ value. option_map (λ text. text.now) value)
         (λ fault. fault) result ≡ given_in name (map texts pairs.now) }
 {
@@ -48,7 +50,7 @@ pub fn given(pairs: &[Pair], name: Parameter) -> Result<Option<&str>, BadParamet
 }
 
 /// The value of a parameter of a query for a player's games, where it is given and not empty.
-pub fn player_given(
+pub fn given_player_value(
     pairs: &[Pair],
     name: PlayerParameter,
 ) -> Result<Option<&str>, BadPlayerParameter>

@@ -67,6 +67,7 @@ fn mark_given(names: &[&str], text: &str, given: &mut [bool])
     }
 }
 
+/// The speeds that a list names; None where it names another.
 #[tactic(auto, using(crate::proofs::Names::names_refused, crate::proofs::Names::names_listed))]
 pub fn speeds_named(text: &str) -> Option<[bool; 6]>
     ensures { result ≡ names_given speed_names text.now }
@@ -87,6 +88,7 @@ pub fn speeds_named(text: &str) -> Option<[bool; 6]>
     Some(given)
 }
 
+/// The groups of ratings that a list names; None where it names another.
 #[tactic(auto, using(crate::proofs::Names::names_refused, crate::proofs::Names::names_listed))]
 pub fn groups_named(text: &str) -> Option<[bool; 9]>
     ensures { result ≡ names_given group_names text.now }
@@ -102,6 +104,7 @@ pub fn groups_named(text: &str) -> Option<[bool; 9]>
     Some(given)
 }
 
+/// The modes that a list names; None where it names another.
 #[tactic(auto, using(crate::proofs::Names::names_refused, crate::proofs::Names::names_listed))]
 pub fn modes_named(text: &str) -> Option<[bool; 2]>
     ensures { result ≡ names_given mode_names text.now }

@@ -7,12 +7,14 @@ use explorer_model::text::Name;
 use form_urlencoded::parse;
 use std::alloc::{AllocError, Global};
 
+/// A name and its value in a query string.
 #[derive(Drop)]
 pub struct Pair {
     name: Name,
     value: Name,
 }
 
+/// The pairs of a query string, in order.
 pub fn pairs_of(alloc: Global, text: &[u8]) -> Result<Vec<Pair>, AllocError>
     ensures { IfOk result (λ pairs. map texts pairs.items ≡ pairs_of text.now) }
 {

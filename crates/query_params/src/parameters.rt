@@ -4,7 +4,7 @@ ghost use Rattle.explorer_model.specs.Query.{asked, standard_only, names_given, 
 ghost use Rattle.explorer_model.specs.declared.query.Parameter.TheVariants.{Variant, Speeds, Ratings, Moves, History};
 ghost use Rattle.query_params.specs.Given.{texts};
 
-use crate::given::{bad, given};
+use crate::given::{bad, given_value};
 use crate::lists::{groups_named, speeds_named};
 use crate::pairs::Pair;
 use crate::values::{month_named, number_of, switch_named};
@@ -15,7 +15,7 @@ use explorer_model::query::{BadParameter, Parameter};
 pub fn variant(pairs: &[Pair]) -> Result<bool, BadParameter>
     ensures { result ≡ asked standard_only true Variant (map texts pairs.now) }
 {
-    let Some(text) = given(pairs, Parameter::Variant)? else {
+    let Some(text) = given_value(pairs, Parameter::Variant)? else {
         return Ok(true);
     };
     if text == "standard" {
@@ -25,11 +25,12 @@ pub fn variant(pairs: &[Pair]) -> Result<bool, BadParameter>
     }
 }
 
+/// The speeds that are asked for; all where none is named.
 pub fn speeds(pairs: &[Pair]) -> Result<[bool; 6], BadParameter>
     ensures { result ≡ asked (names_given speed_names) (all_given speed_names) Speeds
         (map texts pairs.now) }
 {
-    let Some(text) = given(pairs, Parameter::Speeds)? else {
+    let Some(text) = given_value(pairs, Parameter::Speeds)? else {
         return Ok([true; 6]);
     };
     speeds_named(text).ok_or(bad(Parameter::Speeds))
@@ -40,7 +41,7 @@ pub fn groups(pairs: &[Pair]) -> Result<[bool; 9], BadParameter>
     ensures { result ≡ asked (names_given group_names) (all_given group_names) Ratings
         (map texts pairs.now) }
 {
-    let Some(text) = given(pairs, Parameter::Ratings)? else {
+    let Some(text) = given_value(pairs, Parameter::Ratings)? else {
         return Ok([true; 9]);
     };
     groups_named(text).ok_or(bad(Parameter::Ratings))
@@ -50,16 +51,17 @@ pub fn groups(pairs: &[Pair]) -> Result<[bool; 9], BadParameter>
 pub fn bound(pairs: &[Pair], name: Parameter) -> Result<Option<Month>, BadParameter>
     ensures { result ≡ asked bound_named None name (map texts pairs.now) }
 {
-    let Some(text) = given(pairs, name)? else {
+    let Some(text) = given_value(pairs, name)? else {
         return Ok(None);
     };
     Ok(Some(month_named(text).ok_or(bad(name))?))
 }
 
+/// How many moves are asked for at most; 12 where nothing is said.
 pub fn moves(pairs: &[Pair]) -> Result<u32, BadParameter>
     ensures { result ≡ asked most_moves 12 Moves (map texts pairs.now) }
 {
-    let Some(text) = given(pairs, Parameter::Moves)? else {
+    let Some(text) = given_value(pairs, Parameter::Moves)? else {
         return Ok(12);
     };
     number_of(6, text).ok_or(bad(Parameter::Moves))
@@ -69,16 +71,17 @@ pub fn moves(pairs: &[Pair]) -> Result<u32, BadParameter>
 pub fn most_games(pairs: &[Pair], name: Parameter) -> Result<u8, BadParameter>
     ensures { result ≡ asked most_games 4 name (map texts pairs.now) }
 {
-    let Some(text) = given(pairs, name)? else {
+    let Some(text) = given_value(pairs, name)? else {
         return Ok(4);
     };
     Ok(number_of(6, text).ok_or(bad(name))?.min(4) as u8)
 }
 
+/// Whether the months are asked for; not where nothing is said.
 pub fn history(pairs: &[Pair]) -> Result<bool, BadParameter>
     ensures { result ≡ asked switch_named false History (map texts pairs.now) }
 {
-    let Some(text) = given(pairs, Parameter::History)? else {
+    let Some(text) = given_value(pairs, Parameter::History)? else {
         return Ok(false);
     };
     switch_named(text).ok_or(bad(Parameter::History))

@@ -4,7 +4,7 @@ ghost use Rattle.explorer_model.specs.declared.player.PlayerParameter.TheVariant
 ghost use Rattle.explorer_model.specs.Players.{color_named, common, demanded, modes_in, player_named};
 ghost use Rattle.query_params.specs.Given.{texts};
 
-use crate::given::{bad_player, player_given};
+use crate::given::{bad_player, given_player_value};
 use crate::lists::modes_named;
 use crate::pairs::Pair;
 use explorer_model::chess::Color;
@@ -27,7 +27,7 @@ pub fn common<A>(reading: Result<A, BadParameter>) -> Result<A, BadPlayerParamet
 pub fn player(alloc: Global, pairs: &[Pair]) -> Result<Result<Name, BadPlayerParameter>, AllocError>
     ensures { IfOk result (λ name. name ≡ demanded player_named players.Player (map texts pairs.now)) }
 {
-    match player_given(pairs, PlayerParameter::Player) {
+    match given_player_value(pairs, PlayerParameter::Player) {
         Ok(Some(text)) => Ok(Ok(Name::from_string(String::from_str(alloc, text)?))),
         Ok(None) => Ok(Err(bad_player(PlayerParameter::Player))),
         Err(fault) => Ok(Err(fault)),
@@ -38,7 +38,7 @@ pub fn player(alloc: Global, pairs: &[Pair]) -> Result<Result<Name, BadPlayerPar
 pub fn color(pairs: &[Pair]) -> Result<Color, BadPlayerParameter>
     ensures { result ≡ demanded color_named players.Color (map texts pairs.now) }
 {
-    let Some(text) = player_given(pairs, PlayerParameter::Color)? else {
+    let Some(text) = given_player_value(pairs, PlayerParameter::Color)? else {
         return Err(bad_player(PlayerParameter::Color));
     };
     color_named(text).ok_or(bad_player(PlayerParameter::Color))
@@ -61,7 +61,7 @@ fn color_named(text: &str) -> Option<Color>
 pub fn modes(pairs: &[Pair]) -> Result<[bool; 2], BadPlayerParameter>
     ensures { result ≡ modes_in (map texts pairs.now) }
 {
-    let Some(text) = player_given(pairs, PlayerParameter::Modes)? else {
+    let Some(text) = given_player_value(pairs, PlayerParameter::Modes)? else {
         return Ok([true; 2]);
     };
     modes_named(text).ok_or(bad_player(PlayerParameter::Modes))

@@ -5,7 +5,7 @@ ghost use Rattle.explorer_model.specs.Query.{value_in, pieces_of, RootReads, Mov
 ghost use Rattle.query_params.specs.Given.{texts};
 ghost use Rattle.query_params.specs.Lines.{NamesRoot, line_as};
 
-use crate::given::{bad, given};
+use crate::given::{bad, given_value};
 use crate::lists::split_piece;
 use crate::pairs::Pair;
 use explorer_model::archive::Moves;
@@ -21,10 +21,11 @@ pub struct Line {
     pub board: Board,
 }
 
+/// The position that `fen` sets up, or the start.
 pub fn root_of(pairs: &[Pair]) -> Result<Board, BadParameter>
     ensures { RootReads (value_in Fen (map texts pairs.now)) result }
 {
-    match given(pairs, Parameter::Fen) {
+    match given_value(pairs, Parameter::Fen) {
         Ok(Some(text)) => root_named(text),
         Ok(None) => Ok(Board::start()),
         Err(fault) => Err(fault),
@@ -63,8 +64,8 @@ fn play_of(
     ensures { IfOk result (λ line. PlayReads root.now (value_in Play (map texts pairs.now))
         (line_as line)) }
 {
-    match given(pairs, Parameter::Play) {
-        Ok(Some(text)) => played(alloc, root, text),
+    match given_value(pairs, Parameter::Play) {
+        Ok(Some(text)) => read_moves(alloc, root, text),
         Ok(None) => Ok(Ok(Line {
             moves: Moves::from_vec(Vec::new(alloc)),
             board: *root,
@@ -74,7 +75,11 @@ fn play_of(
 }
 
 /// The line of moves with commas between them.
-fn played(alloc: Global, root: &Board, text: &str) -> Result<Result<Line, BadParameter>, AllocError>
+fn read_moves(
+    alloc: Global,
+    root: &Board,
+    text: &str,
+) -> Result<Result<Line, BadParameter>, AllocError>
     ensures { IfOk result (λ line. MovesRead root.now (pieces_of text.now) (line_as line)) }
 {
     let mut board = *root;

@@ -36,6 +36,7 @@ pub fn month_named(text: &str) -> Option<Month>
     }
 }
 
+/// `true` or `false`; None for another text.
 #[tactic(auto, unfolding(explorer_model::specs::Query::switch_named))]
 pub fn switch_named(text: &str) -> Option<bool>
     ensures { result ≡ switch_named text.now }

@@ -39,6 +39,7 @@ impl<D: Disk> RecordLog<D> {
         self.gate
     }
 
+    /// The format of the log's file.
     pub fn format(&self) -> Format
         ensures { result ≡ self.now.format }
     {
@@ -52,6 +53,7 @@ impl<D: Disk> RecordLog<D> {
         self.fault
     }
 
+    /// The disk, taken out.
     pub fn into_disk(self) -> D
         ensures { result ≡ self.disk }
     {

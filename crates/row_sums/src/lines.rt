@@ -5,7 +5,7 @@ ghost use Rattle.row_sums.specs.Hits.{look_limit};
 ghost use Rattle.row_sums.specs.Listing.{shown_game};
 
 use crate::games::Games;
-use crate::listing::listed;
+use crate::listing::listed_game;
 use crate::moves::{MoveSum, Shown};
 use explorer_model::answer::Listed;
 use std::alloc::AllocError;
@@ -26,7 +26,7 @@ pub fn only_game<G: Games>(games: &G, sum: &MoveSum) -> Result<Option<Listed>, A
         ≡ shown_game (G.classes games.now) sum.now.next sum.now.shown) }
 {
     match sum.shown {
-        Shown::One(entry) => listed(games, sum.next, entry.number),
+        Shown::One(entry) => listed_game(games, sum.next, entry.number),
         Shown::Nothing | Shown::Several => Ok(None),
     }
 }

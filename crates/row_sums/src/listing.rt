@@ -99,11 +99,15 @@ fn game_of<G: Games>(
     let Some(next) = next_in(hits, list, number) else {
         return Ok(None);
     };
-    listed(games, next, number)
+    listed_game(games, next, number)
 }
 
 /// The game of a number with its next move.
-pub fn listed<G: Games>(games: &G, next: Move, number: u32) -> Result<Option<Listed>, AllocError>
+pub fn listed_game<G: Games>(
+    games: &G,
+    next: Move,
+    number: u32,
+) -> Result<Option<Listed>, AllocError>
     ensures { IfOk result (λ listed. listed
         ≡ listed_as (G.classes games.now) next number) }
 {

@@ -19,7 +19,8 @@ pub struct Header {
 }
 
 impl Header {
-    pub fn drawn(draws: &mut Lcg64Xsh32) -> Header
+    /// Draws what the tags of a sample game say.
+    pub fn draw(draws: &mut Lcg64Xsh32) -> Header
         ensures drawn { header result ≡ header_drawn draws.old }
         ensures behind { draws.new ≡ behind_header draws.old }
         ensures short { (length result.result.now ≤ 7) × (length result.time_control.now ≤ 6) }

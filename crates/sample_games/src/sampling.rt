@@ -18,7 +18,7 @@ pub fn sample(alloc: Global, index: u32, draws: &mut Lcg64Xsh32) -> Result<Bytes
 {
     let plies = 20 + draw(draws, 41);
     let movetext = draw_movetext(alloc, plies, draws)?;
-    let header = Header::drawn(draws);
+    let header = Header::draw(draws);
     let mut text = Vec::with_capacity(alloc, 1024)?;
     header.write(&mut text, index)?;
     text.push(b'\n')?;

@@ -11,7 +11,7 @@ use explorer_model::notation::{NamedMove, SanForm};
 pub fn parse(text: &[u8]) -> Option<SanForm>
     ensures { result ≡ san_form text.now }
 {
-    let text = unmarked(text);
+    let text = without_marks(text);
     match castling(text) {
         Some(side) => Some(SanForm::Castling(side)),
         None => Some(SanForm::Named(named_move(text)?)),
@@ -19,7 +19,7 @@ pub fn parse(text: &[u8]) -> Option<SanForm>
 }
 
 /// The text before its check marks.
-fn unmarked(text: &[u8]) -> &[u8]
+fn without_marks(text: &[u8]) -> &[u8]
     ensures { reverse result.now ≡ unmarked (reverse text.now) }
 {
     let mut rest = text;
@@ -102,7 +102,7 @@ fn from_start(text: &[u8], target: u8, promotion: Option<Role>) -> Option<NamedM
     let (rank, text) = split_rank(text);
     let (file, text) = split_file(text);
     Some(NamedMove {
-        role: moved(text)?,
+        role: moved_role(text)?,
         file,
         rank,
         captures,
@@ -146,7 +146,7 @@ fn split_file(text: &[u8]) -> (Option<u8>, &[u8])
 }
 
 /// The piece of a move whose text before the file is `text`.
-fn moved(text: &[u8]) -> Option<Role>
+fn moved_role(text: &[u8]) -> Option<Role>
     ensures { result ≡ moved (reverse text.now) }
 {
     match text.split_last() {

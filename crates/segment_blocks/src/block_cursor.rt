@@ -119,7 +119,7 @@ impl<'a> Place<'a> {
             if self.is_own {
                 return Some(row_key_at(*self.before.key(), mark));
             }
-            let key = completed(&self.before, mark, self.tails);
+            let key = key_behind(&self.before, mark, self.tails);
             return Some(row_key_at(key, mark));
         }
         let (row, _whole) = self.whole.split_first()?;
@@ -290,7 +290,7 @@ fn complete(key: &mut KeyRoom, is_own: bool, mark: &Mark, tails: &[u8])
 /// The key of a mark behind another key. Kept apart, since the key of a next row is mostly its own
 /// already.
 #[inline(never)]
-fn completed(before: &KeyRoom, mark: &Mark, tails: &[u8]) -> PositionKey
+fn key_behind(before: &KeyRoom, mark: &Mark, tails: &[u8]) -> PositionKey
     requires { own_len mark.now ≤ length tails.now }
     ensures { result ≡ key_behind before.now mark.now tails.now }
 {

@@ -45,12 +45,14 @@ impl HeldBatch {
         })
     }
 
+    /// The batch.
     pub fn batch(&self) -> &Batch
         ensures { result.now ≡ batch_of self.now }
     {
         &self.tagged.batch
     }
 
+    /// What the tags of the batch's games say, in order.
     pub fn classes(&self) -> &[Classes]
         ensures { result.now ≡ classes_of self.now }
     {

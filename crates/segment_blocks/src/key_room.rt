@@ -30,7 +30,7 @@ impl KeyRoom {
         ensures { result ≡ key.now }
     {
         KeyRoom {
-            bytes: widened(key),
+            bytes: widen_key(key),
         }
     }
 
@@ -63,7 +63,7 @@ impl KeyRoom {
 }
 
 /// The key and room behind it.
-fn widened(key: &PositionKey) -> [u8; 68]
+fn widen_key(key: &PositionKey) -> [u8; 68]
     ensures { take 34 result ≡ key.now }
 {
     let mut bytes = [0u8; 68];

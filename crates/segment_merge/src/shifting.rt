@@ -24,13 +24,13 @@ pub fn push_shifted(
 {
     match held {
         HeldRow::Game(game) => packed.push_held(alloc, &HeldRow::Game(shifted_game(game, by))),
-        HeldRow::Whole(row) => packed.push_whole(alloc, shifted(row, by)),
+        HeldRow::Whole(row) => packed.push_whole(alloc, shift_row(row, by)),
     }
 }
 
 /// The same row of games whose numbers are greater by `by`.
 #[tactic(auto, unfolding(tally_rows::specs::Row::shifted_row))]
-pub fn shifted(row: &Row, by: u32) -> Row
+pub fn shift_row(row: &Row, by: u32) -> Row
     requires { HasRoom by row.now }
     ensures { result ≡ shifted_row by row.now }
 {

@@ -9,7 +9,7 @@ ghost use Rattle.segment_merge.specs.Room.{HasRoom, IsSmall};
 ghost use Rattle.tally_rows.specs.declared.row.Row.{Row};
 ghost use Rattle.tally_rows.specs.Row.{shifted_row};
 
-use crate::shifting::{push_shifted, shifted};
+use crate::shifting::{push_shifted, shift_row};
 use segment_blocks::{PackedRows, RowWalk, Steps};
 use std::alloc::{AllocError, Global};
 use std::marker::Model;
@@ -94,6 +94,6 @@ impl<'a> Side<'a> {
             (λ row. (self.old ≡ row ∷ self.new) × IsSmall row) }
     {
         let held = self.rest.advance(steps)?;
-        Some(shifted(&held.to_row(), self.by))
+        Some(shift_row(&held.to_row(), self.by))
     }
 }

@@ -37,7 +37,7 @@ pub fn map_taken<R: Threads + Sync, X: Send + Drop, E: Fn(usize) + Sync, F: Fn(u
     };
     let leaves = map_leaves(rt, alloc, workers, &leaf)?;
     let slots = slots_of(alloc, count, leaves)?;
-    filled(alloc, slots, f)
+    fill_slots(alloc, slots, f)
 }
 
 /// Calls `f` with the first index, and then takes the next one as long as one is left below `count`.
@@ -102,7 +102,7 @@ pub(crate) fn put_all<X: Drop>(slots: &mut Vec<Option<X>>, taken: Vec<(usize, X)
 }
 
 /// What stands in each slot, or what `f` gives for its index.
-fn filled<X: Drop, F: Fn(usize) -> X>(
+fn fill_slots<X: Drop, F: Fn(usize) -> X>(
     alloc: Global,
     slots: Vec<Option<X>>,
     f: &F,

@@ -171,7 +171,7 @@ impl Part {
         tallied_rows_are_sound();
         let key = tidy_key(at);
         match self.rows_of(alloc, &key, port, steps) {
-            Ok(rows) => judged(alloc, number, at, self.kept.games(), rows),
+            Ok(rows) => judge_rows(alloc, number, at, self.kept.games(), rows),
             Err(fault) => Err(stop_of(fault, number)),
         }
     }
@@ -199,7 +199,7 @@ fn tidy_key(at: &Position) -> PositionKey
 }
 
 /// The rows, where games can have them.
-fn judged(
+fn judge_rows(
     alloc: Global,
     number: u32,
     at: &Position,

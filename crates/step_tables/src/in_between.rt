@@ -38,7 +38,7 @@ pub fn between(a: u8, b: u8) -> Bitboard
 
 /// The squares of a set that are not cut off from `square`: no occupied square lies strictly
 /// between. Those of a slider's targets are the squares that it attacks (FIDE 3.5).
-pub fn unblocked(square: u8, targets: Bitboard, occupied: Bitboard) -> Bitboard
+pub fn open_targets(square: u8, targets: Bitboard, occupied: Bitboard) -> Bitboard
     requires { square < 64 }
     ensures { (b : ℕ) → b < 64
         → (Holds result b ↔ (Holds targets b × IsUnblocked occupied square b)) }

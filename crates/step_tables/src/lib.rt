@@ -14,7 +14,7 @@ mod slider;
 mod step;
 
 pub use bitboard::{Bitboard, Squares, contains, is_disjoint, lowest, only, without};
-pub use in_between::{between, unblocked};
+pub use in_between::{between, open_targets};
 pub use leaper::{BLACK_PAWN, KING, KNIGHT, Leaper, WHITE_PAWN};
 pub use pieces::{
     bishop_line, bishop_targets, black_pawn_targets, king_targets, knight_targets, queen_bound,

@@ -89,6 +89,7 @@ impl Tally {
         (self.batch, self.classes, self.rows)
     }
 
+    /// The batch that is counted.
     pub fn batch(&self) -> &Batch
         ensures batch { result.now ≡ self.now.batch }
         ensures counted { IsCounted self.now }

@@ -24,6 +24,7 @@ impl Model for ByteSource {
 }
 
 impl ByteSource {
+    /// The bytes, of which none is read yet.
     pub fn new(bytes: Vec<u8>) -> Self
         ensures { result ≡ record { left = bytes.items; given = 0 } }
     {

@@ -180,7 +180,7 @@ fn go_on_behind_a_fault<J: Index, R: Threads + Wait + Abort + Sync>(
         assert!(rt; fault == wanted[number as usize], "of game {number}");
         assert_eq!(rt; pass.enter(alloc)?.batches(), 1);
     }
-    assert_eq!(rt; (marks.disk_faults(), marks.closed()), (1, 1));
+    assert_eq!(rt; (marks.disk_faults(), marks.closed_stores()), (1, 1));
     assert_eq!(rt; batches_told(rt, ingest, &mut pass), Some((1, 1)));
     Ok(())
 }

@@ -9,5 +9,5 @@ pub returns : goal.returns
 returns c = λ squares whole told.
     c.write_square-2.ensures (set squares c.args.m.from.index None) (length-set_64 squares c.args.m.from.index None whole)
     (c.write_square.ensures squares whole told)
-    ∙ ap (λ o. packed (moved squares c.args.m.from.index c.args.m.to.index o)) c.arriving-arrives.ensures
+    ∙ ap (λ o. packed (moved squares c.args.m.from.index c.args.m.to.index o)) c.arriving_piece-arrives.ensures
     ∙ ap (λ o. packed (moved squares c.args.m.from.index c.args.m.to.index (arriving o c.args.m.promotion))) c.piece_at.ensures

@@ -7,7 +7,7 @@ use Rattle.chess_reference.proofs.play.squares_after.Goals as goal
 pub loop-s-preserved : goal.loop-s-preserved
 loop-s-preserved c = record {
   size = search rules;
-  filled = rw c.placed.ensures (fill_by_more (placed c.args.position.now c.args.m) _ _ None (omega (arith, c.loop-s.invariant.size)) c.loop-s.invariant.filled);
+  filled = rw c.piece_after.ensures (fill_by_more (placed c.args.position.now c.args.m) _ _ None (omega (arith, c.loop-s.invariant.size)) c.loop-s.invariant.filled);
 }
 
 pub returns : goal.returns

@@ -41,11 +41,11 @@ returns-in-HeadTooLarge c = rw c.in-HeadTooLarge.is c.body_from-in-HeadTooLarge.
 
 pub returns-in-DiskFault : goal.returns-in-DiskFault
 unfolding reply_body serde_json_on_literals
-returns-in-DiskFault c = rw c.in-DiskFault.is c.counted.ensures
+returns-in-DiskFault c = rw c.in-DiskFault.is c.body_with_number.ensures
 
 pub returns-in-Closed : goal.returns-in-Closed
 unfolding reply_body serde_json_on_literals
-returns-in-Closed c = rw c.in-Closed.is c.counted-in-Closed.ensures
+returns-in-Closed c = rw c.in-Closed.is c.body_with_number-in-Closed.ensures
 
 pub returns-in-NoMemory : goal.returns-in-NoMemory
 unfolding reply_body serde_json_on_literals

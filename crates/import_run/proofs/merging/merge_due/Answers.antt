@@ -12,5 +12,5 @@ returns-clause-merges g c =
     let mid : Publishing = c.next_job.new.ingest.index in
     let new : Publishing = c.install.new.self.index in
     let finds = subst (λ (found : Option Neighbours). Finds found old mid) c.in-Some.is c.in-Ok.ensures.finds in
-    let merges = merges_by old mid c.in-Some.job finds new c.in-Ok-merged.segment c.install.result c.in-Ok-merged.ensures.merges c.merged.ensures.left c.install.ensures.installs in
+    let merges = merges_by old mid c.in-Some.job finds new c.in-Ok-merge_job.segment c.install.result c.in-Ok-merge_job.ensures.merges c.merge_job.ensures.left c.install.ensures.installs in
     subst (λ (step : Merging). Merges step old new) (sym c.merging_of.ensures) merges

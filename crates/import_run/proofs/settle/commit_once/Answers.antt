@@ -87,11 +87,11 @@ returns-in-Clash-clause-comes g c =
     let both = again c.game_is_determined.ensures (left_by N h.candidates) made.examinations (fewer_read (λ a. is_none (N (id_of a))) h.candidates h.read)
     (fewer_fresh (λ a. is_none (N (id_of a))) [] h.candidates h.fresh) (subst P named.1 made.are_examinations) in
     let rest = candidates (verdicts made.examinations) in
-    let after = size_made _ rest c.in_ok-again-in-Clash.again.tally _ made.tally c.labelled.ensures ∙ ap length both.0 in
+    let after = size_made _ rest c.in_ok-again-in-Clash.again.tally _ made.tally c.with_label.ensures ∙ ap length both.0 in
     let clash : Committed g.row.J.Denot = record { handed = c.args.counted; answer = Err (faults.Clash x.handed x.pairs x.note) } in
     once_again _ c.args.counted c.args.places.items c.args.refused.items clash tt ran
     (extended c.push_reserved.new.self.items c.reserve.new.self.items (x.note ∷ []) c.args.clashes.now.items (x.note ∷ []) c.push_reserved.ensures.items c.reserve.ensures.items refl)
-    (hand_made _ c.in_ok-named-in-Clash.named.rest.items c.in_ok-again-in-Clash.again _ c.in_ok-again-in-Clash.ensures c.labelled.ensures)
+    (hand_made _ c.in_ok-named-in-Clash.named.rest.items c.in_ok-again-in-Clash.again _ c.in_ok-again-in-Clash.ensures c.with_label.ensures)
     (omega (arith, less, size, after))
     (λ label cuts before r.
     let cs = kept r.by.number (verdicts r.by.examinations) in
@@ -101,7 +101,7 @@ returns-in-Clash-clause-comes g c =
     let named = c.in_ok-named-in-Clash.ensures cs N texts (c.as_slice.ensures.value ∙ r.places_are) (c.as_slice-in-Clash.ensures.value ∙ pairs) in
     let refused = c.in_ok-refused-in-Clash.ensures ∙ ap (λ l. merged l c.as_slice-in-Clash-3.result.now) c.as_slice-in-Clash-2.ensures.value ∙ ap (merged c.args.refused.items) c.as_slice-in-Clash-3.ensures.value in
     let named_is = ap (λ b. b.label) (c.in_ok-batch-in-Clash.ensures.batch ∙ ap (λ t. t.batch) cl.0) ∙ label_is label cs c.args.counted.batch r.by.made.batch in
-    let tally_is = c.labelled.ensures ∙ ap (λ (l : List ℕ). option_map (under l) c.in_ok-again-in-Clash.again.tally) named_is in
+    let tally_is = c.with_label.ensures ∙ ap (λ (l : List ℕ). option_map (under l) c.in_ok-again-in-Clash.again.tally) named_is in
     more c.game_is_determined.ensures cuts c.args.counted c.args.places.items c.args.refused.items before (before ++ clash ∷ []) r
     N c.in_ok-named-in-Clash.named.refused.items c.in_ok-refused-in-Clash.refused.items c.in_ok-named-in-Clash.named.rest.items c.in_ok-again-in-Clash.again _
     (notes_grow before (clash ∷ []))

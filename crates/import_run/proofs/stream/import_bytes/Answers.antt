@@ -28,7 +28,7 @@ returns-in-Err-Fault-clause-beside g c =
     record { taken = []; cut = c.new-cutter.ensures.cuts; begun = λ some. absurd (omega (arith, some)); so_far = taken_none told c.new-import.result c.new-import.ensures.group c.new-import.ensures.receipts c.new-import.ensures.refused } in
     let stops : StopsWithin told c.args.bytes.now c.feed.new.self c.in-Err-Fault.stopped told' = (rw c.in-Err-Fault.field-0-is at c.in-Err-Fault.ensures.cut) told [] start in
     quietly_beside_as (c.feed.ensures.label ∙ c.new-import.ensures.label ∙ c.none.ensures)
-    (c.stopped.ensures.beside told c.args.bytes.now (Some []) told' below
+    (c.report_stop.ensures.beside told c.args.bytes.now (Some []) told' below
     (inl (subst (λ stopped. StopsWithin told c.args.bytes.now c.feed.new.self stopped told') (sym c.in-Err-Fault.stopped-is) stops)))
 
 pub returns-clause-beside : goal.returns-clause-beside
@@ -63,7 +63,7 @@ returns-in-Err-Fault-clause-told g c = λ start is.
     let stops : StopsWithin told c.args.bytes.now c.feed.new.self c.in-Err-Fault.stopped told' = (rw c.in-Err-Fault.field-0-is at c.in-Err-Fault.ensures.cut) told [] begin in
     let P : Option Store → Type 0 = λ s. StopsWithin s c.args.bytes.now c.feed.new.self c.in-Err-Fault.stopped told' in
     quietly_as (c.feed.ensures.label ∙ c.new-import.ensures.label ∙ c.none.ensures)
-    (c.stopped.ensures.comes start c.args.bytes.now (Some []) told' below
+    (c.report_stop.ensures.comes start c.args.bytes.now (Some []) told' below
     (inl (subst (λ stopped. StopsWithin (Some (store_of start)) c.args.bytes.now c.feed.new.self stopped told') (sym c.in-Err-Fault.stopped-is) (subst P is stops))))
 
 pub returns-clause-told : goal.returns-clause-told
@@ -88,7 +88,7 @@ returns-in-Ok-clause-drawn g c =
 pub returns-in-Err-Fault-clause-drawn : goal.returns-in-Err-Fault-clause-drawn
 returns-in-Err-Fault-clause-drawn g c =
     let first = draws-same 0 [] _ _ _ c.new-import.ensures.receipts (draws-none (g.C.Committer.drawing c.args.committer.now)) in
-    c.stopped.ensures.drawn _ _ ((rw c.in-Err-Fault.field-0-is at c.in-Err-Fault.ensures.drawn) _ first)
+    c.report_stop.ensures.drawn _ _ ((rw c.in-Err-Fault.field-0-is at c.in-Err-Fault.ensures.drawn) _ first)
 
 pub returns-clause-drawn : goal.returns-clause-drawn
 returns-clause-drawn g c =

@@ -130,13 +130,13 @@ returns-in-Err-Fault-clause-told g c = λ start is.
     let source = g.S.Source.source c.args.source.now in
     let told = g.C.Committer.told c.rounds.committer in
     let P : Option Store → Type 0 = λ s. IsUnderway source (g.S.Source.source c.rounds.source) s c.rounds.state told in
-    let stopped = c.stopped.ensures in
+    let stopped = c.report_stop.ensures in
     let goes = c.in-Ok-None.ensures.goes c.in-Ok-None.field-0-is source (Some (store_of start)) told (subst P is before.goes) in
     let told' = g.C.Committer.told c.round.new.committer in
     let stops : StopsReading source (g.S.Source.source c.round.new.source) (Some (store_of start)) c.round.new.self.import c.in-Err-Fault.stopped told' =
     (rw c.in-Err-Fault.field-0-is at c.in-Err-Fault.ensures.goes) source (Some (store_of start)) goes in
     imports_as (c.round.ensures.label ∙ same_label c.args.label c.rounds.state c.end.new.self c.end.ensures.import before.ready)
-    (stopped_told source (g.S.Source.source c.round.new.source) c.round.new.self.import c.stopped.result told' _ stopped.early stopped.beside stopped.comes start
+    (stopped_told source (g.S.Source.source c.round.new.source) c.round.new.self.import c.report_stop.result told' _ stopped.early stopped.beside stopped.comes start
     (subst (λ stopped. StopsReading source (g.S.Source.source c.round.new.source) (Some (store_of start)) c.round.new.self.import stopped told') (sym c.in-Err-Fault.stopped-is) stops))
 
 pub returns-in-Err-Fault-clause-beside : goal.returns-in-Err-Fault-clause-beside
@@ -145,18 +145,18 @@ returns-in-Err-Fault-clause-beside g c =
     let source = g.S.Source.source c.args.source.now in
     let start = g.C.Committer.told c.args.committer.now in
     let told = g.C.Committer.told c.rounds.committer in
-    let stopped = c.stopped.ensures in
+    let stopped = c.report_stop.ensures in
     let goes = c.in-Ok-None.ensures.goes c.in-Ok-None.field-0-is source start told before.goes in
     let told' = g.C.Committer.told c.round.new.committer in
     let stops : StopsReading source (g.S.Source.source c.round.new.source) start c.round.new.self.import c.in-Err-Fault.stopped told' =
     (rw c.in-Err-Fault.field-0-is at c.in-Err-Fault.ensures.goes) source start goes in
     imports_beside_as (c.round.ensures.label ∙ same_label c.args.label c.rounds.state c.end.new.self c.end.ensures.import before.ready)
-    (stopped_beside source (g.S.Source.source c.round.new.source) c.round.new.self.import c.stopped.result told' _ stopped.early stopped.beside start
+    (stopped_beside source (g.S.Source.source c.round.new.source) c.round.new.self.import c.report_stop.result told' _ stopped.early stopped.beside start
     (subst (λ stopped. StopsReading source (g.S.Source.source c.round.new.source) start c.round.new.self.import stopped told') (sym c.in-Err-Fault.stopped-is) stops))
 
 pub returns-in-Err-Fault-clause-drawn : goal.returns-in-Err-Fault-clause-drawn
 returns-in-Err-Fault-clause-drawn g c =
-    c.stopped.ensures.drawn _ _ ((rw c.in-Err-Fault.field-0-is at c.in-Err-Fault.ensures.drawn) _ (drawn_still c.args.label c.rounds.state c.end.new.self c.end.ensures.import _ _ c.rounds.invariant.drawn))
+    c.report_stop.ensures.drawn _ _ ((rw c.in-Err-Fault.field-0-is at c.in-Err-Fault.ensures.drawn) _ (drawn_still c.args.label c.rounds.state c.end.new.self c.end.ensures.import _ _ c.rounds.invariant.drawn))
 
 pub returns-in-Err-Fault-clause-since : goal.returns-in-Err-Fault-clause-since
 returns-in-Err-Fault-clause-since g c = g.met.C.Committer.since_before c.args.committer.now c.rounds.committer c.round.new.committer c.rounds.invariant.since c.round.ensures.since

@@ -13,8 +13,8 @@ loop-size-init g c =
     begins c.args.journal.items c.new-register.result _ _ (ap (map arc_value) c.new-segments.ensures.items) c.new-register.ensures
     (subst (λ (l : List CountedBatch). AllFrom IsCountedAt 0 c.args.journal.items l) (search rules) c.in_ok-items.ensures)
 
-pub fitting-requires-clause-counted : goal.fitting-requires-clause-counted
-fitting-requires-clause-counted g c =
+pub put_in_if_sound-requires-clause-counted : goal.put_in_if_sound-requires-clause-counted
+put_in_if_sound-requires-clause-counted g c =
     let l = c.loop-size in
     let is = l.invariant in
     let one = c.in-Some.field-0 in
@@ -42,7 +42,7 @@ join_due-requires-clause-list g c = λ κs within.
     let more = rw c.in-Some-2.is at (c.in_ok-segment.ensures is.so_far.before next.batch is.so_far.knows next.at.segment) in
     let items = c.push_reserved.ensures.items ∙ ap (λ xs. xs ++ segment ∷ []) c.in_ok-reserve.ensures.items in
     subst IsList (sym (ap (map arc_value) items ∙ map-append arc_value l.segments.items (segment ∷ [])))
-    (list-behind c.args.journal.items l.gate l.register _ _ _ one is first c.fitting.new.register (arc_value segment) more)
+    (list-behind c.args.journal.items l.gate l.register _ _ _ one is first c.put_in_if_sound.new.register (arc_value segment) more)
 
 pub join_due-requires-clause-within : goal.join_due-requires-clause-within
 join_due-requires-clause-within g c = λ κs within.
@@ -56,7 +56,7 @@ join_due-requires-clause-within g c = λ κs within.
     let items = c.push_reserved.ensures.items ∙ ap (λ xs. xs ++ segment ∷ []) c.in_ok-reserve.ensures.items in
     let all = ap (map arc_value) items ∙ map-append arc_value l.segments.items (segment ∷ []) in
     let whole = ap journal_of all
-    ∙ journal-behind c.args.journal.items l.gate l.register _ _ _ one is first c.fitting.new.register (arc_value segment) more in
+    ∙ journal-behind c.args.journal.items l.gate l.register _ _ _ one is first c.put_in_if_sound.new.register (arc_value segment) more in
     omega (arith, ap game_count whole, more.knows.sound.within.0)
 
 pub overflow_add-gate : goal.overflow_add-gate
@@ -83,7 +83,7 @@ loop-size-preserved g c =
     let items = c.push_reserved.ensures.items ∙ ap (λ xs. xs ++ segment ∷ []) c.in_ok-reserve.ensures.items in
     let all = ap (map arc_value) items ∙ map-append arc_value l.segments.items (segment ∷ []) in
     let joined = c.in_ok-join_due.ensures in
-    reaches-more c.args.journal.items l.gate l.register _ _ _ one is first c.fitting.new.register (arc_value segment) more
+    reaches-more c.args.journal.items l.gate l.register _ _ _ one is first c.put_in_if_sound.new.register (arc_value segment) more
     (map arc_value c.join_due.new.segments.items) joined.list (joined.journal ∙ ap journal_of all)
     (omega (arith, joined.few, length-map c.join_due.new.segments.items arc_value))
 

@@ -22,29 +22,29 @@ returns-in-Knight c = λ to on.
 
 pub returns-in-Bishop : goal.returns-in-Bishop
 returns-in-Bishop c = λ to on.
-    let P : Role → Type 0 = λ role. Holds c.unblocked.result to
+    let P : Role → Type 0 = λ role. Holds c.open_targets.result to
     ↔ (RoleAttacks c.args.position.now.squares c.args.piece.color role c.args.from to × ¬ IsOfColor c.args.position.now.turn (piece_at c.args.position.now.squares to)) in
     subst P (sym c.in-Bishop.is)
-    (sliders-say c.unblocked.result c.except-in-Bishop.result c.bishop_targets.result c.args.info.now.own to (c.except-in-Bishop.ensures to on) (c.bishop_targets.ensures to on)
-    (c.requires.informed.own to on) (c.unblocked.ensures to on)
+    (sliders-say c.open_targets.result c.except-in-Bishop.result c.bishop_targets.result c.args.info.now.own to (c.except-in-Bishop.ensures to on) (c.bishop_targets.ensures to on)
+    (c.requires.informed.own to on) (c.open_targets.ensures to on)
     (clear-open c.args.position.now.squares c.args.info.now.enemy_sets.occupied c.args.from to c.requires.informed.enemy_sets.occupied))
 
 pub returns-in-Rook : goal.returns-in-Rook
 returns-in-Rook c = λ to on.
-    let P : Role → Type 0 = λ role. Holds c.unblocked-in-Rook.result to
+    let P : Role → Type 0 = λ role. Holds c.open_targets-in-Rook.result to
     ↔ (RoleAttacks c.args.position.now.squares c.args.piece.color role c.args.from to × ¬ IsOfColor c.args.position.now.turn (piece_at c.args.position.now.squares to)) in
     subst P (sym c.in-Rook.is)
-    (sliders-say c.unblocked-in-Rook.result c.except-in-Rook.result c.rook_targets.result c.args.info.now.own to (c.except-in-Rook.ensures to on) (c.rook_targets.ensures to on)
-    (c.requires.informed.own to on) (c.unblocked-in-Rook.ensures to on)
+    (sliders-say c.open_targets-in-Rook.result c.except-in-Rook.result c.rook_targets.result c.args.info.now.own to (c.except-in-Rook.ensures to on) (c.rook_targets.ensures to on)
+    (c.requires.informed.own to on) (c.open_targets-in-Rook.ensures to on)
     (clear-open c.args.position.now.squares c.args.info.now.enemy_sets.occupied c.args.from to c.requires.informed.enemy_sets.occupied))
 
 pub returns-in-Queen : goal.returns-in-Queen
 returns-in-Queen c = λ to on.
-    let P : Role → Type 0 = λ role. Holds c.unblocked-in-Queen.result to
+    let P : Role → Type 0 = λ role. Holds c.open_targets-in-Queen.result to
     ↔ (RoleAttacks c.args.position.now.squares c.args.piece.color role c.args.from to × ¬ IsOfColor c.args.position.now.turn (piece_at c.args.position.now.squares to)) in
     subst P (sym c.in-Queen.is)
-    (sliders-say c.unblocked-in-Queen.result c.except-in-Queen.result c.queen_targets.result c.args.info.now.own to (c.except-in-Queen.ensures to on) (c.queen_targets.ensures to on)
-    (c.requires.informed.own to on) (c.unblocked-in-Queen.ensures to on)
+    (sliders-say c.open_targets-in-Queen.result c.except-in-Queen.result c.queen_targets.result c.args.info.now.own to (c.except-in-Queen.ensures to on) (c.queen_targets.ensures to on)
+    (c.requires.informed.own to on) (c.open_targets-in-Queen.ensures to on)
     (clear-open c.args.position.now.squares c.args.info.now.enemy_sets.occupied c.args.from to c.requires.informed.enemy_sets.occupied))
 
 pub returns-in-King : goal.returns-in-King

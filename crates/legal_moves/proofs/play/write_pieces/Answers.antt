@@ -29,7 +29,7 @@ returns-clause-squares c =
       | then-taking w ↦
           played c.args.position.now c.args.m _ _ _
           (w.squares-is ∙ w.write.ensures.squares ∙ ap (λ i. set c.args.position.now.squares i None) w.captured_en_passant.ensures)
-          c.arriving-arrives.ensures
+          c.arriving_piece-arrives.ensures
           (taking_writes _ _ c.requires.valid.board (sym c.takes_en_passant-taking.ensures ∙ w.if-taking.true))
       | else-taking+then-castles w ↦
           played c.args.position.now c.args.m _ _ _
@@ -37,9 +37,9 @@ returns-clause-squares c =
           ∙ ap (λ xs. set xs w.rook_home.result None) w.write-then-castles.ensures.squares
           ∙ castled c.args.position.now.squares _ _ _ _ _ _ w.halfway.ensures
           (w.rook_home.ensures ∙ ap (rook_home c.args.position.now.turn) w.castling_side.ensures) w.piece_of.ensures)
-          c.arriving-arrives.ensures
+          c.arriving_piece-arrives.ensures
           (castling_writes _ _ c.requires.valid.board (sym c.takes_en_passant-taking.ensures ∙ w.if-taking.false) (sym c.is_castling-castles.ensures ∙ w.if-castles.true))
       | else-taking+else-castles w ↦
-          played c.args.position.now c.args.m _ _ _ w.squares-is c.arriving-arrives.ensures
+          played c.args.position.now c.args.m _ _ _ w.squares-is c.arriving_piece-arrives.ensures
           (plain_writes _ _ c.requires.valid.board (sym c.takes_en_passant-taking.ensures ∙ w.if-taking.false) (sym c.is_castling-castles.ensures ∙ w.if-castles.false))
     ]

@@ -1,8 +1,8 @@
 //! The tables of `step_tables`: what the pieces reach on an empty board, and sets of squares.
 use step_tables::{
     Bitboard, Squares, between, bishop_line, bishop_targets, black_pawn_targets, contains,
-    is_disjoint, king_targets, knight_targets, lowest, only, queen_line, queen_targets, rook_line,
-    rook_targets, unblocked, white_pawn_targets, without,
+    is_disjoint, king_targets, knight_targets, lowest, only, open_targets, queen_line,
+    queen_targets, rook_line, rook_targets, white_pawn_targets, without,
 };
 
 /// Adds the number of squares of each bitboard to its total.
@@ -73,5 +73,5 @@ fn the_squares_of_a_bitboard(rt: HostRuntime) {
 fn a_rook_on_a1_between_pieces_on_a4_and_c1(rt: HostRuntime) {
     let occupied = only(24) | only(2);
     let attacked = only(8) | only(16) | only(24) | only(1) | only(2);
-    assert_eq!(rt; unblocked(0, rook_targets(0), occupied), attacked);
+    assert_eq!(rt; open_targets(0, rook_targets(0), occupied), attacked);
 }

@@ -48,7 +48,7 @@ returns-clause-reads c =
     let opening = c.in_ok-opening.ensures in
     let R : NamedPosition → Type 0 = λ named. ColumnsRead (Some columns) (Ok named) in
     let O : Opening → Type 0 = λ o. R (record { position = c.in-Some-play_words.board; opening = o }) in
-    subst R (sym c.named.ensures.line)
+    subst R (sym c.line_to.ensures.line)
     (subst O (sym opening)
     (well-read columns c.in-Some.eco.now c.in-Some-utf8_of.name.now
     (is-some c.utf8_of.result c.in-Some.eco c.args.cut.eco.now c.utf8_of.ensures c.in-Some.is)

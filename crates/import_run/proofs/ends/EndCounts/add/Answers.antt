@@ -12,4 +12,4 @@ pub returns-in-Closed : goal.returns-in-Closed
 returns-in-Closed g c =
     let x = c.in-Closed in
     adds_closed c.args.self.now _ refl c.args.end.now x.before x.after x.mark x.is c.requires c.add-in-Closed.ensures
-    (omega (arith, c.closed-before.ensures, c.closed-before.type_inv))
+    (omega (arith, c.closed_stores-before.ensures, c.closed_stores-before.type_inv))

@@ -32,7 +32,7 @@ returns-in-Err-Fault-clause-comes g c = λ start stream left at_end below so_far
     let stops : StopsAtEnd (Some (store_of start)) (so_far.taken ++ cuts_in c.end.result) c.finish.new.self c.in-Err-Fault.stopped told =
     (rw c.in-Err-Fault.field-0-is at c.in-Err-Fault.ensures.taken) (Some (store_of start)) so_far.taken (ascend_of_stream so_far.taken (cuts_in c.end.result) stream all) so_far.so_far in
     quietly_as c.finish.ensures.label
-    (c.stopped.ensures.comes start stream left told below (inr (at_end, subst (λ (l : List Cut). StopsAtEnd (Some (store_of start)) l c.finish.new.self c.in-Err-Fault.stopped told) all stops)))
+    (c.report_stop.ensures.comes start stream left told below (inr (at_end, subst (λ (l : List Cut). StopsAtEnd (Some (store_of start)) l c.finish.new.self c.in-Err-Fault.stopped told) all stops)))
 
 pub returns-in-Err-OutOfMemory-clause-comes : goal.returns-in-Err-OutOfMemory-clause-comes
 returns-in-Err-OutOfMemory-clause-comes g c = λ start stream left at_end below so_far.
@@ -59,7 +59,7 @@ returns-in-Err-Fault-clause-beside g c = λ start stream left at_end below so_fa
     let stops : StopsAtEnd start (so_far.taken ++ cuts_in c.end.result) c.finish.new.self c.in-Err-Fault.stopped told =
     (rw c.in-Err-Fault.field-0-is at c.in-Err-Fault.ensures.taken) start so_far.taken (ascend_of_stream so_far.taken (cuts_in c.end.result) stream all) so_far.so_far in
     quietly_beside_as c.finish.ensures.label
-    (c.stopped.ensures.beside start stream left told below (inr (at_end, subst (λ (l : List Cut). StopsAtEnd start l c.finish.new.self c.in-Err-Fault.stopped told) all stops)))
+    (c.report_stop.ensures.beside start stream left told below (inr (at_end, subst (λ (l : List Cut). StopsAtEnd start l c.finish.new.self c.in-Err-Fault.stopped told) all stops)))
 
 pub returns-in-Err-OutOfMemory-clause-beside : goal.returns-in-Err-OutOfMemory-clause-beside
 returns-in-Err-OutOfMemory-clause-beside g c = λ start stream left at_end below so_far.
@@ -76,7 +76,7 @@ returns-in-Ok-clause-drawn g c = λ before h. draws-same _ _ _ before _ c.report
 
 pub returns-in-Err-Fault-clause-drawn : goal.returns-in-Err-Fault-clause-drawn
 returns-in-Err-Fault-clause-drawn g c = λ before h.
-    c.stopped.ensures.drawn before _ ((rw c.in-Err-Fault.field-0-is at c.in-Err-Fault.ensures.drawn) before h)
+    c.report_stop.ensures.drawn before _ ((rw c.in-Err-Fault.field-0-is at c.in-Err-Fault.ensures.drawn) before h)
 
 pub returns-in-Err-OutOfMemory-clause-drawn : goal.returns-in-Err-OutOfMemory-clause-drawn
 returns-in-Err-OutOfMemory-clause-drawn g c = λ before h.

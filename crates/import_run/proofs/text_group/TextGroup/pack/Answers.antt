@@ -5,6 +5,6 @@ use Rattle.import_run.specs.declared.text_group.TalliedGroup.{TalliedGroup}
 use Rattle.import_run.proofs.text_group.TextGroup.pack.Goals as goal
 
 pub returns : goal.returns
-returns g c = IfOk-weaker c.packed.result _ _
+returns g c = IfOk-weaker c.pack.result _ _
     (λ same is. subst (λ (tallied : TalliedGroup). IsTalliedGroup c.args.self tallied) (sym is) (record { hand = c.in_ok-tally.ensures.hand; counts = c.in_ok-tally.ensures.tallied }))
-    c.packed.ensures
+    c.pack.ensures

@@ -9,7 +9,7 @@ pub returns-clause-tallied : goal.returns-clause-tallied
 returns-clause-tallied g c = λ cuts ascend holds. is_tallied cuts c.args.self c.in_ok-tallying.tallying _ ascend holds c.in_ok-tallying.ensures
     (c.in_ok-refused.ensures
     ∙ ap (λ (l : List Refusal). merged l c.as_slice-2.result.now) c.as_slice.ensures.value
-    ∙ ap (λ (l : List Refusal). merged c.in_ok-tallying.tallying.refused.items l) c.as_slice-2.ensures.value) c.labelled.ensures refl
+    ∙ ap (λ (l : List Refusal). merged c.in_ok-tallying.tallying.refused.items l) c.as_slice-2.ensures.value) c.with_label.ensures refl
 
 pub returns-clause-hand : goal.returns-clause-hand
-returns-clause-hand g c = hand_made c.args.self.label c.args.self.texts.items c.in_ok-tallying.tallying _ c.in_ok-tallying.ensures c.labelled.ensures
+returns-clause-hand g c = hand_made c.args.self.label c.args.self.texts.items c.in_ok-tallying.tallying _ c.in_ok-tallying.ensures c.with_label.ensures

@@ -10,4 +10,4 @@ pub returns-in-Ok-clause-crash : goal.returns-in-Ok-clause-crash
 returns-in-Ok-clause-crash g c = rw c.in-Ok.ensures at c.store.ensures.crash
 
 pub returns-in-Err-clause-crash : goal.returns-in-Err-clause-crash
-returns-in-Err-clause-crash g c = c.known.ensures.crash c.requires.open c.args.handed.batch
+returns-in-Err-clause-crash g c = c.stays_sound.ensures.crash c.requires.open c.args.handed.batch

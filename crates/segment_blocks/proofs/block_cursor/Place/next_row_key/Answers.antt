@@ -26,7 +26,7 @@ returns-in-Some c =
     let p = c.args.self.now in
     let mark = c.in_ok-mark.mark.now in
     let outcome = c.in-Some._outcome in
-    ap Some (c.row_key_at-in-Some.ensures ∙ ap (λ k. row_key_at k mark) c.completed-key.ensures ∙ sym (row_key-game (key_behind p.before mark p.tails.now) mark outcome))
+    ap Some (c.row_key_at-in-Some.ensures ∙ ap (λ k. row_key_at k mark) c.key_behind-key.ensures ∙ sym (row_key-game (key_behind p.before mark p.tails.now) mark outcome))
     ∙ ap next_row_key (sym (rows_behind-game mark p.marks.now c.in_ok-mark._marks.now p.before p.tails.now p.whole.now c.in_ok-mark.ensures.cases.0 outcome c.in-Some.is))
 
 pub returns : goal.returns

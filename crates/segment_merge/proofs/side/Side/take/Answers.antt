@@ -13,7 +13,7 @@ returns g c =
     let rest = c.advance.new.self in
     let is : s.rest ≡ held ∷ rest = c.in_ok-held.ensures.rows in
     let room = subst (AllByRecursion (HasRoom s.by)) is c.self.invariant in
-    let row : c.shifted.result ≡ shifted_row s.by held = c.shifted.ensures ∙ ap (shifted_row s.by) c.to_row.ensures in (
+    let row : c.shift_row.result ≡ shifted_row s.by held = c.shift_row.ensures ∙ ap (shifted_row s.by) c.to_row.ensures in (
       sym c.self.view_is ∙ ap (map (shifted_row s.by)) is ∙ ap (λ r. r ∷ map (shifted_row s.by) rest) (sym row),
       subst IsSmall (sym row) (small-shifted s.by held room.0),
     )

@@ -5,8 +5,8 @@ use Rattle.spill_blobs.proofs.CostLemmas.{reads-of}
 use Rattle.spill_blobs.proofs.JudgingLemmas.{cost-judged, found-given, found-judged, keyed-tidy, one-key, reads-found, reads-stopped, stopped-given, stopped-judged, judged-names, stopped-names}
 use Rattle.spill_blobs.proofs.part.Part.rows.Goals as goal
 
-pub judged-requires-clause-keyed : goal.judged-requires-clause-keyed
-judged-requires-clause-keyed g c = keyed-tidy c.args.at.now c.tidy_key-key.result c.tidy_key-key.ensures c.in-Ok.rows.items c.in-Ok.ensures.keyed
+pub judge_rows-requires-clause-keyed : goal.judge_rows-requires-clause-keyed
+judge_rows-requires-clause-keyed g c = keyed-tidy c.args.at.now c.tidy_key-key.result c.tidy_key-key.ensures c.in-Ok.rows.items c.in-Ok.ensures.keyed
 
 pub returns-in-Ok-clause-judged : goal.returns-in-Ok-clause-judged
 returns-in-Ok-clause-judged g c =
@@ -16,7 +16,7 @@ returns-in-Ok-clause-judged g c =
     c.games.ensures ∙ ap (λ (k : KeptSpan). length k.classes) (ap (λ (p : Spilled). p.kept) c.self.view_is ∙ is.kept) in
     λ key tidy. found-judged part is c.args.at.now c.args.number c.games.result games_is c.tidy_key-key.result key
     (one-key c.tidy_is_determined.ensures c.args.at.now c.tidy_key-key.result key c.tidy_key-key.ensures tidy)
-    (g.P.Port.port c.args.port.now) (g.P.Port.port c.rows_of.new.port) c.in-Ok.rows c.judged.result c.in-Ok.ensures.comes c.judged.ensures
+    (g.P.Port.port c.args.port.now) (g.P.Port.port c.rows_of.new.port) c.in-Ok.rows c.judge_rows.result c.in-Ok.ensures.comes c.judge_rows.ensures
 
 pub returns-in-Ok-clause-found : goal.returns-in-Ok-clause-found
 returns-in-Ok-clause-found g c =
@@ -26,14 +26,14 @@ returns-in-Ok-clause-found g c =
     c.games.ensures ∙ ap (λ (k : KeptSpan). length k.classes) (ap (λ (p : Spilled). p.kept) c.self.view_is ∙ is.kept) in
     λ key tidy stands. found-given part is c.args.at.now c.args.number c.games.result games_is c.tidy_key-key.result key
     (one-key c.tidy_is_determined.ensures c.args.at.now c.tidy_key-key.result key c.tidy_key-key.ensures tidy)
-    (g.P.Port.port c.args.port.now) (g.P.Port.port c.rows_of.new.port) c.in-Ok.ensures.begins stands c.in-Ok.rows c.judged.result
+    (g.P.Port.port c.args.port.now) (g.P.Port.port c.rows_of.new.port) c.in-Ok.ensures.begins stands c.in-Ok.rows c.judge_rows.result
     (c.tallied_rows_are_sound.ensures part.segment c.args.at.now c.tidy_key-key.result is.is_segment c.requires.valid c.tidy_key-key.ensures)
-    c.in-Ok.ensures.comes c.judged.ensures
+    c.in-Ok.ensures.comes c.judge_rows.ensures
 
 pub returns-in-Ok-clause-faults : goal.returns-in-Ok-clause-faults
 returns-in-Ok-clause-faults g c =
-    reads-found c.args.at.now c.args.number c.games.result (g.P.Port.port c.args.port.now) (g.P.Port.port c.rows_of.new.port) c.in-Ok.rows.items c.judged.result
-    c.in-Ok.ensures.comes.1 c.judged.ensures
+    reads-found c.args.at.now c.args.number c.games.result (g.P.Port.port c.args.port.now) (g.P.Port.port c.rows_of.new.port) c.in-Ok.rows.items c.judge_rows.result
+    c.in-Ok.ensures.comes.1 c.judge_rows.ensures
 
 pub returns-in-Err-clause-judged : goal.returns-in-Err-clause-judged
 returns-in-Err-clause-judged g c =
@@ -77,12 +77,12 @@ pub returns-in-Ok-clause-cost : goal.returns-in-Ok-clause-cost
 returns-in-Ok-clause-cost g c =
     let part = c.args.self.now in
     let is : IsSpilled part = subst IsSpilled c.self.view_is c.self.invariant in
-    λ digits fits. cost-judged c.args.at.now c.args.number c.games.result c.in-Ok.rows.items c.judged.result c.judged.ensures c.args.steps.now c.rows_of.new.steps digits
+    λ digits fits. cost-judged c.args.at.now c.args.number c.games.result c.in-Ok.rows.items c.judge_rows.result c.judge_rows.ensures c.args.steps.now c.rows_of.new.steps digits
     (c.in-Ok.ensures.cost digits (subst (λ (ks : List (List ℕ)). length ks < 2 ^ digits) (sym is.index) fits))
 
 pub returns-in-Ok-clause-named : goal.returns-in-Ok-clause-named
 returns-in-Ok-clause-named g c =
-    judged-names c.args.at.now c.args.number c.games.result c.in-Ok.rows.items c.judged.result c.judged.ensures
+    judged-names c.args.at.now c.args.number c.games.result c.in-Ok.rows.items c.judge_rows.result c.judge_rows.ensures
 
 pub returns-in-Err-clause-named : goal.returns-in-Err-clause-named
 returns-in-Err-clause-named g c = stopped-names c.in-Err.fault c.args.number c.stop_of.result c.stop_of.ensures
