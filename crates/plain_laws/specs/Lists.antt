@@ -28,7 +28,8 @@ get-front (x ∷ xs) ys zero within = refl
 get-front (x ∷ xs) ys (suc i) within = get-front xs ys i (omega (arith, within))
 
 -- in the second
-pub get-behind : {A : Type 0} (xs ys : List A) (i n : ℕ) → n ≡ length xs + i → slice_get (xs ++ ys) n ≡ slice_get ys i
+pub get-behind : {A : Type 0} (xs ys : List A) (i n : ℕ) → n ≡ length xs + i
+    → slice_get (xs ++ ys) n ≡ slice_get ys i
 get-behind [] ys i n is = ap (slice_get ys) (omega (arith, is))
 get-behind (x ∷ xs) ys i zero is = absurd (omega (arith, is))
 get-behind (x ∷ xs) ys i (suc n) is = get-behind xs ys i n (omega (arith, is))
@@ -43,11 +44,13 @@ get-between [] x ys = refl
 get-between (y ∷ xs) x ys = get-between xs x ys
 
 -- with more items behind
-pub get-append : {A : Type 0} (xs ys : List A) (i : ℕ) (x : A) → slice_get xs i ≡ Some x → slice_get (xs ++ ys) i ≡ Some x
+pub get-append : {A : Type 0} (xs ys : List A) (i : ℕ) (x : A) → slice_get xs i ≡ Some x
+    → slice_get (xs ++ ys) i ≡ Some x
 get-append xs ys i x is = get-front xs ys i (slice_get_within xs i x is) ∙ is
 
 -- all from a place on
-pub drop-get : {A : Type 0} (xs : List A) (i : ℕ) (x : A) → slice_get xs i ≡ Some x → drop i xs ≡ x ∷ drop (i + 1) xs
+pub drop-get : {A : Type 0} (xs : List A) (i : ℕ) (x : A) → slice_get xs i ≡ Some x
+    → drop i xs ≡ x ∷ drop (i + 1) xs
 drop-get xs i x is =
     drop-cons xs i x (slice_get_within xs i x is)
     ∙ ap (λ y. y ∷ drop (suc i) xs) (get_or_from_slice_get xs i x x is)
@@ -70,19 +73,23 @@ take-rest i xs = ap (λ (n : ℕ). take n (drop i xs)) (sym (length-drop i xs)) 
 
 -- ---- what holds of each item
 
-pub each-append : {A : Type 0} (P : A → Type 0) (xs ys : List A) → AllByRecursion P xs → AllByRecursion P ys → AllByRecursion P (xs ++ ys)
+pub each-append : {A : Type 0} (P : A → Type 0) (xs ys : List A) → AllByRecursion P xs → AllByRecursion P ys
+    → AllByRecursion P (xs ++ ys)
 each-append P [] ys each more = more
 each-append P (x ∷ xs) ys each more = (each.0, each-append P xs ys each.1 more)
 
-pub each-push : {A : Type 0} (P : A → Type 0) (xs : List A) (x : A) → AllByRecursion P xs → P x → AllByRecursion P (xs ++ x ∷ [])
+pub each-push : {A : Type 0} (P : A → Type 0) (xs : List A) (x : A) → AllByRecursion P xs → P x
+    → AllByRecursion P (xs ++ x ∷ [])
 each-push P xs x each one = each-append P xs (x ∷ []) each (one, tt)
 
 -- of the first of two lists, and of the second
-pub each-front : {A : Type 0} (P : A → Type 0) (xs ys : List A) → AllByRecursion P (xs ++ ys) → AllByRecursion P xs
+pub each-front : {A : Type 0} (P : A → Type 0) (xs ys : List A) → AllByRecursion P (xs ++ ys)
+    → AllByRecursion P xs
 each-front P [] ys each = tt
 each-front P (x ∷ xs) ys each = (each.0, each-front P xs ys each.1)
 
-pub each-behind : {A : Type 0} (P : A → Type 0) (xs ys : List A) → AllByRecursion P (xs ++ ys) → AllByRecursion P ys
+pub each-behind : {A : Type 0} (P : A → Type 0) (xs ys : List A) → AllByRecursion P (xs ++ ys)
+    → AllByRecursion P ys
 each-behind P [] ys each = each
 each-behind P (x ∷ xs) ys each = each-behind P xs ys each.1
 
@@ -107,7 +114,8 @@ pub filter-all : {A : Type 0} (xs : List A) → filter (λ x. true) xs ≡ xs
 filter-all [] = refl
 filter-all (x ∷ xs) = ap (λ l. x ∷ l) (filter-all xs)
 
-pub filter-both : {A : Type 0} (p q : A → Bool) (xs : List A) → filter q (filter p xs) ≡ filter (λ x. p x && q x) xs
+pub filter-both : {A : Type 0} (p q : A → Bool) (xs : List A)
+    → filter q (filter p xs) ≡ filter (λ x. p x && q x) xs
 filter-both p q [] = refl
 filter-both {A} p q (x ∷ xs) = by (p x) (filter-both p q xs)
   where

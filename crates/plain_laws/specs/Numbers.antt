@@ -21,7 +21,10 @@ halves size (suc left) some below =
 -- ---- powers of ten
 
 pub ten-more : (i j : ℕ) → 10 ^ i ≤ 10 ^ (i + j)
-ten-more i zero = let same : i ≡ i + 0 = omega arith in let itself : 10 ^ i ≤ 10 ^ i = omega arith in subst (λ k. 10 ^ i ≤ 10 ^ k) same itself
+ten-more i zero =
+    let same : i ≡ i + 0 = omega arith in
+    let itself : 10 ^ i ≤ 10 ^ i = omega arith in
+    subst (λ k. 10 ^ i ≤ 10 ^ k) same itself
 ten-more i (suc j) =
     let same : suc (i + j) ≡ i + suc j = omega arith in
     let power : 10 ^ suc (i + j) ≡ 10 ^ (i + j) * 10 = pow-suc 10 (i + j) in
@@ -30,12 +33,17 @@ ten-more i (suc j) =
     subst (λ k. 10 ^ i ≤ 10 ^ k) same more
 
 pub ten-rises : (i j : ℕ) → i ≤ j → 10 ^ i ≤ 10 ^ j
-ten-rises i j le = let same : i + (j - i) ≡ j = omega arith in subst (λ k. 10 ^ i ≤ 10 ^ k) same (ten-more i (j - i))
+ten-rises i j le =
+    let same : i + (j - i) ≡ j = omega arith in
+    subst (λ k. 10 ^ i ≤ 10 ^ k) same (ten-more i (j - i))
 
 -- ---- digits of a text
 
 -- one of the digits is at most nine
-pub digit-at : (i : ℕ) (text : List ℕ) → i < length text → all_ascii_digits (drop i text) ≡ true → slice_index_or text i 0 - 48 ≤ 9
+pub digit-at : (i : ℕ) (text : List ℕ) → i < length text → all_ascii_digits (drop i text) ≡ true
+    → slice_index_or text i 0 - 48 ≤ 9
 digit-at i text within digits =
-    let here : all_ascii_digits (slice_index_or text i 0 ∷ drop (suc i) text) ≡ true = subst (λ ds. all_ascii_digits ds ≡ true) (drop-cons text i 0 within) digits in
+    let here : all_ascii_digits (slice_index_or text i 0 ∷ drop (suc i) text) ≡ true =
+    subst (λ ds. all_ascii_digits ds ≡ true) (drop-cons text i 0 within) digits
+    in
     grind (arith, nat_tests)

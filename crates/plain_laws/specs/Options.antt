@@ -46,10 +46,11 @@ value_or : {A : Type 0} → A → Option A → A
 value_or d None = d
 value_or d (Some x) = x
 
-pub option_eq-decides : {A : Type 0} {E : A → A → Bool} → ((a b : A) → Decides (E a b) (a ≡ b)) → (x y : Option A)
-    → Decides (option_eq E x y) (x ≡ y)
+pub option_eq-decides : {A : Type 0} {E : A → A → Bool} → ((a b : A) → Decides (E a b) (a ≡ b))
+    → (x y : Option A) → Decides (option_eq E x y) (x ≡ y)
 unfolding value_or
 option_eq-decides decides None None = (λ e. refl, λ e. refl)
 option_eq-decides decides None (Some y) = (λ e. absurd (true≢false (sym e)), λ e. absurd (none-some y e))
 option_eq-decides decides (Some x) None = (λ e. absurd (true≢false (sym e)), λ e. absurd (some-none x e))
-option_eq-decides decides (Some x) (Some y) = (λ e. ap Some ((decides x y).0 e), λ e. (decides x y).1 (ap (value_or x) e))
+option_eq-decides decides (Some x) (Some y) =
+    (λ e. ap Some ((decides x y).0 e), λ e. (decides x y).1 (ap (value_or x) e))

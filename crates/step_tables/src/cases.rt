@@ -12,22 +12,38 @@ pub(crate) const OFF_FILE_H: u64 = 0x7F7F_7F7F_7F7F_7F7F;
 macro_rules! each_square {
     ($entry:ident! $($head:tt)*) => {
         [
-            $entry!($($head)* 0, 0, 0), $entry!($($head)* 1, 1, 0), $entry!($($head)* 2, 2, 0), $entry!($($head)* 3, 3, 0),
-            $entry!($($head)* 4, 4, 0), $entry!($($head)* 5, 5, 0), $entry!($($head)* 6, 6, 0), $entry!($($head)* 7, 7, 0),
-            $entry!($($head)* 8, 0, 1), $entry!($($head)* 9, 1, 1), $entry!($($head)* 10, 2, 1), $entry!($($head)* 11, 3, 1),
-            $entry!($($head)* 12, 4, 1), $entry!($($head)* 13, 5, 1), $entry!($($head)* 14, 6, 1), $entry!($($head)* 15, 7, 1),
-            $entry!($($head)* 16, 0, 2), $entry!($($head)* 17, 1, 2), $entry!($($head)* 18, 2, 2), $entry!($($head)* 19, 3, 2),
-            $entry!($($head)* 20, 4, 2), $entry!($($head)* 21, 5, 2), $entry!($($head)* 22, 6, 2), $entry!($($head)* 23, 7, 2),
-            $entry!($($head)* 24, 0, 3), $entry!($($head)* 25, 1, 3), $entry!($($head)* 26, 2, 3), $entry!($($head)* 27, 3, 3),
-            $entry!($($head)* 28, 4, 3), $entry!($($head)* 29, 5, 3), $entry!($($head)* 30, 6, 3), $entry!($($head)* 31, 7, 3),
-            $entry!($($head)* 32, 0, 4), $entry!($($head)* 33, 1, 4), $entry!($($head)* 34, 2, 4), $entry!($($head)* 35, 3, 4),
-            $entry!($($head)* 36, 4, 4), $entry!($($head)* 37, 5, 4), $entry!($($head)* 38, 6, 4), $entry!($($head)* 39, 7, 4),
-            $entry!($($head)* 40, 0, 5), $entry!($($head)* 41, 1, 5), $entry!($($head)* 42, 2, 5), $entry!($($head)* 43, 3, 5),
-            $entry!($($head)* 44, 4, 5), $entry!($($head)* 45, 5, 5), $entry!($($head)* 46, 6, 5), $entry!($($head)* 47, 7, 5),
-            $entry!($($head)* 48, 0, 6), $entry!($($head)* 49, 1, 6), $entry!($($head)* 50, 2, 6), $entry!($($head)* 51, 3, 6),
-            $entry!($($head)* 52, 4, 6), $entry!($($head)* 53, 5, 6), $entry!($($head)* 54, 6, 6), $entry!($($head)* 55, 7, 6),
-            $entry!($($head)* 56, 0, 7), $entry!($($head)* 57, 1, 7), $entry!($($head)* 58, 2, 7), $entry!($($head)* 59, 3, 7),
-            $entry!($($head)* 60, 4, 7), $entry!($($head)* 61, 5, 7), $entry!($($head)* 62, 6, 7), $entry!($($head)* 63, 7, 7),
+            $entry!($($head)* 0, 0, 0), $entry!($($head)* 1, 1, 0),
+            $entry!($($head)* 2, 2, 0), $entry!($($head)* 3, 3, 0),
+            $entry!($($head)* 4, 4, 0), $entry!($($head)* 5, 5, 0),
+            $entry!($($head)* 6, 6, 0), $entry!($($head)* 7, 7, 0),
+            $entry!($($head)* 8, 0, 1), $entry!($($head)* 9, 1, 1),
+            $entry!($($head)* 10, 2, 1), $entry!($($head)* 11, 3, 1),
+            $entry!($($head)* 12, 4, 1), $entry!($($head)* 13, 5, 1),
+            $entry!($($head)* 14, 6, 1), $entry!($($head)* 15, 7, 1),
+            $entry!($($head)* 16, 0, 2), $entry!($($head)* 17, 1, 2),
+            $entry!($($head)* 18, 2, 2), $entry!($($head)* 19, 3, 2),
+            $entry!($($head)* 20, 4, 2), $entry!($($head)* 21, 5, 2),
+            $entry!($($head)* 22, 6, 2), $entry!($($head)* 23, 7, 2),
+            $entry!($($head)* 24, 0, 3), $entry!($($head)* 25, 1, 3),
+            $entry!($($head)* 26, 2, 3), $entry!($($head)* 27, 3, 3),
+            $entry!($($head)* 28, 4, 3), $entry!($($head)* 29, 5, 3),
+            $entry!($($head)* 30, 6, 3), $entry!($($head)* 31, 7, 3),
+            $entry!($($head)* 32, 0, 4), $entry!($($head)* 33, 1, 4),
+            $entry!($($head)* 34, 2, 4), $entry!($($head)* 35, 3, 4),
+            $entry!($($head)* 36, 4, 4), $entry!($($head)* 37, 5, 4),
+            $entry!($($head)* 38, 6, 4), $entry!($($head)* 39, 7, 4),
+            $entry!($($head)* 40, 0, 5), $entry!($($head)* 41, 1, 5),
+            $entry!($($head)* 42, 2, 5), $entry!($($head)* 43, 3, 5),
+            $entry!($($head)* 44, 4, 5), $entry!($($head)* 45, 5, 5),
+            $entry!($($head)* 46, 6, 5), $entry!($($head)* 47, 7, 5),
+            $entry!($($head)* 48, 0, 6), $entry!($($head)* 49, 1, 6),
+            $entry!($($head)* 50, 2, 6), $entry!($($head)* 51, 3, 6),
+            $entry!($($head)* 52, 4, 6), $entry!($($head)* 53, 5, 6),
+            $entry!($($head)* 54, 6, 6), $entry!($($head)* 55, 7, 6),
+            $entry!($($head)* 56, 0, 7), $entry!($($head)* 57, 1, 7),
+            $entry!($($head)* 58, 2, 7), $entry!($($head)* 59, 3, 7),
+            $entry!($($head)* 60, 4, 7), $entry!($($head)* 61, 5, 7),
+            $entry!($($head)* 62, 6, 7), $entry!($($head)* 63, 7, 7),
         ]
     };
 }
@@ -111,7 +127,8 @@ macro_rules! crossed {
     };
     ([bishop] $square:literal, $file:literal, $rank:literal) => {
         // Seven more ranks below rank 1 hold what is moved off the board.
-        ((((0x8040_2010_0804_0201u128 << (8 * (7 + $rank - $file))) ^ (0x0102_0408_1020_4080u128 << (8 * ($rank + $file))))
+        ((((0x8040_2010_0804_0201u128 << (8 * (7 + $rank - $file)))
+            ^ (0x0102_0408_1020_4080u128 << (8 * ($rank + $file))))
             >> 56)
             & 0xFFFF_FFFF_FFFF_FFFF) as u64
     };

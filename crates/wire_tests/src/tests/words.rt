@@ -96,7 +96,8 @@ fn each_command_is_read(rt: HostRuntime) -> Result<(), Fail> {
         ),
         (
             &["serve", "s", "a:1"],
-            "Serve { store: \"s\", address: \"a:1\", files: [], workers: 4, readers: 4, connections: 1000, openings: None }",
+            "Serve { store: \"s\", address: \"a:1\", files: [], workers: 4, readers: 4, \
+             connections: 1000, openings: None }",
         ),
         (
             &[
@@ -110,11 +111,13 @@ fn each_command_is_read(rt: HostRuntime) -> Result<(), Fail> {
                 "--connections",
                 "1000000",
             ],
-            "Serve { store: \"s\", address: \"a\", files: [\"f\", \"g\"], workers: 4, readers: 64, connections: 1000000, openings: None }",
+            "Serve { store: \"s\", address: \"a\", files: [\"f\", \"g\"], workers: 4, readers: 64, \
+             connections: 1000000, openings: None }",
         ),
         (
             &["serve", "s", "a", "--openings", "o", "f"],
-            "Serve { store: \"s\", address: \"a\", files: [\"f\"], workers: 4, readers: 4, connections: 1000, openings: Some(\"o\") }",
+            "Serve { store: \"s\", address: \"a\", files: [\"f\"], workers: 4, readers: 4, \
+             connections: 1000, openings: Some(\"o\") }",
         ),
         (
             &["trial", "2000", "7"],
@@ -198,7 +201,15 @@ fn other_words_are_refused(rt: HostRuntime) -> Result<(), Fail> {
         ),
         (
             &["import", "--help"],
-            "Import the games of a file into a store\n\nUsage: explorer import [OPTIONS] <STORE> <FILE>\n\nArguments:\n  <STORE>  The file of the store\n  <FILE>   A file of games in PGN\n\nOptions:\n      --workers <N>   How many threads work at once, 1 to 16 [default: 4]\n      --label <TEXT>  The label of the batches that are stored, at most 64 bytes\n  -h, --help          Print help\n",
+            "Import the games of a file into a store\n\n\
+             Usage: explorer import [OPTIONS] <STORE> <FILE>\n\n\
+             Arguments:\n  \
+             <STORE>  The file of the store\n  \
+             <FILE>   A file of games in PGN\n\n\
+             Options:\n      \
+             --workers <N>   How many threads work at once, 1 to 16 [default: 4]\n      \
+             --label <TEXT>  The label of the batches that are stored, at most 64 bytes\n  \
+             -h, --help          Print help\n",
         ),
         (
             &["import", "s", "f", "g", "--label", "a"],
