@@ -153,7 +153,7 @@ fn count_unnamed<J: Index, R: AllocGlobal + Wait + Threads + Sync, I: Source>(
     ensures starves { IfErr result
         (λ _. ReadsBelow (I.source input.old) (I.source input.new)) }
 {
-    let (mut ingest, _passes, mut drawer) = match unnamed.into_named::<J>(rt.alloc()) {
+    let (mut ingest, _passes, mut drawer) = match unnamed.named::<J>(rt.alloc()) {
         Ok(named) => named,
         Err(unnamed) => {
             let _disk = unnamed.into_disk(rt);

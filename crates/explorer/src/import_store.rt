@@ -119,7 +119,7 @@ fn import_in<J: Index, R: AllocGlobal + Wait + Threads + Sync, S: Source, D: Dis
         (ImportedTo label (journal_of unnamed.index.list) (D.disk unnamed.manifest.disk)
         (D.disk result.disk) (S.source source.old) (S.source source.new)) }
 {
-    let (mut ingest, _passes, mut drawer) = match unnamed.into_named::<J>(rt.alloc()) {
+    let (mut ingest, _passes, mut drawer) = match unnamed.named::<J>(rt.alloc()) {
         Ok(named) => named,
         Err(unnamed) => {
             return Imported {

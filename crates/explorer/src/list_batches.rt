@@ -90,7 +90,7 @@ fn list_in<J: Index, R: AllocGlobal + Wait, D: Disk>(rt: &R, unnamed: Unnamed<D>
     ensures disk { result.disk ≡ unnamed.manifest.disk }
     ensures lines { ListsIn (journal_of unnamed.index.list) result.lines }
 {
-    match unnamed.into_named::<J>(rt.alloc()) {
+    match unnamed.named::<J>(rt.alloc()) {
         Ok((ingest, _passes, _drawer)) => {
             let lines = lines_in(rt.alloc(), ingest.publisher());
             Listed {

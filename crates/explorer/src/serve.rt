@@ -113,7 +113,7 @@ fn serve_store<R: Wait + Threads + Sync, O: Sink, E: Sink, H: Host, J: Index + S
         host.close(name, store.into_disk(rt));
         return Err(Fault::OutOfMemory);
     };
-    let (ingest, passes, drawer) = match store.into_named::<J>(alloc) {
+    let (ingest, passes, drawer) = match store.named::<J>(alloc) {
         Ok(named) => named,
         Err(store) => {
             list.destroy_empty();

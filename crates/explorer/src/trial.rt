@@ -196,7 +196,7 @@ fn try_unnamed<J: Index, R: AllocGlobal + Wait + Threads + Sync>(
     ensures { IfOk result (λ tried.
         (texts : List (List ℕ)) → IsStreamOf texts stream.items → IsTriedOf texts tried) }
 {
-    let (mut ingest, _passes, mut drawer) = match unnamed.into_named::<J>(rt.alloc()) {
+    let (mut ingest, _passes, mut drawer) = match unnamed.named::<J>(rt.alloc()) {
         Ok(named) => named,
         Err(unnamed) => {
             let _disk = unnamed.into_disk(rt);

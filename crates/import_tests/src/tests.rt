@@ -75,7 +75,7 @@ fn named<J: Index, R: Wait>(
     requires { unnamed.index.name ≡ J.name }
     ensures { IfOk result (λ named. HasAllParts named.2) }
 {
-    match unnamed.into_named::<J>(alloc) {
+    match unnamed.named::<J>(alloc) {
         Ok(named) => Ok(named),
         Err(unnamed) => {
             let _disk = unnamed.into_disk(rt);

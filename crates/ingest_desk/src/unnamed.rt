@@ -45,7 +45,7 @@ impl<D: Disk> Model for Unnamed<D> {
 impl<D: Disk> Unnamed<D> {
     /// The ingest, the passes, and the drawer that drew the places of the journal's batches, of the
     /// index whose name this one has. It is as before where there is no room for the passes.
-    pub fn into_named<J: Index>(self, alloc: Global) -> Result<Named<D, J>, Unnamed<D>>
+    pub fn named<J: Index>(self, alloc: Global) -> Result<Named<D, J>, Unnamed<D>>
         requires { self.index.name ≡ J.name }
         ensures ingest { IfOk result (λ named. named.0 ≡ stored_by self) }
         ensures passes { IfOk result (λ named. named.1.items
@@ -59,7 +59,7 @@ impl<D: Disk> Unnamed<D> {
             register,
             index,
         } = self;
-        match index.into_named::<J>(alloc) {
+        match index.named::<J>(alloc) {
             Ok((publisher, passes, drawer)) => {
                 let ingest = Ingest {
                     manifest,

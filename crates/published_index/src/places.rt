@@ -73,7 +73,7 @@ impl UnnamedPlaces {
 
     /// The places of the index whose name this one has, and the drawer that has all other parts. It
     /// drew the places that are given.
-    pub fn into_named<J: Index>(self) -> (Places<J>, Drawer<J>)
+    pub fn named<J: Index>(self) -> (Places<J>, Drawer<J>)
         requires { self.table ≡ J.name.places }
         ensures count { result.0 ≡ self.count }
         ensures drawn { HasDrawn self.count result.1 }

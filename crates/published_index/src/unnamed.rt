@@ -49,7 +49,7 @@ impl Model for Unnamed {
 impl Unnamed {
     /// The publisher, the passes, and the drawer that drew the places of the list's batches, of the
     /// index whose name this one has. It is as before where there is no room for the passes.
-    pub fn into_named<J: Index>(self, alloc: Global) -> Result<Named<J>, Unnamed>
+    pub fn named<J: Index>(self, alloc: Global) -> Result<Named<J>, Unnamed>
         requires { self.name ≡ J.name }
         ensures publisher { IfOk result (λ index. index.0 ≡ publishing self.list) }
         ensures passes { IfOk result (λ index.
@@ -71,7 +71,7 @@ impl Unnamed {
                 of: PhantomData,
             });
         }
-        let (places, drawer) = places.into_named::<J>();
+        let (places, drawer) = places.named::<J>();
         let publisher = Publisher {
             writer,
             places,

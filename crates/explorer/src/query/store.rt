@@ -142,7 +142,7 @@ fn look_in<J: Index, R: AllocGlobal + Wait, D: Disk>(
     ensures disk { result.disk ≡ unnamed.manifest.disk }
     ensures line { LooksIn book.now query.now (journal_of unnamed.index.list) result.line }
 {
-    match unnamed.into_named::<J>(rt.alloc()) {
+    match unnamed.named::<J>(rt.alloc()) {
         Ok((ingest, _passes, _drawer)) => {
             let line = line_in(rt.alloc(), ingest.publisher(), query, book);
             Looked {

@@ -133,7 +133,7 @@ fn answers<J: Index, R: Threads + Wait + Abort + Sync>(
 ) -> Result<(), Fail>
     requires { unnamed.name ≡ J.name }
 {
-    let (publisher, mut passes, _drawer) = match unnamed.into_named::<J>(alloc) {
+    let (publisher, mut passes, _drawer) = match unnamed.named::<J>(alloc) {
         Ok(index) => index,
         Err(unnamed) => {
             unnamed.close(rt);

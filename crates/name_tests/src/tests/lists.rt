@@ -27,7 +27,7 @@ pub(super) fn named<J: Index, R: Wait>(
 ) -> Result<Named<J>, Fail>
     requires { unnamed.name ≡ J.name }
 {
-    match unnamed.into_named::<J>(alloc) {
+    match unnamed.named::<J>(alloc) {
         Ok(index) => Ok(index),
         Err(unnamed) => {
             unnamed.close(rt);

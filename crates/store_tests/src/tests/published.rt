@@ -24,7 +24,7 @@ fn named<J: Index, R: Wait>(rt: &R, alloc: Global, unnamed: Unnamed) -> Result<N
     requires { unnamed.name ≡ J.name }
     ensures { IfOk result (λ index. HasAllParts index.2) }
 {
-    match unnamed.into_named::<J>(alloc) {
+    match unnamed.named::<J>(alloc) {
         Ok(index) => Ok(index),
         Err(unnamed) => {
             unnamed.close(rt);

@@ -89,7 +89,7 @@ pub(super) fn named<J: Index, D: Disk + Drop, R: Wait>(
 ) -> Result<Named<D, J>, Fail>
     requires { unnamed.index.name ≡ J.name }
 {
-    match unnamed.into_named::<J>(alloc) {
+    match unnamed.named::<J>(alloc) {
         Ok(named) => Ok(named),
         Err(unnamed) => {
             let _disk = unnamed.into_disk(rt);

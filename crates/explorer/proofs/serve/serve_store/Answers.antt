@@ -37,8 +37,8 @@ returns-in-Err g c = λ given earlier input hands read same faultless.
 
 pub serve_files-cabinet-requires-clause-opening : goal.serve_files-cabinet-requires-clause-opening
 serve_files-cabinet-requires-clause-opening g c κs within =
-    all-watching c.in-Ok-into_named.named.1.items _ _ (journal c.in-Ok-into_named.named.0) c.in-Ok-into_named.ensures.passes
-    (journal-named c.in-Ok-into_named.named.0 c.args.store c.in-Ok-into_named.ensures.ingest)
+    all-watching c.in-Ok-named.named.1.items _ _ (journal c.in-Ok-named.named.0) c.in-Ok-named.ensures.passes
+    (journal-named c.in-Ok-named.named.0 c.args.store c.in-Ok-named.ensures.ingest)
 
 pub close-requires-2 : goal.close-requires-2
 close-requires-2 g c =
@@ -48,16 +48,16 @@ close-requires-2 g c =
 
 pub unserved_fault-requires : goal.unserved_fault-requires
 unserved_fault-requires g c =
-    (files-given-up (service_of c.args.order) (journal c.in-Ok-into_named.named.0) (journal c.serve_files-cabinet.result.0.ingest)
+    (files-given-up (service_of c.args.order) (journal c.in-Ok-named.named.0) (journal c.serve_files-cabinet.result.0.ingest)
     c.serve_files-cabinet.result.1 c.in-GivenUp.why (g.H.Host.host c.args.host.now) (g.H.Host.host c.serve_files-cabinet.new.host)
     c.in-GivenUp.is c.serve_files-cabinet.ensures.served).placed
 
 pub returns-in-GivenUp : goal.returns-in-GivenUp
 returns-in-GivenUp g c = λ given earlier input hands read same faultless.
     let kept = c.serve_files-cabinet.ensures.kept (given-up-so c.serve_files-cabinet.result.1 c.in-GivenUp.why c.in-GivenUp.is) in
-    let back = c.disk_of-disk.ensures.disk ∙ (stored-disk c.serve_files-cabinet.result.0.ingest c.in-Ok-into_named.named.0 kept
-    ∙ stored-disk c.in-Ok-into_named.named.0 _ c.in-Ok-into_named.ensures.ingest) in
-    let h = files-given-up (service_of c.args.order) (journal c.in-Ok-into_named.named.0) (journal c.serve_files-cabinet.result.0.ingest)
+    let back = c.disk_of-disk.ensures.disk ∙ (stored-disk c.serve_files-cabinet.result.0.ingest c.in-Ok-named.named.0 kept
+    ∙ stored-disk c.in-Ok-named.named.0 _ c.in-Ok-named.ensures.ingest) in
+    let h = files-given-up (service_of c.args.order) (journal c.in-Ok-named.named.0) (journal c.serve_files-cabinet.result.0.ingest)
     c.serve_files-cabinet.result.1 c.in-GivenUp.why (g.H.Host.host c.args.host.now) (g.H.Host.host c.serve_files-cabinet.new.host)
     c.in-GivenUp.is c.serve_files-cabinet.ensures.served in
     gives-up-so (service_of c.args.order) earlier (g.H.Host.host c.args.host.now) (g.H.Host.host c.serve_files-cabinet.new.host)
@@ -72,14 +72,14 @@ returns-in-GivenUp g c = λ given earlier input hands read same faultless.
 
 pub returns-in-Worked : goal.returns-in-Worked
 returns-in-Worked g c = λ given earlier input hands read same faultless.
-    let w = files-worked (service_of c.args.order) (journal c.in-Ok-into_named.named.0) (journal c.serve_files-cabinet.result.0.ingest)
+    let w = files-worked (service_of c.args.order) (journal c.in-Ok-named.named.0) (journal c.serve_files-cabinet.result.0.ingest)
     c.serve_files-cabinet.result.1 c.in-Worked.done (g.H.Host.host c.args.host.now) (g.H.Host.host c.serve_files-cabinet.new.host)
     c.in-Worked.is c.serve_files-cabinet.ensures.served in
     served-so (service_of c.args.order) earlier (g.H.Host.host c.args.host.now) (g.H.Host.host c.serve_files-cabinet.new.host)
     (g.H.Host.host c.close-2.new.self) given (g.H.Disk.Disk.disk c.disk_of-disk.result) hands (rw c.as_str-name.ensures.value at c.close-2.ensures)
-    (journal c.in-Ok-into_named.named.0) (journal c.serve_files-cabinet.result.0.ingest) c.in-Worked.done.first (lines_told c.in-Worked.done.lines) w
-    (subst (λ (j : List Batch). IfSome given.content (HasJournal j)) (sym (journal-named c.in-Ok-into_named.named.0 c.args.store c.in-Ok-into_named.ensures.ingest)) read)
-    (subst IsSound (sym (journal-named c.in-Ok-into_named.named.0 c.args.store c.in-Ok-into_named.ensures.ingest)) c.requires.sound)
+    (journal c.in-Ok-named.named.0) (journal c.serve_files-cabinet.result.0.ingest) c.in-Worked.done.first (lines_told c.in-Worked.done.lines) w
+    (subst (λ (j : List Batch). IfSome given.content (HasJournal j)) (sym (journal-named c.in-Ok-named.named.0 c.args.store c.in-Ok-named.ensures.ingest)) read)
+    (subst IsSound (sym (journal-named c.in-Ok-named.named.0 c.args.store c.in-Ok-named.ensures.ingest)) c.requires.sound)
     c.args.order.some_readers
     c.disk_of-disk.ensures.tells
     c.serve_files-cabinet.ensures.gives_back c.has_failed-failed.result c.has_failed-failed.ensures.yes c.has_failed-failed.ensures.no
@@ -92,9 +92,9 @@ returns-in-Worked g c = λ given earlier input hands read same faultless.
 
 pub serve_files-cabinet-requires-clause-drawn : goal.serve_files-cabinet-requires-clause-drawn
 serve_files-cabinet-requires-clause-drawn g c = λ κs within.
-    subst (λ (j : List Batch). HasDrawn (length j) c.in-Ok-into_named.named.2)
-    (sym (journal-named c.in-Ok-into_named.named.0 c.args.store c.in-Ok-into_named.ensures.ingest)) c.in-Ok-into_named.ensures.drawer
+    subst (λ (j : List Batch). HasDrawn (length j) c.in-Ok-named.named.2)
+    (sym (journal-named c.in-Ok-named.named.0 c.args.store c.in-Ok-named.ensures.ingest)) c.in-Ok-named.ensures.drawer
 
 pub serve_files-cabinet-requires-clause-parts : goal.serve_files-cabinet-requires-clause-parts
 serve_files-cabinet-requires-clause-parts g c = λ κs within.
-    omega (arith, c.in-Ok.ensures.few, c.in-Ok-into_named.ensures.drawer.parts)
+    omega (arith, c.in-Ok.ensures.few, c.in-Ok-named.ensures.drawer.parts)

@@ -2,7 +2,7 @@ use Rattle.std.proofs.Common.{◌≡◌, ◌+◌, ◌≤◌, replicate, length}
 use Rattle.std.specs.Vec.{vec_capacity}
 use Rattle.published_index.specs.Cover.{journal_of}
 use Rattle.published_index.specs.States.{watching}
-use Rattle.published_index.proofs.unnamed.Unnamed.into_named.Given as goal
+use Rattle.published_index.proofs.unnamed.Unnamed.named.Given as goal
 
 abbrev pub invariant-loop-seat : goal.invariant-loop-seat
 invariant-loop-seat g l = record {
