@@ -35,10 +35,15 @@ const ONE_DRAW: &str =
 /// A game's text: nine tag lines, an empty line and a line of movetext, which begins at byte 190
 /// where the result has three bytes.
 fn game(alloc: Global, outcome: &str, movetext: &str) -> Result<String, AllocError> {
-    named(alloc, "aaaaaaa1", outcome, movetext)
+    game_by_id(alloc, "aaaaaaa1", outcome, movetext)
 }
 
-fn named(alloc: Global, id: &str, outcome: &str, movetext: &str) -> Result<String, AllocError> {
+fn game_by_id(
+    alloc: Global,
+    id: &str,
+    outcome: &str,
+    movetext: &str,
+) -> Result<String, AllocError> {
     let tags = Tags {
         id,
         outcome,
@@ -46,7 +51,7 @@ fn named(alloc: Global, id: &str, outcome: &str, movetext: &str) -> Result<Strin
         black_rating: "1400",
         time: "300+0",
     };
-    tagged(alloc, &tags, movetext)
+    game_with_tags(alloc, &tags, movetext)
 }
 
 /// The tags in which the games of the rows differ.
@@ -59,7 +64,7 @@ struct Tags<'a> {
     time: &'a str,
 }
 
-fn tagged(alloc: Global, tags: &Tags, movetext: &str) -> Result<String, AllocError> {
+fn game_with_tags(alloc: Global, tags: &Tags, movetext: &str) -> Result<String, AllocError> {
     let Tags {
         id,
         outcome,
@@ -79,14 +84,14 @@ fn games(alloc: Global, count: u32) -> Result<String, AllocError> {
     let mut text = String::new(alloc);
     for number in 0..count {
         let id = format!(in alloc; "{number:08}")?;
-        let game = named(alloc, id.as_str(), "1-0", "1-0")?;
+        let game = game_by_id(alloc, id.as_str(), "1-0", "1-0")?;
         text.push_str(game.as_str())?;
     }
     Ok(text)
 }
 
 /// The texts, one behind the other.
-fn joined(alloc: Global, texts: &[&str]) -> Result<String, AllocError> {
+fn join_texts(alloc: Global, texts: &[&str]) -> Result<String, AllocError> {
     let mut all = String::new(alloc);
     for text in texts {
         all.push_str(text)?;
@@ -95,7 +100,7 @@ fn joined(alloc: Global, texts: &[&str]) -> Result<String, AllocError> {
 }
 
 /// A game as an answer lists it.
-fn listed(alloc: Global, id: &str, uci: &str, winner: &str) -> Result<String, AllocError> {
+fn listed_game(alloc: Global, id: &str, uci: &str, winner: &str) -> Result<String, AllocError> {
     format!(in alloc;
         "{{\"black\":{{\"name\":\"Bob\",\"rating\":1400}},\"id\":\"{id}\",\"mode\":\"rated\",\
          \"month\":\"2020-01\",\"speed\":\"blitz\",\"uci\":\"{uci}\",\
@@ -111,7 +116,7 @@ fn one_move(
     san: &str,
     uci: &str,
 ) -> Result<String, AllocError> {
-    let game = listed(alloc, "aaaaaaa1", uci, "white")?;
+    let game = listed_game(alloc, "aaaaaaa1", uci, "white")?;
     format!(in alloc;
         "{{\"black\":0,\"draws\":0,{history}\"moves\":[{{\"averageRating\":{rating},\
          \"black\":0,\"draws\":0,\"game\":{game},\"opening\":null,\"san\":\"{san}\",\
@@ -124,15 +129,15 @@ fn one_move(
 fn five_texts(alloc: Global) -> Result<String, AllocError> {
     let mut texts = String::new(alloc);
     for number in 0..5u32 {
-        texts.push_str(numbered(alloc, number)?.as_str())?;
+        texts.push_str(game_by_number(alloc, number)?.as_str())?;
     }
     Ok(texts)
 }
 
 /// The game of this number.
-fn numbered(alloc: Global, number: u32) -> Result<String, AllocError> {
+fn game_by_number(alloc: Global, number: u32) -> Result<String, AllocError> {
     let id = format!(in alloc; "aaaaaaa{number}")?;
-    named(alloc, id.as_str(), "1-0", "1. e4 1-0")
+    game_by_id(alloc, id.as_str(), "1-0", "1. e4 1-0")
 }
 
 /// The games of these numbers as an answer lists them.
@@ -142,7 +147,7 @@ fn listed_five(alloc: Global, numbers: &[u32]) -> Result<String, AllocError> {
         let id = format!(in alloc; "aaaaaaa{number}")?;
         let comma = if all.is_empty() { "" } else { "," };
         all.push_str(comma)?;
-        all.push_str(listed(alloc, id.as_str(), "e2e4", "white")?.as_str())?;
+        all.push_str(listed_game(alloc, id.as_str(), "e2e4", "white")?.as_str())?;
     }
     Ok(all)
 }
@@ -160,11 +165,11 @@ fn five_games(alloc: Global, top: &[u32], recent: &[u32]) -> Result<String, Allo
 
 /// A game with `1. e4` that White won and one with `1. d4` that Black won, and the answer over both.
 fn two_moves(alloc: Global) -> Result<(String, String), AllocError> {
-    let first = named(alloc, "aaaaaaa1", "1-0", "1. e4 1-0")?;
-    let second = named(alloc, "aaaaaaa2", "0-1", "1. d4 0-1")?;
+    let first = game_by_id(alloc, "aaaaaaa1", "1-0", "1. e4 1-0")?;
+    let second = game_by_id(alloc, "aaaaaaa2", "0-1", "1. d4 0-1")?;
     let text = format!(in alloc; "{first}{second}")?;
-    let won = listed(alloc, "aaaaaaa1", "e2e4", "white")?;
-    let lost = listed(alloc, "aaaaaaa2", "d2d4", "black")?;
+    let won = listed_game(alloc, "aaaaaaa1", "e2e4", "white")?;
+    let lost = listed_game(alloc, "aaaaaaa2", "d2d4", "black")?;
     let answer = format!(in alloc;
         "{{\"black\":1,\"draws\":0,\"moves\":[\
          {{\"averageRating\":1500,\"black\":1,\"draws\":0,\"game\":{lost},\"opening\":null,\

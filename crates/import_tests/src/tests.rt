@@ -67,7 +67,7 @@ fn new_store<R: Wait>(rt: &R, alloc: Global, failing: Vec<u64>) -> Result<Unname
 }
 
 /// The ingest, its passes and the drawer that has all other parts.
-fn named<J: Index, R: Wait>(
+fn name_ingest<J: Index, R: Wait>(
     rt: &R,
     alloc: Global,
     unnamed: Unnamed<MemDisk>,

@@ -1,15 +1,13 @@
 //! Opening a store whose rows go to a scratch file.
-ghost use Rattle.std.specs.Prelude.{◌≡◌, ◌≤◌, ◌∷◌, ◌++◌, [], ℕ, List, IfOk, IfErr, IfSome, MatchOption, length};
+ghost use Rattle.std.specs.Prelude.{◌≡◌, ◌≤◌, ◌∷◌, ◌++◌, [], ℕ, List, IfOk, IfErr, MatchOption, MatchResult, length};
 ghost use Rattle.std.specs.List.{All};
-ghost use Rattle.disk_model.specs.Disk.{IsQuiet};
 ghost use Rattle.explorer_model.specs.declared.archive.Batch.{Batch as StoredBatch};
 ghost use Rattle.explorer_model.specs.Journal.{IsSound};
 ghost use Rattle.explorer_model.specs.StoreFile.{IsStorable, gate_limit, store_of};
-ghost use Rattle.manifest.specs.Manifest.{HasJournal};
-ghost use Rattle.spill_blobs.specs.Sets.{journal_of, set_bytes, HasJust};
+ghost use Rattle.spill_blobs.specs.Sets.{set_bytes, HasJust};
 ghost use Rattle.ingest_desk.specs.Recounts.{HasOneMore};
 ghost use Rattle.ingest_desk.specs.Registers.{IsRegisterOf};
-ghost use Rattle.ingest_desk.specs.Spilling.{AreLone, IsNotSpilled, IsSpillOf, StopsSpilling};
+ghost use Rattle.ingest_desk.specs.Spilling.{IsHandedBackUnspilled, IsOpenedThrough, IsSpillOf, StopsSpilling};
 
 use crate::counting::{BatchAt, payload_size, segment_at};
 use crate::recount::takes_in;
@@ -43,19 +41,10 @@ pub fn open_spilled<R: Wait + Threads + Sync, D: Disk, P: Port>(
     requires few_workers { workers ≤ 16 }
     requires empty { HasJust (P.port port.old) [] }
 
-    ensures read { IfOk result (λ opened. IfSome (D.disk disk).content
-        (HasJournal (journal_of opened.1))) }
-    ensures sound { IfOk result (λ opened. IsSound (journal_of opened.1)) }
-    ensures parts { IfOk result (λ opened. AreLone opened.1) }
-    ensures written { IfOk result (λ opened. HasJust (P.port port.new) (set_bytes opened.1)) }
-    ensures port_faults { IfOk result
-        (λ _. (P.port port.new).faults ≡ (P.port port.old).faults) }
-    ensures refused { IfErr result (λ back. IsNotSpilled D.disk back.fault disk back.disk
-        (P.port port.old) (P.port port.new)) }
-
-    ensures quiet { IfOk result (λ opened. IsQuiet D.disk D.left_since disk opened.0) }
-    ensures no_fault { IfOk result (λ opened. (D.disk opened.0).faults ≡ (D.disk disk).faults) }
-    ensures quiet_refused { IfErr result (λ back. IsQuiet D.disk D.left_since disk back.disk) }
+    ensures { MatchResult result
+        (λ opened. IsOpenedThrough D.disk D.left_since disk (P.port port.old) (P.port port.new)
+        opened.0 opened.1)
+        (IsHandedBackUnspilled D.disk D.left_since disk (P.port port.old) (P.port port.new)) }
 {
     let workers = Workers { count: workers };
     let opened = match manifest::open(alloc, disk) {

@@ -107,7 +107,7 @@ fn one_game<R: Threads + Sync>(
 }
 
 /// The segment of both, where they can be merged.
-fn merged<R: Threads + Sync, G: Gate>(
+fn merge_both<R: Threads + Sync, G: Gate>(
     rt: &R,
     alloc: Global,
     left: &Segment,

@@ -1,7 +1,7 @@
 //! Answers to queries over a few games.
 use super::{
-    FAULTLESS, NO_GAME, ONE_WHITE, Tags, five_games, five_texts, game, one_move, run_on, tagged,
-    two_moves,
+    FAULTLESS, NO_GAME, ONE_WHITE, Tags, five_games, five_texts, game, game_with_tags, one_move,
+    run_on, two_moves,
 };
 use std::alloc::AllocError;
 use std::sync::Wait;
@@ -119,7 +119,7 @@ fn answers_over_one<R: AllocGlobal + Wait + Threads + Sync>(
     query: &str,
     answer: &str,
 ) -> Result<bool, AllocError> {
-    let text = tagged(rt.alloc(), tags, "1-0")?;
+    let text = game_with_tags(rt.alloc(), tags, "1-0")?;
     answers(rt, text.as_str(), query, answer)
 }
 

@@ -1,5 +1,5 @@
 //! Each call of what a run meets outside itself fails in turn.
-use super::{NEVER, named, status_of, streams_of, with_name};
+use super::{NEVER, game_by_id, status_of, streams_of, with_name};
 use disk_model::{Disk, MemDisk};
 use host::laws::what_is_handed_out_is_out;
 use host::{Host, MemFile, MemHost, MemLinks};
@@ -70,7 +70,7 @@ fn host_with(alloc: Global, fault: Fault) -> Result<MemHost, AllocError> {
     let empty = MemDisk::new(alloc, 1 << 16, fault.of(alloc, Device::EmptyDisk)?)?;
     host.add_disk("e", empty)?;
     let file = MemFile {
-        bytes: named(alloc, "aaaaaaa1", "1-0", "1-0")?.into_bytes(),
+        bytes: game_by_id(alloc, "aaaaaaa1", "1-0", "1-0")?.into_bytes(),
         failing: fault.of(alloc, Device::File)?,
     };
     host.add_file("f", file)?;
@@ -95,7 +95,7 @@ fn size_under<H: Host>(host: &mut H, name: &str) -> Option<u64> {
 
 /// The status of a run with these words, whether it printed and reported this, and the size of its
 /// store.
-fn ended<R: AllocGlobal + Wait + Threads + Sync>(
+fn end_of_run<R: AllocGlobal + Wait + Threads + Sync>(
     rt: &R,
     words: &[&str],
     fault: Fault,
@@ -225,7 +225,7 @@ const ROWS: [Row; 16] = [
 fn each_call_fails_in_turn(rt: HostRuntime) -> Result<(), Fail> {
     for (words, device, first, last, status, printed, reported, size) in ROWS {
         for call in first..=last {
-            let seen = ended(&rt, words, Fault { device, call }, (printed, reported))?;
+            let seen = end_of_run(&rt, words, Fault { device, call }, (printed, reported))?;
             assert_eq!(rt; seen, (status, true, size), "{words:?}, {device:?} {call}");
         }
     }

@@ -1,6 +1,6 @@
 //! Imports into stores, and the labels of their batches.
 use super::stores::file_of;
-use super::{ends, games, named, two_moves};
+use super::{ends, game_by_id, games, two_moves};
 use disk_model::MemDisk;
 use host::{MemFile, MemHost};
 use std::alloc::{AllocError, Global};
@@ -23,7 +23,7 @@ fn host_with_files(alloc: Global) -> Result<MemHost, AllocError> {
 
 /// A file of one game with this id.
 fn file_of_one(alloc: Global, id: &str) -> Result<MemFile, AllocError> {
-    let one = named(alloc, id, "1-0", "1-0")?;
+    let one = game_by_id(alloc, id, "1-0", "1-0")?;
     file_of(alloc, one.as_str())
 }
 

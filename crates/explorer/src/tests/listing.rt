@@ -1,5 +1,5 @@
 //! The batches of stores, on a host in memory.
-use super::{NEVER, ends, numbered, status_of, streams_of, with_name};
+use super::{NEVER, ends, game_by_number, status_of, streams_of, with_name};
 use disk_model::{Disk, MemDisk};
 use host::MemHost;
 use std::alloc::Global;
@@ -29,7 +29,7 @@ fn push_batch(
     payload.extend_from_slice(label.as_bytes())?;
     payload.extend_from_slice(&(games as u16).to_le_bytes())?;
     for game in 0..games {
-        let text = numbered(alloc, number.saturating_add(game))?;
+        let text = game_by_number(alloc, number.saturating_add(game))?;
         if text.len() > ROOM {
             return Err(Fail::from("too long"));
         }

@@ -1,7 +1,7 @@
 //! Stores that are made of stores in the first format, on a host in memory.
 ghost use Rattle.std.specs.Prelude.{◌≤◌, length};
 
-use super::{NEVER, ends, five_games, numbered, status_of, streams_of, with_name};
+use super::{NEVER, ends, five_games, game_by_number, status_of, streams_of, with_name};
 use disk_model::{Disk, MemDisk};
 use host::laws::what_is_handed_out_is_out;
 use host::{Host, MemCall, MemHost};
@@ -82,7 +82,7 @@ struct Case<'a> {
 }
 
 /// A migration of these bytes to the disk `new` that is refused so.
-fn refused<'a>(old: &'a [u8], line: &'a str) -> Case<'a> {
+fn refusal<'a>(old: &'a [u8], line: &'a str) -> Case<'a> {
     Case {
         old,
         names: ["old", "new"],
@@ -129,33 +129,33 @@ fn store_of_the_first_format_is_migrated_or_refused(rt: HostRuntime) -> Result<(
             calls: both,
             new: b"OPENEXP1\x02\x00\x00\x00\x00",
         },
-        refused(&SECOND, "format 2\n"),
-        refused(b"OPENEXP1\x09\x00\x00\x00\x00", "format 9\n"),
-        refused(b"OPENEXP1\x01\x00\x00\x00", "not a store\n"),
-        refused(b"OPENEXP2\x01\x00\x00\x00\x00", "not a store\n"),
+        refusal(&SECOND, "format 2\n"),
+        refusal(b"OPENEXP1\x09\x00\x00\x00\x00", "format 9\n"),
+        refusal(b"OPENEXP1\x01\x00\x00\x00", "not a store\n"),
+        refusal(b"OPENEXP2\x01\x00\x00\x00\x00", "not a store\n"),
         // A payload of no byte, one that is too long, one with no text, and one with a label.
-        refused(
+        refusal(
             b"OPENEXP1\x01\x00\x00\x00\x01\x00\x00\x00\x00\x00",
             "damaged at 12\n",
         ),
-        refused(
+        refusal(
             b"OPENEXP1\x01\x00\x00\x00\x01\x03\x08\x00\x02\x00",
             "damaged at 12\n",
         ),
-        refused(
+        refusal(
             b"OPENEXP1\x01\x00\x00\x00\x01\x02\x00\x00\x00\x00\x00\x00",
             "damaged at 12\n",
         ),
-        refused(
+        refusal(
             b"OPENEXP1\x01\x00\x00\x00\x01\x08\x00\x00\x00\x00\x01\x00\x01\x00\x00\x00x\x00",
             "damaged at 12\n",
         ),
         // A record that is cut off behind a good one, and behind one whose payload is none.
-        refused(
+        refusal(
             b"OPENEXP1\x01\x00\x00\x00\x01\x07\x00\x00\x00\x01\x00\x01\x00\x00\x00x\x01\x00",
             "damaged at 24\n",
         ),
-        refused(
+        refusal(
             b"OPENEXP1\x01\x00\x00\x00\x01\x02\x00\x00\x00\x00\x00\x01\x00",
             "damaged at 19\n",
         ),
@@ -302,7 +302,7 @@ fn store_of_three(alloc: Global, format: u8, texts: &[String]) -> Result<Vec<u8>
 fn batches_stand_in_the_new_store_without_labels(rt: HostRuntime) -> Result<(), Fail> {
     let mut texts = Vec::new(rt.alloc());
     for number in 0..5u32 {
-        texts.push(numbered(rt.alloc(), number)?)?;
+        texts.push(game_by_number(rt.alloc(), number)?)?;
     }
     if texts.len() < 5 {
         return Err(Fail::from("too few"));

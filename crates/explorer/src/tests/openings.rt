@@ -1,6 +1,6 @@
 //! Answers with the openings of a file, on a host in memory.
 use super::stores::{disk_with, file_of};
-use super::{FAULTLESS, NO_GAME, ends, game, listed, status_of, streams_of, with_name};
+use super::{FAULTLESS, NO_GAME, ends, game, listed_game, status_of, streams_of, with_name};
 use host::{MemFile, MemHost};
 use std::alloc::{AllocError, Global};
 use std::test::Fail;
@@ -14,7 +14,7 @@ const NAMED: &str = "{\"black\":0,\"draws\":0,\"moves\":[],\
 
 /// The answer over a game whose one move has the opening.
 pub fn named_move(alloc: Global) -> Result<String, AllocError> {
-    let game = listed(alloc, "aaaaaaa1", "e2e4", "white")?;
+    let game = listed_game(alloc, "aaaaaaa1", "e2e4", "white")?;
     format!(in alloc;
         "{{\"black\":0,\"draws\":0,\"moves\":[{{\"averageRating\":1500,\"black\":0,\"draws\":0,\
          \"game\":{game},\"opening\":{{\"eco\":\"B00\",\"name\":\"King's Pawn Game\"}},\
@@ -32,7 +32,7 @@ fn lines(alloc: Global, count: usize) -> Result<MemFile, AllocError> {
 }
 
 /// A file whose first read fails.
-fn unread(alloc: Global) -> Result<MemFile, AllocError> {
+fn unreadable_file(alloc: Global) -> Result<MemFile, AllocError> {
     Ok(MemFile {
         bytes: KINGS_PAWN.as_bytes().to_vec(alloc)?,
         failing: vec![in alloc; 0]?,
@@ -46,7 +46,7 @@ fn host_of_openings(alloc: Global) -> Result<MemHost, Fail> {
     host.add_disk("s", disk_with(alloc, b"OPENEXP1\x02\x00\x00\x00\x00")?)?;
     host.add_file("good", file_of(alloc, KINGS_PAWN)?)?;
     host.add_file("bad", file_of(alloc, "B00\tKing's Pawn Game\t1. e5")?)?;
-    host.add_file("unread", unread(alloc)?)?;
+    host.add_file("unread", unreadable_file(alloc)?)?;
     host.add_file("most", lines(alloc, 4_194_304)?)?;
     host.add_file("long", lines(alloc, 4_194_305)?)?;
     Ok(host)

@@ -1,7 +1,7 @@
 //! Stores that are served over a host in memory.
 ghost use Rattle.std.specs.Prelude.{◌≡◌, [], IfOk};
 
-use super::{NO_GAME, ONE_WHITE, ends, game, games, joined, listed, named};
+use super::{NO_GAME, ONE_WHITE, ends, game, game_by_id, games, join_texts, listed_game};
 use disk_model::MemDisk;
 use host::{MemCall, MemFile, MemHost, MemLinks};
 use outside::{MemLink, MemSink, MemSource};
@@ -20,7 +20,7 @@ fn new_store(alloc: Global, failing: &[u64]) -> Result<MemDisk, AllocError> {
 }
 
 fn link(alloc: Global, asked: &[&str]) -> Result<MemLink, AllocError> {
-    let source = MemSource::new(joined(alloc, asked)?.into_bytes(), 64, Vec::new(alloc));
+    let source = MemSource::new(join_texts(alloc, asked)?.into_bytes(), 64, Vec::new(alloc));
     Ok(MemLink::new(source, MemSink::new(alloc, 8192, Vec::new(alloc))?))
 }
 
@@ -86,13 +86,13 @@ const REPEATED: &str =
 /// A reply over so many batches, or one of status 500, whose body is a line without its end.
 fn reply(alloc: Global, batches: Option<&str>, line: &str) -> Result<String, AllocError> {
     match batches {
-        Some(batches) => found(alloc, batches, line),
+        Some(batches) => found_reply(alloc, batches, line),
         None => reply_of(alloc, "500 Internal Server Error", "", line),
     }
 }
 
 /// A reply over so many batches.
-fn found(alloc: Global, batches: &str, line: &str) -> Result<String, AllocError> {
+fn found_reply(alloc: Global, batches: &str, line: &str) -> Result<String, AllocError> {
     let fields = format!(in alloc; "X-Explorer-Batches: {batches}\r\n")?;
     reply_of(alloc, "200 OK", fields.as_str(), line)
 }
@@ -128,14 +128,14 @@ fn post(alloc: Global, text: &str) -> Result<String, AllocError> {
 }
 
 /// A post of a moveless game.
-fn posted(alloc: Global, id: &str, outcome: &str) -> Result<String, AllocError> {
-    post(alloc, named(alloc, id, outcome, outcome)?.as_str())
+fn post_of_game(alloc: Global, id: &str, outcome: &str) -> Result<String, AllocError> {
+    post(alloc, game_by_id(alloc, id, outcome, outcome)?.as_str())
 }
 
 #[test]
 fn serves_peers_and_imports_what_they_post(rt: HostRuntime) -> Result<(), Fail> {
     let alloc = rt.alloc();
-    let posted = posted(alloc, "aaaaaaa1", "1-0")?;
+    let posted = post_of_game(alloc, "aaaaaaa1", "1-0")?;
     let post = posted.as_str();
     let links = two_links(alloc, &[GET, post, GET], &[GET, post])?;
     let mut host = host_with(alloc, &[], links, &[])?;
@@ -157,7 +157,7 @@ fn three_posts(alloc: Global) -> Result<String, AllocError> {
         ("aaaaaaa2", "0-1"),
         ("aaaaaaa3", "0-1"),
     ] {
-        posts.push_str(posted(alloc, id, outcome)?.as_str())?;
+        posts.push_str(post_of_game(alloc, id, outcome)?.as_str())?;
     }
     Ok(posts)
 }
@@ -228,7 +228,7 @@ const NO_GAME_OF_PLAYER: &str =
 /// The answer for the player who won one game with White, which began with `1. e4`, where that move
 /// has this opening.
 fn won_game(alloc: Global, opening: &str) -> Result<String, AllocError> {
-    let game = listed(alloc, "aaaaaaa1", "e2e4", "white")?;
+    let game = listed_game(alloc, "aaaaaaa1", "e2e4", "white")?;
     format!(in alloc;
         "{{\"black\":0,\"draws\":0,\"moves\":[{{\"averageOpponentRating\":1400,\"black\":0,\
          \"draws\":0,\"game\":{game},\"opening\":{opening},\"san\":\"e4\",\"uci\":\"e2e4\",\

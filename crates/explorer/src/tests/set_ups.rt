@@ -19,7 +19,7 @@ struct Begin<'a> {
 /// A game's text that White won: nine tag lines and three more, an empty line and a line of
 /// movetext, which begins at byte 268 where the variant is `From Position` and the FEN has 31
 /// bytes.
-fn begun(alloc: Global, begin: Begin, movetext: &str) -> Result<String, AllocError> {
+fn game_from(alloc: Global, begin: Begin, movetext: &str) -> Result<String, AllocError> {
     let Begin {
         variant,
         set_up,
@@ -135,7 +135,7 @@ fn counts_from_the_position_that_is_set_up(rt: HostRuntime) -> Result<(), Fail> 
             set_up: "1",
             fen,
         };
-        let text = begun(alloc, begin, movetext)?;
+        let text = game_from(alloc, begin, movetext)?;
         let answer = one_move(alloc, "", rating, san, uci)?;
         let alike = answer_alike(&rt, text.as_str(), query, answer.as_str())?;
         assert!(rt; alike, "{fen} {movetext} {query}");
@@ -169,7 +169,7 @@ fn reports_what_is_amiss_with_a_set_up(rt: HostRuntime) -> Result<(), Fail> {
             set_up,
             fen,
         };
-        let text = begun(rt.alloc(), begin, movetext)?;
+        let text = game_from(rt.alloc(), begin, movetext)?;
         let seen = run_on(&rt, &["count"], text.as_str(), 4096, FAULTLESS)?;
         assert!(rt;
             seen.is(0, NO_GAME, report),

@@ -46,7 +46,7 @@ fn host_with(alloc: Global, text: &str, failing: (u64, u64)) -> Result<MemHost, 
 }
 
 /// The same, where `s` is a store with one batch of so many games, which the text has.
-fn stored<R: AllocGlobal + Wait + Threads + Sync>(
+fn host_with_store<R: AllocGlobal + Wait + Threads + Sync>(
     rt: &R,
     text: &str,
     games: u32,
@@ -71,7 +71,7 @@ fn answers_alike<R: AllocGlobal + Wait + Threads + Sync>(
     query: &str,
     answer: &str,
 ) -> Result<bool, Fail> {
-    let mut host = stored(rt, text, games, (NEVER, NEVER))?;
+    let mut host = host_with_store(rt, text, games, (NEVER, NEVER))?;
     let spilled = ["query", "s", query, "--spill", "x"];
     let kept = ends(rt, &mut host, &["query", "s", query], (0, answer, ""))?;
     let first = ends(rt, &mut host, &spilled, (0, answer, ""))?;
@@ -130,7 +130,7 @@ fn answers_are_alike_with_a_scratch_file(rt: HostRuntime) -> Result<(), Fail> {
 fn what_fails_first_ends_the_run(rt: HostRuntime) -> Result<(), Fail> {
     let text = game(rt.alloc(), "1-0", "1. e4 1-0")?;
     let named = named_move(rt.alloc())?;
-    let mut host = stored(&rt, text.as_str(), 1, (NEVER, NEVER))?;
+    let mut host = host_with_store(&rt, text.as_str(), 1, (NEVER, NEVER))?;
     let fault = (13, "", "spill fault\n");
     let damaged = (14, "", "spill damaged 0\n");
     let lost = (10, "", "cannot open lost\n");
@@ -198,13 +198,13 @@ fn has_port<H: Host>(host: &mut H, name: &str) -> bool {
 /// Whether a query through a scratch file ends so, where the calls of the disk and of the file of
 /// these numbers fail, and which of the two are handed out again. A host in memory hands out none
 /// that came back with faults.
-fn ended<R: AllocGlobal + Wait + Threads + Sync>(
+fn seen_of_fault<R: AllocGlobal + Wait + Threads + Sync>(
     rt: &R,
     failing: (u64, u64),
     ending: (u8, &str, &str),
 ) -> Result<(bool, bool, bool), Fail> {
     let text = game(rt.alloc(), "1-0", "1. e4 1-0")?;
-    let mut host = stored(rt, text.as_str(), 1, failing)?;
+    let mut host = host_with_store(rt, text.as_str(), 1, failing)?;
     let ended = ends(rt, &mut host, &["query", "s", "--spill", "x"], ending)?;
     Ok((ended, has_disk(&mut host, "s"), has_port(&mut host, "x")))
 }
@@ -214,17 +214,17 @@ fn each_call_of_both_fails_in_turn(rt: HostRuntime) -> Result<(), Fail> {
     let fault = (6, "", "disk fault\n");
     // The store was made and filled by the calls before 12.
     for call in 12..=19 {
-        let seen = ended(&rt, (call, NEVER), fault)?;
+        let seen = seen_of_fault(&rt, (call, NEVER), fault)?;
         assert_eq!(rt; seen, (true, false, true), "{call}");
     }
     let fault = (13, "", "spill fault\n");
     // One append, and a read for each of the two rows.
     for call in 0..=2 {
-        let seen = ended(&rt, (NEVER, call), fault)?;
+        let seen = seen_of_fault(&rt, (NEVER, call), fault)?;
         assert_eq!(rt; seen, (true, true, false), "{call}");
     }
     let answer = one_move(rt.alloc(), "", "1500", "e4", "e2e4")?;
-    let seen = ended(&rt, (20, 3), (0, answer.as_str(), ""))?;
+    let seen = seen_of_fault(&rt, (20, 3), (0, answer.as_str(), ""))?;
     assert_eq!(rt; seen, (true, true, true));
     Ok(())
 }

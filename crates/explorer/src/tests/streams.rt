@@ -2,7 +2,8 @@
 ghost use Rattle.std.specs.Prelude.{◌<◌};
 
 use super::{
-    FAULTLESS, NEVER, NO_GAME, ONE_DRAW, ONE_WHITE, Tags, game, games, one_move, run_on, tagged,
+    FAULTLESS, NEVER, NO_GAME, ONE_DRAW, ONE_WHITE, Tags, game, game_with_tags, games, one_move,
+    run_on,
 };
 use std::alloc::{AllocError, Global};
 use std::sync::Wait;
@@ -63,7 +64,7 @@ impl Part {
                     black_rating: "1400",
                     time,
                 };
-                tagged(alloc, &tags, "1-0")
+                game_with_tags(alloc, &tags, "1-0")
             }
             Part::Between(text) => String::from_str(alloc, text),
         }

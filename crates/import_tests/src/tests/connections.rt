@@ -1,7 +1,7 @@
 //! Connections over a desk.
 ghost use Rattle.std.specs.Prelude.{◌≡◌};
 
-use super::{named, new_store};
+use super::{name_ingest, new_store};
 use disk_model::MemDisk;
 use import_run::DeskHandle;
 use ingest_desk::{Desk, Unnamed};
@@ -53,7 +53,7 @@ fn post(alloc: Global, body: &[u8]) -> Result<Vec<u8>, AllocError> {
 }
 
 /// A reply with a number of batches.
-fn found(alloc: Global, batches: u32, body: &str) -> Result<Vec<u8>, AllocError> {
+fn found_reply(alloc: Global, batches: u32, body: &str) -> Result<Vec<u8>, AllocError> {
     let length = body.len();
     let reply = format!(in alloc;
         "HTTP/1.1 200 OK\r\nContent-Type: application/json\r\nContent-Length: {length}\r\n\
@@ -63,7 +63,7 @@ fn found(alloc: Global, batches: u32, body: &str) -> Result<Vec<u8>, AllocError>
 }
 
 /// A reply that nothing is stored any more.
-fn failed(alloc: Global, body: &str) -> Result<Vec<u8>, AllocError> {
+fn failure(alloc: Global, body: &str) -> Result<Vec<u8>, AllocError> {
     let length = body.len();
     let reply = format!(in alloc;
         "HTTP/1.1 500 Internal Server Error\r\nContent-Type: application/json\r\n\
@@ -81,7 +81,7 @@ fn post_of(alloc: Global, id: &str) -> Result<Vec<u8>, AllocError> {
 fn found_each(alloc: Global, replies: &[(u32, &str)]) -> Result<Vec<u8>, AllocError> {
     let mut all = Vec::new(alloc);
     for (batches, body) in replies {
-        all.extend_from_slice(found(alloc, *batches, body)?.as_slice())?;
+        all.extend_from_slice(found_reply(alloc, *batches, body)?.as_slice())?;
     }
     Ok(all)
 }
@@ -110,7 +110,7 @@ fn converse<J: Index, R: Threads + Wait + Abort + Sync>(
 ) -> Result<Vec<Vec<u8>>, Fail>
     requires { unnamed.index.name ≡ J.name }
 {
-    let (ingest, passes, drawer) = named::<J, R>(rt, alloc, unnamed)?;
+    let (ingest, passes, drawer) = name_ingest::<J, R>(rt, alloc, unnamed)?;
     let desk = Mutex::new(ingest);
     let written = converse_each(rt, alloc, &desk, passes, drawer, talks);
     let _disk = desk.into_inner().into_disk(rt);
@@ -130,12 +130,12 @@ fn converse_each<J: Index, R: Threads + Wait + Sync>(
     let mut all = Vec::new(alloc);
     for talk in talks {
         let pass = passes.get_mut(talk.reader).ok_or("there are two readers")?;
-        all.push(served(rt, alloc, &mut handle, pass, talk)?)?;
+        all.push(serve_talk(rt, alloc, &mut handle, pass, talk)?)?;
     }
     Ok(all)
 }
 
-fn served<J: Index, R: Threads + Wait + Sync>(
+fn serve_talk<J: Index, R: Threads + Wait + Sync>(
     rt: &R,
     alloc: Global,
     handle: &mut DeskHandle<'_, MemDisk, J>,
@@ -310,14 +310,14 @@ fn posts_and_get(alloc: Global) -> Result<Vec<u8>, AllocError> {
 
 /// One game is stored, none behind it, and the one is found.
 fn replies_around_a_fault(alloc: Global) -> Result<Vec<u8>, AllocError> {
-    let mut replies = found(alloc, 1, STORED)?;
+    let mut replies = found_reply(alloc, 1, STORED)?;
     for body in [
         "{\"error\":\"disk fault\",\"stored\":0}",
         "{\"error\":\"closed\",\"stored\":0}",
     ] {
-        replies.extend_from_slice(failed(alloc, body)?.as_slice())?;
+        replies.extend_from_slice(failure(alloc, body)?.as_slice())?;
     }
-    replies.extend_from_slice(found(alloc, 1, ONE_GAME)?.as_slice())?;
+    replies.extend_from_slice(found_reply(alloc, 1, ONE_GAME)?.as_slice())?;
     Ok(replies)
 }
 

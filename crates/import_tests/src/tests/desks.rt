@@ -2,7 +2,7 @@
 ghost use Rattle.std.specs.Prelude.{◌≡◌};
 ghost use Rattle.std.specs.Thread.{IsSync};
 
-use super::{Told, games, named, new_store, summary_of};
+use super::{Told, games, name_ingest, new_store, summary_of};
 use disk_model::{Disk, MemDisk};
 use explorer_model::fault::{Refusal, Why};
 use explorer_model::label::Label;
@@ -35,7 +35,7 @@ fn stored_and_repeated(told: &[Told]) -> Option<(u32, usize)> {
         if told.ending != ImportEnding::Whole || !are_repeated(told.refused.as_slice()) {
             return None;
         }
-        games = games.saturating_add(stored(told));
+        games = games.saturating_add(stored_games(told));
         repeated = repeated.saturating_add(told.refused.len());
     }
     Some((games, repeated))
@@ -48,7 +48,7 @@ fn are_repeated(refused: &[Refusal]) -> bool {
 }
 
 /// How many games a report's batches have.
-fn stored(told: &Told) -> u32 {
+fn stored_games(told: &Told) -> u32 {
     let mut games = 0u32;
     for batch in told.batches.as_slice() {
         games = games.saturating_add(batch.2);
@@ -67,7 +67,7 @@ fn import_two<J: Index + Send + Sync, R: Threads + Wait + Abort + Sync>(
 ) -> Result<(Told, Told), Fail>
     requires { unnamed.index.name ≡ J.name }
 {
-    let (ingest, _passes, mut rest) = named::<J, R>(rt, alloc, unnamed)?;
+    let (ingest, _passes, mut rest) = name_ingest::<J, R>(rt, alloc, unnamed)?;
     let mut mine = ingest.another(&mut rest);
     let desk = Mutex::new(ingest);
     let told = import_both(rt, alloc, &desk, (&mut rest, first), (&mut mine, second));
@@ -183,11 +183,11 @@ fn left_and_drained<R: Threads + Wait + Sync>(
     bodies: &[usize],
 ) -> Result<(usize, Drained, usize), Fail> {
     let unnamed = new_store(rt, alloc, Vec::new(alloc))?;
-    merged::<Brand, _>(rt, alloc, unnamed, bodies)
+    merge_stored::<Brand, _>(rt, alloc, unnamed, bodies)
 }
 
 /// The same, where the store is made.
-fn merged<J: Index, R: Threads + Wait + Sync>(
+fn merge_stored<J: Index, R: Threads + Wait + Sync>(
     rt: &R,
     alloc: Global,
     unnamed: Unnamed<MemDisk>,
@@ -195,7 +195,7 @@ fn merged<J: Index, R: Threads + Wait + Sync>(
 ) -> Result<(usize, Drained, usize), Fail>
     requires { unnamed.index.name ≡ J.name }
 {
-    let (ingest, _passes, drawer) = named::<J, R>(rt, alloc, unnamed)?;
+    let (ingest, _passes, drawer) = name_ingest::<J, R>(rt, alloc, unnamed)?;
     let desk = Mutex::new(ingest);
     let stored = store_bodies(rt, alloc, &mut DeskHandle::new(&desk, drawer, 2), bodies);
     let left = segments(rt, &desk);
@@ -300,7 +300,7 @@ fn over_a_desk<J: Index, R: Threads + Wait + Abort + Sync>(
 ) -> Result<Vec<Told>, Fail>
     requires { unnamed.index.name ≡ J.name }
 {
-    let (ingest, _passes, drawer) = named::<J, R>(rt, alloc, unnamed)?;
+    let (ingest, _passes, drawer) = name_ingest::<J, R>(rt, alloc, unnamed)?;
     let desk = Mutex::new(ingest);
     let told = import_bodies(rt, alloc, &mut DeskHandle::new(&desk, drawer, 2));
     let _disk = desk.into_inner().into_disk(rt);
@@ -314,7 +314,7 @@ fn over_an_ingest<J: Index, R: Threads + Wait + Abort + Sync>(
 ) -> Result<Vec<Told>, Fail>
     requires { unnamed.index.name ≡ J.name }
 {
-    let (ingest, _passes, drawer) = named::<J, R>(rt, alloc, unnamed)?;
+    let (ingest, _passes, drawer) = name_ingest::<J, R>(rt, alloc, unnamed)?;
     let mut own = OwnIngest::new(alloc, ingest, drawer, 2);
     let told = import_bodies(rt, alloc, &mut own);
     let calls = own.calls().map_or(0, |calls| calls.len());

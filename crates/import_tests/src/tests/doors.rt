@@ -157,7 +157,7 @@ fn serves<J: Index, R: Threads + Wait + Abort + Sync>(
         calls: Some(Vec::new(alloc)),
         of: PhantomData,
     };
-    let (end, door) = served(rt, alloc, pass, &mut importer)?;
+    let (end, door) = serve_two_links(rt, alloc, pass, &mut importer)?;
     assert_eq!(rt; end, DoorEnd::Whole);
     let links = door.taken_back();
     assert_eq!(rt; links.len(), 2);
@@ -168,7 +168,7 @@ fn serves<J: Index, R: Threads + Wait + Abort + Sync>(
 }
 
 /// Serves a door of two links: one with the requests, and one that ends in the middle of a request.
-fn served<J: Index, R: Threads + Wait + Sync>(
+fn serve_two_links<J: Index, R: Threads + Wait + Sync>(
     rt: &R,
     alloc: Global,
     pass: &mut Pass<J>,

@@ -1,7 +1,7 @@
 //! Imports of one who stores alone.
 ghost use Rattle.std.specs.Prelude.{◌≡◌};
 
-use super::{Told, games, named, new_store, summary_of};
+use super::{Told, games, name_ingest, new_store, summary_of};
 use disk_model::MemDisk;
 use explorer_model::fault::{GameFault, Refusal, TagFault, TagName, Why};
 use explorer_model::label::Label;
@@ -99,7 +99,7 @@ pub(super) fn import_all<J: Index, R: Threads + Wait + Abort + Sync>(
 ) -> Result<Vec<Told>, Fail>
     requires { unnamed.index.name ≡ J.name }
 {
-    let (mut ingest, _passes, mut drawer) = named::<J, R>(rt, alloc, unnamed)?;
+    let (mut ingest, _passes, mut drawer) = name_ingest::<J, R>(rt, alloc, unnamed)?;
     let told = import_each(rt, alloc, &mut ingest, &mut drawer, streams);
     let drained = drain_alone(rt, alloc, &mut ingest, 2);
     let _disk = ingest.into_disk(rt);
@@ -226,7 +226,7 @@ pub(super) const fn refusal(place: u64, why: Why) -> Refusal {
 // ---- what is stored and refused
 
 /// The refusals of so many stored games, each of which has 194 bytes.
-fn repeated(alloc: Global, count: u32) -> Result<Vec<Refusal>, AllocError> {
+fn repeats(alloc: Global, count: u32) -> Result<Vec<Refusal>, AllocError> {
     let mut all = Vec::new(alloc);
     for number in 0..count {
         all.push(refusal(194 * u64::from(number), Why::Repeated { number }))?;
@@ -238,7 +238,7 @@ fn repeated(alloc: Global, count: u32) -> Result<Vec<Refusal>, AllocError> {
 fn a_stream_of_1500_games_is_stored_once(rt: HostRuntime) -> Result<(), Fail> {
     let streams = [[Part::Games(0, 1500)].as_slice(); 2];
     let batches = [(1, 0, 512), (2, 512, 512), (3, 1024, 476)];
-    let repeated = repeated(rt.alloc(), 1500)?;
+    let repeated = repeats(rt.alloc(), 1500)?;
     let wanted = [
         (ImportEnding::Whole, batches.as_slice(), [].as_slice()),
         (ImportEnding::Whole, [].as_slice(), repeated.as_slice()),

@@ -1,7 +1,7 @@
 //! Answers that are kept: those that a reader gives again, and when it looks anew.
 ghost use Rattle.std.specs.Prelude.{◌≡◌};
 
-use super::{games, named, new_store};
+use super::{games, name_ingest, new_store};
 use disk_model::MemDisk;
 use explorer_model::wire::Reply;
 use import_run::{DeskHandle, drain};
@@ -219,7 +219,7 @@ fn replies_over_a_store<J: Index, R: Threads + Wait + Abort + Sync>(
 ) -> Result<bool, Fail>
     requires { unnamed.index.name ≡ J.name }
 {
-    let (ingest, passes, drawer) = named::<J, R>(rt, alloc, unnamed)?;
+    let (ingest, passes, drawer) = name_ingest::<J, R>(rt, alloc, unnamed)?;
     let desk = Mutex::new(ingest);
     let replied = replies_so(rt, alloc, &desk, passes, drawer, talks, book);
     let _disk = desk.into_inner().into_disk(rt);
@@ -421,7 +421,7 @@ fn seen_over_a_store<J: Index, R: Threads + Wait + Abort + Sync>(
 ) -> Result<(Vec<(usize, bool)>, Vec<(usize, bool)>), Fail>
     requires { unnamed.index.name ≡ J.name }
 {
-    let (ingest, passes, drawer) = named::<J, R>(rt, alloc, unnamed)?;
+    let (ingest, passes, drawer) = name_ingest::<J, R>(rt, alloc, unnamed)?;
     let desk = Mutex::new(ingest);
     let seen = seen_by_one(rt, alloc, &desk, passes, drawer);
     let _disk = desk.into_inner().into_disk(rt);

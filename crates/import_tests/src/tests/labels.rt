@@ -1,7 +1,7 @@
 //! The labels of batches that imports and bodies store.
 ghost use Rattle.std.specs.Prelude.{◌≡◌, ◌<◌};
 
-use super::{games, named, new_store};
+use super::{games, name_ingest, new_store};
 use disk_model::MemDisk;
 use explorer_model::archive::Batch;
 use explorer_model::label::Label;
@@ -96,7 +96,7 @@ fn becomes<J: Index, R: Threads + Wait + Abort + Sync>(
 ) -> Result<bool, Fail>
     requires { unnamed.index.name ≡ J.name }
 {
-    let (ingest, _passes, drawer) = named::<J, R>(rt, alloc, unnamed)?;
+    let (ingest, _passes, drawer) = name_ingest::<J, R>(rt, alloc, unnamed)?;
     let desk = Mutex::new(ingest);
     let stored = store_all(rt, alloc, &desk, drawer, case.comes);
     let ingest = desk.into_inner();

@@ -2,7 +2,7 @@
 ghost use Rattle.std.specs.Prelude.{◌≡◌};
 ghost use Rattle.explorer_model.specs.Timeline.{IsPrefix};
 
-use super::{named, new_store};
+use super::{name_ingest, new_store};
 use disk_model::MemDisk;
 use import_run::DeskHandle;
 use ingest_desk::{Desk, Unnamed};
@@ -363,7 +363,7 @@ fn is_tried_over_a_store<J: Index, R: Threads + Wait + Abort + Sync>(
 ) -> Result<bool, Fail>
     requires { unnamed.index.name ≡ J.name }
 {
-    let (ingest, passes, drawer) = named::<J, R>(rt, alloc, unnamed)?;
+    let (ingest, passes, drawer) = name_ingest::<J, R>(rt, alloc, unnamed)?;
     let desk = Mutex::new(ingest);
     let tried = is_tried(rt, alloc, &desk, passes, drawer, trial, book);
     let _disk = desk.into_inner().into_disk(rt);

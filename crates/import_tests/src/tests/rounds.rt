@@ -4,7 +4,7 @@ ghost use Rattle.std.specs.Prelude.{◌≡◌, ◌<◌};
 use super::imports::{
     Part, Stream, Wanted, are_told, import_all, is_told, refusal, reports_say, whole,
 };
-use super::{Told, games, named, new_store, summary_of};
+use super::{Told, games, name_ingest, new_store, summary_of};
 use disk_model::{Disk, MemDisk};
 use explorer_model::fault::Why;
 use explorer_model::label::Label;
@@ -258,7 +258,7 @@ fn import_slowly<J: Index, R: Threads + Wait + Abort + Sync>(
 ) -> Result<(Told, bool), Fail>
     requires { unnamed.index.name ≡ J.name }
 {
-    let (mut ingest, mut passes, mut drawer) = named::<J, R>(rt, alloc, unnamed)?;
+    let (mut ingest, mut passes, mut drawer) = name_ingest::<J, R>(rt, alloc, unnamed)?;
     let told = match passes.pop() {
         Some(pass) => import_for(rt, alloc, &mut ingest, &mut drawer, pass, workers),
         None => Err(Fail::from("a pass")),

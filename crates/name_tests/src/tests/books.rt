@@ -127,7 +127,7 @@ fn name_of(opening: Option<&Opening>) -> &str {
 }
 
 /// The name of the position that a query asks for.
-fn named(alloc: Global, file: &str, text: &str) -> Result<String, Fail> {
+fn name_by(alloc: Global, file: &str, text: &str) -> Result<String, Fail> {
     let book = read(alloc, file.as_bytes())??;
     let query = query(alloc, text.as_bytes())?;
     let opening = book.at(&Board::of_valid(query.at));
@@ -138,7 +138,7 @@ fn named(alloc: Global, file: &str, text: &str) -> Result<String, Fail> {
 fn books_name_positions(rt: HostRuntime) -> Result<(), Fail> {
     for (file, text, wanted) in NAMES {
         assert_eq!(rt;
-            named(rt.alloc(), file, text)?.as_str(),
+            name_by(rt.alloc(), file, text)?.as_str(),
             wanted,
             "{file}, {text}"
         );
@@ -299,7 +299,7 @@ fn line(alloc: Global, step: Move) -> MoveLine
 }
 
 /// An answer that has these two moves, and no game is counted for it.
-fn found(alloc: Global, board: &Board, first: Move, second: Move) -> Result<Found, AllocError>
+fn found_of(alloc: Global, board: &Board, first: Move, second: Move) -> Result<Found, AllocError>
     requires first { Legal board.now first }
     requires second { Legal board.now second }
     ensures { IfOk result (λ found.
@@ -324,12 +324,12 @@ fn names(alloc: Global, text: &str, first: &str, second: &str) -> Result<Naming,
     let board = Board::of_valid(query.at);
     let first = read_on(first.as_bytes(), &board)?;
     let second = read_on(second.as_bytes(), &board)?;
-    let found = found(alloc, &board, first, second)?;
+    let found = found_of(alloc, &board, first, second)?;
     Ok(naming(alloc, &book, &query, &found)?)
 }
 
 /// The names of the whole and of each move, each with a semicolon.
-fn written(alloc: Global, naming: &Naming) -> Result<String, AllocError> {
+fn names_text(alloc: Global, naming: &Naming) -> Result<String, AllocError> {
     let whole = name_of(naming.whole.as_ref());
     let mut text = format!(in alloc; "{whole};")?;
     for opening in naming.moves.as_slice() {
@@ -344,7 +344,7 @@ fn answers_name_their_whole_and_their_moves(rt: HostRuntime) -> Result<(), Fail>
     let alloc = rt.alloc();
     for (text, first, second, wanted) in NAMINGS {
         let naming = names(alloc, text, first, second)?;
-        assert_eq!(rt; written(alloc, &naming)?.as_str(), wanted, "{text}");
+        assert_eq!(rt; names_text(alloc, &naming)?.as_str(), wanted, "{text}");
     }
     let empty = Book::empty(alloc);
     assert_eq!(rt; name_of(empty.at(&Board::start())), "-");

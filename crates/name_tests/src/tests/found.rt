@@ -4,7 +4,7 @@ ghost use Rattle.explorer_model.specs.Chess.{IsValid};
 ghost use Rattle.explorer_model.specs.Timeline.{IsPrefix};
 ghost use Rattle.published_index.specs.Cover.{journal_of};
 
-use super::lists::{join_first, named, put_texts};
+use super::lists::{join_first, name_index, put_texts};
 use super::players::extend;
 use explorer_model::answer::{Listed, Totals};
 use explorer_model::archive::{Bytes, Month, Placed};
@@ -289,7 +289,7 @@ fn texts_of(alloc: Global, games: &[Played]) -> Result<Vec<Placed>, AllocError> 
 }
 
 /// An index that is extended in this way, while batches are put and joined.
-fn extended<J: Index, R: Threads + Wait + Sync>(
+fn extend_index<J: Index, R: Threads + Wait + Sync>(
     rt: &R,
     alloc: Global,
     publisher: &mut Publisher<J>,
@@ -368,7 +368,7 @@ fn push_line(alloc: Global, text: &mut String, line: &PlayerLine) -> Result<(), 
 }
 
 /// The answer in one line.
-fn told(alloc: Global, found: &PlayerFound) -> Result<String, AllocError> {
+fn line_of(alloc: Global, found: &PlayerFound) -> Result<String, AllocError> {
     let mut text = String::new(alloc);
     push_totals(alloc, &mut text, &found.totals)?;
     text.push_str("; moves")?;
@@ -397,7 +397,7 @@ fn looked_up<L: Ledger>(
     let query = query_of(alloc, asked)?;
     let mut steps = Steps::<L>::new(blank);
     let found = player_look(alloc, index, snapshot, &query, &mut steps)?;
-    Ok(told(alloc, &found)?)
+    Ok(line_of(alloc, &found)?)
 }
 
 /// Asserts that what is found is what the table says.
@@ -427,7 +427,7 @@ fn finds_answers<J: Index, R: Threads + Wait + Abort + Sync>(
     way: &str,
 ) -> Result<(), Fail> {
     let mut pass = passes.pop().ok_or("a pass")?;
-    let mut index = extended(rt, alloc, publisher, drawer, &mut pass, way)?;
+    let mut index = extend_index(rt, alloc, publisher, drawer, &mut pass, way)?;
     let snapshot = extend(alloc, &mut pass, &mut index)?;
     assert_answers(rt, alloc, &index, &snapshot, way)
 }
@@ -440,7 +440,7 @@ fn goes_a_way<J: Index, R: Threads + Wait + Abort + Sync>(
 ) -> Result<(), Fail>
     requires { unnamed.name ≡ J.name }
 {
-    let (mut publisher, passes, mut drawer) = named::<J, R>(rt, alloc, unnamed)?;
+    let (mut publisher, passes, mut drawer) = name_index::<J, R>(rt, alloc, unnamed)?;
     let found = match WAYS.get(number) {
         Some(way) => finds_answers(rt, alloc, &mut publisher, &mut drawer, passes, way),
         None => Err(Fail::from("a way")),

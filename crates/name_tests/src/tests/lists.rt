@@ -20,7 +20,7 @@ use tally_rows::Tally;
 pub(super) type Names = (&'static str, &'static str);
 
 /// The publisher, the passes and the drawer of an index.
-pub(super) fn named<J: Index, R: Wait>(
+pub(super) fn name_index<J: Index, R: Wait>(
     rt: &R,
     alloc: Global,
     unnamed: Unnamed,
@@ -76,7 +76,7 @@ pub(super) fn join_first<J: Index, R: Threads + Wait + Sync>(
     publisher: &mut Publisher<J>,
 ) -> Result<Note<J>, Fail> {
     publisher.retry(rt)?;
-    let both = joined(rt, alloc, publisher.list())?;
+    let both = join_segments(rt, alloc, publisher.list())?;
     Ok(publisher.replace(rt, 0, both)?)
 }
 
@@ -126,7 +126,7 @@ fn segment_of(alloc: Global, first: u32, tally: Tally) -> Result<Segment, Fail>
 }
 
 /// The segment of both, where they can be merged.
-fn merged<R: Threads + Sync>(
+fn merge_both<R: Threads + Sync>(
     rt: &R,
     alloc: Global,
     left: &Segment,
@@ -145,13 +145,17 @@ fn merged<R: Threads + Sync>(
 }
 
 /// The first two segments of the list as one.
-fn joined<R: Threads + Sync>(rt: &R, alloc: Global, list: &List) -> Result<SharedSegment, Fail>
+fn join_segments<R: Threads + Sync>(
+    rt: &R,
+    alloc: Global,
+    list: &List,
+) -> Result<SharedSegment, Fail>
     ensures { IfOk result (λ segment. CanJoin list.now 0 (arc_value segment)) }
 {
     let segments = list.segments();
     if segments.len() < 2 {
         return Err(Fail::from("not two segments"));
     }
-    let both = merged(rt, alloc, &segments[0], &segments[1])?;
+    let both = merge_both(rt, alloc, &segments[0], &segments[1])?;
     Ok(Arc::new(alloc, both)?)
 }

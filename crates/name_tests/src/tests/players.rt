@@ -3,7 +3,7 @@ ghost use Rattle.std.specs.Prelude.{◌≡◌, ◌<◌, IfOk, OnOk};
 ghost use Rattle.explorer_model.specs.Timeline.{IsPrefix};
 ghost use Rattle.published_index.specs.Cover.{journal_of};
 
-use super::lists::{Names, join_first, named, put};
+use super::lists::{Names, join_first, name_index, put};
 use explorer_model::chess::Color;
 use explorer_model::text::Name;
 use player_index::PlayerIndex;
@@ -78,7 +78,7 @@ pub(super) fn extend<J: Index>(
 }
 
 /// An index that is extended in this way, while batches are put and joined.
-fn extended<J: Index, R: Threads + Wait + Sync>(
+fn extend_index<J: Index, R: Threads + Wait + Sync>(
     rt: &R,
     alloc: Global,
     publisher: &mut Publisher<J>,
@@ -158,7 +158,7 @@ fn tells_ranges<J: Index, R: Threads + Wait + Abort + Sync>(
     way: &str,
 ) -> Result<(), Fail> {
     let mut pass = passes.pop().ok_or("a pass")?;
-    let mut index = extended(rt, alloc, publisher, drawer, &mut pass, way)?;
+    let mut index = extend_index(rt, alloc, publisher, drawer, &mut pass, way)?;
     let snapshot = extend(alloc, &mut pass, &mut index)?;
     assert_ranges(rt, alloc, &index, &snapshot, way)
 }
@@ -171,7 +171,7 @@ fn goes_a_way<J: Index, R: Threads + Wait + Abort + Sync>(
 ) -> Result<(), Fail>
     requires { unnamed.name ≡ J.name }
 {
-    let (mut publisher, passes, mut drawer) = named::<J, R>(rt, alloc, unnamed)?;
+    let (mut publisher, passes, mut drawer) = name_index::<J, R>(rt, alloc, unnamed)?;
     let told = match WAYS.get(number) {
         Some(way) => tells_ranges(rt, alloc, &mut publisher, &mut drawer, passes, way),
         None => Err(Fail::from("a way")),

@@ -16,7 +16,7 @@ fn game(alloc: Global, tag: &str, movetext: &str) -> Result<String, AllocError> 
 }
 
 /// The game of a text, where the text is short enough to be read.
-pub fn replayed(alloc: Global, text: &str) -> Option<Result<Game, Stop<GameFault>>> {
+pub fn replay_text(alloc: Global, text: &str) -> Option<Result<Game, Stop<GameFault>>> {
     if 65_536 < text.len() {
         return None;
     }
@@ -26,7 +26,7 @@ pub fn replayed(alloc: Global, text: &str) -> Option<Result<Game, Stop<GameFault
 /// How many plies the worked game has with this movetext, where it has a game.
 fn plies_of(alloc: Global, movetext: &str) -> Result<Option<usize>, AllocError> {
     let text = game(alloc, "1-0", movetext)?;
-    Ok(match &replayed(alloc, text.as_str()) {
+    Ok(match &replay_text(alloc, text.as_str()) {
         Some(Ok(game)) => Some(game.moves.len()),
         _ => None,
     })
@@ -35,7 +35,7 @@ fn plies_of(alloc: Global, movetext: &str) -> Result<Option<usize>, AllocError> 
 /// The first fault of the worked game with this result in its tag and this movetext.
 fn fault_of(alloc: Global, tag: &str, movetext: &str) -> Result<Option<GameFault>, AllocError> {
     let text = game(alloc, tag, movetext)?;
-    Ok(match &replayed(alloc, text.as_str()) {
+    Ok(match &replay_text(alloc, text.as_str()) {
         Some(Err(Stop::Fault(fault))) => Some(*fault),
         _ => None,
     })
@@ -187,7 +187,7 @@ fn fault_at(end: usize) -> Option<GameFault> {
 /// What the front of a text up to this byte is refused for.
 fn cut_fault(alloc: Global, text: &str, end: usize) -> Result<Option<GameFault>, Fail> {
     let front = text.get(..end).ok_or("a shorter text")?;
-    match replayed(alloc, front) {
+    match replay_text(alloc, front) {
         Some(Ok(_)) => Ok(None),
         Some(Err(Stop::Fault(fault))) => Ok(Some(fault)),
         _ => Err(Fail::from("not read")),

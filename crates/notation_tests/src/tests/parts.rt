@@ -130,7 +130,7 @@ fn tags_are_read_with_their_escapes(rt: HostRuntime) -> Result<(), Fail> {
 }
 
 /// 30,000 variations, each within the one before, and a move behind them.
-fn nested(alloc: Global) -> Result<String, AllocError> {
+fn nested_variations(alloc: Global) -> Result<String, AllocError> {
     let mut text = String::new(alloc);
     for _ in 0..30_000 {
         text.push_str("(")?;
@@ -144,7 +144,7 @@ fn nested(alloc: Global) -> Result<String, AllocError> {
 
 #[test]
 fn variations_nest_without_recursion(rt: HostRuntime) -> Result<(), Fail> {
-    let text = nested(rt.alloc())?;
+    let text = nested_variations(rt.alloc())?;
     let answer = answer(&rt, text.as_str())?;
     assert_eq!(rt; answer.as_str(), "60001:e4 Some(WhiteWins)");
     Ok(())

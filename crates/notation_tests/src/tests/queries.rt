@@ -46,7 +46,7 @@ const MALFORMED: [(&str, Parameter); 31] = [
 ];
 
 /// The parameter that is malformed first.
-fn malformed(alloc: Global, text: &str) -> Option<Parameter> {
+fn malformed_parameter(alloc: Global, text: &str) -> Option<Parameter> {
     match &query(alloc, text.as_bytes()) {
         Err(Stop::Fault(fault)) => Some(fault.name),
         _ => None,
@@ -56,11 +56,11 @@ fn malformed(alloc: Global, text: &str) -> Option<Parameter> {
 #[test]
 fn names_the_first_malformed_parameter(rt: HostRuntime) {
     for (text, name) in MALFORMED {
-        assert_eq!(rt; malformed(rt.alloc(), text), Some(name), "{text}");
+        assert_eq!(rt; malformed_parameter(rt.alloc(), text), Some(name), "{text}");
     }
 }
 
-fn accepted(alloc: Global, text: &str) -> Option<Query> {
+fn accepted_query(alloc: Global, text: &str) -> Option<Query> {
     query(alloc, text.as_bytes()).ok()
 }
 
@@ -89,7 +89,7 @@ fn takes_defaults(rt: HostRuntime) {
         "variant=&fen=&play=&speeds=&ratings=&since=&until=&moves=&topGames=&recentGames=&history=",
         "variant=standard&moves=12&topGames=999999&recentGames=4&history=false",
     ] {
-        let query = accepted(rt.alloc(), text);
+        let query = accepted_query(rt.alloc(), text);
         assert!(rt;
             matches!(&query, Some(query) if has_defaults(query)),
             "{text}"
@@ -118,7 +118,7 @@ fn has_filters(query: &Query) -> bool {
 
 #[test]
 fn reads_filters(rt: HostRuntime) {
-    let query = accepted(rt.alloc(), FILTERED);
+    let query = accepted_query(rt.alloc(), FILTERED);
     assert!(rt; matches!(&query, Some(query) if has_filters(query)));
     assert!(rt;
         matches!(&query, Some(query) if query.moves == 999999
@@ -142,8 +142,11 @@ const CASTLES: &str = "fen=1r2k3/8/8/8/8/8/8/R3K3+w+Q+-+0+1&play=e1c1";
 
 #[test]
 fn reads_positions(rt: HostRuntime) {
-    assert_eq!(rt; malformed(rt.alloc(), BARRED), Some(Parameter::Play));
-    let castled = accepted(rt.alloc(), CASTLES);
+    assert_eq!(rt;
+        malformed_parameter(rt.alloc(), BARRED),
+        Some(Parameter::Play)
+    );
+    let castled = accepted_query(rt.alloc(), CASTLES);
     assert!(rt;
         matches!(&castled, Some(query) if query.at.turn == Color::Black
             && has_king(&query.at, 2)
@@ -154,7 +157,7 @@ fn reads_positions(rt: HostRuntime) {
 #[test]
 fn reads_lines(rt: HostRuntime) {
     for text in ["play=e2e4,c7c5", "pl%61y=e2e4%2Cc7c5", "play=%65%32e4,c7c5"] {
-        let sicilian = accepted(rt.alloc(), text);
+        let sicilian = accepted_query(rt.alloc(), text);
         assert!(rt;
             matches!(&sicilian, Some(query) if query.plays.len() == 2
                 && query.at.squares[34].is_some()

@@ -142,13 +142,13 @@ fn text_of(board: &Board, named: Move) -> Option<ArrayVec<u8, 8>> {
     let legal = board.legal();
     for m in legal.as_slice() {
         if *m == named {
-            return Some(written(board, legal.as_slice(), *m));
+            return Some(write_legal(board, legal.as_slice(), *m));
         }
     }
     None
 }
 
-fn written(board: &Board, legal: &[Move], m: Move) -> ArrayVec<u8, 8>
+fn write_legal(board: &Board, legal: &[Move], m: Move) -> ArrayVec<u8, 8>
     requires each { (m : AMove) → Contains legal.now m ↔ Legal board.now m }
     requires once { AllPairs (λ a b. a ≢ b) legal.now }
     requires legal { Legal board.now m }

@@ -1,6 +1,6 @@
 //! Games that begin in a position that their tags set up, and the first fault of texts whose tags
 //! set up none.
-use super::games::replayed;
+use super::games::replay_text;
 use explorer_model::chess::{Move, Position};
 use explorer_model::fault::{GameFault, Stop, TagFault};
 use fen_uci::{write_fen, write_uci};
@@ -47,7 +47,7 @@ fn begins(
     moves: &[&str],
 ) -> Result<bool, AllocError> {
     let text = game(alloc, lines, "1-0", movetext)?;
-    Ok(match &replayed(alloc, text.as_str()) {
+    Ok(match &replay_text(alloc, text.as_str()) {
         Some(Ok(game)) => {
             is_written_as(&game.root, fen) && are_written_as(game.moves.as_slice(), moves)
         }
@@ -153,7 +153,7 @@ fn fault_of(
     movetext: &str,
 ) -> Result<Option<GameFault>, AllocError> {
     let text = game(alloc, lines, tag, movetext)?;
-    Ok(match &replayed(alloc, text.as_str()) {
+    Ok(match &replay_text(alloc, text.as_str()) {
         Some(Err(Stop::Fault(fault))) => Some(*fault),
         _ => None,
     })

@@ -67,7 +67,7 @@ fn rows_of_512(alloc: Global) -> Result<Vec<Row>, AllocError> {
 }
 
 /// The rows, packed, where they stand in order.
-fn packed(alloc: Global, rows: &[Row]) -> Result<Option<PackedRows>, AllocError> {
+fn pack_rows(alloc: Global, rows: &[Row]) -> Result<Option<PackedRows>, AllocError> {
     if !are_in_order(rows) {
         return Ok(None);
     }
@@ -140,7 +140,7 @@ fn a_walk_gives_what_a_plain_filter_gives(rt: HostRuntime) -> Result<(), Fail> {
     let rows = rows_of_512(rt.alloc())?;
     let at_start = rows.iter().filter(|row| row.key == key(7, 7)).count();
     assert_eq!(rt; (at_start, rows.len()), (150, 662));
-    let Some(packed) = packed(rt.alloc(), rows.as_slice())? else {
+    let Some(packed) = pack_rows(rt.alloc(), rows.as_slice())? else {
         panic!(rt; "rows are out of order");
     };
     for row in &rows {
@@ -212,7 +212,7 @@ fn first_keys<L: Ledger>(
 #[test]
 fn a_walk_within_keys_gives_what_a_plain_filter_gives(rt: HostRuntime) -> Result<(), Fail> {
     let rows = rows_of_512(rt.alloc())?;
-    let Some(packed) = packed(rt.alloc(), rows.as_slice())? else {
+    let Some(packed) = pack_rows(rt.alloc(), rows.as_slice())? else {
         panic!(rt; "rows are out of order");
     };
     let bounds = [[0; 34], key(1, 200), key(2, 50), key(7, 7), [255; 34]];

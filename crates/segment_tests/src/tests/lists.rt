@@ -35,10 +35,10 @@ fn enters<J: Index + Send + Sync, R: Threads + Wait + Abort + Sync>(
     let desk = Mutex::new(publisher);
     let (seen, front) = join(
         rt,
-        || entered(alloc, entering),
-        || told(rt, &desk, learning),
+        || enter_by(alloc, entering),
+        || learn_note(rt, &desk, learning),
     );
-    let (is_idle, segments) = closed(rt, alloc, desk.into_inner())?;
+    let (is_idle, segments) = close_list(rt, alloc, desk.into_inner())?;
     assert_eq!(rt; (seen, front), (Some((0, 0, 0)), Some(0)));
     assert_eq!(rt; (is_idle, segments), (true, (0, 0)));
     Ok(())
@@ -46,14 +46,14 @@ fn enters<J: Index + Send + Sync, R: Threads + Wait + Abort + Sync>(
 
 /// Enters the list by a pass: how many batches it has, how many the pass knows, and how many of
 /// these it has not read.
-fn entered<J: Index>(alloc: Global, pass: Option<Pass<J>>) -> Option<(u32, u32, u64)> {
+fn enter_by<J: Index>(alloc: Global, pass: Option<Pass<J>>) -> Option<(u32, u32, u64)> {
     let mut pass = pass?;
     let snapshot = pass.enter(alloc).ok()?;
     Some((snapshot.batches(), pass.front(), pass.unread()))
 }
 
 /// Has a pass learn what a note of the publisher's says, and gives how many batches it knows then.
-fn told<J: Index, R: Wait>(
+fn learn_note<J: Index, R: Wait>(
     rt: &R,
     desk: &Mutex<Publisher<J>>,
     pass: Option<Pass<J>>,
@@ -67,7 +67,7 @@ fn told<J: Index, R: Wait>(
 }
 
 /// Closes the list: whether nothing was held, and how many segments a snapshot and the list had.
-fn closed<J: Index, R: Wait>(
+fn close_list<J: Index, R: Wait>(
     rt: &R,
     alloc: Global,
     publisher: Publisher<J>,

@@ -1,7 +1,7 @@
 //! Two segments, merged.
 ghost use Rattle.std.specs.Prelude.{◌≡◌, ◌<◌};
 
-use super::tallies::{rated_text, tallied};
+use super::tallies::{rated_text, tally_texts};
 use explorer_model::archive::{Bytes, Placed};
 use outside::FreeGate;
 use segment_blocks::{Segment, Steps};
@@ -50,7 +50,7 @@ fn segment_of<R: Threads + Sync>(
     if first == u32::MAX {
         return Err(Fail::from("no place behind the batch"));
     }
-    let Some(tallying) = tallied(rt, alloc, texts, 1, &FreeGate)? else {
+    let Some(tallying) = tally_texts(rt, alloc, texts, 1, &FreeGate)? else {
         return Err(Fail::from("no game"));
     };
     let tally = tallying.tally;
@@ -61,7 +61,7 @@ fn segment_of<R: Threads + Sync>(
 }
 
 /// The segment of both, where they can be merged.
-fn merged<R: Threads + Sync>(
+fn merge_both<R: Threads + Sync>(
     rt: &R,
     alloc: Global,
     left: &Segment,
@@ -116,7 +116,7 @@ fn rows_of_both_sides_are_put_together_or_in_order(rt: HostRuntime) -> Result<()
     ] {
         let right = one_game(&rt, rt.alloc(), 1, (1800, 1700), movetext)?;
         for workers in [1, 16] {
-            let both = merged(&rt, rt.alloc(), &left, &right, workers)?;
+            let both = merge_both(&rt, rt.alloc(), &left, &right, workers)?;
             let rows = rows_with_a_move::<Brand>(rt.alloc(), &both, Blank::new(1))?;
             assert!(rt;
                 rows.as_slice() == wanted,
@@ -197,7 +197,7 @@ fn rows_in_ranges_are_those_packed_at_once(rt: HostRuntime) -> Result<(), Fail> 
     for n in 0..510u32 {
         texts.push(pawn_moves(rt.alloc(), n.wrapping_mul(40_503))?)?;
     }
-    let movetexts = borrowed(rt.alloc(), texts.as_slice())?;
+    let movetexts = borrow_texts(rt.alloc(), texts.as_slice())?;
     let whole = games(&rt, rt.alloc(), 0, (1700, 1600), movetexts.as_slice())?;
     let Some((before, behind)) = movetexts.as_slice().split_at_checked(265) else {
         panic!(rt; "there are not so many games");
@@ -419,7 +419,7 @@ fn movetexts_of_both(
     Ok((texts, cut))
 }
 
-fn borrowed(alloc: Global, texts: &[String]) -> Result<Vec<&str>, AllocError> {
+fn borrow_texts(alloc: Global, texts: &[String]) -> Result<Vec<&str>, AllocError> {
     let mut all = Vec::new(alloc);
     for text in texts {
         all.push(text.as_str())?;
@@ -446,7 +446,7 @@ fn are_merged<R: Threads + Sync>(
     right: &Side,
 ) -> Result<bool, Fail> {
     let (texts, cut) = movetexts_of_both(alloc, left, right)?;
-    let texts = borrowed(alloc, texts.as_slice())?;
+    let texts = borrow_texts(alloc, texts.as_slice())?;
     let Some((before, behind)) = texts.as_slice().split_at_checked(cut) else {
         return Ok(false);
     };
@@ -476,7 +476,7 @@ fn are_alike<R: Threads + Sync>(
 ) -> Result<bool, Fail> {
     let wanted = all_rows::<Brand>(alloc, whole, Blank::new(1))?;
     for workers in [1, 16] {
-        let both = merged(rt, alloc, left, right, workers)?;
+        let both = merge_both(rt, alloc, left, right, workers)?;
         let rows = all_rows::<Brand>(alloc, &both, Blank::new(1))?;
         if both.games() != whole.games() || rows.as_slice() != wanted.as_slice() {
             return Ok(false);

@@ -4,7 +4,7 @@ ghost use Rattle.outside.specs.Ports.{scratch_of};
 ghost use Rattle.spill_blobs.specs.Sets.{HasJust};
 
 use super::merges::all_rows;
-use super::tallies::tallied;
+use super::tallies::tally_texts;
 use explorer_model::archive::{Bytes, Placed};
 use explorer_model::fault::Stop;
 use legal_moves::board::Board;
@@ -91,7 +91,7 @@ fn segment<R: Threads + Sync>(rt: &R, alloc: Global, count: u32) -> Result<Segme
     for number in 0..count {
         texts.push(text(alloc, number)?)?;
     }
-    let Some(tallying) = tallied(rt, alloc, texts, 1, &FreeGate)? else {
+    let Some(tallying) = tally_texts(rt, alloc, texts, 1, &FreeGate)? else {
         return Err(Fail::from("too many games"));
     };
     let tally = tallying.tally;
@@ -102,7 +102,7 @@ fn segment<R: Threads + Sync>(rt: &R, alloc: Global, count: u32) -> Result<Segme
 }
 
 /// The rows of a segment at the start, once it is spilled to an empty file.
-fn spilled<P: Port, L: Ledger>(
+fn rows_through<P: Port, L: Ledger>(
     alloc: Global,
     segment: Segment,
     port: &mut P,
@@ -133,7 +133,7 @@ fn through_memory(
     let Ok(mut port) = MemPort::new(alloc, room, failing) else {
         return Err(Stop::OutOfMemory);
     };
-    spilled::<MemPort, Brand>(alloc, segment, &mut port, Blank::new(1))
+    rows_through::<MemPort, Brand>(alloc, segment, &mut port, Blank::new(1))
 }
 
 /// The same through a file that gives other bytes.
@@ -151,7 +151,7 @@ fn through_spoiled(
         firsts,
         change,
     };
-    spilled::<Spoiled, Brand>(alloc, segment, &mut port, Blank::new(1))
+    rows_through::<Spoiled, Brand>(alloc, segment, &mut port, Blank::new(1))
 }
 
 fn is_damaged(found: &Result<Vec<Row>, Stop<PortFault>>) -> bool {
@@ -224,7 +224,7 @@ fn zeros_are_no_rows(rt: HostRuntime) -> Result<(), Fail> {
     let alloc = rt.alloc();
     let segment = segment(&rt, alloc, 20)?;
     let mut port = MemPort::blank(alloc, Vec::new(alloc));
-    let found = spilled::<MemPort, Brand>(alloc, segment, &mut port, Blank::new(1));
+    let found = rows_through::<MemPort, Brand>(alloc, segment, &mut port, Blank::new(1));
     assert!(rt; is_damaged(&found));
     Ok(())
 }

@@ -37,7 +37,7 @@ pub(super) fn rated_text(
 }
 
 /// The tally of the texts, where they are few and short enough to be tallied.
-pub(super) fn tallied<R: Threads + Sync, G: Gate>(
+pub(super) fn tally_texts<R: Threads + Sync, G: Gate>(
     rt: &R,
     alloc: Global,
     texts: Vec<Placed>,
@@ -94,7 +94,7 @@ fn counts_a_game_once_in_each_position(rt: HostRuntime) -> Result<(), Fail> {
         for workers in [1, 2, 8, 16] {
             let mut texts = Vec::new(rt.alloc());
             texts.push(text(rt.alloc(), 0, "aaaaaaa1", movetext)?)?;
-            let tallying = tallied(&rt, rt.alloc(), texts, workers, &FreeGate)?;
+            let tallying = tally_texts(&rt, rt.alloc(), texts, workers, &FreeGate)?;
             assert_eq!(rt; row_count(&tallying), rows);
         }
     }
@@ -102,7 +102,7 @@ fn counts_a_game_once_in_each_position(rt: HostRuntime) -> Result<(), Fail> {
 }
 
 /// Two games with moves, one of them twice, and one that is refused but does not block its id.
-fn mixed(alloc: Global) -> Result<Vec<Placed>, AllocError> {
+fn mixed_games(alloc: Global) -> Result<Vec<Placed>, AllocError> {
     let mut texts = Vec::new(alloc);
     texts.push(text(alloc, 0, "aaaaaaa2", "1. e4 1/2")?)?;
     texts.push(text(alloc, 200, "aaaaaaa1", "1. e4 e5 1-0")?)?;
@@ -114,8 +114,8 @@ fn mixed(alloc: Global) -> Result<Vec<Placed>, AllocError> {
 #[test]
 fn refuses_the_second_text_with_an_id(rt: HostRuntime) -> Result<(), Fail> {
     for workers in [1, 2, 8, 16] {
-        let texts = mixed(rt.alloc())?;
-        let Some(tallying) = tallied(&rt, rt.alloc(), texts, workers, &FreeGate)? else {
+        let texts = mixed_games(rt.alloc())?;
+        let Some(tallying) = tally_texts(&rt, rt.alloc(), texts, workers, &FreeGate)? else {
             assert!(rt; false);
             return Ok(());
         };
@@ -141,7 +141,7 @@ fn refuses_the_second_text_with_an_id(rt: HostRuntime) -> Result<(), Fail> {
 }
 
 /// A hundred games of five openings, one of which is refused. The last thirty have the ids of the first.
-fn repeating(alloc: Global) -> Result<Vec<Placed>, AllocError> {
+fn repeating_games(alloc: Global) -> Result<Vec<Placed>, AllocError> {
     let openings = [
         "1. e4 e5 1-0",
         "1. e4 c5 1-0",
@@ -160,7 +160,7 @@ fn repeating(alloc: Global) -> Result<Vec<Placed>, AllocError> {
 
 /// Texts with comments, of players at the bounds of rating groups, one that comes twice, and one
 /// with a rating that no player has.
-fn worked(alloc: Global) -> Result<Vec<Placed>, AllocError> {
+fn games_at_bounds(alloc: Global) -> Result<Vec<Placed>, AllocError> {
     let commented = "1. e4 { [%eval 0.17] [%clk 0:00:30] } 1... c5?! { [%clk 0:00:29] } 1-0";
     let games = [
         ("aaaaaaa1", (1500, 1400), commented),
@@ -223,14 +223,14 @@ fn have_same_rows(parts: &[Vec<CountedRow>], one: &[Vec<CountedRow>]) -> bool {
 
 #[test]
 fn tallies_alike_with_every_number_of_workers(rt: HostRuntime) -> Result<(), Fail> {
-    let texts = repeating(rt.alloc())?;
-    let Some(alone) = tallied(&rt, rt.alloc(), texts, 1, &FreeGate)? else {
+    let texts = repeating_games(rt.alloc())?;
+    let Some(alone) = tally_texts(&rt, rt.alloc(), texts, 1, &FreeGate)? else {
         return Err(Fail::from("too much"));
     };
     // Of 100 texts 20 have no game, and 24 of the last 30 the id of an accepted one.
     assert_eq!(rt; (alone.places.len(), alone.refused.len()), (56, 44));
     for workers in [2, 8, 16] {
-        let texts = repeating(rt.alloc())?;
+        let texts = repeating_games(rt.alloc())?;
         assert!(rt;
             is_tallied_alike(&rt, texts, workers, &alone)?,
             "with {workers} workers"
@@ -241,8 +241,8 @@ fn tallies_alike_with_every_number_of_workers(rt: HostRuntime) -> Result<(), Fai
 
 #[test]
 fn tallies_worked_games_alike_with_every_number_of_workers(rt: HostRuntime) -> Result<(), Fail> {
-    let texts = worked(rt.alloc())?;
-    let Some(alone) = tallied(&rt, rt.alloc(), texts, 1, &FreeGate)? else {
+    let texts = games_at_bounds(rt.alloc())?;
+    let Some(alone) = tally_texts(&rt, rt.alloc(), texts, 1, &FreeGate)? else {
         return Err(Fail::from("too much"));
     };
     let bad = TagFault::Bad {
@@ -265,7 +265,7 @@ fn tallies_worked_games_alike_with_every_number_of_workers(rt: HostRuntime) -> R
     };
     assert_eq!(rt; rows, 9);
     for workers in [2, 8, 16] {
-        let texts = worked(rt.alloc())?;
+        let texts = games_at_bounds(rt.alloc())?;
         assert!(rt;
             is_tallied_alike(&rt, texts, workers, &alone)?,
             "with {workers} workers"
@@ -281,7 +281,7 @@ fn is_tallied_alike<R: AllocGlobal + Threads + Sync>(
     workers: usize,
     alone: &Tallying,
 ) -> Result<bool, Fail> {
-    let tallying = tallied(rt, rt.alloc(), texts, workers, &FreeGate)?;
+    let tallying = tally_texts(rt, rt.alloc(), texts, workers, &FreeGate)?;
     Ok(matches!(&tallying, Some(t) if are_same(t, alone)))
 }
 
@@ -292,7 +292,7 @@ fn tallies_as_many_texts_as_a_batch_has(rt: HostRuntime) -> Result<(), Fail> {
         let id = format!(in rt.alloc(); "{number:08}")?;
         texts.push(text(rt.alloc(), number, id.as_str(), "1. e4 e5 1-0")?)?;
     }
-    let tallying = tallied(&rt, rt.alloc(), texts, 8, &FreeGate)?;
+    let tallying = tally_texts(&rt, rt.alloc(), texts, 8, &FreeGate)?;
     assert_eq!(rt; row_count(&tallying), 3);
     assert!(rt; matches!(&tallying, Some(t) if t.places.len() == 512));
     Ok(())
@@ -307,7 +307,7 @@ fn tallies_the_longest_game(rt: HostRuntime) -> Result<(), Fail> {
     moves.push_str("1-0")?;
     let mut texts = Vec::new(rt.alloc());
     texts.push(text(rt.alloc(), 0, "aaaaaaa1", moves.as_str())?)?;
-    let tallying = tallied(&rt, rt.alloc(), texts, 4, &FreeGate)?;
+    let tallying = tally_texts(&rt, rt.alloc(), texts, 4, &FreeGate)?;
     // Four positions, each with the move that is played there first.
     assert_eq!(rt; row_count(&tallying), 4);
     Ok(())
@@ -317,7 +317,7 @@ fn tallies_the_longest_game(rt: HostRuntime) -> Result<(), Fail> {
 fn makes_no_batch_of_refused_texts(rt: HostRuntime) -> Result<(), Fail> {
     let mut texts = Vec::new(rt.alloc());
     texts.push(text(rt.alloc(), 7, "aaaaaaa1", "1. e5 1-0")?)?;
-    let tallying = tallied(&rt, rt.alloc(), texts, 2, &FreeGate)?;
+    let tallying = tally_texts(&rt, rt.alloc(), texts, 2, &FreeGate)?;
     assert!(rt; matches!(&tallying, Some(t) if t.tally.is_none() && t.refused.len() == 1));
     Ok(())
 }
@@ -352,7 +352,7 @@ fn each_leaf_passes_the_gate_once(rt: HostRuntime) -> Result<(), Fail> {
                 passes: AtomicU64::new(0),
                 leaves: AtomicU64::new(0),
             };
-            let _ = tallied(&rt, rt.alloc(), texts, workers, &gate)?;
+            let _ = tally_texts(&rt, rt.alloc(), texts, workers, &gate)?;
             assert_eq!(rt; gate.passes.load(Ordering::SeqCst), workers as u64);
             assert_eq!(rt; gate.leaves.load(Ordering::SeqCst), leaves);
         }
@@ -385,11 +385,11 @@ impl Gate for HoldingGate {
 
 #[test]
 fn two_leaves_run_at_once(rt: HostRuntime) -> Result<(), Fail> {
-    let texts = mixed(rt.alloc())?;
+    let texts = mixed_games(rt.alloc())?;
     let gate = HoldingGate {
         leaves: AtomicU64::new(0),
     };
-    let tallying = tallied(&rt, rt.alloc(), texts, 2, &gate)?;
+    let tallying = tally_texts(&rt, rt.alloc(), texts, 2, &gate)?;
     // The mark of both, and leaves 1 and 2.
     assert_eq!(rt; gate.leaves.load(Ordering::SeqCst), 0b111);
     assert!(rt; matches!(&tallying, Some(t) if t.places.as_slice() == [200, 400].as_slice()));

@@ -141,7 +141,7 @@ fn push_months(alloc: Global, text: &mut String, lines: &[MonthLine]) -> Result<
 }
 
 /// The answer in one line; a game stands there as its White's name.
-pub(super) fn told(alloc: Global, found: &Found) -> Result<String, AllocError> {
+pub(super) fn line_of_found(alloc: Global, found: &Found) -> Result<String, AllocError> {
     let mut text = String::new(alloc);
     push_totals(alloc, &mut text, &found.totals)?;
     text.push_str("; moves")?;
@@ -209,7 +209,7 @@ fn eve() -> Played<'static> {
 }
 
 /// Everything of the rapid games, of the group of 1400, since January 2020, and until then.
-fn narrowed() -> [Asked; 4] {
+fn narrowed_questions() -> [Asked; 4] {
     let january = Some(Month {
         year: 2020,
         month: 1,
@@ -291,7 +291,7 @@ fn told_by_segments<L: Ledger>(
     }
     let mut steps = Steps::<L>::new(blank);
     let found = look_segments(alloc, segments, &query_of(alloc, asked), &mut steps)?;
-    Ok(told(alloc, &found)?)
+    Ok(line_of_found(alloc, &found)?)
 }
 
 /// What is found in the journal of the five games in segments of these sizes.
@@ -307,7 +307,7 @@ fn told_by_cut<R: Threads + Sync>(
 
 /// What is asked of the five games, and the answer in one line.
 pub(super) fn table() -> [(Asked, &'static str); 6] {
-    let [rapid, group_1400, since, until] = narrowed();
+    let [rapid, group_1400, since, until] = narrowed_questions();
     let short = Asked {
         moves: 1,
         top: 2,

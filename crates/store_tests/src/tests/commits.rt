@@ -1,7 +1,9 @@
 //! Batches that are stored, published and read again, and stores that are damaged.
 ghost use Rattle.std.specs.Prelude.{◌≡◌, ◌∷◌, [], IfOk};
 
-use super::stores::{commit_games, damage_of, games, join_twice, named, new_store, opened};
+use super::stores::{
+    commit_games, damage_of, games, join_twice, name_ingest, new_store, open_ingest,
+};
 use super::{tally_of, text};
 use disk_model::{Disk, MemDisk};
 use explorer_model::archive::{Batch, Bytes, Texts};
@@ -25,7 +27,7 @@ fn batches_are_stored_published_and_joined(rt: HostRuntime) -> Result<(), Fail> 
     let unnamed = new_store(&rt, alloc, Vec::new(alloc))?;
     let disk = stores_three::<Brand, _>(&rt, alloc, unnamed)?;
     // No crash tears what was acknowledged.
-    let unnamed = opened(&rt, alloc, disk.crashed(7), 2)?;
+    let unnamed = open_ingest(&rt, alloc, disk.crashed(7), 2)?;
     let (batches, _disk) = batches_of::<Brand, _>(&rt, alloc, unnamed)?;
     assert_eq!(rt; batches, 2);
     Ok(())
@@ -39,7 +41,7 @@ fn stores_three<J: Index, R: Threads + Wait + Abort + Sync>(
 ) -> Result<MemDisk, Fail>
     requires { unnamed.index.name ≡ J.name }
 {
-    let (mut ingest, _passes, mut drawer) = named::<J, _, R>(rt, alloc, unnamed)?;
+    let (mut ingest, _passes, mut drawer) = name_ingest::<J, _, R>(rt, alloc, unnamed)?;
     let outcome = store_three(rt, alloc, &mut ingest, &mut drawer);
     let disk = ingest.into_disk(rt);
     outcome?;
@@ -109,7 +111,7 @@ fn batches_of<J: Index, R: Wait + Abort>(
 ) -> Result<(u32, MemDisk), Fail>
     requires { unnamed.index.name ≡ J.name }
 {
-    let (mut ingest, mut passes, _drawer) = named::<J, _, R>(rt, alloc, unnamed)?;
+    let (mut ingest, mut passes, _drawer) = name_ingest::<J, _, R>(rt, alloc, unnamed)?;
     let stored = ingest.batches();
     let note = ingest.tell();
     let disk = ingest.into_disk(rt);
@@ -131,7 +133,7 @@ fn batches_behind_a_fault<R: Threads + Wait + Abort + Sync>(
 ) -> Result<u32, Fail> {
     let unnamed = new_store(rt, alloc, vec![in alloc; failing]?)?;
     let disk = breaks::<Brand, _>(rt, alloc, unnamed)?;
-    let unnamed = opened(rt, alloc, disk.crashed(choice), 1)?;
+    let unnamed = open_ingest(rt, alloc, disk.crashed(choice), 1)?;
     let (batches, _disk) = batches_of::<Brand, _>(rt, alloc, unnamed)?;
     Ok(batches)
 }
@@ -157,7 +159,7 @@ fn breaks<J: Index, R: Threads + Wait + Abort + Sync>(
 ) -> Result<MemDisk, Fail>
     requires { unnamed.index.name ≡ J.name }
 {
-    let (mut ingest, passes, mut drawer) = named::<J, _, R>(rt, alloc, unnamed)?;
+    let (mut ingest, passes, mut drawer) = name_ingest::<J, _, R>(rt, alloc, unnamed)?;
     let outcome = go_on_behind_a_fault(rt, alloc, &mut ingest, &mut drawer, passes);
     let disk = ingest.into_disk(rt);
     outcome?;
@@ -258,7 +260,7 @@ fn fills_the_list<J: Index, R: Threads + Wait + Abort + Sync>(
 ) -> Result<(), Fail>
     requires { unnamed.index.name ≡ J.name }
 {
-    let (mut ingest, _passes, mut drawer) = named::<J, _, R>(rt, alloc, unnamed)?;
+    let (mut ingest, _passes, mut drawer) = name_ingest::<J, _, R>(rt, alloc, unnamed)?;
     let outcome = fill_the_list(rt, alloc, &mut ingest, &mut drawer);
     let _disk = ingest.into_disk(rt);
     outcome

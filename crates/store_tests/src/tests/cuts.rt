@@ -2,7 +2,7 @@
 ghost use Rattle.std.specs.Prelude.{◌≡◌, ◌<◌, ◌≤◌, length};
 ghost use Rattle.explorer_model.specs.Chess.{IsValid};
 
-use super::{merged, segment_of, tally_of};
+use super::{merge_both, segment_of, tally_of};
 use explorer_model::answer::{Found, Totals};
 use explorer_model::archive::{Bytes, Placed};
 use explorer_model::query::Query;
@@ -25,7 +25,7 @@ const RESULTS: [&str; 3] = ["1-0", "1/2-1/2", "0-1"];
 const MOVES: [&str; 4] = ["1. e4 e5", "1. e4 c5", "1. d4 d5", "1. e4 e5 2. Nf3"];
 
 /// A game whose result, moves, month, ratings and time control are told by its number.
-fn varied(alloc: Global, number: u32) -> Result<Placed, AllocError> {
+fn varied_game(alloc: Global, number: u32) -> Result<Placed, AllocError> {
     let (result, moves) = (RESULTS[(number % 3) as usize], MOVES[(number % 4) as usize]);
     let (month, time) = (1 + number % 5, 60 + number % 2 * 240);
     let (white, black) = (1000 + number % 32 * 50, 1100 + number % 7 * 100);
@@ -48,7 +48,7 @@ fn batch<R: Threads + Sync>(rt: &R, alloc: Global, place: u32) -> Result<SharedS
 {
     let mut texts = Vec::new(alloc);
     for game in 0..1 + place % 3 {
-        texts.push(varied(alloc, 3 * place + game)?)?;
+        texts.push(varied_game(alloc, 3 * place + game)?)?;
     }
     let tally = tally_of(rt, alloc, texts)?;
     Ok(Arc::new(alloc, segment_of(alloc, place, tally)?)?)
@@ -73,14 +73,14 @@ fn cut<R: Threads + Sync>(
     let mut rest = begins;
     for batch in batches {
         let last = if rest % 2 == 0 { segments.pop() } else { None };
-        segments.push(joined(rt, alloc, last, batch)?)?;
+        segments.push(join_last(rt, alloc, last, batch)?)?;
         rest /= 2;
     }
     Ok(segments)
 }
 
 /// The last segment and the batch behind it as one, or the batch alone.
-fn joined<R: Threads + Sync>(
+fn join_last<R: Threads + Sync>(
     rt: &R,
     alloc: Global,
     last: Option<SharedSegment>,
@@ -88,7 +88,7 @@ fn joined<R: Threads + Sync>(
 ) -> Result<SharedSegment, Fail> {
     match last {
         Some(last) => {
-            let both = merged(rt, alloc, &last, batch, 1, &FreeGate)?;
+            let both = merge_both(rt, alloc, &last, batch, 1, &FreeGate)?;
             Ok(Arc::new(alloc, both)?)
         }
         None => Ok(Arc::try_clone(batch)?),
@@ -132,11 +132,11 @@ fn told_uncounted<L: Ledger>(
 {
     let mut steps = Steps::<L>::new(blank);
     let found = look_segments(alloc, segments, query, &mut steps)?;
-    told(alloc, &found)
+    text_of_found(alloc, &found)
 }
 
 /// All games, the games of each move, and then the whole answer.
-fn told(alloc: Global, found: &Found) -> Result<String, AllocError> {
+fn text_of_found(alloc: Global, found: &Found) -> Result<String, AllocError> {
     let mut text = String::new(alloc);
     push_totals(alloc, &mut text, "all", &found.totals)?;
     for line in found.moves.as_slice() {

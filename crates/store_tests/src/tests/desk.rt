@@ -1,7 +1,9 @@
 //! A desk at its limit, and beside another worker.
 ghost use Rattle.std.specs.Prelude.{◌≡◌};
 
-use super::stores::{commit_games, damage_of, games, join_twice, named, new_store, opened};
+use super::stores::{
+    commit_games, damage_of, games, join_twice, name_ingest, new_store, open_ingest,
+};
 use super::text;
 use disk_model::{Disk, MemDisk};
 use explorer_model::archive::Placed;
@@ -83,7 +85,7 @@ pub(super) fn disk_with(alloc: Global, file: &[u8]) -> Result<MemDisk, Fail> {
 fn store_below_its_limit_takes_one_game(rt: HostRuntime) -> Result<(), Fail> {
     let alloc: Global = rt.alloc();
     let file = store_file(alloc, LIMIT - 1, 512)?;
-    let unnamed = opened(&rt, alloc, disk_with(alloc, file.as_slice())?, 4)?;
+    let unnamed = open_ingest(&rt, alloc, disk_with(alloc, file.as_slice())?, 4)?;
     fills::<Brand, _>(&rt, alloc, unnamed)
 }
 
@@ -94,7 +96,7 @@ fn fills<J: Index, R: Threads + Wait + Abort + Sync>(
 ) -> Result<(), Fail>
     requires { unnamed.index.name ≡ J.name }
 {
-    let (mut ingest, _passes, mut drawer) = named::<J, _, R>(rt, alloc, unnamed)?;
+    let (mut ingest, _passes, mut drawer) = name_ingest::<J, _, R>(rt, alloc, unnamed)?;
     let outcome = fill(rt, alloc, &mut ingest, &mut drawer);
     let _disk = ingest.into_disk(rt);
     outcome
@@ -167,7 +169,7 @@ fn joins<J: Index, R: Threads + Wait + Abort + Sync>(
 ) -> Result<(), Fail>
     requires { unnamed.index.name ≡ J.name }
 {
-    let (mut ingest, _passes, mut drawer) = named::<J, _, R>(rt, alloc, unnamed)?;
+    let (mut ingest, _passes, mut drawer) = name_ingest::<J, _, R>(rt, alloc, unnamed)?;
     let outcome = join_first_two(rt, alloc, &mut ingest, &mut drawer);
     let _disk = ingest.into_disk(rt);
     outcome

@@ -3,7 +3,7 @@
 ghost use Rattle.std.specs.Prelude.{◌≡◌, None};
 
 use super::desk::{disk_with, store_file};
-use super::stores::{commit_games, games, named, opened, store_on};
+use super::stores::{commit_games, games, name_ingest, open_ingest, store_on};
 use disk_model::{Disk, MemDisk};
 use ingest_desk::{CommitFault, Ingest, InstallFault, Unnamed};
 use outside::{Failed, FreeGate};
@@ -150,7 +150,7 @@ fn holds_batch<J: Index, R: Threads + Wait + Abort + Sync>(
 ) -> Result<(), Fail>
     requires { unnamed.index.name ≡ J.name }
 {
-    let (mut ingest, _passes, mut drawer) = named::<J, _, R>(rt, alloc, unnamed)?;
+    let (mut ingest, _passes, mut drawer) = name_ingest::<J, _, R>(rt, alloc, unnamed)?;
     let outcome = hold_batch(rt, alloc, &mut ingest, &mut drawer, hoard);
     let _disk = ingest.into_disk(rt);
     outcome
@@ -204,7 +204,7 @@ fn held_join_is_published_by_the_next_commit(rt: HostRuntime) -> Result<(), Fail
     let alloc: Global = rt.alloc();
     // Of five batches of one game each, three and two stand together when they are counted anew.
     let file = store_file(alloc, 5, 1)?;
-    let unnamed = opened(&rt, alloc, disk_with(alloc, file.as_slice())?, 1)?;
+    let unnamed = open_ingest(&rt, alloc, disk_with(alloc, file.as_slice())?, 1)?;
     holds_join::<Brand, _>(&rt, alloc, unnamed)
 }
 
@@ -215,7 +215,7 @@ fn holds_join<J: Index, R: Threads + Wait + Abort + Sync>(
 ) -> Result<(), Fail>
     requires { unnamed.index.name ≡ J.name }
 {
-    let (mut ingest, _passes, mut drawer) = named::<J, _, R>(rt, alloc, unnamed)?;
+    let (mut ingest, _passes, mut drawer) = name_ingest::<J, _, R>(rt, alloc, unnamed)?;
     let outcome = hold_join(rt, alloc, &mut ingest, &mut drawer);
     let _disk = ingest.into_disk(rt);
     outcome

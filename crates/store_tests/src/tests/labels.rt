@@ -1,7 +1,7 @@
 //! Batches under labels, which outlive a merge and an opening.
 ghost use Rattle.std.specs.Prelude.{◌≡◌, ◌<◌};
 
-use super::stores::{games, join_twice, named, new_store, opened};
+use super::stores::{games, join_twice, name_ingest, new_store, open_ingest};
 use disk_model::MemDisk;
 use explorer_model::label::Label;
 use ingest_desk::{Ingest, Unnamed};
@@ -79,7 +79,7 @@ fn stores_and_joins<J: Index, R: Threads + Wait + Abort + Sync>(
 ) -> Result<MemDisk, Fail>
     requires { unnamed.index.name ≡ J.name }
 {
-    let (mut ingest, _passes, mut drawer) = named::<J, _, R>(rt, alloc, unnamed)?;
+    let (mut ingest, _passes, mut drawer) = name_ingest::<J, _, R>(rt, alloc, unnamed)?;
     let outcome = joins_labelled(rt, alloc, &mut ingest, &mut drawer);
     let disk = ingest.into_disk(rt);
     outcome?;
@@ -107,7 +107,7 @@ fn are_read<J: Index, R: Wait>(
 ) -> Result<bool, Fail>
     requires { unnamed.index.name ≡ J.name }
 {
-    let (ingest, _passes, _drawer) = named::<J, _, R>(rt, alloc, unnamed)?;
+    let (ingest, _passes, _drawer) = name_ingest::<J, _, R>(rt, alloc, unnamed)?;
     let count = ingest.publisher().list().segments().len();
     let are_read = is_labelled(&ingest, count);
     let _disk = ingest.into_disk(rt);
@@ -119,7 +119,7 @@ fn labels_outlive_merging_and_opening(rt: HostRuntime) -> Result<(), Fail> {
     let alloc: Global = rt.alloc();
     let unnamed = new_store(&rt, alloc, Vec::new(alloc))?;
     let disk = stores_and_joins::<Brand, _>(&rt, alloc, unnamed)?;
-    let unnamed = opened(&rt, alloc, disk, 2)?;
+    let unnamed = open_ingest(&rt, alloc, disk, 2)?;
     assert!(rt; are_read::<Brand, _>(&rt, alloc, unnamed)?);
     Ok(())
 }

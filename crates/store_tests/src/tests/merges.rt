@@ -1,7 +1,7 @@
 //! Two segments as one.
 ghost use Rattle.std.specs.Prelude.{◌≡◌, ◌<◌};
 
-use super::{BATCH, merged, one_game, segment_of, tally_of_batch};
+use super::{BATCH, merge_both, one_game, segment_of, tally_of_batch};
 use best_lists::Entry;
 use outside::{FreeGate, Gate};
 use segment_blocks::{Segment, Steps};
@@ -55,7 +55,7 @@ fn merged_games<R: Threads + Sync>(
 ) -> Result<Segment, Fail> {
     let left = one_game(rt, alloc, 0, "1. e4 e5")?;
     let right = one_game(rt, alloc, 1, "1. e4 c5")?;
-    merged(rt, alloc, &left, &right, 2, gate)
+    merge_both(rt, alloc, &left, &right, 2, gate)
 }
 
 /// How many rows a segment has in which White won one game, those in which it won two, and all.
@@ -160,11 +160,11 @@ pub(super) fn assert_equal_merges<R: Threads + Abort + Sync>(
     left: &Segment,
     right: &Segment,
 ) -> Result<(), Fail> {
-    let alone = merged(rt, alloc, left, right, 1, &FreeGate)?;
+    let alone = merge_both(rt, alloc, left, right, 1, &FreeGate)?;
     assert_eq!(rt; alone.games(), 1024);
     for (workers, leaves) in [(1, 0x2), (2, 0x6), (8, 0x1fe), (16, 0x1fffe)] {
         let gate = HoldingGate::new();
-        let both = merged(rt, alloc, left, right, workers, &gate)?;
+        let both = merge_both(rt, alloc, left, right, workers, &gate)?;
         assert_eq!(rt; gate.passes.load(Ordering::SeqCst), workers as u64);
         assert_eq!(rt; gate.leaves.load(Ordering::SeqCst) & !1, leaves);
         assert!(rt; are_same(&both, &alone), "with {workers} workers");

@@ -4,7 +4,7 @@ ghost use Rattle.std.specs.Arc.{arc_value};
 ghost use Rattle.published_index.specs.Changes.{CanJoin};
 ghost use Rattle.published_index.specs.Places.{HasAllParts};
 
-use super::{merged, one_game};
+use super::{merge_both, one_game};
 use outside::FreeGate;
 use published_index::{
     Drawer, Index, List, Named, Note, Pass, Publisher, SharedSegment, Unnamed, open_list,
@@ -20,7 +20,7 @@ use std::thread::{Threads, join};
 const PUTS: u32 = 60;
 
 /// The publisher, the passes and the drawer of an index.
-fn named<J: Index, R: Wait>(rt: &R, alloc: Global, unnamed: Unnamed) -> Result<Named<J>, Fail>
+fn name_index<J: Index, R: Wait>(rt: &R, alloc: Global, unnamed: Unnamed) -> Result<Named<J>, Fail>
     requires { unnamed.name ≡ J.name }
     ensures { IfOk result (λ index. HasAllParts index.2) }
 {
@@ -94,7 +94,7 @@ fn sees_puts<J: Index, R: Threads + Wait + Abort + Sync>(
 ) -> Result<(), Fail>
     requires { unnamed.name ≡ J.name }
 {
-    let (mut publisher, passes, mut drawer) = named::<J, R>(rt, alloc, unnamed)?;
+    let (mut publisher, passes, mut drawer) = name_index::<J, R>(rt, alloc, unnamed)?;
     let seen = put_twice(rt, alloc, &mut publisher, &mut drawer, passes);
     publisher.close(rt);
     let wanted = Seen {
@@ -150,7 +150,7 @@ fn enters_during_puts<J: Index + Send + Sync, R: Threads + Wait + Abort + Sync>(
 ) -> Result<(), Fail>
     requires { unnamed.name ≡ J.name }
 {
-    let (publisher, mut passes, drawer) = named::<J, R>(rt, alloc, unnamed)?;
+    let (publisher, mut passes, drawer) = name_index::<J, R>(rt, alloc, unnamed)?;
     let first = passes.pop();
     let second = passes.pop();
     let desk = Mutex::new(publisher);
@@ -180,14 +180,18 @@ fn each_enter_gives_a_snapshot_while_another_thread_puts(rt: HostRuntime) -> Res
 }
 
 /// The two segments of the list as one.
-fn joined<R: Threads + Sync>(rt: &R, alloc: Global, list: &List) -> Result<SharedSegment, Fail>
+fn both_segments<R: Threads + Sync>(
+    rt: &R,
+    alloc: Global,
+    list: &List,
+) -> Result<SharedSegment, Fail>
     ensures { IfOk result (λ segment. CanJoin list.now 0 (arc_value segment)) }
 {
     let segments = list.segments();
     if segments.len() != 2 {
         return Err(Fail::from("not two segments"));
     }
-    let whole = merged(rt, alloc, &segments[0], &segments[1], 2, &FreeGate)?;
+    let whole = merge_both(rt, alloc, &segments[0], &segments[1], 2, &FreeGate)?;
     Ok(Arc::new(alloc, whole)?)
 }
 
@@ -220,7 +224,7 @@ fn join_both<J: Index, R: Threads + Wait + Sync>(
     publisher: &mut Publisher<J>,
 ) -> Result<Note<J>, Fail> {
     publisher.retry(rt)?;
-    let whole = joined(rt, alloc, publisher.list())?;
+    let whole = both_segments(rt, alloc, publisher.list())?;
     Ok(publisher.replace(rt, 0, whole)?)
 }
 
@@ -231,7 +235,7 @@ fn keeps_segments<J: Index, R: Threads + Wait + Abort + Sync>(
 ) -> Result<(), Fail>
     requires { unnamed.name ≡ J.name }
 {
-    let (mut publisher, passes, mut drawer) = named::<J, R>(rt, alloc, unnamed)?;
+    let (mut publisher, passes, mut drawer) = name_index::<J, R>(rt, alloc, unnamed)?;
     let seen = join_while_held(rt, alloc, &mut publisher, &mut drawer, passes);
     publisher.close(rt);
     assert_eq!(rt; seen?, (2, 1, 2));
@@ -269,7 +273,7 @@ fn lets_segments_go<J: Index, R: Threads + Wait + Abort + Sync>(
 ) -> Result<(), Fail>
     requires { unnamed.name ≡ J.name }
 {
-    let (mut publisher, _passes, mut drawer) = named::<J, R>(rt, alloc, unnamed)?;
+    let (mut publisher, _passes, mut drawer) = name_index::<J, R>(rt, alloc, unnamed)?;
     let shares = shares_of_joined(rt, alloc, &mut publisher, &mut drawer);
     publisher.close(rt);
     assert_eq!(rt; shares?, (3, 1));
@@ -308,7 +312,7 @@ fn settles<J: Index, R: Threads + Wait + Abort + Sync>(
 ) -> Result<(), Fail>
     requires { unnamed.name ≡ J.name }
 {
-    let (mut publisher, _passes, mut rest) = named::<J, R>(rt, alloc, unnamed)?;
+    let (mut publisher, _passes, mut rest) = name_index::<J, R>(rt, alloc, unnamed)?;
     let outcome = put_by_two(rt, alloc, &mut publisher, &mut rest);
     let batches = publisher.list().batches();
     publisher.close(rt);

@@ -1,7 +1,7 @@
 //! Batches that are packed before their place is known.
 ghost use Rattle.std.specs.Prelude.{◌≡◌};
 
-use super::stores::{games, named, new_store};
+use super::stores::{games, name_ingest, new_store};
 use disk_model::MemDisk;
 use explorer_model::archive::Batch;
 use ingest_desk::{Clashing, CommitFault, Ingest, Ready, Receipt, Unnamed};
@@ -29,7 +29,7 @@ fn commits<J: Index, R: Threads + Wait + Abort + Sync>(
 ) -> Result<(), Fail>
     requires { unnamed.index.name ≡ J.name }
 {
-    let (mut ingest, _passes, mut drawer) = named::<J, _, R>(rt, alloc, unnamed)?;
+    let (mut ingest, _passes, mut drawer) = name_ingest::<J, _, R>(rt, alloc, unnamed)?;
     let outcome = commit_each(rt, alloc, &mut ingest, &mut drawer);
     let _disk = ingest.into_disk(rt);
     outcome

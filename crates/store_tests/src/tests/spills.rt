@@ -2,7 +2,7 @@
 ghost use Rattle.std.specs.Prelude.{◌≡◌, ◌<◌, ◌≤◌, [], length};
 ghost use Rattle.spill_blobs.specs.Sets.{HasJust, set_bytes};
 
-use super::answers::{Asked, Played, five_games, query_of, table, text_of, told};
+use super::answers::{Asked, Played, five_games, line_of_found, query_of, table, text_of};
 use super::desk::{disk_with, push_batch};
 use disk_model::MemDisk;
 use explorer_model::answer::Found;
@@ -75,7 +75,7 @@ fn told_through<R: Threads + Wait + Sync, P: Port>(
     let parts = set.parts();
     match found_through::<P, Brand>(alloc, &set, asked, port, Blank::new(1)) {
         Ok(found) => {
-            let line = told(alloc, &found)?;
+            let line = line_of_found(alloc, &found)?;
             Ok(format!(in alloc; "{parts} parts: {line}")?)
         }
         Err(Stop::Fault(fault)) => Ok(format!(in alloc; "{fault:?}")?),

@@ -44,7 +44,7 @@ pub(super) fn store_on<D: Disk + Drop, R: Wait>(
 }
 
 /// An ingest of the store on a disk, which so many workers count anew.
-pub(super) fn opened<R: Threads + Wait + Sync>(
+pub(super) fn open_ingest<R: Threads + Wait + Sync>(
     rt: &R,
     alloc: Global,
     disk: MemDisk,
@@ -82,7 +82,7 @@ pub(super) fn damage_of<R: Threads + Wait + Sync>(
 }
 
 /// The ingest, its passes and the drawer of one who stores there.
-pub(super) fn named<J: Index, D: Disk + Drop, R: Wait>(
+pub(super) fn name_ingest<J: Index, D: Disk + Drop, R: Wait>(
     rt: &R,
     alloc: Global,
     unnamed: Unnamed<D>,
@@ -142,10 +142,10 @@ pub(super) fn commit_games<J: Index, D: Disk, R: Threads + Wait + Abort + Sync>(
     count: u32,
 ) -> Result<Option<(u32, u32, u32)>, Fail> {
     let tally = games(rt, alloc, first, count)?;
-    Ok(stored(&ingest.commit(rt, alloc, tally, drawer)))
+    Ok(numbers_of(&ingest.commit(rt, alloc, tally, drawer)))
 }
 
-fn stored<J: Index>(answer: &Result<Receipt<J>, CommitFault<J>>) -> Option<(u32, u32, u32)> {
+fn numbers_of<J: Index>(answer: &Result<Receipt<J>, CommitFault<J>>) -> Option<(u32, u32, u32)> {
     match answer {
         Ok(receipt) => Some((receipt.batches(), receipt.first(), receipt.games())),
         Err(_) => None,

@@ -44,7 +44,12 @@ fn player(alloc: Global, name: &str, rating: u16) -> Result<Player, AllocError> 
 }
 
 /// A rated game of blitz against Bob.
-fn listed(alloc: Global, white: &str, outcome: Outcome, month: Month) -> Result<Listed, AllocError>
+fn listed_game(
+    alloc: Global,
+    white: &str,
+    outcome: Outcome,
+    month: Month,
+) -> Result<Listed, AllocError>
     ensures { IfOk result HasPlainId }
 {
     Ok(Listed {
@@ -69,10 +74,10 @@ fn listed(alloc: Global, white: &str, outcome: Outcome, month: Month) -> Result<
 }
 
 /// The game that White won, alone.
-fn won(alloc: Global, white: &str) -> Result<Items<Listed>, AllocError>
+fn won_games(alloc: Global, white: &str) -> Result<Items<Listed>, AllocError>
     ensures { IfOk result (All HasPlainId) }
 {
-    let game = listed(alloc, white, Outcome::White, JANUARY)?;
+    let game = listed_game(alloc, white, Outcome::White, JANUARY)?;
     one(alloc, game)
 }
 
@@ -80,7 +85,7 @@ fn won(alloc: Global, white: &str) -> Result<Items<Listed>, AllocError>
 fn line(alloc: Global, white: &str) -> Result<MoveLine, AllocError>
     ensures { IfOk result IsPlainLine }
 {
-    let game = listed(alloc, white, Outcome::White, JANUARY)?;
+    let game = listed_game(alloc, white, Outcome::White, JANUARY)?;
     Ok(MoveLine {
         next: game.next,
         san: Bytes::from_vec(Vec::from_slice(alloc, b"e4")?),
@@ -103,8 +108,8 @@ fn answer(alloc: Global, white: &str, count: Option<u32>) -> Result<Found, Alloc
     Ok(Found {
         totals: WHITE_WON,
         moves: one(alloc, line)?,
-        top: won(alloc, white)?,
-        recent: won(alloc, white)?,
+        top: won_games(alloc, white)?,
+        recent: won_games(alloc, white)?,
         history,
     })
 }
@@ -267,7 +272,7 @@ fn casual_game(alloc: Global) -> Result<Listed, AllocError>
         year: 987,
         month: 12,
     };
-    let mut game = listed(alloc, "", Outcome::Draw, december)?;
+    let mut game = listed_game(alloc, "", Outcome::Draw, december)?;
     game.classes.mode = Mode::Casual;
     game.classes.speed = Speed::UltraBullet;
     Ok(game)

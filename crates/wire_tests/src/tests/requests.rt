@@ -14,7 +14,7 @@ fn link(alloc: Global, bytes: &[u8], most: usize, failing: Vec<u64>) -> Result<M
 }
 
 /// What the bytes ask, up to the first answer that is no request; behind it comes only `Done`.
-fn asked(alloc: Global, bytes: &[u8], most: usize) -> Result<Vec<Asked>, Fail> {
+fn asked_by(alloc: Global, bytes: &[u8], most: usize) -> Result<Vec<Asked>, Fail> {
     let mut link = link(alloc, bytes, most, Vec::new(alloc))?;
     let mut wire = Wire::new();
     let mut all = Vec::new(alloc);
@@ -90,7 +90,7 @@ fn requests_are_read_however_they_are_cut(rt: HostRuntime) -> Result<(), Fail> {
     };
     let wanted = vec![in alloc; Asked::Wanted(import), Asked::Wanted(query), Asked::Done]?;
     for most in 1..TWO.len() + 1 {
-        assert_eq!(rt; asked(alloc, TWO, most)?, wanted, "in reads of {most}");
+        assert_eq!(rt; asked_by(alloc, TWO, most)?, wanted, "in reads of {most}");
     }
     Ok(())
 }
@@ -189,7 +189,7 @@ fn first_with(alloc: Global, byte: u8) -> Result<(&'static str, &'static str), F
     Ok((name, value))
 }
 
-fn wanted(is_allowed: bool) -> &'static str {
+fn answer_where(is_allowed: bool) -> &'static str {
     if is_allowed { "wanted" } else { "400" }
 }
 
@@ -200,7 +200,7 @@ fn any_byte_in_a_field(rt: HostRuntime) -> Result<(), Fail> {
         let is_value = byte == b'\t' || byte == b'\n' || 32 <= byte && byte != 127;
         assert_eq!(rt;
             first_with(rt.alloc(), byte)?,
-            (wanted(is_name), wanted(is_value)),
+            (answer_where(is_name), answer_where(is_value)),
             "{byte}"
         );
     }
@@ -211,7 +211,7 @@ fn any_byte_in_a_field(rt: HostRuntime) -> Result<(), Fail> {
 fn thousandth_request_is_the_last(rt: HostRuntime) -> Result<(), Fail> {
     let alloc: Global = rt.alloc();
     let requests = text(alloc, b"", b"GET / HTTP/1.1\n\n", 1001, b"")?;
-    let all = asked(alloc, &requests, 8192)?;
+    let all = asked_by(alloc, &requests, 8192)?;
     assert_eq!(rt; all.len(), 1001);
     for (number, asked) in all.iter().enumerate() {
         let expected = if number < 999 {
@@ -240,7 +240,7 @@ fn faults_of_a_link(rt: HostRuntime) -> Result<(), Fail> {
 }
 
 /// Writes a reply to a sink whose second write fails, and gives what was written.
-fn written(alloc: Global, reply: &Reply, last: bool) -> Result<(bool, Vec<u8>), Fail> {
+fn write_reply(alloc: Global, reply: &Reply, last: bool) -> Result<(bool, Vec<u8>), Fail> {
     let source = MemSource::new(Vec::new(alloc), 1, Vec::new(alloc));
     let mut link = MemLink::new(source, MemSink::new(alloc, 9000, vec![in alloc; 1]?)?);
     let is_done = Wire::new().reply(&mut link, reply, last).is_ok();
@@ -261,7 +261,7 @@ fn is_written(
         "HTTP/1.1 {status}\r\nContent-Type: application/json\r\nContent-Length: {size}\r\n\
          {own}\r\n{body}"
     )?;
-    let (is_done, bytes) = written(alloc, reply, last)?;
+    let (is_done, bytes) = write_reply(alloc, reply, last)?;
     Ok(is_done && bytes.as_slice() == text.as_bytes())
 }
 
@@ -389,7 +389,7 @@ fn long_reply_is_two_writes(rt: HostRuntime) -> Result<(), Fail> {
         batches: 1,
         body: Bytes::from_vec(vec![in alloc; b'1'; 5000]?),
     };
-    let (is_done, bytes) = written(alloc, &reply, false)?;
+    let (is_done, bytes) = write_reply(alloc, &reply, false)?;
     assert!(rt; !is_done);
     assert!(rt; bytes.ends_with(b"Content-Length: 5000\r\nX-Explorer-Batches: 1\r\n\r\n"));
     Ok(())

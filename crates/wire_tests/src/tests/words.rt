@@ -14,7 +14,7 @@ fn with_name(alloc: Global, words: &[&str]) -> Result<Vec<String>, AllocError> {
 }
 
 /// What the words ask for, as `Debug` prints it, or what is told of them.
-fn shown(alloc: Global, words: &[&str]) -> Result<String, AllocError> {
+fn show(alloc: Global, words: &[&str]) -> Result<String, AllocError> {
     let all = with_name(alloc, words)?;
     match parse_words(alloc, all.as_slice()) {
         Ok(command) => Ok(format!(in alloc; "{command:?}")?),
@@ -129,7 +129,7 @@ fn each_command_is_read(rt: HostRuntime) -> Result<(), Fail> {
         ),
     ];
     for (words, command) in table {
-        assert_eq!(rt; shown(alloc, words)?.as_str(), command);
+        assert_eq!(rt; show(alloc, words)?.as_str(), command);
     }
     Ok(())
 }
@@ -285,7 +285,7 @@ fn other_words_are_refused(rt: HostRuntime) -> Result<(), Fail> {
         ),
     ];
     for (words, front) in table {
-        let text = shown(alloc, words)?;
+        let text = show(alloc, words)?;
         assert!(rt; text.as_str().starts_with(front), "{text}");
     }
     Ok(())

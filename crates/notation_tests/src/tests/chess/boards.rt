@@ -5,7 +5,7 @@ use legal_moves::board::Board;
 use legal_moves::valid::{is_valid, start};
 
 /// The position after a legal move on a valid position.
-fn played(at: &Position, name: &[u8; 4], promotion: Option<Role>) -> Option<Position> {
+fn position_after(at: &Position, name: &[u8; 4], promotion: Option<Role>) -> Option<Position> {
     let board = Board::of(at)?;
     let wanted = by_name(name, promotion);
     for m in board.legal().as_slice() {
@@ -81,7 +81,7 @@ fn moves_leave_what_the_laws_say(rt: HostRuntime) {
             position("Q3k3/8/8/8/8/8/8/4K3", black, NO_RIGHTS, None),
         ),
     ] {
-        let is_left = match played(&at, name, promotion) {
+        let is_left = match position_after(&at, name, promotion) {
             Some(after) => is_equal(&after, &left),
             None => false,
         };

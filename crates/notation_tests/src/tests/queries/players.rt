@@ -8,7 +8,7 @@ use std::alloc::Global;
 use std::test::Fail;
 
 /// The parameter that is malformed first.
-fn malformed(alloc: Global, text: &str) -> Option<PlayerParameter> {
+fn malformed_parameter(alloc: Global, text: &str) -> Option<PlayerParameter> {
     match &player_query(alloc, text.as_bytes()) {
         Err(Stop::Fault(fault)) => Some(fault.name),
         _ => None,
@@ -67,7 +67,7 @@ const MALFORMED: [(&str, PlayerParameter); 21] = [
 #[test]
 fn names_the_first_malformed_parameter(rt: HostRuntime) {
     for (text, name) in MALFORMED {
-        assert_eq!(rt; malformed(rt.alloc(), text), Some(name), "{text}");
+        assert_eq!(rt; malformed_parameter(rt.alloc(), text), Some(name), "{text}");
     }
 }
 
@@ -99,15 +99,23 @@ fn names_the_first_of_each_two(rt: HostRuntime) -> Result<(), Fail> {
     for (place, (fault, name)) in FAULTS.iter().enumerate() {
         for (other, _) in &FAULTS[place..] {
             let text = format!(in alloc; "player=Ann&color=white&{other}&{fault}")?;
-            assert_eq!(rt; malformed(alloc, text.as_str()), Some(*name), "{text}");
+            assert_eq!(rt;
+                malformed_parameter(alloc, text.as_str()),
+                Some(*name),
+                "{text}"
+            );
             let text = format!(in alloc; "player=Ann&color=white&{fault}&{other}")?;
-            assert_eq!(rt; malformed(alloc, text.as_str()), Some(*name), "{text}");
+            assert_eq!(rt;
+                malformed_parameter(alloc, text.as_str()),
+                Some(*name),
+                "{text}"
+            );
         }
     }
     Ok(())
 }
 
-fn accepted(alloc: Global, text: &str) -> Option<PlayerQuery> {
+fn accepted_query(alloc: Global, text: &str) -> Option<PlayerQuery> {
     player_query(alloc, text.as_bytes()).ok()
 }
 
@@ -185,7 +193,7 @@ const ASKED: [(&str, &str, Color, [bool; 2]); 9] = [
 #[test]
 fn takes_player_colour_and_modes(rt: HostRuntime) {
     for (text, player, color, modes) in ASKED {
-        let asked = accepted(rt.alloc(), text);
+        let asked = accepted_query(rt.alloc(), text);
         assert!(rt;
             matches!(&asked, Some(asked) if asked.player.as_str() == player
                 && asked.color == color
@@ -202,7 +210,7 @@ fn takes_long_names(rt: HostRuntime) -> Result<(), Fail> {
     for (letter, written) in [("a", "a"), ("\u{fffd}", "%ff")] {
         let name = letter.repeat(alloc, 65000)?;
         let text = format!(in alloc; "color=black&player={}", written.repeat(alloc, 65000)?)?;
-        let asked = accepted(alloc, text.as_str());
+        let asked = accepted_query(alloc, text.as_str());
         assert!(rt; matches!(&asked, Some(asked) if asked.player.as_str() == name.as_str()));
     }
     Ok(())
@@ -210,7 +218,7 @@ fn takes_long_names(rt: HostRuntime) -> Result<(), Fail> {
 
 #[test]
 fn reads_the_other_parameters(rt: HostRuntime) {
-    let asked = accepted(
+    let asked = accepted_query(
         rt.alloc(),
         "player=Ann&color=black&play=e2e4,c7c5&speeds=blitz&since=2020-02&until=2021-12&\
          moves=0&recentGames=9",

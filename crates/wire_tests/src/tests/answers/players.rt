@@ -2,7 +2,7 @@
 ghost use Rattle.std.specs.Prelude.{IfOk};
 ghost use Rattle.answer_json.specs.Plain.{IsPlainPlayerFound, IsPlainPlayerLine};
 
-use super::{KINGS_PAWN, WHITE_WON, game_text, line, naming, one, won};
+use super::{KINGS_PAWN, WHITE_WON, game_text, line, naming, one, won_games};
 use answer_json::player_body;
 use explorer_model::answer::Totals;
 use explorer_model::list::Items;
@@ -33,7 +33,7 @@ fn with_white(alloc: Global) -> Result<PlayerFound, AllocError>
     Ok(PlayerFound {
         totals: WHITE_WON,
         moves: one(alloc, line)?,
-        recent: won(alloc, "Ann")?,
+        recent: won_games(alloc, "Ann")?,
     })
 }
 

@@ -1,4 +1,4 @@
 use Rattle.segment_tests.proofs.tests.spilled.through_memory.Given as goal
 
-abbrev pub ghosts-spilled : goal.ghosts-spilled
-ghosts-spilled a = record { name = a.blank.name; parts = a.blank.parts }
+abbrev pub ghosts-rows_through : goal.ghosts-rows_through
+ghosts-rows_through a = record { name = a.blank.name; parts = a.blank.parts }

@@ -3,7 +3,7 @@ use Rattle.explorer_model.specs.declared.chess.Position.{Position}
 use Rattle.explorer_model.specs.Chess.{after}
 use Rattle.explorer_model.specs.San.{IsMarked}
 use Rattle.legal_moves.proofs.Lists.{lists-same}
-use Rattle.notation_tests.proofs.tests.san.written.Goals as goal
+use Rattle.notation_tests.proofs.tests.san.write_legal.Goals as goal
 
 pub write-requires-clause-each : goal.write-requires-clause-each
 write-requires-clause-each c =

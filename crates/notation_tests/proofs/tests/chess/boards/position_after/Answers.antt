@@ -1,5 +1,5 @@
 use Rattle.legal_moves.proofs.Lists.{listed_legal}
-use Rattle.notation_tests.proofs.tests.chess.boards.played.Goals as goal
+use Rattle.notation_tests.proofs.tests.chess.boards.position_after.Goals as goal
 
 pub play-requires : goal.play-requires
 play-requires c =

@@ -2,7 +2,7 @@ use Rattle.std.proofs.Common.{◌≡◌, ◌+◌, [], ◌∷◌, ◌++◌, drop,
 use Rattle.std.proofs.lemmas.List.{drop_more, take-append-drop}
 use Rattle.segment_blocks.specs.PackedRows.{AreInOrder}
 use Rattle.segment_blocks.proofs.OrderLemmas.{in_order-front}
-use Rattle.segment_tests.proofs.tests.blocks.packed.Goals as goal
+use Rattle.segment_tests.proofs.tests.blocks.pack_rows.Goals as goal
 
 pub push-requires : goal.push-requires
 push-requires c =

@@ -1,5 +1,5 @@
 use Rattle.std.proofs.Common.{◌≡◌, ◌≤◌, take, length}
-use Rattle.segment_tests.proofs.tests.blocks.packed.Given as goal
+use Rattle.segment_tests.proofs.tests.blocks.pack_rows.Given as goal
 
 abbrev pub invariant-loop-row : goal.invariant-loop-row
 invariant-loop-row l = record {
