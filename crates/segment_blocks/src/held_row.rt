@@ -45,7 +45,7 @@ impl<'a> HeldRow<'a> {
     {
         match self {
             HeldRow::Game(game) => Row::of(game),
-            HeldRow::Whole(row) => row.copied(),
+            HeldRow::Whole(row) => row.copy(),
         }
     }
 

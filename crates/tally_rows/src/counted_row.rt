@@ -78,7 +78,7 @@ impl CountedRow {
     {
         match &self.kept {
             KeptRow::One(single) => Row::of(single),
-            KeptRow::More(row) => row.copied(),
+            KeptRow::More(row) => row.copy(),
         }
     }
 

@@ -55,8 +55,8 @@ impl Row {
         self.row_key().cmp(&other.row_key()).is_eq()
     }
 
-    /// The same row.
-    pub fn copied(&self) -> Row
+    /// The same row once more.
+    pub fn copy(&self) -> Row
         ensures { result ≡ self.now }
     {
         // Each list is its own best four, as its entries say.

@@ -1,7 +1,7 @@
 use Rattle.std.proofs.Common.{◌≡◌, ◌++◌, ap, ◌∙◌, append-nil}
 use Rattle.explorer_model.specs.Best.{best}
 use Rattle.best_lists.specs.Ranking.{before_by_rating, before_by_month}
-use Rattle.tally_rows.proofs.row.Row.copied.Goals as goal
+use Rattle.tally_rows.proofs.row.Row.copy.Goals as goal
 
 pub returns : goal.returns
 returns c =
