@@ -6,3 +6,4 @@ pub mod SegmentRows
 pub mod Parts
 pub mod Reading
 pub mod Sound
+pub mod Through

@@ -1,15 +1,15 @@
 //! Answers by rows that are read back from a scratch file.
-ghost use Rattle.std.specs.Prelude.{◌≡◌, ℕ, ◌+◌, ◌≤◌, ◌<◌, ◌^◌, List, length, IfErr, IfOk, IfSome};
-ghost use Rattle.std.specs.List.{All, AllByRecursion, AllZip, sum_by};
-ghost use Rattle.explorer_model.specs.Chess.{IsValid, Legal};
+ghost use Rattle.std.specs.Prelude.{◌≡◌, ℕ, ◌+◌, ◌≤◌, ◌<◌, ◌^◌, List, length, IfOk, MatchResult};
+ghost use Rattle.std.specs.List.{All, AllZip, sum_by};
+ghost use Rattle.explorer_model.specs.Chess.{IsValid};
 ghost use Rattle.explorer_model.specs.Finds.{IsFound};
 ghost use Rattle.explorer_model.specs.Tidy.{IsTidyKey};
-ghost use Rattle.lookup.specs.Reading.{most_steps, read_steps, AreJudged, AreOfKey, AreRead, IsPartOf, IsUndamaged, StopsAt};
+ghost use Rattle.lookup.specs.Reading.{most_steps, AreOfKey, AreRead};
 ghost use Rattle.lookup.specs.Sound.{IsSoundAnswer};
+ghost use Rattle.lookup.specs.Through.{IsFoundThrough, IsNotFoundThrough};
 ghost use Rattle.segment_blocks.specs.Segment.{CountedSpan};
-ghost use Rattle.spill_blobs.specs.Judging.{ReadsPart};
 ghost use Rattle.spill_blobs.specs.Marks.{marks};
-ghost use Rattle.spill_blobs.specs.Sets.{journal_of, set_bytes, Holds, IsSet};
+ghost use Rattle.spill_blobs.specs.Sets.{journal_of, set_bytes, IsSet};
 
 use crate::answer::{board_and_key, found_in};
 use crate::laws::parts_recount;
@@ -41,26 +41,9 @@ pub fn look_through<P: Port, L: Ledger>(
     requires top { query.now.top ≤ 4 }
     requires recent { query.now.recent ≤ 4 }
     requires size { length (set_bytes set.now) ≤ (P.port port.old).size }
-    ensures found { IfOk result (λ found. Holds set.now (P.port port.old)
-        → IsFound (journal_of set.now) query.now found) }
-    ensures whole { IfErr result (λ stop. Holds set.now (P.port port.old) → IsUndamaged stop) }
-    ensures sound { IfOk result (IsSoundAnswer query.now.at) }
-    ensures legal { IfOk result
-        (λ found. AllByRecursion (λ line. Legal query.now.at line.next) found.moves) }
-    ensures kept { IfOk result (λ _. P.port port.new ≡ P.port port.old) }
-    ensures faults { IfErr result
-        (λ stop. ReadsPart (Err stop) (P.port port.old) (P.port port.new)) }
-    ensures part { IfErr result (IsPartOf (length set.now)) }
-    ensures judged { IfOk result (λ _. (key : List ℕ) → IsTidyKey query.now.at key
-        → IfSome (P.port port.old).appended
-        (λ told. AreJudged query.now.at key set.now told (length set.now))) }
-    ensures stopped { IfErr result (λ stop. (key : List ℕ) → IsTidyKey query.now.at key
-        → StopsAt query.now.at key set.now (P.port port.old).appended stop) }
-    ensures cost { IfOk result (λ _. (key : List ℕ) (digits : CountedSpan → ℕ)
-        → IsTidyKey query.now.at key
-        → All (λ segment. length (marks segment.rows) < 2 ^ digits segment) set.now
-        → Holds set.now (P.port port.old)
-        → steps.new ≤ steps.old + sum_by (read_steps key digits) set.now) }
+    ensures through { MatchResult result
+        (IsFoundThrough query.now set.now (P.port port.old) (P.port port.new) steps.old steps.new)
+        (IsNotFoundThrough query.now set.now (P.port port.old) (P.port port.new)) }
     ensures most { (key : List ℕ) (digits : CountedSpan → ℕ) → IsTidyKey query.now.at key
         → All (λ segment. length (marks segment.rows) < 2 ^ digits segment) set.now
         → steps.new ≤ steps.old + sum_by (most_steps digits) set.now }

@@ -9,15 +9,29 @@ pub found_through-requires-clause-parts : goal.found_through-requires-clause-par
 found_through-requires-clause-parts g c =
     subst (λ (parts : List PartRows). AreRead c.args.query.now.at 0 c.args.set.now parts) (sym c.as_slice.ensures.value) c.in-Ok.ensures.parts
 
-pub returns-in-Ok-found_through-clause-found : goal.returns-in-Ok-found_through-clause-found
-returns-in-Ok-found_through-clause-found g c = λ holds.
+pub returns-in-Ok-found_through-clause-through : goal.returns-in-Ok-found_through-clause-through
+returns-in-Ok-found_through-clause-through g c =
     let key = c.board_and_key-board.result.1 in
     let tidy = c.board_and_key-board.ensures.key in
-    c.in-Ok-found_through.ensures.found key tidy
-    (subst (λ (parts : List PartRows). AllZip (AreOfKey key) c.args.set.now parts) (sym c.as_slice.ensures.value) (c.in-Ok.ensures.found key tidy holds))
+    let rows = c.in-Ok.ensures in
+    let answer = c.in-Ok-found_through.ensures in
+    record {
+      found = λ holds.
+          answer.found key tidy
+          (subst (λ (parts : List PartRows). AllZip (AreOfKey key) c.args.set.now parts) (sym c.as_slice.ensures.value) (rows.found key tidy holds));
+      sound = answer.sound;
+      legal = sound-legal c.args.query.now.at c.in-Ok-found_through.found.moves answer.sound.moves;
+      judged = rows.judged;
+      kept = rows.kept;
+      cost = rows.cost;
+    }
 
-pub returns-in-Ok-found_through-clause-legal : goal.returns-in-Ok-found_through-clause-legal
-returns-in-Ok-found_through-clause-legal g c = sound-legal c.args.query.now.at c.in-Ok-found_through.found.moves c.in-Ok-found_through.ensures.sound.moves
-
-pub returns-in-Err-clause-whole : goal.returns-in-Err-clause-whole
-returns-in-Err-clause-whole g c = λ holds. c.in-Err.ensures.whole c.board_and_key-board.result.1 c.board_and_key-board.ensures.key holds
+pub returns-in-Err-clause-through : goal.returns-in-Err-clause-through
+returns-in-Err-clause-through g c =
+    let rows = c.in-Err.ensures in
+    record {
+      whole = rows.whole c.board_and_key-board.result.1 c.board_and_key-board.ensures.key;
+      faults = rows.faults;
+      part = rows.part;
+      stopped = rows.stopped;
+    }
